@@ -1,0 +1,88 @@
+//! The words of a shape, in one list.
+
+ghost use Rattle.std.specs.Prelude.{◌≡◌, ◌≢◌, ◌+◌, ◌*◌, ◌<◌, IfOk, replicate};
+ghost use Rattle.rme_words.specs.Words.{IsOfShape, Wrote, memory_of, read, word, words_of};
+
+use crate::address::Address;
+use crate::refusal::NoMemory;
+use crate::shape::Shape;
+use std::alloc::Global;
+use std::marker::Model;
+
+/// The words of a shape.
+#[derive(Drop)]
+pub struct Bank {
+    shape: Shape,
+    words: Vec<u64>,
+}
+
+impl Model for Bank {
+    ghost use Rattle.std.specs.Prelude.{◌≡◌, length};
+    ghost use Rattle.rme_words.specs.Words.{Memory, words_of};
+
+    ghost Value = { Memory };
+
+    ghost view = { λ bank. record { shape = bank.shape; words = bank.words.items } };
+
+    ghost invariant = { λ bank. length bank.words.items ≡ words_of bank.shape };
+}
+
+/// As many zeros as the shape has words.
+fn zeros(alloc: Global, count: usize) -> Result<Vec<u64>, NoMemory>
+    ensures { IfOk result (λ words. words.items ≡ replicate count 0) }
+{
+    match vec![in alloc; 0u64; count] {
+        Ok(words) => Ok(words),
+        Err(_) => Err(NoMemory),
+    }
+}
+
+impl Bank {
+    /// The words of a shape, all 0. Takes memory for them all; `NoMemory` where it was refused.
+    pub fn new(alloc: Global, shape: Shape) -> Result<Bank, NoMemory>
+        ensures { IfOk result (λ bank. bank ≡ record { shape = shape; words = replicate (words_of shape) 0 }) }
+    {
+        let words = zeros(alloc, shape.words())?;
+        Ok(Bank { shape, words })
+    }
+
+    /// The shape that the words are of.
+    pub fn shape(&self) -> Shape
+        ensures { result ≡ self.now.shape }
+    {
+        self.shape
+    }
+
+    /// The value of one word.
+    pub fn load(&self, address: Address) -> u64
+        requires { IsOfShape self.now.shape address }
+        ensures { result ≡ memory_of self.now address }
+    {
+        self.words[self.shape.word(address)]
+    }
+
+    /// Puts a value into one word.
+    pub fn store(&mut self, address: Address, value: u64)
+        requires { IsOfShape self.old.shape address }
+        ensures shape { self.new.shape ≡ self.old.shape }
+        ensures stored { Wrote (memory_of self.old) (memory_of self.new) address value }
+    {
+        let at = self.shape.word(address);
+        self.words[at] = value;
+    }
+
+    /// Puts `new` into one word exactly where its value is `old`, and answers the value that it had.
+    pub fn compare_exchange(&mut self, address: Address, old: u64, new: u64) -> u64
+        requires { IsOfShape self.old.shape address }
+        ensures shape { self.new.shape ≡ self.old.shape }
+        ensures found { result ≡ memory_of self.old address }
+        ensures stored { result ≡ old → Wrote (memory_of self.old) (memory_of self.new) address new }
+        ensures kept { result ≢ old → self.new ≡ self.old }
+    {
+        let found = self.load(address);
+        if found == old {
+            self.store(address, new);
+        }
+        found
+    }
+}
