@@ -1,0 +1,28 @@
+-- What a list has at a place, and the list from there on and up to there.
+use Rattle.std.proofs.Common.{◌≡◌, ℕ, zero, suc, ◌+◌, ◌<◌, Option, Some, None, List, [], ◌∷◌, ◌++◌, length, get_or, take, drop, slice_get, add-one, arith}
+
+drop_here : {X : Type 0} (xs : List X) (i : ℕ) (x : X) → slice_get xs i ≡ Some x → drop i xs ≡ x ∷ drop (suc i) xs
+drop_here [] i x e = cc
+drop_here (y ∷ ys) zero x e = cc
+drop_here (y ∷ ys) (suc i) x e = drop_here ys i x e
+
+pub drop_at : {X : Type 0} (xs : List X) (i : ℕ) (x : X) → slice_get xs i ≡ Some x → drop i xs ≡ x ∷ drop (i + 1) xs
+drop_at xs i x e = rw add-one (drop_here xs i x e)
+
+take_here : {X : Type 0} (xs : List X) (i : ℕ) (x : X) → slice_get xs i ≡ Some x → take (suc i) xs ≡ take i xs ++ x ∷ []
+take_here [] i x e = cc
+take_here (y ∷ ys) zero x e = cc
+take_here (y ∷ ys) (suc i) x e = let h = take_here ys i x e in cc
+
+pub take_next : {X : Type 0} (xs : List X) (i : ℕ) (x : X) → slice_get xs i ≡ Some x → take (i + 1) xs ≡ take i xs ++ x ∷ []
+take_next xs i x e = rw add-one (take_here xs i x e)
+
+pub at_place : {X : Type 0} (xs : List X) (i : ℕ) (x d : X) → slice_get xs i ≡ Some x → get_or xs i d ≡ x
+at_place [] i x d e = cc
+at_place (y ∷ ys) zero x d e = cc
+at_place (y ∷ ys) (suc i) x d e = at_place ys i x d e
+
+pub place_within : {X : Type 0} (xs : List X) (i : ℕ) (x : X) → slice_get xs i ≡ Some x → i < length xs
+place_within [] i x e = cc
+place_within (y ∷ ys) zero x e = omega arith
+place_within (y ∷ ys) (suc i) x e = let h = place_within ys i x e in omega arith

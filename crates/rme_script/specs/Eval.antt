@@ -1,0 +1,48 @@
+-- `eval`: what a script does to a row, as a fold over its operations, and what two rows share.
+use Rattle.std.specs.Prelude.{◌≡◌, ℕ, ◌+◌, ◌%◌, ◌^◌, Bool, true, List, [], ◌∷◌, length, slice_index, slice_set}
+use Rattle.rme_script.specs.declared.op.Op.{Op}
+use Rattle.rme_script.specs.declared.op.Op.TheVariants.{Get, Set, Add, Copy, Swap}
+use Rattle.rme_script.specs.Cells.{named_by}
+
+-- The row after an operation.
+abbrev pub op_row : Op → List ℕ → List ℕ
+op_row (Get c) row = row
+op_row (Set c v) row = slice_set row c v
+op_row (Add c v) row = slice_set row c ((slice_index row c + v) % 2 ^ 64)
+op_row (Copy a b) row = slice_set row b (slice_index row a)
+op_row (Swap a b) row = slice_set (slice_set row a (slice_index row b)) b (slice_index row a)
+
+-- The cell that an operation names last.
+abbrev pub last_named : Op → ℕ
+last_named (Get c) = c
+last_named (Set c v) = c
+last_named (Add c v) = c
+last_named (Copy a b) = b
+last_named (Swap a b) = b
+
+-- The value of an operation: what its last-named cell holds afterwards.
+abbrev pub op_value : Op → List ℕ → ℕ
+op_value o row = slice_index (op_row o row) (last_named o)
+
+-- What a run leaves: the row, and the value of the last operation.
+pub record Ran : Type 0 where
+  pub row : List ℕ
+  pub reply : ℕ
+
+-- The operations in order.
+unfoldable pub run_from : Ran → List Op → Ran
+run_from ran [] = ran
+run_from ran (o ∷ os) = run_from record { row = op_row o ran.row; reply = op_value o ran.row } os
+
+-- A script's row and reply. The reply of no operation at all is 0.
+abbrev pub eval_of : List Op → List ℕ → Ran
+eval_of ops row = run_from record { row = row; reply = 0 } ops
+
+-- Two rows of one length that hold the same in each cell of which P holds.
+pub record Agree (P : ℕ → Type 0) (r s : List ℕ) : Type 0 where
+  pub long : length r ≡ length s
+  pub at : (c : ℕ) → P c → slice_index r c ≡ slice_index s c
+
+-- Two rows that hold the same in the cells that the operations name.
+abbrev pub AgreeNamed : List Op → List ℕ → List ℕ → Type 0
+AgreeNamed ops r s = Agree (λ (c : ℕ). named_by ops c ≡ true) r s

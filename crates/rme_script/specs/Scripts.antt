@@ -1,0 +1,34 @@
+-- Which scripts may run on a row of so many cells, and what `check` answers.
+use Rattle.std.specs.Prelude.{◌≡◌, ℕ, ◌^◌, ◌<◌, ◌≤◌, Bool, ◌&&◌, nat_lt, List, length, Result, Ok, Err, if◌then◌else◌}
+use Rattle.std.specs.List.{All, list_all}
+use Rattle.rme_words.specs.declared.refusal.Refusal.{Refusal}
+use Rattle.rme_words.specs.declared.refusal.Refusal.TheVariants.{BadScript, NoCell}
+use Rattle.rme_script.specs.declared.op.Op.{Op}
+use Rattle.rme_script.specs.declared.op.Op.TheVariants.{Get, Set, Add, Copy, Swap}
+use Rattle.rme_script.specs.Programs.{Program}
+
+-- Each cell that an operation names is below `cells`.
+abbrev pub IsWithin : ℕ → Op → Type 0
+IsWithin cells (Get c) = c < cells
+IsWithin cells (Set c v) = c < cells
+IsWithin cells (Add c v) = c < cells
+IsWithin cells (Copy a b) = (a < cells) × (b < cells)
+IsWithin cells (Swap a b) = (a < cells) × (b < cells)
+
+-- A script of at most eight operations, each within a row of so many cells.
+pub record IsScript (cells : ℕ) (p : Program) : Type 0 where
+  pub few : p.n ≤ 8
+  pub counted : length p.ops ≡ p.n
+  pub within : All (IsWithin cells) p.ops
+
+-- The same as a test, for one operation.
+abbrev pub fits : ℕ → Op → Bool
+fits cells (Get c) = nat_lt c cells
+fits cells (Set c v) = nat_lt c cells
+fits cells (Add c v) = nat_lt c cells
+fits cells (Copy a b) = nat_lt a cells && nat_lt b cells
+fits cells (Swap a b) = nat_lt a cells && nat_lt b cells
+
+-- What `check` answers: too many operations come before a cell that is not there.
+abbrev pub check_of : ℕ → Program → Result (Unit {0}) Refusal
+check_of cells p = if nat_lt 8 p.n then Err BadScript else if list_all (fits cells) p.ops then Ok tt else Err NoCell

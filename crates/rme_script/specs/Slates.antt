@@ -1,0 +1,61 @@
+-- The words of a slate: three for each operation.
+use Rattle.std.specs.Prelude.{◌≡◌, ℕ, zero, suc, ◌-◌, ◌*◌, ◌^◌, ◌&&◌, nat_lt, ◌==◌, List, [], ◌∷◌, ◌++◌, length, take, replicate, Option, Some, None, if◌then◌else◌}
+use Rattle.rme_script.specs.declared.op.Op.{Op}
+use Rattle.rme_script.specs.declared.op.Op.TheVariants.{Get, Set, Add, Copy, Swap}
+use Rattle.rme_script.specs.Programs.{Program}
+use Rattle.rme_script.specs.Scripts.{IsScript}
+
+-- The three words of an operation.
+abbrev pub op_words : Op → List ℕ
+op_words (Get c) = 0 ∷ c ∷ 0 ∷ []
+op_words (Set c v) = 1 ∷ c ∷ v ∷ []
+op_words (Add c v) = 2 ∷ c ∷ v ∷ []
+op_words (Copy a b) = 3 ∷ a ∷ b ∷ []
+op_words (Swap a b) = 4 ∷ a ∷ b ∷ []
+
+-- The words of some operations, one after another.
+abbrev pub words_of : List Op → List ℕ
+words_of [] = []
+words_of (o ∷ os) = op_words o ++ words_of os
+
+-- The slate of a script: its words, and 0 in the words that are not used.
+abbrev pub slate_of : List Op → List ℕ
+slate_of ops = words_of ops ++ replicate (24 - 3 * length ops) 0
+
+-- The first words of a slate are a script of n operations whose cell numbers are below 2^32. What stands after
+-- those words does not count.
+pub record IsSlate (n : ℕ) (words : List ℕ) (p : Program) : Type 0 where
+  pub counted : p.n ≡ n
+  pub script : IsScript (2 ^ 32) p
+  pub first : take (3 * n) words ≡ words_of p.ops
+
+-- The operation of three words, if they are one.
+abbrev pub op_of : ℕ → ℕ → ℕ → Option Op
+op_of kind first second =
+    if nat_lt first (2 ^ 32)
+    then (if kind == 0 then (if second == 0 then Some (Get first) else None)
+    else if kind == 1 then Some (Set first second)
+    else if kind == 2 then Some (Add first second)
+    else if (kind == 3) && nat_lt second (2 ^ 32) then Some (Copy first second)
+    else if (kind == 4) && nat_lt second (2 ^ 32) then Some (Swap first second)
+    else None)
+    else None
+
+abbrev pub joined : Option Op → Option (List Op) → Option (List Op)
+joined None rest = None
+joined (Some o) None = None
+joined (Some o) (Some os) = Some (o ∷ os)
+
+-- The first n operations of some words, if these are n operations.
+abbrev pub ops_of : ℕ → List ℕ → Option (List Op)
+ops_of zero ws = Some []
+ops_of (suc n) (kind ∷ first ∷ second ∷ ws) = joined (op_of kind first second) (ops_of n ws)
+ops_of (suc n) ws = None
+
+abbrev pub script_by : ℕ → Option (List Op) → Option Program
+script_by n None = None
+script_by n (Some ops) = Some record { n = n; ops = ops }
+
+-- The script of a slate, if it is one.
+abbrev pub script_of : ℕ → List ℕ → Option Program
+script_of n ws = if nat_lt 8 n then None else script_by n (ops_of n ws)

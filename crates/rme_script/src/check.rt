@@ -1,0 +1,40 @@
+//! Whether a script may run on the rows of a shape.
+
+ghost use Rattle.std.specs.Prelude.{◌≡◌};
+ghost use Rattle.rme_script.specs.Scripts.{IsScript, check_of, fits};
+
+use crate::op::Op;
+use crate::script::Script;
+use rme_words::{Refusal, Shape};
+
+/// Each cell that the operation names is below `cells`.
+fn is_within(op: Op, cells: u32) -> bool
+    ensures { result ≡ fits cells op }
+{
+    match op {
+        Op::Get(c) | Op::Set(c, _) | Op::Add(c, _) => c < cells,
+        Op::Copy(a, b) | Op::Swap(a, b) => a < cells && b < cells,
+    }
+}
+
+impl Script {
+    /// Says whether the script may run on the rows of the shape.
+    ///
+    /// It answers `BadScript` for more than eight operations, and else `NoCell` where an operation names a
+    /// cell that the shape's locks don't have.
+    pub fn check(&self, shape: Shape) -> Result<(), Refusal>
+        ensures exact { result ≡ check_of shape.cells self.now }
+        ensures script { result ≡ Ok tt → IsScript shape.cells self.now }
+    {
+        let n = self.n();
+        if n > 8 {
+            return Err(Refusal::BadScript);
+        }
+        for i in 0..n {
+            if !is_within(self.op(i), shape.cells) {
+                return Err(Refusal::NoCell);
+            }
+        }
+        Ok(())
+    }
+}

@@ -1,0 +1,20 @@
+//! Scripts of at most eight operations, the rows of cells that they run on, and the words that they are
+//! written in.
+//!
+//! This crate stands on `rme_words` alone, of which it uses the shape and the refusals. It knows no word of a
+//! service and no worker. The one contract that the crates above use is that of `eval`: it is the fold of the
+//! operations in `specs/Eval.antt`, it leaves the cells that the script does not name, and it goes by the
+//! named cells alone. A script met by a contract is the list of its operations, and a row is the list of its
+//! cells. Begin with `op.rt`, and then `specs/Eval.antt`.
+#![tactic(auto)]
+
+mod check;
+mod job;
+mod op;
+mod row;
+mod script;
+
+pub use job::Job;
+pub use op::Op;
+pub use row::Row;
+pub use script::Script;

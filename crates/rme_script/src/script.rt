@@ -1,0 +1,65 @@
+//! A script: the operations of one job.
+
+ghost use Rattle.std.specs.Prelude.{◌≡◌, ◌<◌, ◌≤◌, min, take, length, slice_get};
+
+use crate::op::Op;
+use std::marker::Model;
+
+/// Up to eight operations, in order, and how many there were.
+///
+/// Two scripts are equal exactly where their operations and their numbers are.
+#[derive(Clone, Copy, Debug)]
+pub struct Script {
+    ops: [Op; 8],
+    n: u32,
+}
+
+impl Model for Script {
+    ghost use Rattle.std.specs.Prelude.{◌≤◌, ◌-◌, ◌++◌, take, replicate, length, min};
+    ghost use Rattle.rme_script.specs.Programs.{Program};
+    ghost use Rattle.rme_script.specs.Kept.{Kept, restored};
+    ghost use Rattle.rme_script.specs.declared.op.Op.TheVariants.{Get};
+
+    ghost Value = { Program };
+
+    ghost view = { λ s. record { n = s.n; ops = take (min s.n 8) s.ops } };
+
+    ghost invariant = { λ s. (s.n ≤ 9) × Kept (Get 0) 8 (min s.n 8) s.ops };
+
+    ghost inverse = { λ p. record { ops = p.ops ++ replicate (8 - length p.ops) (Get 0); n = p.n } };
+
+    ghost inverse_ok = { λ s h. restored (λ ops _. record { ops = ops; n = s.n }) (Get 0) 8 (min s.n 8) s.ops h.1 };
+}
+
+impl Script {
+    /// The script of these operations. It keeps the first eight; `n` is how many there were, or 9 if there
+    /// were more than that.
+    pub fn of(ops: &[Op]) -> Script
+        ensures { result ≡ record { n = min (length ops.now) 9; ops = take 8 ops.now } }
+    {
+        let count = ops.len().min(8);
+        let mut kept = [Op::Get(0); 8];
+        kept[..count].copy_from_slice(&ops[..count]);
+        Script {
+            ops: kept,
+            n: ops.len().min(9) as u32,
+        }
+    }
+
+    /// How many operations the script was given; 9 stands for every number above 8.
+    pub fn n(&self) -> u32
+        ensures n { result ≡ self.now.n }
+        ensures counted { length self.now.ops ≡ min self.now.n 8 }
+        ensures few { self.now.n ≤ 9 }
+    {
+        self.n
+    }
+
+    /// The operation at `i`, which is below `n` and below 8.
+    pub fn op(&self, i: u32) -> Op
+        requires { i < length self.now.ops }
+        ensures { slice_get self.now.ops i ≡ Some result }
+    {
+        self.ops[i as usize]
+    }
+}
