@@ -1,0 +1,23 @@
+//! What one worker does next: its private state, and the rows of the step table.
+//!
+//! A worker goes through Recover, Post, Enter, Section and Exit, one operation on one shared word a step.
+//! `next` says which word the next step touches and how; `after` says what the worker knows once it has the
+//! value, and what happened. Nothing here holds a memory: whoever does, does the action and hands the value
+//! back. The crate stands on rme_words, rme_tree and rme_script. The one contract that the crates above use
+//! is that `next` and `after` are `action_of` and `after_of` of `specs/Steps.antt`, the rows of the step
+//! table. Begin with `stage.rt`, which says what a worker knows before each kind of step.
+#![tactic(auto)]
+
+mod action;
+mod event;
+mod note;
+mod phase;
+mod private;
+mod stage;
+
+pub use action::Action;
+pub use event::{Answer, Event};
+pub use note::{Entry, Note, Receipt};
+pub use phase::Phase;
+pub use private::Private;
+pub use stage::{Ascent, Departure, Log, Parity, Recovery, Redo, Slate, Stage, Visit};
