@@ -1,3 +1,5 @@
 pub mod Lists
 pub mod Fills
 pub mod Checks
+pub mod Laws
+pub mod Runs

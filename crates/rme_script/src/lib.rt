@@ -12,9 +12,11 @@ mod check;
 mod job;
 mod op;
 mod row;
+mod run;
 mod script;
 
 pub use job::Job;
 pub use op::Op;
 pub use row::Row;
+pub use run::eval;
 pub use script::Script;
