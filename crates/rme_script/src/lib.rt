@@ -10,12 +10,14 @@
 
 mod check;
 mod job;
+mod mask;
 mod op;
 mod row;
 mod run;
 mod script;
 
 pub use job::Job;
+pub use mask::{cell_count, named, next_cell};
 pub use op::Op;
 pub use row::Row;
 pub use run::eval;

@@ -1,0 +1,83 @@
+//! The cells that a script names as the bits of a mask, and the cells of a mask one after another.
+
+ghost use Rattle.std.specs.Prelude.{◌≡◌, ℕ, ◌+◌, ◌^◌, ◌<◌, ◌≤◌, [], ◌∷◌, length, MatchOption, IfSome};
+ghost use Rattle.rme_script.specs.Scripts.{IsWithin, IsScript};
+ghost use Rattle.rme_script.specs.Cells.{IsMask, IsNextCell, has, cells_named, cells_from, cells_of};
+
+use crate::op::Op;
+use crate::script::Script;
+
+/// The mask of one cell.
+fn bit(c: u32) -> u64
+    requires { c < 64 }
+    ensures { result ≡ 2 ^ c }
+{
+    1 << c
+}
+
+/// The mask of the cells that an operation names.
+#[tactic(auto, using(crate::proofs::Masks::one_bit, crate::proofs::Masks::two_bits))]
+fn op_mask(op: Op) -> u64
+    requires { IsWithin 16 op }
+    ensures { IsMask result (op ∷ []) }
+{
+    match op {
+        Op::Get(c) | Op::Set(c, _) | Op::Add(c, _) => bit(c),
+        Op::Copy(a, b) | Op::Swap(a, b) => bit(a) | bit(b),
+    }
+}
+
+/// The mask of the cells that a script names: bit c is set exactly where the script names cell c.
+///
+/// The script passes `check` for some shape.
+pub fn named(script: &Script) -> u64
+    requires { IsScript 16 script.now }
+    ensures mask { IsMask result script.now.ops }
+    ensures cells { (cells : ℕ) → cells_named result cells ≡ cells_of script.now.ops cells }
+{
+    let mut mask = 0;
+    for i in 0..script.n() {
+        mask |= op_mask(script.op(i));
+    }
+    mask
+}
+
+/// A mask has a cell.
+fn has_cell(mask: u64, c: u32) -> bool
+    requires { c < 64 }
+    ensures { result ≡ has mask c }
+{
+    (mask >> c) & 1 == 1
+}
+
+/// The first cell of a mask that is at or after `from` and below `cells`, or `None` where there is none.
+///
+/// Bits of `cells` and above are not read. To go over the cells of a mask, begin with `from` 0 and go on with
+/// one more than the answer.
+pub fn next_cell(mask: u64, from: u32, cells: u32) -> Option<u32>
+    requires { cells ≤ 64 }
+    ensures rest { MatchOption result (cells_from mask from cells ≡ []) (λ c. cells_from mask from cells ≡ c ∷ cells_from mask (c + 1) cells) }
+    ensures next { IfSome result (λ c. IsNextCell mask from cells c) }
+{
+    for c in from..cells {
+        if has_cell(mask, c) {
+            return Some(c);
+        }
+    }
+    None
+}
+
+/// How many cells below `cells` a mask has. Bits of `cells` and above are not read.
+pub fn cell_count(mask: u64, cells: u32) -> u32
+    requires { cells ≤ 64 }
+    ensures count { result ≡ length (cells_named mask cells) }
+    ensures most { result ≤ cells }
+{
+    let mut count = 0;
+    for c in 0..cells {
+        if has_cell(mask, c) {
+            count += 1;
+        }
+    }
+    count
+}
