@@ -1,0 +1,133 @@
+-- The owner is the worker that holds every level of its path, and how a step of one worker moves the ownership.
+use Rattle.std.proofs.Common.{◌≡◌, ◌≢◌, ℕ, zero, suc, ◌^◌, ◌<◌, ◌≤◌, ◌⊎◌, Bool, true, false, eqb, refl, sym, ◌∙◌, ap, ap₂, subst, inl, inr, arith, Option, Some, None}
+use Rattle.std.specs.Prelude.{if◌then◌else◌}
+use Rattle.std.specs.Option.{option_or}
+use Rattle.std.proofs.lemmas.Bool.{cases_eq, eqb-true, eqb-false, ne_eqb}
+use Rattle.std.proofs.lemmas.Option.{same_Some, none-some}
+use Rattle.rme_tree.specs.Paths.{node, held, owner, first_of_all, Owns}
+use Rattle.rme_tree.specs.Rooted.{Holder, TreeStep}
+use Rattle.rme_tree.specs.Laws.{OwnerLaw, OwnerStepLaw, SameTreeLaw}
+use Rattle.rme_tree.proofs.Holding.{held_at, held_within, held_least, held_same}
+use Rattle.rme_tree.proofs.Steps.{same_owner}
+
+either_some : (early : Option ℕ) (late : Bool) (n w : ℕ) → option_or early (if late then Some n else None) ≡ Some w
+    → (early ≡ Some w) ⊎ ((late ≡ true) × (n ≡ w))
+either_some None true n w e = inr (refl, same_Some n w e)
+either_some None false n w e = absurd (none-some w e)
+either_some (Some x) late n w e = inl e
+
+either_none : (early : Option ℕ) (late : Bool) (n : ℕ) → option_or early (if late then Some n else None) ≡ None → (early ≡ None) × (late ≡ false)
+either_none None true n e = absurd (none-some n (sym e))
+either_none None false n e = (refl, refl)
+either_none (Some x) late n e = absurd (none-some x (sym e))
+
+-- What is found is below the bound and passes the test.
+first_passes : (n : ℕ) (test : ℕ → Bool) (w : ℕ) → first_of_all n test ≡ Some w → (w < n) × (test w ≡ true)
+first_passes zero test w e = absurd (none-some w e)
+first_passes (suc n) test w e =
+    elim (either_some (first_of_all n test) (test n) n w e) [
+      | inl early ↦ (let at : (w < n) × (test w ≡ true) = first_passes n test w early in (omega (arith, at.0), at.1))
+      | inr late ↦ (omega (arith, late.1), (let P : ℕ → Type 0 = λ n. test n ≡ true in subst P late.1 late.0))
+    ]
+
+-- Where nothing is found nothing passes.
+first_none : (n : ℕ) (test : ℕ → Bool) (w : ℕ) → first_of_all n test ≡ None → w < n → test w ≡ false
+first_none zero test w e less = absurd (omega arith)
+first_none (suc n) test w e less =
+    let parts : (first_of_all n test ≡ None) × (test n ≡ false) = either_none (first_of_all n test) (test n) n e in
+    elim (cases_eq w n) [
+      | inl same ↦ (let P : ℕ → Type 0 = λ n. test n ≡ false in subst P (sym same) parts.1)
+      | inr below ↦ first_none n test w parts.0 (omega arith)
+    ]
+
+-- Tests that agree below the bound find the same.
+first_same : (n : ℕ) (one other : ℕ → Bool) → ((w : ℕ) → w < n → one w ≡ other w) → first_of_all n one ≡ first_of_all n other
+first_same zero one other same = refl
+first_same (suc n) one other same =
+    ap₂ (λ (early : Option ℕ) (late : Bool). option_or early (if late then Some n else None))
+    (first_same n one other (λ w less. same w (omega arith)))
+    (same n (omega arith))
+
+-- A worker owns the lock exactly where it holds every level.
+pub owns-held : (f : ℕ → ℕ) (m h w : ℕ) → Owns f m h w → held f m w h ≡ h
+owns-held f m h w owns = omega (arith, held_within f m w h, held_least f m w h h (omega arith) owns)
+
+pub held-owns : (f : ℕ → ℕ) (m h w : ℕ) → held f m w h ≡ h → Owns f m h w
+held-owns f m h w holds = (held_at f m w h h holds).own
+
+pub owner_holds : (f : ℕ → ℕ) (m h n w : ℕ) → owner f m h n ≡ Some w → (w < n) × (held f m w h ≡ h)
+unfolding owner
+owner_holds f m h n w e =
+    let at : (w < n) × (eqb (held f m w h) h ≡ true) = first_passes n _ w e in
+    (at.0, eqb-true _ _ at.1)
+
+pub owner_none : (f : ℕ → ℕ) (m h n w : ℕ) → owner f m h n ≡ None → w < n → held f m w h ≢ h
+unfolding owner
+owner_none f m h n w e less = eqb-false _ _ (first_none n (λ (w : ℕ). eqb (held f m w h) h) w e less)
+
+pub owner_is : (f : ℕ → ℕ) (m h n w : ℕ) → m ≡ 2 ^ h → n ≤ m → w < n → held f m w h ≡ h → owner f m h n ≡ Some w
+owner_is f m h n w power few less holds = go (owner f m h n) refl
+  where
+    go : (found : Option ℕ) → owner f m h n ≡ found → found ≡ Some w
+    go None e = absurd (owner_none f m h n w e less holds)
+    go (Some u) e =
+        let at : (u < n) × (held f m u h ≡ h) = owner_holds f m h n u e in
+        ap (λ (x : ℕ). Some x) (same_owner f m h u w power (omega (arith, at.0)) (omega arith) (held-owns f m h u at.1) (held-owns f m h w holds))
+
+pub owner_law : OwnerLaw
+owner_law f m h n w power few less = (λ e. (owner_holds f m h n w e).1, owner_is f m h n w power few less)
+
+-- Trees in which the same workers hold every level have the same owner.
+pub owner_same : (f g : ℕ → ℕ) (m h n : ℕ) → ((w : ℕ) → w < n → eqb (held g m w h) h ≡ eqb (held f m w h) h) → owner g m h n ≡ owner f m h n
+unfolding owner
+owner_same f g m h n same = first_same n _ _ same
+
+-- The owner after a step that ends below the root, of a worker that was below it.
+pub owner_kept : (f g : ℕ → ℕ) (m h n w k : ℕ) → TreeStep m h n f g w k → held f m w h ≢ h → k ≢ h → owner g m h n ≡ owner f m h n
+owner_kept f g m h n w k step was is =
+    owner_same f g m h n (λ u less. elim (cases_eq u w) [
+      | inl same ↦
+          (let P : ℕ → Type 0 = λ u. eqb (held g m u h) h ≡ eqb (held f m u h) h in
+          subst P (sym same) (ne_eqb _ _ (λ e. is (sym step.self ∙ e)) ∙ sym (ne_eqb _ _ was)))
+      | inr other ↦ ap (λ (j : ℕ). eqb j h) (step.others u less other)
+    ])
+
+-- After a step of the owner below the root there is no owner.
+pub owner_left : (f g : ℕ → ℕ) (m h n w k : ℕ) → m ≡ 2 ^ h → n ≤ m → w < n → TreeStep m h n f g w k → held f m w h ≡ h → k ≢ h → owner g m h n ≡ None
+owner_left f g m h n w k power few less step was is = go (owner g m h n) refl
+  where
+    go : (found : Option ℕ) → owner g m h n ≡ found → found ≡ None
+    go None e = refl
+    go (Some u) e =
+        let at : (u < n) × (held g m u h ≡ h) = owner_holds g m h n u e in
+        elim (cases_eq u w) [
+          | inl same ↦ absurd (is (sym step.self ∙ ap (λ (v : ℕ). held g m v h) (sym same) ∙ at.1))
+          | inr other ↦ absurd (other (same_owner f m h u w power (omega (arith, at.0)) (omega arith)
+              (held-owns f m h u (sym (step.others u at.0 other) ∙ at.1)) (held-owns f m h w was)))
+        ]
+
+pub owner_step_law : OwnerStepLaw
+owner_step_law f g m h n w k power few less step = record {
+  entered = λ e. owner_is g m h n w power few less (step.self ∙ e);
+  left = owner_left f g m h n w k power few less step;
+  kept = owner_kept f g m h n w k step;
+}
+
+pub same_tree : SameTreeLaw
+same_tree f g m h n same = (
+  held_all,
+  owner_same f g m h n (λ w less. ap (λ (j : ℕ). eqb j h) (held_all w)),
+  (λ root v some inside taken.
+      let r : Holder f m h n v = root v some inside (λ e. taken (same v ∙ e)) in
+      record {
+        worker = r.worker;
+        level = r.level;
+        is_worker = r.is_worker;
+        is_level = r.is_level;
+        there = r.there;
+        own = λ i less. same (node m r.worker (suc i)) ∙ r.own i less;
+      }),
+)
+  where
+    held_all : (w : ℕ) → held g m w h ≡ held f m w h
+    held_all w = held_same f g m w h (λ i less. same (node m w (suc i)))

@@ -1,0 +1,67 @@
+//! What the workers hold, and who owns a lock, read from the words alone.
+
+ghost use Rattle.std.specs.Prelude.{◌≡◌, ◌≢◌, ℕ, ◌<◌, ◌≤◌, ◌↔◌, Some, IfSome, MatchOption};
+ghost use Rattle.rme_words.specs.Words.{memory_of};
+ghost use Rattle.rme_tree.specs.Paths.{IsHeld, OwnTo, Owns};
+ghost use Rattle.rme_tree.specs.Rooted.{child};
+ghost use Rattle.rme_tree.specs.Nodes.{nodes_of, held_in, owner_in};
+
+use crate::paths::{node, side};
+use rme_words::{Address, Bank};
+
+/// How many levels of its path worker `w` holds in a lock: the greatest j such that the nodes at the levels
+/// 1 to j all have its sides.
+///
+/// `lock` and `w` are below the locks and the workers of the bank's shape.
+pub fn held(bank: &Bank, lock: u32, w: u32) -> u32
+    requires lock { lock < bank.now.shape.locks }
+    requires worker { w < bank.now.shape.workers }
+    ensures held { result ≡ held_in bank.now.shape (memory_of bank.now) w lock }
+    ensures levels { IsHeld (nodes_of (memory_of bank.now) lock) bank.now.shape.leaves w bank.now.shape.height result }
+    ensures greatest { (j : ℕ) → j ≤ bank.now.shape.height → OwnTo (nodes_of (memory_of bank.now) lock) bank.now.shape.leaves w j → j ≤ result }
+{
+    let shape = bank.shape();
+    for below in 0..shape.height {
+        let level = below + 1;
+        if bank.load(Address::Node(lock, node(shape, w, level))) != side(shape, w, level) {
+            return below;
+        }
+    }
+    shape.height
+}
+
+/// The child that a node's word names, and none where the word is no side.
+fn named_child(bank: &Bank, lock: u32, place: u32) -> Option<u32>
+    requires lock { lock < bank.now.shape.locks }
+    requires node { 1 ≤ place }
+    requires inside { place < bank.now.shape.leaves }
+    ensures { let word = nodes_of (memory_of bank.now) lock place in
+        MatchOption result ((word ≢ 1) × (word ≢ 2)) (λ c. (1 ≤ word) × (word ≤ 2) × (c ≡ child place word)) }
+{
+    match bank.load(Address::Node(lock, place)) {
+        1 => Some(2 * place),
+        2 => Some(2 * place + 1),
+        _ => None,
+    }
+}
+
+/// The owner of a lock: the worker whose sides stand in all nodes of its path, and none where there is no
+/// such worker. Two workers cannot both own a lock, whatever the words are.
+///
+/// It goes down from the root, by the child that each word names. `lock` is below the locks of the bank's
+/// shape.
+pub fn owner(bank: &Bank, lock: u32) -> Option<u32>
+    requires { lock < bank.now.shape.locks }
+    ensures owner { result ≡ owner_in bank.now.shape (memory_of bank.now) lock }
+    ensures shown { (w : ℕ) → w < bank.now.shape.workers
+        → (result ≡ Some w) ↔ Owns (nodes_of (memory_of bank.now) lock) bank.now.shape.leaves bank.now.shape.height w }
+    ensures worker { IfSome result (λ w. w < bank.now.shape.workers) }
+{
+    let shape = bank.shape();
+    let mut place = 1;
+    while place < shape.leaves {
+        place = named_child(bank, lock, place)?;
+    }
+    let w = place - shape.leaves;
+    if w < shape.workers { Some(w) } else { None }
+}

@@ -1,0 +1,52 @@
+//! The public calls on a small tree, with values worked out by hand.
+
+use crate::{held, laws, node, owner, side};
+use rme_words::{Address, Bank, Shape};
+use std::test::Fail;
+
+/// Three workers have four leaves, 4 to 7, and two levels: worker 2 comes from leaf 6 to node 3 from its
+/// left and to the root from its right, and leaf 7 is nobody's.
+#[test]
+fn three_workers(rt: HostRuntime) -> Result<(), Fail> {
+    let shape = Shape::new(3, 1, 1, 1)?;
+    assert_eq!(rt; shape.leaves, 4);
+    assert_eq!(rt; shape.height, 2);
+    assert_eq!(rt; node(shape, 2, 1), 3);
+    assert_eq!(rt; node(shape, 2, 2), 1);
+    assert_eq!(rt; side(shape, 2, 1), 1);
+    assert_eq!(rt; side(shape, 2, 2), 2);
+
+    let mut bank = Bank::new(rt.alloc(), shape)?;
+    assert_eq!(rt; held(&bank, 0, 2), 0);
+    assert_eq!(rt; owner(&bank, 0), None);
+    bank.store(Address::Node(0, 3), 1);
+    assert_eq!(rt; held(&bank, 0, 2), 1);
+    assert_eq!(rt; owner(&bank, 0), None);
+    bank.store(Address::Node(0, 1), 2);
+    assert_eq!(rt; held(&bank, 0, 2), 2);
+    assert_eq!(rt; held(&bank, 0, 1), 0);
+    assert_eq!(rt; owner(&bank, 0), Some(2));
+    bank.store(Address::Node(0, 3), 2);
+    assert_eq!(rt; held(&bank, 0, 2), 0);
+    assert_eq!(rt; owner(&bank, 0), None);
+    bank.store(Address::Node(0, 1), 7);
+    assert_eq!(rt; owner(&bank, 0), None);
+    Ok(())
+}
+
+/// The laws are functions that do nothing.
+#[test]
+fn every_law() {
+    laws::walking();
+    laws::taking();
+    laws::clearing();
+    laws::blocking();
+    laws::excluding();
+    laws::owning();
+    laws::moving();
+    laws::keeping();
+    laws::rooting();
+    laws::opening();
+    laws::copying();
+    laws::storing();
+}
