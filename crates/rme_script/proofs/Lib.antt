@@ -5,3 +5,6 @@ pub mod Laws
 pub mod Runs
 pub mod Masks
 pub mod Rising
+pub mod Slates
+pub mod Slating
+pub mod Readings

@@ -16,13 +16,3 @@ take_here (y ∷ ys) (suc i) x e = let h = take_here ys i x e in cc
 
 pub take_next : {X : Type 0} (xs : List X) (i : ℕ) (x : X) → slice_get xs i ≡ Some x → take (i + 1) xs ≡ take i xs ++ x ∷ []
 take_next xs i x e = rw add-one (take_here xs i x e)
-
-pub at_place : {X : Type 0} (xs : List X) (i : ℕ) (x d : X) → slice_get xs i ≡ Some x → get_or xs i d ≡ x
-at_place [] i x d e = cc
-at_place (y ∷ ys) zero x d e = cc
-at_place (y ∷ ys) (suc i) x d e = at_place ys i x d e
-
-pub place_within : {X : Type 0} (xs : List X) (i : ℕ) (x : X) → slice_get xs i ≡ Some x → i < length xs
-place_within [] i x e = cc
-place_within (y ∷ ys) zero x e = omega arith
-place_within (y ∷ ys) (suc i) x e = let h = place_within ys i x e in omega arith

@@ -15,6 +15,7 @@ mod op;
 mod row;
 mod run;
 mod script;
+mod slate;
 
 pub use job::Job;
 pub use mask::{cell_count, named, next_cell};
@@ -22,3 +23,4 @@ pub use op::Op;
 pub use row::Row;
 pub use run::eval;
 pub use script::Script;
+pub use slate::{from_slate, slate_words};

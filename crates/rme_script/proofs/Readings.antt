@@ -1,0 +1,74 @@
+-- The loop of `from_slate`: what was read, and what is left to read, give what all the words give.
+use Rattle.std.proofs.Common.{◌≡◌, ℕ, suc, ◌+◌, ◌-◌, ◌*◌, ◌<◌, ◌≤◌, min, nat_lt, false, Option, Some, None, List, [], ◌∷◌, ◌++◌, length, get_or, set, take, drop, refl, sym, ap, ◌∙◌, arith}
+use Rattle.std.proofs.lemmas.Bool.{le-ltb}
+use Rattle.std.proofs.lemmas.List.{append_assoc, append-nil, length-set, length-take-le, take_all, drop_more, take_more_set}
+use Rattle.rme_script.specs.declared.op.Op.{Op}
+use Rattle.rme_script.specs.Programs.{Program}
+use Rattle.rme_script.specs.Slates.{op_of, joined, ops_of, script_by, script_of}
+
+-- What was read, before what is read later.
+abbrev pub before : List Op → Option (List Op) → Option (List Op)
+before front None = None
+before front (Some ops) = Some (front ++ ops)
+
+pub record Reading (n : ℕ) (words : List ℕ) (i : ℕ) (ops : List Op) : Type 0 where
+  pub so_far : before (take i ops) (ops_of (n - i) (drop (3 * i) words)) ≡ ops_of n words
+  pub whole : length ops ≡ 8
+
+before_push : (front : List Op) (o : Op) (rest : Option (List Op)) → before (front ++ o ∷ []) rest ≡ before front (joined (Some o) rest)
+before_push front o None = refl
+before_push front o (Some ops) = ap (λ (xs : List Op). Some xs) (append_assoc front (o ∷ []) ops)
+
+three_on : (words : List ℕ) (i : ℕ) → 3 * i + 2 < length words → drop (3 * i) words ≡ get_or words (3 * i) 0 ∷ get_or words (3 * i + 1) 0 ∷ get_or words (3 * i + 2) 0 ∷ drop (3 * (i + 1)) words
+three_on words i l =
+    let second : drop (3 * i + 1) words ≡ get_or words (3 * i + 1) 0 ∷ drop (3 * i + 1 + 1) words = drop_more words (3 * i + 1) 0 (omega (arith, l)) in
+    let third : drop (3 * i + 2) words ≡ get_or words (3 * i + 2) 0 ∷ drop (3 * i + 2 + 1) words = drop_more words (3 * i + 2) 0 (omega (arith, l)) in
+    let two : 3 * i + 1 + 1 ≡ 3 * i + 2 = omega arith in
+    let three : 3 * i + 2 + 1 ≡ 3 * (i + 1) = omega arith in
+    drop_more words (3 * i) 0 (omega (arith, l))
+    ∙ ap (λ (ws : List ℕ). get_or words (3 * i) 0 ∷ ws) second
+    ∙ ap (λ (k : ℕ). get_or words (3 * i) 0 ∷ get_or words (3 * i + 1) 0 ∷ drop k words) two
+    ∙ ap (λ (ws : List ℕ). get_or words (3 * i) 0 ∷ get_or words (3 * i + 1) 0 ∷ ws) third
+    ∙ ap (λ (k : ℕ). get_or words (3 * i) 0 ∷ get_or words (3 * i + 1) 0 ∷ get_or words (3 * i + 2) 0 ∷ drop k words) three
+
+module _ (n : ℕ) (words : List ℕ) (i : ℕ) (ops : List Op) (few : n ≤ 8) (long : length words ≡ 24) (inside : i < n) (r : Reading n words i ops) where
+  next : ops_of (n - i) (drop (3 * i) words) ≡ joined (op_of (get_or words (3 * i) 0) (get_or words (3 * i + 1) 0) (get_or words (3 * i + 2) 0)) (ops_of (n - (i + 1)) (drop (3 * (i + 1)) words))
+  next =
+      let fewer : n - i ≡ suc (n - (i + 1)) = omega (arith, inside) in
+      ap (λ (k : ℕ). ops_of k (drop (3 * i) words)) fewer
+      ∙ ap (λ (ws : List ℕ). ops_of (suc (n - (i + 1))) ws) (three_on words i (omega (arith, inside, few, long)))
+
+  pub reading_next : (o : Op) → op_of (get_or words (3 * i) 0) (get_or words (3 * i + 1) 0) (get_or words (3 * i + 2) 0) ≡ Some o → Reading n words (i + 1) (set ops i o)
+  reading_next o e =
+      let rest : Option (List Op) = ops_of (n - (i + 1)) (drop (3 * (i + 1)) words) in
+      let front : take (i + 1) (set ops i o) ≡ take i ops ++ o ∷ [] = take_more_set ops i o (omega (arith, inside, few, r.whole)) in
+      record {
+        so_far = ap (λ (xs : List Op). before xs rest) front
+            ∙ before_push (take i ops) o rest
+            ∙ sym (ap (λ (x : Option (List Op)). before (take i ops) x) (next ∙ ap (λ (x : Option Op). joined x rest) e))
+            ∙ r.so_far;
+        whole = length-set ops i o ∙ r.whole;
+      }
+
+  pub reading_none : op_of (get_or words (3 * i) 0) (get_or words (3 * i + 1) 0) (get_or words (3 * i + 2) 0) ≡ None → None ≡ script_of n words
+  reading_none e =
+      let rest : Option (List Op) = ops_of (n - (i + 1)) (drop (3 * (i + 1)) words) in
+      let short : nat_lt 8 n ≡ false = le-ltb 8 n few in
+      let all : ops_of n words ≡ None = sym r.so_far ∙ ap (λ (x : Option (List Op)). before (take i ops) x) (next ∙ ap (λ (x : Option Op). joined x rest) e) in
+      rw (short, all) refl
+
+pub reading_end : (n : ℕ) (words : List ℕ) (i : ℕ) (ops : List Op) (made : Program) → n ≤ 8 → n ≤ i → i ≤ n → Reading n words i ops → made ≡ record { n = min (length (take n ops)) 9; ops = take 8 (take n ops) } → Some made ≡ script_of n words
+reading_end n words i ops made few past up r m =
+    let here : i ≡ n = omega (arith, past, up) in
+    let nothing : n - i ≡ 0 = omega (arith, past) in
+    let all : ops_of n words ≡ Some (take n ops) = sym r.so_far
+    ∙ ap (λ (k : ℕ). before (take i ops) (ops_of k (drop (3 * i) words))) nothing
+    ∙ ap (λ (xs : List Op). Some xs) (append-nil (take i ops))
+    ∙ ap (λ (k : ℕ). Some (take k ops)) here in
+    let short : nat_lt 8 n ≡ false = le-ltb 8 n few in
+    let counted : length (take n ops) ≡ n = length-take-le n ops (omega (arith, few, r.whole)) in
+    let number : min (length (take n ops)) 9 ≡ n = omega (arith, counted, few) in
+    let kept : take 8 (take n ops) ≡ take n ops = take_all 8 (take n ops) (omega (arith, counted, few)) in
+    let same : ◌≡◌ {A = Program} (record { n = min (length (take n ops)) 9; ops = take 8 (take n ops) }) (record { n = n; ops = take n ops }) = rw (number, kept) refl in
+    let answer : made ≡ record { n = n; ops = take n ops } = m ∙ same in
+    rw (short, all) (ap (λ (p : Program). Some p) answer)

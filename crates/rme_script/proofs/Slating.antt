@@ -1,0 +1,62 @@
+-- The loop of `slate_words`: the words of one operation more.
+use Rattle.std.proofs.Common.{◌≡◌, ℕ, ◌+◌, ◌-◌, ◌*◌, ◌^◌, ◌<◌, ◌≤◌, Some, List, [], ◌∷◌, ◌++◌, length, take, drop, replicate, slice_get, refl, sym, ap, ◌∙◌, subst, arith}
+use Rattle.std.specs.List.{All}
+use Rattle.std.proofs.lemmas.List.{append_assoc, append-nil, length-append, length-take-le, length_push, take_at, take_all, drop-replicate}
+use Rattle.std.proofs.lemmas.List.{drop_at as drop_front}
+use Rattle.std.proofs.lemmas.List.Elements.{All-push}
+use Rattle.std.proofs.lemmas.Option.{slice_get_within}
+use borrow.Rule.Slice.PartMut.{put_mid}
+use Rattle.rme_script.specs.declared.op.Op.{Op}
+use Rattle.rme_script.specs.declared.op.Op.TheVariants.{Get, Set, Add, Copy, Swap}
+use Rattle.rme_script.specs.Programs.{Program}
+use Rattle.rme_script.specs.Scripts.{IsWithin, IsScript}
+use Rattle.rme_script.specs.Slates.{op_words, words_of, slate_of, script_of}
+use Rattle.rme_script.proofs.Lists.{take_next}
+use Rattle.rme_script.proofs.Slates.{slate_back}
+
+op_words_length : (o : Op) → length (op_words o) ≡ 3
+op_words_length (Get c) = refl
+op_words_length (Set c v) = refl
+op_words_length (Add c v) = refl
+op_words_length (Copy a b) = refl
+op_words_length (Swap a b) = refl
+
+pub words_length : (ops : List Op) → length (words_of ops) ≡ 3 * length ops
+words_length [] = refl
+words_length (o ∷ os) = omega (arith, length-append (op_words o) (words_of os), op_words_length o, words_length os)
+
+words_push : (ops : List Op) (o : Op) → words_of (ops ++ o ∷ []) ≡ words_of ops ++ op_words o
+words_push [] o = append-nil (op_words o)
+words_push (p ∷ ps) o = ap (λ (ws : List ℕ). op_words p ++ ws) (words_push ps o) ∙ sym (append_assoc (op_words p) (words_of ps) (op_words o))
+
+slate_push : (ops : List Op) (o : Op) (i : ℕ) → length ops ≡ i → put_mid (3 * i) (3 * i + 3 - 3 * i) (slate_of ops) (op_words o) ≡ slate_of (ops ++ o ∷ [])
+slate_push ops o i l =
+    let pad : List ℕ = replicate (24 - 3 * length ops) 0 in
+    let front : take (3 * i) (words_of ops ++ pad) ≡ words_of ops = take_at (words_of ops) pad (3 * i) (omega (arith, words_length ops, l)) in
+    let back : drop (3 * i) (words_of ops ++ pad) ≡ pad = drop_front (words_of ops) pad (3 * i) (omega (arith, words_length ops, l)) in
+    let shorter : drop (3 * i + 3 - 3 * i) pad ≡ replicate (24 - 3 * length ops - (3 * i + 3 - 3 * i)) 0 = drop-replicate (3 * i + 3 - 3 * i) (24 - 3 * length ops) 0 in
+    let fewer : 24 - 3 * length ops - (3 * i + 3 - 3 * i) ≡ 24 - 3 * length (ops ++ o ∷ []) = omega (arith, length_push ops o) in
+    let rest : drop (3 * i + 3 - 3 * i) (drop (3 * i) (words_of ops ++ pad)) ≡ replicate (24 - 3 * length (ops ++ o ∷ [])) 0 = ap (λ (ws : List ℕ). drop (3 * i + 3 - 3 * i) ws) back ∙ shorter ∙ ap (λ (k : ℕ). replicate k 0) fewer in
+    ap (λ (ws : List ℕ). ws ++ (op_words o ++ drop (3 * i + 3 - 3 * i) (drop (3 * i) (words_of ops ++ pad)))) front
+    ∙ ap (λ (ws : List ℕ). words_of ops ++ (op_words o ++ ws)) rest
+    ∙ sym (append_assoc (words_of ops) (op_words o) (replicate (24 - 3 * length (ops ++ o ∷ [])) 0))
+    ∙ ap (λ (ws : List ℕ). ws ++ replicate (24 - 3 * length (ops ++ o ∷ [])) 0) (sym (words_push ops o))
+
+module _ (ops : List Op) (i : ℕ) (o : Op) (here : slice_get ops i ≡ Some o) where
+  pub slating_words : (words triple : List ℕ) → words ≡ slate_of (take i ops) → triple ≡ op_words o → put_mid (3 * i) (3 * i + 3 - 3 * i) words triple ≡ slate_of (take (i + 1) ops)
+  slating_words words triple w t =
+      let inside : i < length ops = slice_get_within ops i o here in
+      ap (λ (ws : List ℕ). put_mid (3 * i) (3 * i + 3 - 3 * i) ws triple) w
+      ∙ ap (λ (ws : List ℕ). put_mid (3 * i) (3 * i + 3 - 3 * i) (slate_of (take i ops)) ws) t
+      ∙ slate_push (take i ops) o i (length-take-le i ops (omega (arith, inside)))
+      ∙ ap (λ (os : List Op). slate_of os) (sym (take_next ops i o here))
+
+  pub slating_within : All (IsWithin (2 ^ 32)) (take i ops) → IsWithin (2 ^ 32) o → All (IsWithin (2 ^ 32)) (take (i + 1) ops)
+  slating_within h k =
+      subst (λ (os : List Op). All (IsWithin (2 ^ 32)) os) (sym (take_next ops i o here)) (All-push (IsWithin (2 ^ 32)) (take i ops) o h k)
+
+pub slated_back : (p : Program) (i : ℕ) (words : List ℕ) → p.n ≤ 8 → length p.ops ≡ p.n → length p.ops ≤ i → words ≡ slate_of (take i p.ops) → All (IsWithin (2 ^ 32)) (take i p.ops) → script_of p.n words ≡ Some p
+slated_back p i words few counted past w h =
+    let all : take i p.ops ≡ p.ops = take_all i p.ops past in
+    ap (λ (ws : List ℕ). script_of p.n ws) (w ∙ ap (λ (os : List Op). slate_of os) all)
+    ∙ slate_back p (record { few = few; counted = counted; within = subst (λ (os : List Op). All (IsWithin (2 ^ 32)) os) all h })

@@ -1,0 +1,75 @@
+//! The words of a script: three for each operation.
+
+ghost use Rattle.std.specs.Prelude.{◌≡◌, ◌^◌, ◌≤◌, ◌↔◌};
+ghost use Rattle.rme_script.specs.Programs.{Program};
+ghost use Rattle.rme_script.specs.Scripts.{IsWithin};
+ghost use Rattle.rme_script.specs.Slates.{IsSlate, op_words, op_of, slate_of, script_of};
+
+use crate::op::Op;
+use crate::script::Script;
+
+/// The three words of an operation.
+fn op_words(op: Op) -> [u64; 3]
+    ensures words { result ≡ op_words op }
+    ensures within { IsWithin (2 ^ 32) op }
+{
+    match op {
+        Op::Get(c) => [0, c as u64, 0],
+        Op::Set(c, value) => [1, c as u64, value],
+        Op::Add(c, value) => [2, c as u64, value],
+        Op::Copy(from, to) => [3, from as u64, to as u64],
+        Op::Swap(a, b) => [4, a as u64, b as u64],
+    }
+}
+
+/// The operation of three words, or `None` where they are none.
+fn op_of(kind: u64, first: u64, second: u64) -> Option<Op>
+    ensures { result ≡ op_of kind first second }
+{
+    let c = u32::try_from(first).ok()?;
+    match kind {
+        0 if second == 0 => Some(Op::Get(c)),
+        1 => Some(Op::Set(c, second)),
+        2 => Some(Op::Add(c, second)),
+        3 => Some(Op::Copy(c, u32::try_from(second).ok()?)),
+        4 => Some(Op::Swap(c, u32::try_from(second).ok()?)),
+        _ => None,
+    }
+}
+
+/// The words of a script of at most eight operations: kind, first and second word of each operation, and 0 in
+/// the words that are not used.
+pub fn slate_words(script: &Script) -> [u64; 24]
+    requires { script.now.n ≤ 8 }
+    ensures words { result ≡ slate_of script.now.ops }
+    ensures back { script_of script.now.n result ≡ Some script.now }
+{
+    let mut words = [0; 24];
+    for i in 0..script.n() {
+        let start = 3 * i as usize;
+        words[start..start + 3].copy_from_slice(&op_words(script.op(i)));
+    }
+    words
+}
+
+/// The script of `n` operations that these words are.
+///
+/// It answers `None` where `n` is over 8, and where three of the first words are no operation: a kind above 4,
+/// a get whose second word is not 0, a cell number of 2^32 or more. Words after the first 3n are not read.
+pub fn from_slate(n: u64, words: &[u64; 24]) -> Option<Script>
+    ensures decoded { result ≡ script_of n words.now }
+    ensures exact { (p : Program) → (result ≡ Some p) ↔ IsSlate n words.now p }
+{
+    if n > 8 {
+        return None;
+    }
+    let n = n as usize;
+    let mut ops = [Op::Get(0); 8];
+    for i in 0..n {
+        let Some(op) = op_of(words[3 * i], words[3 * i + 1], words[3 * i + 2]) else {
+            return None;
+        };
+        ops[i] = op;
+    }
+    Some(Script::of(&ops[..n]))
+}
