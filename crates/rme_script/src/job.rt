@@ -3,7 +3,7 @@
 use crate::script::Script;
 
 /// A script to be run on the cells of a lock while that lock is held.
-#[derive(Clone, Copy, Debug)]
+#[derive(Clone, Copy, Debug, PartialEq, Eq)]
 pub struct Job {
     pub lock: u32,
     pub script: Script,

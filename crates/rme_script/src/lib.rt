@@ -14,6 +14,7 @@ mod mask;
 mod op;
 mod row;
 mod run;
+mod same;
 mod script;
 mod slate;
 

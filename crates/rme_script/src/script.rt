@@ -8,7 +8,7 @@ use std::marker::Model;
 /// Up to eight operations, in order, and how many there were.
 ///
 /// Two scripts are equal exactly where their operations and their numbers are.
-#[derive(Clone, Copy, Debug)]
+#[derive(Clone, Copy, Debug, PartialEq, Eq)]
 pub struct Script {
     ops: [Op; 8],
     n: u32,

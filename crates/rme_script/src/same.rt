@@ -1,0 +1,30 @@
+//! Whether two scripts are the same.
+
+ghost use Rattle.std.specs.Prelude.{◌≡◌, ◌↔◌, IsTrue};
+
+use crate::op::Op;
+use crate::script::Script;
+
+/// Two operations are the same.
+fn is_same(a: Op, b: Op) -> bool
+    ensures { IsTrue result ↔ (a ≡ b) }
+{
+    a == b
+}
+
+impl Script {
+    /// Says whether the two scripts have the same operations in the same order, and were given as many.
+    pub fn same(&self, other: &Script) -> bool
+        ensures { IsTrue result ↔ (self.now ≡ other.now) }
+    {
+        if self.n() != other.n() {
+            return false;
+        }
+        for i in 0..self.n().min(8) {
+            if !is_same(self.op(i), other.op(i)) {
+                return false;
+            }
+        }
+        true
+    }
+}
