@@ -1,0 +1,3 @@
+pub mod OperationLemmas
+pub mod TextLemmas
+pub mod NameLemmas

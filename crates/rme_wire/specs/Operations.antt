@@ -1,0 +1,43 @@
+-- The operations of scripts in lines: `["get",c]`, `["set",c,v]`, `["add",c,v]`, `["copy",a,b]`, `["swap",a,b]`.
+use Rattle.std.specs.Prelude.{ℕ, ◌==◌, List, [], ◌∷◌, length, take, min, bytes_eq, codes, if◌then◌else◌, Option, Some, None, option_map, option_and_then}
+use Rattle.serde_json.specs.Data.{Data, Items, no_items, item}
+use Rattle.serde_json.specs.Events.{items_len}
+use Rattle.serde_json.specs.Find.{at, as_array, as_number, as_str, as_u64}
+use Rattle.rme_script.specs.declared.op.Op.{Op}
+use Rattle.rme_script.specs.declared.op.Op.TheVariants.{Get, Set, Add, Copy, Swap}
+use Rattle.rme_script.specs.Programs.{Program}
+use Rattle.rme_wire.specs.Values.{small}
+
+-- an operation of two numbers, the first of which is read
+abbrev pub op_of_two : List ℕ → ℕ → Data → Option Op
+op_of_two word first second =
+    if bytes_eq word (codes "set") then option_map (λ v. Set first v) (option_and_then as_u64 (as_number second))
+    else (if bytes_eq word (codes "add") then option_map (λ v. Add first v) (option_and_then as_u64 (as_number second))
+    else (if bytes_eq word (codes "copy") then option_map (λ b. Copy first b) (small second)
+    else (if bytes_eq word (codes "swap") then option_map (λ b. Swap first b) (small second)
+    else None)))
+
+-- an operation with its name and its first number read, of a list of so many items
+abbrev pub op_named : ℕ → List ℕ → ℕ → Data → Option Op
+op_named count word first d =
+    if bytes_eq word (codes "get") then (if count == 2 then Some (Get first) else None)
+    else (if count == 3 then option_and_then (λ second. op_of_two word first second) (at 2 d) else None)
+
+-- the operation that a value is
+unfoldable pub op_of : Data → Option Op
+op_of d =
+    option_and_then (λ items. option_and_then (λ word. option_and_then (λ first. op_named (items_len items) word first d)
+    (option_and_then small (at 1 d))) (option_and_then as_str (at 0 d))) (as_array d)
+
+-- the operations of a list, in order, where each item is one
+unfoldable pub ops_of : Items → Option (List Op)
+ops_of no_items = Some []
+ops_of (item d ds) = option_and_then (λ o. option_map (λ os. o ∷ os) (ops_of ds)) (op_of d)
+
+-- the first eight operations, and their number, 9 if there are more
+abbrev pub program_of : List Op → Program
+program_of ops = record { n = min (length ops) 9; ops = take 8 ops }
+
+-- the script that a value is
+unfoldable pub script_of : Data → Option Program
+script_of d = option_and_then (λ items. option_map program_of (ops_of items)) (as_array d)

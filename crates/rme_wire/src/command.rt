@@ -1,0 +1,225 @@
+//! The commands of lines.
+
+ghost use Rattle.std.specs.Prelude.{◌≡◌, option_map, option_and_then};
+ghost use Rattle.serde_json.specs.View.{view};
+ghost use Rattle.rme_wire.specs.Commands as spec;
+
+use crate::names::Names;
+use crate::operation::script_of;
+use crate::value::small;
+use rme_script::Job;
+use serde_json::Value;
+
+/// The most steps of a walk whose line doesn't say.
+const MOST_STEPS: u32 = 10_000;
+
+/// The kind of note that ends a walk.
+#[derive(Clone, Copy, Debug, PartialEq, Eq)]
+pub enum Until {
+    Asked,
+    Entered,
+    Reentered,
+    Finished,
+    Left,
+    Ready,
+    Withdrew,
+}
+
+/// Steps of one worker, up to the first that ends them.
+#[derive(Clone, Copy, Debug)]
+pub struct Walk {
+    pub worker: u32,
+    pub until: Option<Until>,
+    /// 1 to 10,000.
+    pub max: u32,
+}
+
+/// A command of a line to an open world.
+///
+/// Locks are numbers. The number of a lock whose name wasn't opened is the number of names, which is no lock.
+#[derive(Clone, Copy, Debug)]
+pub enum Command {
+    Submit(u32, Job),
+    Step(u32),
+    Walk(Walk),
+    Crash(u32),
+    Restart(u32),
+    Withdraw(u32),
+    Owner(u32),
+    Cells(u32),
+    Last(u32),
+    History,
+}
+
+/// The number of a lock's name, or the number of names where there is no such name.
+#[tactic(auto, unfolding(crate::specs::Commands::lock_number))]
+fn lock_number(names: &Names, text: &str) -> u32
+    ensures { result ≡ spec.lock_number names.now text.now }
+{
+    match names.number(text) {
+        Some(number) => number,
+        None => names.len(),
+    }
+}
+
+/// A member that is the name of a lock.
+#[tactic(auto, unfolding(crate::specs::Commands::lock_of))]
+fn lock_of(names: &Names, value: &Value) -> Option<u32>
+    ensures { result ≡ spec.lock_of names.now (view value.now) }
+{
+    let name = value.get("lock")?.as_str()?;
+    Some(lock_number(names, name))
+}
+
+/// A member that is the number of a worker.
+#[tactic(auto, unfolding(crate::specs::Commands::worker_of))]
+fn worker_of(value: &Value) -> Option<u32>
+    ensures { result ≡ spec.worker_of (view value.now) }
+{
+    small(value.get("worker")?)
+}
+
+#[tactic(auto, unfolding(crate::specs::Commands::submit_of))]
+fn submit_of(names: &Names, count: usize, value: &Value) -> Option<Command>
+    ensures { result ≡ spec.submit_of names.now count (view value.now) }
+{
+    if count != 4 {
+        return None;
+    }
+    let worker = worker_of(value)?;
+    let lock = lock_of(names, value)?;
+    let script = script_of(value.get("script")?)?;
+    Some(Command::Submit(worker, Job { lock, script }))
+}
+
+#[tactic(auto, unfolding(crate::specs::Commands::until_of))]
+fn until_of(word: &str) -> Option<Until>
+    ensures { result ≡ spec.until_of word.now }
+{
+    if word == "asked" {
+        return Some(Until::Asked);
+    }
+    if word == "entered" {
+        return Some(Until::Entered);
+    }
+    if word == "reentered" {
+        return Some(Until::Reentered);
+    }
+    if word == "finished" {
+        return Some(Until::Finished);
+    }
+    if word == "left" {
+        return Some(Until::Left);
+    }
+    if word == "ready" {
+        return Some(Until::Ready);
+    }
+    if word == "withdrew" {
+        return Some(Until::Withdrew);
+    }
+    None
+}
+
+/// How many steps a walk may take: 1 to 10,000.
+#[tactic(auto, unfolding(crate::specs::Commands::max_of))]
+fn max_of(value: &Value) -> Option<u32>
+    ensures { result ≡ spec.max_of (view value.now) }
+{
+    let max = small(value)?;
+    if max == 0 || max > MOST_STEPS {
+        return None;
+    }
+    Some(max)
+}
+
+/// A walk whose two optional members are there or not as is said.
+#[tactic(auto, unfolding(crate::specs::Commands::walk_of))]
+fn walk_of(count: usize, value: &Value) -> Option<Command>
+    ensures { result ≡ spec.walk_of count (view value.now) }
+{
+    let worker = worker_of(value)?;
+    let mut expected = 2;
+    let mut until = None;
+    let mut max = MOST_STEPS;
+    if let Some(given) = value.get("until") {
+        until = Some(until_of(given.as_str()?)?);
+        expected += 1;
+    }
+    if let Some(given) = value.get("max") {
+        max = max_of(given)?;
+        expected += 1;
+    }
+    if count != expected {
+        return None;
+    }
+    Some(Command::Walk(Walk { worker, until, max }))
+}
+
+/// A command that names a worker alone.
+#[tactic(auto, unfolding(crate::specs::Commands::of_worker))]
+fn of_worker(word: &str, count: usize, value: &Value) -> Option<Command>
+    ensures { result ≡ spec.of_worker word.now count (view value.now) }
+{
+    if count != 2 {
+        return None;
+    }
+    let worker = worker_of(value)?;
+    if word == "step" {
+        return Some(Command::Step(worker));
+    }
+    if word == "crash" {
+        return Some(Command::Crash(worker));
+    }
+    if word == "restart" {
+        return Some(Command::Restart(worker));
+    }
+    if word == "withdraw" {
+        return Some(Command::Withdraw(worker));
+    }
+    if word == "last" {
+        return Some(Command::Last(worker));
+    }
+    None
+}
+
+/// A look-up that names a lock alone.
+#[tactic(auto, unfolding(crate::specs::Commands::of_lock))]
+fn of_lock(names: &Names, word: &str, count: usize, value: &Value) -> Option<Command>
+    ensures { result ≡ spec.of_lock names.now word.now count (view value.now) }
+{
+    if count != 2 {
+        return None;
+    }
+    let lock = lock_of(names, value)?;
+    if word == "owner" {
+        return Some(Command::Owner(lock));
+    }
+    if word == "cells" {
+        return Some(Command::Cells(lock));
+    }
+    None
+}
+
+/// The command that a value is, where its member `do` is a word and it has so many members.
+#[tactic(auto, unfolding(crate::specs::Commands::command_named))]
+pub fn command_named(names: &Names, word: &str, count: usize, value: &Value) -> Option<Command>
+    ensures { result ≡ spec.command_named names.now word.now count (view value.now) }
+{
+    if word == "submit" {
+        return submit_of(names, count, value);
+    }
+    if word == "walk" {
+        return walk_of(count, value);
+    }
+    if word == "history" {
+        return if count == 1 {
+            Some(Command::History)
+        } else {
+            None
+        };
+    }
+    if word == "owner" || word == "cells" {
+        return of_lock(names, word, count, value);
+    }
+    of_worker(word, count, value)
+}

@@ -1,0 +1,37 @@
+//! Numbers and counts of JSON values.
+
+ghost use Rattle.std.specs.Prelude.{◌≡◌, option_map, option_and_then};
+ghost use Rattle.serde_json.specs.Find.{as_array, as_object};
+ghost use Rattle.serde_json.specs.Events.{items_len, members_len};
+ghost use Rattle.serde_json.specs.View.{view};
+ghost use Rattle.rme_wire.specs.Values as spec;
+
+use serde_json::Value;
+
+/// How many keys an object has.
+pub fn key_count(value: &Value) -> Option<usize>
+    ensures { result ≡ option_map members_len (as_object (view value.now)) }
+{
+    let members = value.as_object()?;
+    Some(members.len())
+}
+
+/// How many items a list has.
+pub fn item_count(value: &Value) -> Option<usize>
+    ensures { result ≡ option_map items_len (as_array (view value.now)) }
+{
+    let items = value.as_array()?.as_slice();
+    Some(items.len())
+}
+
+/// A whole number below 2^32.
+#[tactic(auto, unfolding(crate::specs::Values::small))]
+pub fn small(value: &Value) -> Option<u32>
+    ensures { result ≡ spec.small (view value.now) }
+{
+    let number = value.as_u64()?;
+    if number > u64::from(u32::MAX) {
+        return None;
+    }
+    Some(number as u32)
+}
