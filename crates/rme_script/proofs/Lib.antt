@@ -8,3 +8,4 @@ pub mod Rising
 pub mod Slates
 pub mod Slating
 pub mod Readings
+pub mod Weaker

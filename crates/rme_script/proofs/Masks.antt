@@ -3,7 +3,7 @@ use Rattle.std.proofs.Common.{◌≡◌, ◌≢◌, ℕ, ◌+◌, ◌≤◌, Som
 use Rattle.std.specs.List.{list_any}
 use Rattle.std.specs.Int.{bit_at}
 use Rattle.std.proofs.lemmas.Bool.{cases_eq, eq-eqb, ne_eqb}
-use Rattle.std.proofs.lemmas.Nat.Bits.{bit_at-zero, bit_at_or, bit_at-pow_same, bit_at-pow_other}
+use Rattle.std.proofs.lemmas.Nat.Bits.{bit_at_or, bit_at-pow_same, bit_at-pow_other, same_from_bits}
 use Rattle.std.proofs.lemmas.List.{take_all}
 use Rattle.std.proofs.lemmas.List.Folds.{list_any-append}
 use Rattle.rme_script.specs.declared.op.Op.{Op}
@@ -55,3 +55,7 @@ pub mask_end : (mask i : ℕ) (ops : List Op) → length ops ≤ i → IsMask ma
 mask_end mask i ops past h =
     let P : List Op → Type 0 = λ os. IsMask mask os in
     subst P (take_all i ops past) h
+
+-- There is one mask.
+pub mask_unique : (mask other : ℕ) (ops : List Op) → IsMask mask ops → IsMask other ops → mask ≡ other
+mask_unique mask other ops m k = same_from_bits mask other (λ c. m c ∙ sym (k c))

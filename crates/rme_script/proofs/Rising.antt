@@ -1,9 +1,9 @@
 -- The rising list of the numbers that pass a test: its step, its length, its elements, and the cells of a mask.
-use Rattle.std.proofs.Common.{◌≡◌, ℕ, zero, suc, ◌+◌, ◌-◌, ◌<◌, ◌≤◌, Bool, true, false, ◌==◌, List, [], ◌∷◌, length, refl, sym, ap, ◌∙◌, inl, inr, arith, add-one}
+use Rattle.std.proofs.Common.{◌≡◌, ℕ, zero, suc, ◌+◌, ◌-◌, ◌<◌, ◌≤◌, Bool, true, false, ◌==◌, List, [], ◌∷◌, ◌++◌, length, refl, sym, subst, ap, ◌∙◌, inl, inr, arith, add-one}
 use Rattle.std.specs.Int.{bit_at}
 use Rattle.std.specs.List.{All, Contains}
 use Rattle.std.proofs.lemmas.Bool.{cases_Bool, cases_eq, false≢true}
-use Rattle.std.proofs.lemmas.List.Elements.{All-nil, All-cons}
+use Rattle.std.proofs.lemmas.List.Elements.{All-nil, All-cons, Contains-append_left, Contains-append_right, Contains-push}
 use Rattle.rme_script.specs.declared.op.Op.{Op}
 use Rattle.rme_script.specs.Cells.{named_by, bit_of, IsMask, has, passing, cells_named, cells_from, cells_of}
 
@@ -102,3 +102,63 @@ pub count_end : (mask cells c count : ℕ) → cells ≤ c → count + length (c
 count_end mask cells c count past h =
     let e : length (cells_from mask c cells) ≡ 0 = ap (λ (xs : List ℕ). length xs) (cells_from_end mask c cells past) in
     omega (arith, e, h)
+
+-- ---- which cells
+
+passing_all : (test : ℕ → Bool) (from count cells : ℕ) → from + count ≤ cells → All (λ (c : ℕ). (c < cells) × (test c ≡ true)) (passing test from count)
+passing_all test from zero cells l = All-nil (λ (c : ℕ). (c < cells) × (test c ≡ true))
+passing_all test from (suc count) cells l =
+    let rest : All (λ (c : ℕ). (c < cells) × (test c ≡ true)) (passing test (suc from) count) = passing_all test (suc from) count cells (omega (arith, l)) in
+    elim (cases_Bool (test from)) [
+      inl t ↦ subst (λ (xs : List ℕ). All (λ (c : ℕ). (c < cells) × (test c ≡ true)) xs) (sym (passing_hit test from count t))
+        (All-cons (λ (c : ℕ). (c < cells) × (test c ≡ true)) from (passing test (suc from) count) (omega (arith, l), t) rest)
+      | inr f ↦ subst (λ (xs : List ℕ). All (λ (c : ℕ). (c < cells) × (test c ≡ true)) xs) (sym (passing_miss test from count f)) rest
+    ]
+
+passing_has : (test : ℕ → Bool) (from count c : ℕ) → from ≤ c → c < from + count → test c ≡ true → Contains (passing test from count) c
+passing_has test from zero c a b t = absurd (omega (arith, a, b))
+passing_has test from (suc count) c a b t = elim (cases_eq c from) [
+  inl q ↦ subst (λ (xs : List ℕ). Contains xs c) (sym (passing_hit test from count (ap (λ (k : ℕ). test k) (sym q) ∙ t)))
+    (subst (λ (k : ℕ). Contains (k ∷ passing test (suc from) count) c) q (Contains-append_left (c ∷ []) (passing test (suc from) count) c (Contains-push [] c)))
+  | inr n ↦ let rest : Contains (passing test (suc from) count) c = passing_has test (suc from) count c (omega (arith, a, n)) (omega (arith, b)) t in
+      elim (cases_Bool (test from)) [
+        inl u ↦ subst (λ (xs : List ℕ). Contains xs c) (sym (passing_hit test from count u)) (Contains-append_right (from ∷ []) (passing test (suc from) count) c rest)
+        | inr u ↦ subst (λ (xs : List ℕ). Contains xs c) (sym (passing_miss test from count u)) rest
+      ]
+]
+
+pub cells_named_all : (mask cells : ℕ) → All (λ (c : ℕ). (c < cells) × (has mask c ≡ true)) (cells_named mask cells)
+unfolding cells_named
+cells_named_all mask cells = passing_all (has mask) 0 cells cells (omega arith)
+
+pub cells_named_has : (mask cells c : ℕ) → c < cells → has mask c ≡ true → Contains (cells_named mask cells) c
+unfolding cells_named
+cells_named_has mask cells c l t = passing_has (has mask) 0 cells c (omega arith) (omega (arith, l)) t
+
+pub cells_of_all : (ops : List Op) (cells : ℕ) → All (λ (c : ℕ). (c < cells) × (named_by ops c ≡ true)) (cells_of ops cells)
+unfolding cells_of
+cells_of_all ops cells = passing_all (named_by ops) 0 cells cells (omega arith)
+
+pub cells_of_has : (ops : List Op) (cells c : ℕ) → c < cells → named_by ops c ≡ true → Contains (cells_of ops cells) c
+unfolding cells_of
+cells_of_has ops cells c l t = passing_has (named_by ops) 0 cells c (omega arith) (omega (arith, l)) t
+
+-- ---- the cells before a cell, and the cells from it on
+
+passing_split : (test : ℕ → Bool) (from first second : ℕ) → passing test from (first + second) ≡ passing test from first ++ passing test (from + first) second
+passing_split test from zero second = let none : zero + second ≡ second = omega arith in let here : from + zero ≡ from = omega arith in rw (none, here) refl
+passing_split test from (suc first) second =
+    let more : suc first + second ≡ suc (first + second) = omega arith in
+    let on : from + suc first ≡ suc from + first = omega arith in
+    let rest : passing test (suc from) (first + second) ≡ passing test (suc from) first ++ passing test (suc from + first) second = passing_split test (suc from) first second in
+    rw (more, on) (elim (cases_Bool (test from)) [
+      inl t ↦ rw (t, rest) refl
+      | inr f ↦ rw (f, rest) refl
+    ])
+
+pub cells_named_split : (mask from cells : ℕ) → from ≤ cells → cells_named mask cells ≡ cells_named mask from ++ cells_from mask from cells
+unfolding cells_named cells_from
+cells_named_split mask from cells l =
+    let whole : cells ≡ from + (cells - from) = omega (arith, l) in
+    let start : 0 + from ≡ from = omega arith in
+    ap (λ (n : ℕ). passing (has mask) 0 n) whole ∙ passing_split (has mask) 0 from (cells - from) ∙ ap (λ (n : ℕ). passing (has mask) 0 from ++ passing (has mask) n (cells - from)) start

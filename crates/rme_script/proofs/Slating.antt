@@ -1,16 +1,16 @@
 -- The loop of `slate_words`: the words of one operation more.
-use Rattle.std.proofs.Common.{◌≡◌, ℕ, ◌+◌, ◌-◌, ◌*◌, ◌^◌, ◌<◌, ◌≤◌, Some, List, [], ◌∷◌, ◌++◌, length, take, drop, replicate, slice_get, refl, sym, ap, ◌∙◌, subst, arith}
+use Rattle.std.proofs.Common.{◌≡◌, ℕ, ◌+◌, ◌-◌, ◌*◌, ◌^◌, ◌<◌, ◌≤◌, zero, suc, get_or, Some, List, [], ◌∷◌, ◌++◌, length, take, drop, replicate, slice_get, refl, sym, ap, ◌∙◌, subst, arith}
 use Rattle.std.specs.List.{All}
-use Rattle.std.proofs.lemmas.List.{append_assoc, append-nil, length-append, length-take-le, length_push, take_at, take_all, drop-replicate}
+use Rattle.std.proofs.lemmas.List.{append_assoc, append-nil, length-append, length-take-le, length_push, take_at, take_all, drop-replicate, get_or_append_left, get_or-append-add}
 use Rattle.std.proofs.lemmas.List.{drop_at as drop_front}
 use Rattle.std.proofs.lemmas.List.Elements.{All-push}
-use Rattle.std.proofs.lemmas.Option.{slice_get_within}
+use Rattle.std.proofs.lemmas.Option.{slice_get_within, same_Some}
 use borrow.Rule.Slice.PartMut.{put_mid}
 use Rattle.rme_script.specs.declared.op.Op.{Op}
 use Rattle.rme_script.specs.declared.op.Op.TheVariants.{Get, Set, Add, Copy, Swap}
 use Rattle.rme_script.specs.Programs.{Program}
 use Rattle.rme_script.specs.Scripts.{IsWithin, IsScript}
-use Rattle.rme_script.specs.Slates.{op_words, words_of, slate_of, script_of}
+use Rattle.rme_script.specs.Slates.{op_words, words_of, slate_of, IsSlate, script_of}
 use Rattle.rme_script.proofs.Lists.{take_next}
 use Rattle.rme_script.proofs.Slates.{slate_back}
 
@@ -60,3 +60,24 @@ slated_back p i words few counted past w h =
     let all : take i p.ops ≡ p.ops = take_all i p.ops past in
     ap (λ (ws : List ℕ). script_of p.n ws) (w ∙ ap (λ (os : List Op). slate_of os) all)
     ∙ slate_back p (record { few = few; counted = counted; within = subst (λ (os : List Op). All (IsWithin (2 ^ 32)) os) all h })
+
+-- The words of a script lie at the front of its slate, three for each operation.
+pub slate_front : (ops : List Op) → take (3 * length ops) (slate_of ops) ≡ words_of ops
+slate_front ops = take_at (words_of ops) (replicate (24 - 3 * length ops) 0) (3 * length ops) (words_length ops)
+
+word_at : (o : Op) (rest : List ℕ) (k : ℕ) → k < 3 → get_or (op_words o ++ rest) k 0 ≡ get_or (op_words o) k 0
+word_at o rest k l = get_or_append_left (op_words o) rest 0 k (omega (arith, l, op_words_length o))
+
+pub words_at : (ops : List Op) (i : ℕ) (o : Op) (k : ℕ) → slice_get ops i ≡ Some o → k < 3 → get_or (words_of ops) (3 * i + k) 0 ≡ get_or (op_words o) k 0
+words_at [] i o k here l = cc
+words_at (p ∷ ps) zero o k here l =
+    let same : p ≡ o = same_Some p o here in
+    let start : 3 * zero + k ≡ k = omega arith in
+    rw (start, same) (word_at o (words_of ps) k l)
+words_at (p ∷ ps) (suc i) o k here l =
+    let on : 3 * suc i + k ≡ length (op_words p) + (3 * i + k) = omega (arith, op_words_length p) in
+    rw on (get_or-append-add (op_words p) (words_of ps) (3 * i + k) 0 ∙ words_at ps i o k here l)
+
+-- Words that begin with those of a script are its slate.
+pub words_slate : (p : Program) (words : List ℕ) → IsScript (2 ^ 32) p → take (3 * p.n) words ≡ words_of p.ops → IsSlate p.n words p
+words_slate p words s f = record { counted = refl; script = s; first = f }

@@ -1,6 +1,6 @@
 //! Whether a script may run on the rows of a shape.
 
-ghost use Rattle.std.specs.Prelude.{◌≡◌};
+ghost use Rattle.std.specs.Prelude.{◌≡◌, ◌↔◌};
 ghost use Rattle.rme_script.specs.Scripts.{IsScript, check_of, fits};
 
 use crate::op::Op;
@@ -24,7 +24,7 @@ impl Script {
     /// cell that the shape's locks don't have.
     pub fn check(&self, shape: Shape) -> Result<(), Refusal>
         ensures exact { result ≡ check_of shape.cells self.now }
-        ensures script { result ≡ Ok tt → IsScript shape.cells self.now }
+        ensures script { (result ≡ Ok tt) ↔ IsScript shape.cells self.now }
     {
         let n = self.n();
         if n > 8 {
