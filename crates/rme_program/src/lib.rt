@@ -10,14 +10,20 @@
 
 mod action;
 mod event;
+mod kinds;
+mod masks;
 mod note;
-mod phase;
+mod phases;
 mod private;
+mod progress;
 mod stage;
+mod steps;
 
 pub use action::Action;
 pub use event::{Answer, Event};
+pub use kinds::Phase;
 pub use note::{Entry, Note, Receipt};
-pub use phase::Phase;
 pub use private::Private;
+pub use progress::{left, phase};
 pub use stage::{Ascent, Departure, Log, Parity, Recovery, Redo, Slate, Stage, Visit};
+pub use steps::{after, next};

@@ -1,0 +1,111 @@
+//! Phase Section from the odd turn on: the worker copies what was written down, and then counts its job as
+//! done.
+
+ghost use Rattle.std.specs.Prelude.{◌≡◌, ◌<◌, ◌≤◌, ◌+◌, ◌/◌, IfSome};
+ghost use Rattle.rme_words.specs.Words.{IsOfShape};
+ghost use Rattle.rme_program.specs.Steps.{redo_action, after_redo, copies_from};
+ghost use Rattle.rme_program.specs.Conditions.{IsRedo, IsStage};
+ghost use Rattle.rme_program.specs.Did.{address_of};
+
+use crate::action::Action;
+use crate::masks::first_cell;
+use crate::note::{Note, Receipt};
+use crate::stage::{Departure, Redo, Stage, Visit};
+use rme_words::{Address, Shape};
+
+pub fn action(shape: Shape, worker: u32, begun: u32, redo: Redo) -> Action
+    requires worker { worker < shape.workers }
+    requires stage { IsRedo shape redo }
+    ensures action { result ≡ redo_action worker begun redo }
+    ensures within { IsOfShape shape (address_of result) }
+{
+    match redo {
+        Redo::LoadMask { visit } => Action::Load(Address::Mask(visit.lock)),
+        Redo::LoadShadow { visit, cell, .. } => Action::Load(Address::Shadow(visit.lock, cell)),
+        Redo::StoreCell {
+            visit,
+            cell,
+            value,
+            ..
+        } => Action::Store(Address::Cell(visit.lock, cell), value),
+        Redo::LoadReply { visit, .. } => Action::Load(Address::ShadowReply(visit.lock)),
+        Redo::StoreReply { reply, .. } => Action::Store(Address::Reply(worker), reply),
+        Redo::StorePlace { visit, .. } => Action::Store(
+            Address::Place(worker),
+            u64::from(visit.turn / 2),
+        ),
+        Redo::StoreAt { visit, .. } => Action::Store(Address::At(worker), u64::from(visit.lock)),
+        Redo::StoreDone { .. } => Action::Store(Address::Done(worker), u64::from(begun)),
+    }
+}
+
+pub fn after(shape: Shape, worker: u32, begun: u32, redo: Redo, value: u64) -> (Stage, Note)
+    requires { IsRedo shape redo }
+    ensures after { result ≡ after_redo shape worker begun redo value }
+    ensures stage { IsStage shape begun result.0 }
+{
+    let stage = match redo {
+        Redo::LoadMask { visit } => copies_from(visit, value, first_cell(value, 0, shape.cells)),
+        Redo::LoadShadow { visit, mask, cell } => Stage::Copying(Redo::StoreCell {
+            visit,
+            mask,
+            cell,
+            value,
+        }),
+        Redo::StoreCell {
+            visit,
+            mask,
+            cell,
+            ..
+        } => { copies_from(visit, mask, first_cell(mask, cell + 1, shape.cells)) }
+        Redo::LoadReply { visit, mask } => Stage::Copying(Redo::StoreReply {
+            visit,
+            mask,
+            reply: value,
+        }),
+        Redo::StoreReply { visit, mask, reply } => Stage::Copying(Redo::StorePlace {
+            visit,
+            mask,
+            reply,
+        }),
+        Redo::StorePlace { visit, mask, reply } => Stage::Copying(Redo::StoreAt {
+            visit,
+            mask,
+            reply,
+        }),
+        Redo::StoreAt { visit, mask, reply } => Stage::Copying(Redo::StoreDone {
+            visit,
+            mask,
+            reply,
+        }),
+        Redo::StoreDone { visit, reply, .. } => return finished(worker, begun, visit, reply),
+    };
+    (stage, Note::Quiet)
+}
+
+/// The job is done.
+fn finished(worker: u32, begun: u32, visit: Visit, reply: u64) -> (Stage, Note)
+    ensures { result ≡ (Stage.Leaving (Departure.LoadExitTurn visit.lock), Note.Finished record { worker = worker; lock = visit.lock; number = begun; place = visit.turn / 2; reply = reply }) }
+{
+    let receipt = Receipt {
+        worker,
+        lock: visit.lock,
+        number: begun,
+        place: visit.turn / 2,
+        reply,
+    };
+    (
+        Stage::Leaving(Departure::LoadExitTurn { lock: visit.lock }),
+        Note::Finished(receipt),
+    )
+}
+
+/// The mask's cells before `next` are copied.
+fn copies_from(visit: Visit, mask: u64, next: Option<u32>) -> Stage
+    ensures { result ≡ copies_from visit mask next }
+{
+    match next {
+        Some(cell) => Stage::Copying(Redo::LoadShadow { visit, mask, cell }),
+        None => Stage::Copying(Redo::LoadReply { visit, mask }),
+    }
+}

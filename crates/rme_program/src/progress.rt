@@ -1,0 +1,123 @@
+//! How far a worker is: its phase, and how many steps are left in it.
+
+ghost use Rattle.std.specs.Prelude.{◌≡◌, ◌≤◌, ◌+◌};
+ghost use Rattle.rme_program.specs.Phases.{cells_below, phase_of, left_of, left_of_recovery, left_of_log, left_of_redo, left_of_departure};
+ghost use Rattle.rme_program.specs.Conditions.{IsPrivate, IsRecovery, IsLog, IsRedo, IsDeparture};
+
+use crate::kinds::Phase;
+use crate::private::Private;
+use crate::stage::{Departure, Log, Recovery, Redo, Stage};
+use rme_script::cell_count;
+use rme_words::Shape;
+
+/// The phase that a worker is in.
+pub fn phase(private: &Private) -> Phase
+    ensures { result ≡ phase_of private.now.stage }
+{
+    match private.stage {
+        Stage::Resting => Phase::Ready,
+        Stage::Recovering(_) => Phase::Recover,
+        Stage::Posting(_) => Phase::Post,
+        Stage::Climbing(_) => Phase::Enter,
+        Stage::Logging(_) | Stage::Copying(_) => Phase::Section,
+        Stage::Leaving(_) => Phase::Exit,
+    }
+}
+
+/// The most own steps that are left to a worker in its phase, blocked ones aside.
+///
+/// In a section it is an upper bound until the mask is loaded: a script that names fewer cells than the lock
+/// has takes fewer steps.
+pub fn left(shape: Shape, private: &Private) -> u32
+    requires { IsPrivate shape private.now }
+    ensures { result ≡ left_of shape private.now.stage }
+{
+    match private.stage {
+        Stage::Resting => 0,
+        Stage::Recovering(recovery) => left_of_recovery(shape, recovery),
+        Stage::Posting(slate) => 3 + 3 * slate.job.script.n() - slate.stored,
+        Stage::Climbing(ascent) => shape.height - ascent.held,
+        Stage::Logging(log) => left_of_log(shape, log),
+        Stage::Copying(redo) => left_of_redo(shape, redo),
+        Stage::Leaving(departure) => left_of_departure(shape, departure),
+    }
+}
+
+fn left_of_recovery(shape: Shape, recovery: Recovery) -> u32
+    requires { IsRecovery shape recovery }
+    ensures { result ≡ left_of_recovery shape recovery }
+{
+    match recovery {
+        Recovery::LoadBegun => shape.height + 3,
+        Recovery::LoadDone => shape.height + 2,
+        Recovery::LoadLock { .. } => shape.height + 1,
+        Recovery::LoadPath { held, .. } => shape.height - held,
+    }
+}
+
+fn left_of_log(shape: Shape, log: Log) -> u32
+    requires { IsLog shape log }
+    ensures { result ≡ left_of_log shape log }
+{
+    let cells = shape.cells;
+    match log {
+        Log::LoadTurn { .. } => 35 + 4 * cells,
+        Log::LoadLen { .. } => 34 + 4 * cells,
+        Log::LoadSlate {
+            operations,
+            loaded,
+            ..
+        } => 9 + 3 * operations + 4 * cells - loaded,
+        Log::LoadCells { named, cell, .. } => {
+            9 + 2 * cell_count(named, cells) + 2 * cells - cell_count(named, cell)
+        }
+        Log::StoreShadows { named, cell, .. } => {
+            9 + cell_count(named, cells) + 2 * cells - cell_count(named, cell)
+        }
+        Log::StoreShadowReply { .. } => 9 + 2 * cells,
+        Log::StoreMask { .. } => 8 + 2 * cells,
+        Log::StoreTurn { .. } => 7 + 2 * cells,
+    }
+}
+
+/// How many cells of a mask are at or after `cell` and below `cells`.
+fn cells_left(mask: u64, cell: u32, cells: u32) -> u32
+    requires within { cell ≤ cells }
+    requires few { cells ≤ 16 }
+    ensures sum { result + cells_below mask cell ≡ cells_below mask cells }
+    ensures most { result ≤ cells }
+{
+    cell_count(mask, cells) - cell_count(mask, cell)
+}
+
+fn left_of_redo(shape: Shape, redo: Redo) -> u32
+    requires { IsRedo shape redo }
+    ensures { result ≡ left_of_redo shape redo }
+{
+    let cells = shape.cells;
+    match redo {
+        Redo::LoadMask { .. } => 6 + 2 * cells,
+        Redo::LoadShadow { mask, cell, .. } => 5 + 2 * cells_left(mask, cell, cells),
+        Redo::StoreCell { mask, cell, .. } => 4 + 2 * cells_left(mask, cell, cells),
+        Redo::LoadReply { .. } => 5,
+        Redo::StoreReply { .. } => 4,
+        Redo::StorePlace { .. } => 3,
+        Redo::StoreAt { .. } => 2,
+        Redo::StoreDone { .. } => 1,
+    }
+}
+
+fn left_of_departure(shape: Shape, departure: Departure) -> u32
+    requires { IsDeparture shape departure }
+    ensures { result ≡ left_of_departure shape departure }
+{
+    match departure {
+        Departure::LoadExitTurn { .. } => shape.height + 2,
+        Departure::StoreExitTurn { .. } => shape.height + 1,
+        Departure::Clear { level, .. } => level,
+        Departure::WithdrawPlace { held, .. } => 4 + held,
+        Departure::WithdrawAt { held, .. } => 3 + held,
+        Departure::WithdrawReply { held, .. } => 2 + held,
+        Departure::WithdrawDone { held, .. } => 1 + held,
+    }
+}
