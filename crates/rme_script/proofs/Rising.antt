@@ -110,19 +110,19 @@ passing_all test from zero cells l = All-nil (λ (c : ℕ). (c < cells) × (test
 passing_all test from (suc count) cells l =
     let rest : All (λ (c : ℕ). (c < cells) × (test c ≡ true)) (passing test (suc from) count) = passing_all test (suc from) count cells (omega (arith, l)) in
     elim (cases_Bool (test from)) [
-      inl t ↦ subst (λ (xs : List ℕ). All (λ (c : ℕ). (c < cells) × (test c ≡ true)) xs) (sym (passing_hit test from count t))
-        (All-cons (λ (c : ℕ). (c < cells) × (test c ≡ true)) from (passing test (suc from) count) (omega (arith, l), t) rest)
+      | inl t ↦ subst (λ (xs : List ℕ). All (λ (c : ℕ). (c < cells) × (test c ≡ true)) xs) (sym (passing_hit test from count t))
+          (All-cons (λ (c : ℕ). (c < cells) × (test c ≡ true)) from (passing test (suc from) count) (omega (arith, l), t) rest)
       | inr f ↦ subst (λ (xs : List ℕ). All (λ (c : ℕ). (c < cells) × (test c ≡ true)) xs) (sym (passing_miss test from count f)) rest
     ]
 
 passing_has : (test : ℕ → Bool) (from count c : ℕ) → from ≤ c → c < from + count → test c ≡ true → Contains (passing test from count) c
 passing_has test from zero c a b t = absurd (omega (arith, a, b))
 passing_has test from (suc count) c a b t = elim (cases_eq c from) [
-  inl q ↦ subst (λ (xs : List ℕ). Contains xs c) (sym (passing_hit test from count (ap (λ (k : ℕ). test k) (sym q) ∙ t)))
-    (subst (λ (k : ℕ). Contains (k ∷ passing test (suc from) count) c) q (Contains-append_left (c ∷ []) (passing test (suc from) count) c (Contains-push [] c)))
+  | inl q ↦ subst (λ (xs : List ℕ). Contains xs c) (sym (passing_hit test from count (ap (λ (k : ℕ). test k) (sym q) ∙ t)))
+      (subst (λ (k : ℕ). Contains (k ∷ passing test (suc from) count) c) q (Contains-append_left (c ∷ []) (passing test (suc from) count) c (Contains-push [] c)))
   | inr n ↦ let rest : Contains (passing test (suc from) count) c = passing_has test (suc from) count c (omega (arith, a, n)) (omega (arith, b)) t in
       elim (cases_Bool (test from)) [
-        inl u ↦ subst (λ (xs : List ℕ). Contains xs c) (sym (passing_hit test from count u)) (Contains-append_right (from ∷ []) (passing test (suc from) count) c rest)
+        | inl u ↦ subst (λ (xs : List ℕ). Contains xs c) (sym (passing_hit test from count u)) (Contains-append_right (from ∷ []) (passing test (suc from) count) c rest)
         | inr u ↦ subst (λ (xs : List ℕ). Contains xs c) (sym (passing_miss test from count u)) rest
       ]
 ]
@@ -152,7 +152,7 @@ passing_split test from (suc first) second =
     let on : from + suc first ≡ suc from + first = omega arith in
     let rest : passing test (suc from) (first + second) ≡ passing test (suc from) first ++ passing test (suc from + first) second = passing_split test (suc from) first second in
     rw (more, on) (elim (cases_Bool (test from)) [
-      inl t ↦ rw (t, rest) refl
+      | inl t ↦ rw (t, rest) refl
       | inr f ↦ rw (f, rest) refl
     ])
 

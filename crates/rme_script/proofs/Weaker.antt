@@ -61,18 +61,18 @@ names_below cells (Get a) c h t = omega (arith, h, eqb-true a c t)
 names_below cells (Set a v) c h t = omega (arith, h, eqb-true a c t)
 names_below cells (Add a v) c h t = omega (arith, h, eqb-true a c t)
 names_below cells (Copy a b) c h t = elim (or_cases (a == c) (b == c) t) [
-  inl q ↦ omega (arith, h.0, eqb-true a c q)
+  | inl q ↦ omega (arith, h.0, eqb-true a c q)
   | inr q ↦ omega (arith, h.1, eqb-true b c q)
 ]
 names_below cells (Swap a b) c h t = elim (or_cases (a == c) (b == c) t) [
-  inl q ↦ omega (arith, h.0, eqb-true a c q)
+  | inl q ↦ omega (arith, h.0, eqb-true a c q)
   | inr q ↦ omega (arith, h.1, eqb-true b c q)
 ]
 
 pub named_below : (cells : ℕ) (ops : List Op) (c : ℕ) → All (IsWithin cells) ops → named_by ops c ≡ true → c < cells
 named_below cells [] c h t = absurd (false≢true t)
 named_below cells (o ∷ os) c h t = elim (or_cases (names o c) (named_by os c) t) [
-  inl q ↦ names_below cells o c (All-head (IsWithin cells) o os h) q
+  | inl q ↦ names_below cells o c (All-head (IsWithin cells) o os h) q
   | inr q ↦ named_below cells os c (All-tail (IsWithin cells) o os h) q
 ]
 

@@ -17,6 +17,8 @@ mod run;
 mod same;
 mod script;
 mod slate;
+#[cfg(test)]
+mod tests;
 
 pub use job::Job;
 pub use mask::{cell_count, named, next_cell};

@@ -1,0 +1,177 @@
+//! Values worked out by hand.
+
+use crate::{Job, Op, Row, Script, cell_count, eval, from_slate, named, next_cell, slate_words};
+use rme_words::{Refusal, Shape};
+use std::test::Fail;
+
+const FIVE: [Op; 5] = [
+    Op::Set(1, 5),
+    Op::Set(0, u64::MAX),
+    Op::Add(0, 1),
+    Op::Swap(0, 0),
+    Op::Copy(1, 1),
+];
+
+const FIVE_WORDS: [u64; 24] = [
+    1,
+    1,
+    5,
+    1,
+    0,
+    18446744073709551615,
+    2,
+    0,
+    1,
+    4,
+    0,
+    0,
+    3,
+    1,
+    1,
+    0,
+    0,
+    0,
+    0,
+    0,
+    0,
+    0,
+    0,
+    0,
+];
+
+#[test]
+fn runs_five_operations(rt: HostRuntime) -> Result<(), Fail> {
+    let shape = Shape::new(1, 1, 2, 1)?;
+    let script = Script::of(&FIVE);
+    script.check(shape)?;
+    let mut row = Row::zeros(shape);
+    let reply = eval(&script, &mut row);
+    assert_eq!(rt; reply, 5);
+    assert_eq!(rt; row.len(), 2);
+    assert_eq!(rt; row.get(0), 0);
+    assert_eq!(rt; row.get(1), 5);
+    Ok(())
+}
+
+#[test]
+fn runs_each_operation(rt: HostRuntime) -> Result<(), Fail> {
+    let shape = Shape::new(1, 1, 3, 1)?;
+    let table = [
+        (Op::Get(1), 20, [10, 20, 30]),
+        (Op::Set(2, 7), 7, [10, 20, 7]),
+        (Op::Add(1, u64::MAX), 19, [10, 19, 30]),
+        (Op::Copy(0, 2), 10, [10, 20, 10]),
+        (Op::Swap(0, 1), 10, [20, 10, 30]),
+    ];
+    for (op, reply, cells) in table {
+        let script = Script::of(&[op]);
+        script.check(shape)?;
+        let mut row = Row::zeros(shape);
+        row.set(0, 10);
+        row.set(1, 20);
+        row.set(2, 30);
+        assert_eq!(rt; eval(&script, &mut row), reply, "{op:?}");
+        assert_eq!(rt; row.len(), 3);
+        assert_eq!(rt; [row.get(0), row.get(1), row.get(2)], cells, "{op:?}");
+    }
+    Ok(())
+}
+
+#[test]
+fn replies_0_to_the_empty_script(rt: HostRuntime) -> Result<(), Fail> {
+    let shape = Shape::new(1, 1, 1, 1)?;
+    let script = Script::of(&[]);
+    script.check(shape)?;
+    let mut row = Row::zeros(shape);
+    row.set(0, 9);
+    assert_eq!(rt; eval(&script, &mut row), 0);
+    assert_eq!(rt; named(&script), 0);
+    Ok(())
+}
+
+#[test]
+fn names_two_of_sixteen_cells(rt: HostRuntime) -> Result<(), Fail> {
+    let shape = Shape::new(1, 1, 16, 1)?;
+    let script = Script::of(&[Op::Copy(3, 7)]);
+    script.check(shape)?;
+    let mask = named(&script);
+    assert_eq!(rt; mask, 136);
+    assert_eq!(rt; cell_count(mask, 16), 2);
+    assert_eq!(rt; cell_count(mask, 7), 1);
+    assert_eq!(rt; next_cell(mask, 0, 16), Some(3));
+    assert_eq!(rt; next_cell(mask, 4, 16), Some(7));
+    assert_eq!(rt; next_cell(mask, 8, 16), None);
+    assert_eq!(rt; next_cell(mask, 4, 7), None);
+    Ok(())
+}
+
+#[test]
+fn writes_and_reads_slates(rt: HostRuntime) -> Result<(), Fail> {
+    let shape = Shape::new(1, 1, 2, 1)?;
+    let script = Script::of(&FIVE);
+    script.check(shape)?;
+    assert_eq!(rt; slate_words(&script), FIVE_WORDS);
+    assert_eq!(rt; from_slate(5, &FIVE_WORDS), Some(script));
+    assert_eq!(rt;
+        from_slate(2, &FIVE_WORDS),
+        Some(Script::of(&[Op::Set(1, 5), Op::Set(0, u64::MAX)]))
+    );
+    assert_eq!(rt; from_slate(8, &[0; 24]), Some(Script::of(&[Op::Get(0); 8])));
+    assert_eq!(rt; from_slate(9, &[0; 24]), None);
+    Ok(())
+}
+
+#[test]
+fn reads_no_script_from_other_words(rt: HostRuntime) {
+    let mut words = [0; 24];
+    words[3] = 5;
+    assert_eq!(rt; from_slate(2, &words), None, "kind 5");
+    assert_eq!(rt; from_slate(1, &words), Some(Script::of(&[Op::Get(0)])));
+    words[3] = 0;
+    words[5] = 1;
+    assert_eq!(rt; from_slate(2, &words), None, "a get with a second word");
+    words[5] = 0;
+    words[4] = 4294967296;
+    assert_eq!(rt; from_slate(2, &words), None, "a cell of 2^32");
+    words[4] = 4294967295;
+    assert_eq!(rt;
+        from_slate(2, &words),
+        Some(Script::of(&[Op::Get(0), Op::Get(4294967295)]))
+    );
+}
+
+#[test]
+fn checks_the_number_before_the_cells(rt: HostRuntime) -> Result<(), Fail> {
+    let shape = Shape::new(1, 1, 2, 1)?;
+    assert_eq!(rt;
+        Script::of(&[Op::Get(2); 9]).check(shape),
+        Err(Refusal::BadScript)
+    );
+    assert_eq!(rt;
+        Script::of(&[Op::Get(1); 9]).check(shape),
+        Err(Refusal::BadScript)
+    );
+    assert_eq!(rt;
+        Script::of(&[Op::Swap(1, 2)]).check(shape),
+        Err(Refusal::NoCell)
+    );
+    assert_eq!(rt; Script::of(&[Op::Get(1); 8]).check(shape), Ok(()));
+    Ok(())
+}
+
+#[test]
+fn keeps_eight_operations(rt: HostRuntime) {
+    let many = Script::of(&[Op::Get(1); 11]);
+    assert_eq!(rt; many.n(), 9);
+    let two = Script::of(&[Op::Get(1), Op::Add(1, 2)]);
+    assert_eq!(rt; two.n(), 2);
+    assert_eq!(rt; two.op(1), Op::Add(1, 2));
+    assert!(rt; two.same(&Script::of(&[Op::Get(1), Op::Add(1, 2)])));
+    assert!(rt; !two.same(&Script::of(&[Op::Get(1), Op::Add(1, 3)])));
+    assert!(rt; !two.same(&Script::of(&[Op::Get(1)])));
+    let job = Job {
+        lock: 3,
+        script: two,
+    };
+    assert_eq!(rt; job.lock, 3);
+}
