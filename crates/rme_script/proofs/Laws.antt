@@ -1,13 +1,12 @@
 -- The laws of `eval`: it keeps the length of a row, leaves the cells that the script does not name, and goes
 -- by the named cells alone. None of them asks that the script fit the row.
-use Rattle.std.proofs.Common.{◌≡◌, ◌≢◌, ℕ, ◌+◌, ◌%◌, ◌^◌, ◌<◌, ◌≤◌, Bool, true, false, ◌==◌, ◌||◌, List, [], ◌∷◌, length, get_or, set, refl, sym, ap, ◌∙◌, inl, inr, arith}
-use Rattle.std.specs.List.{list_any}
+use Rattle.std.proofs.Common.{◌≡◌, ◌≢◌, ℕ, ◌+◌, ◌%◌, ◌^◌, true, false, ◌==◌, List, [], ◌∷◌, length, get_or, set, refl, sym, ap, ◌∙◌, inl, inr, arith}
 use Rattle.std.proofs.lemmas.Bool.{cases_eq, cases_lt, eq-eqb, eqb-false, or_parts, or_left, or_right}
 use Rattle.std.proofs.lemmas.List.{length-set, get_or-set_same, get_or-set_other, set_past}
 use Rattle.rme_script.specs.declared.op.Op.{Op}
 use Rattle.rme_script.specs.declared.op.Op.TheVariants.{Get, Set, Add, Copy, Swap}
 use Rattle.rme_script.specs.Cells.{names, named_by}
-use Rattle.rme_script.specs.Eval.{op_row, op_value, last_named, Ran, run_from, eval_of, Agree, AgreeNamed}
+use Rattle.rme_script.specs.Eval.{op_row, op_value, last_named, run_from, eval_of, Agree, AgreeNamed}
 
 -- ---- the length of the row
 

@@ -4,7 +4,7 @@ use Rattle.std.proofs.lemmas.Bool.{le-ltb}
 use Rattle.std.proofs.lemmas.List.{append_assoc, append-nil, length-set, length-take-le, take_all, drop_more, take_more_set}
 use Rattle.rme_script.specs.declared.op.Op.{Op}
 use Rattle.rme_script.specs.Programs.{Program}
-use Rattle.rme_script.specs.Slates.{op_of, joined, ops_of, script_by, script_of}
+use Rattle.rme_script.specs.Slates.{op_of, joined, ops_of, script_of}
 
 -- What was read, before what is read later.
 abbrev pub before : List Op → Option (List Op) → Option (List Op)

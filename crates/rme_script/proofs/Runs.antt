@@ -1,5 +1,5 @@
 -- The loop of `eval`: what is left of the operations, from the row so far, gives what all of them give.
-use Rattle.std.proofs.Common.{◌≡◌, ℕ, ◌+◌, ◌≤◌, false, Some, List, [], ◌∷◌, length, get_or, drop, slice_get, subst, refl, sym, ap, ◌∙◌}
+use Rattle.std.proofs.Common.{◌≡◌, ℕ, ◌+◌, ◌≤◌, false, Some, List, length, get_or, drop, slice_get, subst, refl, sym, ap, ◌∙◌}
 use Rattle.std.proofs.lemmas.List.{drop_all}
 use Rattle.rme_script.specs.declared.op.Op.{Op}
 use Rattle.rme_script.specs.Cells.{named_by}

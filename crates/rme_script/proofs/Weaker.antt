@@ -1,7 +1,7 @@
 -- A script of a small row is a script of a larger one, and names no cell past its row.
-use Rattle.std.proofs.Common.{◌≡◌, ℕ, ◌^◌, ◌<◌, ◌≤◌, Bool, true, false, ◌==◌, ◌||◌, List, [], ◌∷◌, Result, Ok, nat_lt, min, length, refl, sym, ap, ◌∙◌, inl, inr, arith}
+use Rattle.std.proofs.Common.{◌≡◌, ℕ, ◌^◌, ◌<◌, ◌≤◌, true, false, ◌==◌, List, [], ◌∷◌, Ok, nat_lt, refl, sym, ◌∙◌, inl, inr, arith}
 use Rattle.std.specs.List.{All, list_all}
-use Rattle.std.proofs.lemmas.Bool.{cases_Bool, false≢true, eqb-true, or_cases, lt-ltb, le-ltb, and_from, false_from_ne_true}
+use Rattle.std.proofs.lemmas.Bool.{false≢true, eqb-true, or_cases, lt-ltb, le-ltb, and_from, false_from_ne_true}
 use Rattle.std.proofs.lemmas.List.Elements.{All-weaker, All-head, All-tail}
 use Rattle.rme_words.specs.declared.shape.Shape.{Shape}
 use Rattle.rme_script.specs.declared.op.Op.{Op}

@@ -3,6 +3,7 @@
 ghost use Rattle.std.specs.Prelude.{◌≡◌, ◌↔◌};
 ghost use Rattle.rme_script.specs.Scripts.{IsScript, check_of, fits};
 
+use crate::limits::MOST_OPERATIONS;
 use crate::op::Op;
 use crate::script::Script;
 use rme_words::{Refusal, Shape};
@@ -27,7 +28,7 @@ impl Script {
         ensures script { (result ≡ Ok tt) ↔ IsScript shape.cells self.now }
     {
         let n = self.n();
-        if n > 8 {
+        if n > MOST_OPERATIONS as u32 {
             return Err(Refusal::BadScript);
         }
         for i in 0..n {

@@ -10,6 +10,7 @@
 
 mod check;
 mod job;
+mod limits;
 mod mask;
 mod op;
 mod row;
@@ -21,6 +22,7 @@ mod slate;
 mod tests;
 
 pub use job::Job;
+pub use limits::{MOST_OPERATIONS, OPERATION_WORDS, SLATE_WORDS};
 pub use mask::{cell_count, named, next_cell};
 pub use op::Op;
 pub use row::Row;

@@ -2,6 +2,7 @@
 
 ghost use Rattle.std.specs.Prelude.{◌≡◌, ◌↔◌, IsTrue};
 
+use crate::limits::MOST_OPERATIONS;
 use crate::op::Op;
 use crate::script::Script;
 
@@ -20,7 +21,7 @@ impl Script {
         if self.n() != other.n() {
             return false;
         }
-        for i in 0..self.n().min(8) {
+        for i in 0..self.n().min(MOST_OPERATIONS as u32) {
             if !is_same(self.op(i), other.op(i)) {
                 return false;
             }

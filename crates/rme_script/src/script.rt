@@ -2,6 +2,7 @@
 
 ghost use Rattle.std.specs.Prelude.{◌≡◌, ◌<◌, ◌≤◌, min, take, length, slice_get};
 
+use crate::limits::MOST_OPERATIONS;
 use crate::op::Op;
 use std::marker::Model;
 
@@ -10,7 +11,7 @@ use std::marker::Model;
 /// Two scripts are equal exactly where their operations and their numbers are.
 #[derive(Clone, Copy, Debug, PartialEq, Eq)]
 pub struct Script {
-    ops: [Op; 8],
+    ops: [Op; MOST_OPERATIONS],
     n: u32,
 }
 
@@ -37,12 +38,12 @@ impl Script {
     pub fn of(ops: &[Op]) -> Script
         ensures { result ≡ record { n = min (length ops.now) 9; ops = take 8 ops.now } }
     {
-        let count = ops.len().min(8);
-        let mut kept = [Op::Get(0); 8];
+        let count = ops.len().min(MOST_OPERATIONS);
+        let mut kept = [Op::Get(0); MOST_OPERATIONS];
         kept[..count].copy_from_slice(&ops[..count]);
         Script {
             ops: kept,
-            n: ops.len().min(9) as u32,
+            n: ops.len().min(MOST_OPERATIONS + 1) as u32,
         }
     }
 

@@ -5,11 +5,12 @@ ghost use Rattle.rme_script.specs.Programs.{Program};
 ghost use Rattle.rme_script.specs.Scripts.{IsWithin};
 ghost use Rattle.rme_script.specs.Slates.{IsSlate, op_words, op_of, slate_of, script_of};
 
+use crate::limits::{MOST_OPERATIONS, OPERATION_WORDS, SLATE_WORDS};
 use crate::op::Op;
 use crate::script::Script;
 
 /// The three words of an operation.
-fn op_words(op: Op) -> [u64; 3]
+fn op_words(op: Op) -> [u64; OPERATION_WORDS]
     ensures words { result ≡ op_words op }
     ensures within { IsWithin (2 ^ 32) op }
 {
@@ -39,15 +40,15 @@ fn op_of(kind: u64, first: u64, second: u64) -> Option<Op>
 
 /// The words of a script of at most eight operations: kind, first and second word of each operation, and 0 in
 /// the words that are not used.
-pub fn slate_words(script: &Script) -> [u64; 24]
+pub fn slate_words(script: &Script) -> [u64; SLATE_WORDS]
     requires { script.now.n ≤ 8 }
     ensures words { result ≡ slate_of script.now.ops }
     ensures back { script_of script.now.n result ≡ Some script.now }
 {
-    let mut words = [0; 24];
+    let mut words = [0; SLATE_WORDS];
     for i in 0..script.n() {
-        let start = 3 * i as usize;
-        words[start..start + 3].copy_from_slice(&op_words(script.op(i)));
+        let start = OPERATION_WORDS * i as usize;
+        words[start..start + OPERATION_WORDS].copy_from_slice(&op_words(script.op(i)));
     }
     words
 }
@@ -56,17 +57,18 @@ pub fn slate_words(script: &Script) -> [u64; 24]
 ///
 /// It answers `None` where `n` is over 8, and where three of the first words are no operation: a kind above 4,
 /// a get whose second word is not 0, a cell number of 2^32 or more. Words after the first 3n are not read.
-pub fn from_slate(n: u64, words: &[u64; 24]) -> Option<Script>
+pub fn from_slate(n: u64, words: &[u64; SLATE_WORDS]) -> Option<Script>
     ensures decoded { result ≡ script_of n words.now }
     ensures exact { (p : Program) → (result ≡ Some p) ↔ IsSlate n words.now p }
 {
-    if n > 8 {
+    if n > MOST_OPERATIONS as u64 {
         return None;
     }
     let n = n as usize;
-    let mut ops = [Op::Get(0); 8];
+    let mut ops = [Op::Get(0); MOST_OPERATIONS];
     for i in 0..n {
-        let Some(op) = op_of(words[3 * i], words[3 * i + 1], words[3 * i + 2]) else {
+        let at = OPERATION_WORDS * i;
+        let Some(op) = op_of(words[at], words[at + 1], words[at + 2]) else {
             return None;
         };
         ops[i] = op;

@@ -1,5 +1,4 @@
-use Rattle.std.proofs.Common.{◌≡◌, ℕ, ◌+◌, length, subst, sym, ◌∙◌, arith}
-use Rattle.rme_script.specs.Cells.{cells_named, cells_from}
+use Rattle.std.proofs.Common.{sym, ◌∙◌, arith}
 use Rattle.rme_script.proofs.Rising.{count_start, count_hit, count_miss, count_end}
 use Rattle.rme_script.proofs.mask.cell_count.Goals as goal
 use Rattle.rme_script.proofs.mask.cell_count.Goals.{then-has_cell, else-has_cell}

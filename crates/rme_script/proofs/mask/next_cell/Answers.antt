@@ -1,4 +1,4 @@
-use Rattle.std.proofs.Common.{◌≡◌, true, false, sym, ◌∙◌, arith}
+use Rattle.std.proofs.Common.{◌≡◌, false, sym, ◌∙◌}
 use Rattle.rme_script.specs.Cells.{has}
 use Rattle.rme_script.proofs.Rising.{cells_from_hit, cells_from_miss, cells_from_end, none_more}
 use Rattle.rme_script.proofs.mask.next_cell.Goals as goal

@@ -1,5 +1,4 @@
-use Rattle.std.proofs.Common.{◌≡◌, arith}
-use Rattle.rme_script.specs.Eval.{eval_of}
+use Rattle.std.proofs.Common.{arith}
 use Rattle.rme_script.proofs.Runs.{going_next, going_end, ended_unnamed, ended_local}
 use Rattle.rme_script.proofs.run.eval.Goals as goal
 

@@ -1,5 +1,5 @@
-use Rattle.std.proofs.Common.{◌≡◌, sym, ◌∙◌, arith}
-use Rattle.rme_script.proofs.Checks.{check_next, check_bad, check_end, check_no_cell, check_ok, all_within}
+use Rattle.std.proofs.Common.{sym, ◌∙◌, arith}
+use Rattle.rme_script.proofs.Checks.{check_next, check_bad, check_no_cell}
 use Rattle.rme_script.proofs.script.Script.check.Goals as goal
 
 pub loop-i-preserved : goal.loop-i-preserved
