@@ -1,0 +1,18 @@
+-- The world at opening.
+use Rattle.std.specs.Prelude.{ℕ, List, [], map, replicate, Some}
+use Rattle.std.specs.List.{range_with_len}
+use Rattle.rme_words.specs.declared.shape.Shape.{Shape}
+use Rattle.rme_words.specs.Words.{words_of}
+use Rattle.rme_program.specs.Steps.{ready_private}
+use Rattle.rme_world.specs.Counting.{no_counts}
+use Rattle.rme_world.specs.Seen.{Seen}
+
+-- All words are 0, all workers are up and ready, nothing is finished and nothing is counted.
+abbrev pub opening : Shape → Seen
+opening shape = record {
+  shape = shape;
+  words = replicate (words_of shape) 0;
+  privates = map (λ (worker : ℕ). Some (ready_private worker 0)) (range_with_len 0 shape.workers);
+  history = [];
+  counts = replicate shape.workers no_counts;
+}

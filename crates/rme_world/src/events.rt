@@ -1,0 +1,168 @@
+//! The events beside a step: a job is handed over, a worker crashes, comes up, or gives up.
+
+use crate::counts::Counts;
+use crate::world::World;
+use rme_program::{Phase, Private, Stage};
+use rme_script::Job;
+use rme_words::Refusal;
+
+impl World {
+    ghost use Rattle.std.specs.Prelude.{◌≡◌, ◌<◌, ◌+◌, Some, None, IfSome, IfOk, IfErr, OnOk, OnErr, Option, slice_get, length};
+    ghost use Rattle.rme_words.specs.declared.refusal.Refusal.{Refusal};
+    ghost use Rattle.rme_script.specs.declared.job.Job.{Job};
+    ghost use Rattle.rme_program.specs.declared.private.Private.{Private};
+    ghost use Rattle.rme_program.specs.declared.stage.Stage.{Stage};
+    ghost use Rattle.rme_program.specs.declared.stage.Stage.TheVariants.{Resting};
+    ghost use Rattle.rme_program.specs.Conditions.{IsPrivate, IsJob};
+    ghost use Rattle.rme_program.specs.Steps.{submitted_private};
+    ghost use Rattle.rme_program.specs.declared.kinds.Phase.TheVariants.{Post};
+    ghost use Rattle.rme_world.specs.Counting.{begun_stay};
+    ghost use Rattle.rme_world.specs.Refused.{of_up, submit_refusal, crash_refusal, restart_refusal, withdraw_refusal, IsRefused};
+    ghost use Rattle.rme_world.specs.Events.{Submits, Crashes, Restarts, Withdraws, with_worker, counts_of};
+
+    /// Hands a job to a worker that is ready, and answers the number that the job will have: one more than
+    /// the worker has begun.
+    ///
+    /// It takes memory, so that no later step needs any: room in the history for one entry of each worker.
+    /// Refused, in this order, by `NoWorker`, `Down`, `Busy` (not ready), `NoLock`, `BadScript`, `NoCell`,
+    /// `TooManyJobs` and `NoMemory`; a refusal changes nothing.
+    pub fn submit(&mut self, worker: u32, job: Job) -> Result<u32, Refusal>
+        ensures accepted { IfOk result (λ number. Submits self.old worker job number self.new) }
+        ensures refused { IfErr result (λ refusal. IsRefused (submit_refusal self.old worker job) refusal) }
+        ensures unchanged { OnErr result (self.new ≡ self.old) }
+    {
+        let private = match self.may_submit(worker, &job) {
+            Ok(private) => private,
+            Err(refusal) => return Err(refusal),
+        };
+        let workers = self.shape().workers as usize;
+        if self.history.reserve(workers).is_err() {
+            return Err(Refusal::NoMemory);
+        }
+        Ok(self.hand(worker, private, job))
+    }
+
+    /// Takes the private state of a worker away: it forgets all that is not in the words.
+    ///
+    /// Refused by `NoWorker`, then by `Down`; a refusal changes nothing.
+    pub fn crash(&mut self, worker: u32) -> Result<(), Refusal>
+        ensures accepted { IfOk result (λ _. Crashes self.old worker self.new) }
+        ensures refused { IfErr result (λ refusal. crash_refusal self.old worker ≡ Some refusal) }
+        ensures unchanged { OnErr result (self.new ≡ self.old) }
+    {
+        if let Err(refusal) = self.up(worker) {
+            return Err(refusal);
+        }
+        self.put(worker, None, self.counts_at(worker));
+        Ok(())
+    }
+
+    /// Brings a worker that is down up again: it is in phase Recover then.
+    ///
+    /// Refused by `NoWorker`, then by `Up`; a refusal changes nothing.
+    pub fn restart(&mut self, worker: u32) -> Result<(), Refusal>
+        ensures accepted { IfOk result (λ _. Restarts self.old worker self.new) }
+        ensures refused { IfErr result (λ refusal. restart_refusal self.old worker ≡ Some refusal) }
+        ensures unchanged { OnErr result (self.new ≡ self.old) }
+    {
+        match self.privates.get(worker as usize) {
+            None => return Err(Refusal::NoWorker),
+            Some(Some(_)) => return Err(Refusal::Up),
+            Some(None) => {}
+        }
+        self.put(worker, Some(Private::restart(worker)), Counts::ZERO);
+        Ok(())
+    }
+
+    /// Has a worker that waits for a lock give its job up: its next steps withdraw the number and release
+    /// what it holds. It may still be asked for at any time before it owns the lock.
+    ///
+    /// Refused by `NoWorker`, then by `Down`, then by `NotWaiting` (not in phase Enter); a refusal changes
+    /// nothing.
+    pub fn withdraw(&mut self, worker: u32) -> Result<(), Refusal>
+        ensures accepted { IfOk result (λ _. Withdraws self.old worker self.new) }
+        ensures refused { IfErr result (λ refusal. withdraw_refusal self.old worker ≡ Some refusal) }
+        ensures unchanged { OnErr result (self.new ≡ self.old) }
+    {
+        let private = self.up(worker)?;
+        let Stage::Climbing(_) = private.stage else {
+            return Err(Refusal::NotWaiting);
+        };
+        let counts = self.counts_at(worker).begin(Phase::Exit);
+        self.put(worker, Some(Private::withdraw(private)), counts);
+        Ok(())
+    }
+
+    /// The private state of a worker that is up, or why there is none.
+    pub(crate) fn up(&self, worker: u32) -> Result<Private, Refusal>
+        ensures found { IfOk result (λ private. slice_get self.now.privates worker ≡ Some (Some private)) }
+        ensures private { IfOk result (λ private. (private.worker ≡ worker) × IsPrivate self.now.shape private) }
+        ensures worker { OnOk result (worker < self.now.shape.workers) }
+        ensures refused { IfErr result (λ refusal. (own : Private → Option Refusal) → of_up (slice_get self.now.privates worker) own ≡ Some refusal) }
+    {
+        match self.privates.get(worker as usize) {
+            None => Err(Refusal::NoWorker),
+            Some(None) => Err(Refusal::Down),
+            Some(Some(private)) => Ok(*private),
+        }
+    }
+
+    /// The private state of a worker that may be handed this job, or why it may not.
+    pub(crate) fn may_submit(&self, worker: u32, job: &Job) -> Result<Private, Refusal>
+        ensures found { IfOk result (λ private. slice_get self.now.privates worker ≡ Some (Some private)) }
+        ensures may { IfOk result (λ private. submit_refusal self.now worker job.now ≡ None) }
+        ensures private { IfOk result (λ private. (private.worker ≡ worker) × IsPrivate self.now.shape private) }
+        ensures ready { IfOk result (λ private. (private.stage ≡ Stage.Resting) × (private.begun < self.now.shape.jobs) × IsJob self.now.shape job.now) }
+        ensures refused { IfErr result (λ refusal. submit_refusal self.now worker job.now ≡ Some refusal) }
+    {
+        let private = self.up(worker)?;
+        let shape = self.shape();
+        let Stage::Resting = private.stage else {
+            return Err(Refusal::Busy);
+        };
+        if job.lock >= shape.locks {
+            return Err(Refusal::NoLock);
+        }
+        if let Err(refusal) = job.script.check(shape) {
+            return Err(refusal);
+        }
+        if private.begun >= shape.jobs {
+            return Err(Refusal::TooManyJobs);
+        }
+        Ok(private)
+    }
+
+    /// Hands the job over, and answers its number.
+    pub(crate) fn hand(&mut self, worker: u32, private: Private, job: Job) -> u32
+        requires worker { worker < self.old.shape.workers }
+        requires private { (private.worker ≡ worker) × IsPrivate self.old.shape private }
+        requires ready { private.stage ≡ Stage.Resting }
+        requires few { private.begun < self.old.shape.jobs }
+        requires job { IsJob self.old.shape job }
+        ensures number { result ≡ private.begun + 1 }
+        ensures hands { self.new ≡ with_worker self.old worker (Some (submitted_private private job)) (begun_stay (counts_of self.old worker) Post) }
+    {
+        let number = private.begun + 1;
+        let counts = self.counts_at(worker).begin(Phase::Post);
+        self.put(worker, Some(Private::submit(private, job)), counts);
+        number
+    }
+
+    /// The counts of a worker.
+    pub(crate) fn counts_at(&self, worker: u32) -> Counts
+        requires { worker < self.now.shape.workers }
+        ensures { result ≡ counts_of self.now worker }
+    {
+        self.counts[worker as usize]
+    }
+
+    /// Puts a worker's private state and its counts in place.
+    pub(crate) fn put(&mut self, worker: u32, private: Option<Private>, counts: Counts)
+        requires worker { worker < self.old.shape.workers }
+        requires private { IfSome private (λ p. (p.worker ≡ worker) × IsPrivate self.old.shape p) }
+        ensures { self.new ≡ with_worker self.old worker private counts }
+    {
+        self.privates[worker as usize] = private;
+        self.counts[worker as usize] = counts;
+    }
+}

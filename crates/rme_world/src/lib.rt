@@ -1,0 +1,17 @@
+//! The core: a world of workers and locks, in which one call is one event.
+//!
+//! A world holds the words that survive a crash and the private state of each worker that is up. `step` lets
+//! one worker make one own step, one operation on one word; `submit`, `crash`, `restart` and `withdraw` are
+//! the other events, and a list of events is one interleaving of the workers. The crate stands on
+//! rme_program, whose `next` and `after` decide each step, and on rme_words, which does it. Begin with
+//! `world.rt`.
+#![tactic(auto)]
+
+mod counts;
+mod events;
+mod perform;
+mod takes;
+mod world;
+
+pub use counts::Counts;
+pub use world::World;

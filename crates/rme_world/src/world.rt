@@ -1,0 +1,83 @@
+//! The world: its words, what the up workers know, and what was finished.
+
+ghost use Rattle.std.specs.Prelude.{◌≡◌, ℕ, IfOk, map, replicate, Some};
+ghost use Rattle.std.specs.List.{range_with_len};
+ghost use Rattle.rme_program.specs.Steps.{ready_private};
+ghost use Rattle.rme_world.specs.Counting.{no_counts};
+ghost use Rattle.rme_world.specs.Opening.{opening};
+
+use crate::counts::Counts;
+use rme_program::{Entry, Private};
+use rme_words::{Bank, NoMemory, Shape};
+use std::alloc::Global;
+use std::marker::Model;
+
+/// Workers and locks, with the words that survive a crash.
+///
+/// A caller decides which worker steps when, and which one crashes; the world does one own step, or one
+/// other event, a call. No call but `new`, `submit` and `run` takes memory.
+#[derive(Drop)]
+pub struct World {
+    pub(crate) bank: Bank,
+    pub(crate) privates: Vec<Option<Private>>,
+    pub(crate) history: Vec<Entry>,
+    pub(crate) counts: Vec<Counts>,
+}
+
+impl Model for World {
+    ghost use Rattle.rme_world.specs.Seen.{Seen, IsKept};
+
+    ghost Value = { Seen };
+
+    ghost view = { λ world. record { shape = world.bank.shape; words = world.bank.words; privates = world.privates.items; history = world.history.items; counts = world.counts.items } };
+
+    ghost invariant = { λ world. IsKept record { shape = world.bank.shape; words = world.bank.words; privates = world.privates.items; history = world.history.items; counts = world.counts.items } };
+}
+
+impl World {
+    /// A world of this shape: all words are 0, and all workers are up and ready. Takes memory for the words
+    /// and the workers; `NoMemory` where it was refused.
+    pub fn new(alloc: Global, shape: Shape) -> Result<World, NoMemory>
+        ensures { IfOk result (λ world. world ≡ opening shape) }
+    {
+        let bank = Bank::new(alloc, shape)?;
+        let privates = ready_workers(alloc, shape)?;
+        let counts = no_counts(alloc, shape)?;
+        Ok(World {
+            bank,
+            privates,
+            history: Vec::new(alloc),
+            counts,
+        })
+    }
+
+    /// The shape of the world.
+    pub fn shape(&self) -> Shape
+        ensures { result ≡ self.now.shape }
+    {
+        self.bank.shape()
+    }
+}
+
+/// The private states of all workers at opening.
+fn ready_workers(alloc: Global, shape: Shape) -> Result<Vec<Option<Private>>, NoMemory>
+    ensures { IfOk result (λ privates. privates.items ≡ map (λ (worker : ℕ). Some (ready_private worker 0)) (range_with_len 0 shape.workers)) }
+{
+    match (0..shape.workers)
+        .map(|worker| Some(Private::ready(worker, 0)))
+        .collect(alloc)
+    {
+        Ok(privates) => Ok(privates),
+        Err(_) => Err(NoMemory),
+    }
+}
+
+/// The counts of all workers at opening.
+fn no_counts(alloc: Global, shape: Shape) -> Result<Vec<Counts>, NoMemory>
+    ensures { IfOk result (λ counts. counts.items ≡ replicate shape.workers no_counts) }
+{
+    match vec![in alloc; Counts::ZERO; shape.workers as usize] {
+        Ok(counts) => Ok(counts),
+        Err(_) => Err(NoMemory),
+    }
+}
