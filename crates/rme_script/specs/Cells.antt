@@ -17,6 +17,7 @@ names (Swap a b) x = (a == x) || (b == x)
 abbrev pub named_by : List Op → ℕ → Bool
 named_by ops c = list_any (λ (o : Op). names o c) ops
 
+-- A test as a bit.
 abbrev pub bit_of : Bool → ℕ
 bit_of true = 1
 bit_of false = 0

@@ -41,6 +41,7 @@ op_of kind first second =
     else None)
     else None
 
+-- An operation before others: none where either is none.
 abbrev pub joined : Option Op → Option (List Op) → Option (List Op)
 joined None rest = None
 joined (Some o) None = None
@@ -52,6 +53,7 @@ ops_of zero ws = Some []
 ops_of (suc n) (kind ∷ first ∷ second ∷ ws) = joined (op_of kind first second) (ops_of n ws)
 ops_of (suc n) ws = None
 
+-- The script of n operations that were read.
 abbrev pub script_by : ℕ → Option (List Op) → Option Program
 script_by n None = None
 script_by n (Some ops) = Some record { n = n; ops = ops }

@@ -5,6 +5,8 @@ use crate::script::Script;
 /// A script to be run on the cells of a lock while that lock is held.
 #[derive(Clone, Copy, Debug, PartialEq, Eq)]
 pub struct Job {
+    /// The lock's number.
     pub lock: u32,
+    /// What to do to the lock's cells.
     pub script: Script,
 }
