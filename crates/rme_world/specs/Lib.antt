@@ -2,5 +2,6 @@
 pub mod Counting
 pub mod Seen
 pub mod Opening
+pub mod Looks
 pub mod Refused
 pub mod Events

@@ -9,7 +9,10 @@
 
 mod counts;
 mod events;
+mod looks;
 mod perform;
+mod run;
+mod step;
 mod takes;
 mod world;
 

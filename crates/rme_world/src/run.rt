@@ -1,0 +1,77 @@
+//! A list of events.
+
+use crate::world::World;
+use rme_program::{Answer, Event};
+use rme_script::Job;
+use rme_words::{NoMemory, Refusal};
+
+impl World {
+    ghost use Rattle.std.specs.Prelude.{◌≡◌, OnErr, IfOk, length, vec_len};
+
+    /// Does the events of a list, one after the other, and gives one answer for each: what the single calls
+    /// would answer.
+    ///
+    /// It takes all memory first; after `NoMemory` nothing changed, and no answer is a refusal for want of
+    /// memory.
+    pub fn run(&mut self, events: &[Event]) -> Result<Vec<Answer>, NoMemory>
+        ensures answers { IfOk result (λ answers. vec_len answers ≡ length events.now) }
+        ensures unchanged { OnErr result (self.new ≡ self.old) }
+    {
+        let alloc = *self.history.allocator();
+        let Ok(mut answers) = Vec::with_capacity(alloc, events.len()) else {
+            return Err(NoMemory);
+        };
+        let workers = self.shape().workers as usize;
+        if self
+            .history
+            .reserve(workers.saturating_add(events.len()))
+            .is_err()
+        {
+            return Err(NoMemory);
+        }
+        for event in events {
+            if answers.push(self.answer(event)).is_err() {
+                unreachable!();
+            }
+        }
+        Ok(answers)
+    }
+
+    /// Does one event, with room in the history made before.
+    fn answer(&mut self, event: &Event) -> Answer
+        ensures { self.new.shape ≡ self.old.shape }
+    {
+        match *event {
+            Event::Submit(worker, job) => match self.hand_over(worker, job) {
+                Ok(number) => Answer::Handed(number),
+                Err(refusal) => Answer::Refused(refusal),
+            },
+            Event::Step(worker) => match self.step(worker) {
+                Ok(note) => Answer::Stepped(note),
+                Err(refusal) => Answer::Refused(refusal),
+            },
+            Event::Crash(worker) => match self.crash(worker) {
+                Ok(()) => Answer::Crashed,
+                Err(refusal) => Answer::Refused(refusal),
+            },
+            Event::Restart(worker) => match self.restart(worker) {
+                Ok(()) => Answer::Restarted,
+                Err(refusal) => Answer::Refused(refusal),
+            },
+            Event::Withdraw(worker) => match self.withdraw(worker) {
+                Ok(()) => Answer::Withdrawing,
+                Err(refusal) => Answer::Refused(refusal),
+            },
+        }
+    }
+
+    /// Hands a job over, with room in the history made before.
+    fn hand_over(&mut self, worker: u32, job: Job) -> Result<u32, Refusal>
+        ensures { self.new.shape ≡ self.old.shape }
+    {
+        match self.may_submit(worker, &job) {
+            Ok(private) => Ok(self.hand(worker, private, job)),
+            Err(refusal) => Err(refusal),
+        }
+    }
+}
