@@ -1,3 +1,5 @@
 pub mod OperationLemmas
+pub mod PieceLemmas
 pub mod TextLemmas
 pub mod NameLemmas
+pub mod OpeningLemmas

@@ -1,5 +1,5 @@
 -- Texts of lists, written one item after another.
-use Rattle.std.proofs.Common.{◌≡◌, ℕ, ◌+◌, drop, slice_get, Some, List, [], ◌∷◌, ◌++◌, Bool, true, false, refl, sym, ◌∙◌, append_assoc, append-nil, add-one, drop-cons, get_or, length, ◌<◌}
+use Rattle.std.proofs.Common.{◌≡◌, ℕ, ◌+◌, drop, slice_get, Some, List, [], ◌∷◌, ◌++◌, Bool, true, false, refl, ap, ◌∙◌, sym, ◌∙◌, append_assoc, append-nil, add-one, drop-cons, get_or, length, ◌<◌}
 use Rattle.std.proofs.lemmas.Option.{get_or_from_slice_get, slice_get_within, slice_get_read}
 use Rattle.rme_wire.specs.Texts.{comma, separated}
 
@@ -11,7 +11,9 @@ Separates text start all out later rest = out ++ separated text later rest ≡ s
 pub separates_next : {A : Type 0} (text : A → List ℕ) (start : List ℕ) (all : List A) (out : List ℕ) (later : Bool) (x : A) (rest : List A) (between after : List ℕ)
     → Separates text start all out later (x ∷ rest) → between ≡ out ++ comma later → after ≡ between ++ text x → Separates text start all after true rest
 separates_next text start all out later x rest between after so_far e f =
-    rw (f, e, append_assoc, append_assoc) so_far
+    let after_is : after ≡ (out ++ comma later) ++ text x = f ∙ ap (λ l. l ++ text x) e in
+    ap (λ l. l ++ separated text true rest) after_is ∙ append_assoc (out ++ comma later) (text x) (separated text true rest)
+    ∙ append_assoc out (comma later) (text x ++ separated text true rest) ∙ so_far
 
 -- none is left
 pub separates_all : {A : Type 0} (text : A → List ℕ) (start : List ℕ) (all : List A) (out : List ℕ) (later : Bool) → Separates text start all out later []
@@ -24,7 +26,8 @@ drop_at xs i x e =
 
 -- three texts, one after another
 pub append_three : (out first second third : List ℕ) (a b c : List ℕ) → first ≡ out ++ a → second ≡ first ++ b → third ≡ second ++ c → third ≡ out ++ (a ++ (b ++ c))
-append_three out first second third a b c e f g = rw (g, f, e, append_assoc, append_assoc) refl
+append_three out first second third a b c e f g =
+    g ∙ ap (λ l. l ++ c) (f ∙ ap (λ l. l ++ b) e) ∙ append_assoc (out ++ a) b c ∙ append_assoc out a (b ++ c)
 
 pub drop_read : {A : Type 0} (xs : List A) (i : ℕ) (x : A) → i < length xs → x ≡ get_or xs i x → drop i xs ≡ x ∷ drop (i + 1) xs
 drop_read xs i x within e = drop_at xs i x (slice_get_read xs (length xs) i x refl within e)

@@ -2,7 +2,9 @@
 //! texts of answers.
 #![tactic(auto)]
 
+mod answer;
 mod command;
+mod cut;
 mod fault;
 mod line;
 mod lines;
@@ -13,11 +15,16 @@ mod put;
 mod texts;
 mod value;
 
+pub use answer::{
+    Done, WalkEnd, push_done, push_history, push_last, push_number, push_owner, push_refusal,
+    push_row, push_stepped, push_walked,
+};
 pub use command::{Command, Until, Walk};
+pub use cut::Cut;
 pub use fault::EngineFault;
 pub use line::{Order, order_of};
-pub use lines::{Cut, LineReader};
+pub use lines::LineReader;
 pub use names::{Names, is_name};
 pub use opening::{GivenNames, Opening};
 pub use put::put_all;
-pub use texts::{push_cells, push_entries, push_note, push_receipt};
+pub use texts::{push_comma, push_note};

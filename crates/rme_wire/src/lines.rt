@@ -2,30 +2,17 @@
 
 ghost use Rattle.std.specs.Prelude.{◌≡◌, ◌+◌, ◌<◌, ◌≤◌, IfOk, vec_len};
 
+use crate::cut::{Cut, keep, last_cut, whole};
 use crate::fault::EngineFault;
 use memchr::memchr;
 use std::alloc::{AllocError, Global};
 use std::io::{ErrorKind, Read};
-
-/// The most bytes of a line, without its newline.
-pub const LINE_LIMIT: usize = 65_536;
 
 /// The most reads of one reader.
 const READS: u32 = 1_000_000_000;
 
 /// How many bytes are asked of the reader at a time.
 const CHUNK: usize = 65_536;
-
-/// What was cut from the reader's bytes.
-#[derive(Clone, Copy, Debug, PartialEq, Eq)]
-pub enum Cut {
-    /// A line of at most 65,536 bytes, a last piece without a newline included.
-    Line,
-    /// A line of more bytes, read to its newline or to the end.
-    TooLong,
-    /// No line is left.
-    End,
-}
 
 /// Cuts the bytes of a reader into lines.
 ///
@@ -49,8 +36,16 @@ fn empty_chunk(alloc: Global) -> Result<Vec<u8>, AllocError>
 }
 
 impl<R: Read + Drop> LineReader<R> {
+    ghost use Rattle.std.specs.Prelude.{◌≡◌, ◌≢◌, IfOk, IfErr, false};
+    ghost use Rattle.std.specs.Io.KnownBytes.{IsAtEnd, Keeps};
+    ghost use Rattle.rme_wire.specs.Pieces.{Takes};
+    ghost use Rattle.rme_wire.specs.Cuts.{Cuts};
+    ghost use Rattle.rme_wire.specs.Readers.{bytes_left};
+
     /// A reader of lines, which makes no read yet.
-    pub fn new(alloc: Global, reader: R) -> Result<LineReader<R>, AllocError> {
+    pub fn new(alloc: Global, reader: R) -> Result<LineReader<R>, AllocError>
+        ensures { IfOk result (λ lines. Keeps (R.remaining reader) (bytes_left R.remaining lines)) }
+    {
         let chunk = empty_chunk(alloc)?;
         Ok(LineReader {
             reader,
@@ -62,7 +57,11 @@ impl<R: Read + Drop> LineReader<R> {
     }
 
     /// Makes a read where the chunk is used up, and says whether a byte is there or may still come.
-    fn fill(&mut self) -> Result<bool, EngineFault> {
+    fn fill(&mut self) -> Result<bool, EngineFault>
+        ensures kept { IfOk result (λ _. Keeps (bytes_left R.remaining self.old) (bytes_left R.remaining self.new)) }
+        ensures end { IfOk result (λ more. more ≡ false → IsAtEnd (bytes_left R.remaining self.new)) }
+        ensures kind { IfErr result (λ fault. fault ≡ EngineFault.ReadFailed) }
+    {
         if self.start < self.end {
             return Ok(true);
         }
@@ -87,46 +86,48 @@ impl<R: Read + Drop> LineReader<R> {
 
     /// Moves the chunk's bytes up to its next newline into the line, which is kept to one byte more than the
     /// limit, and says whether the newline was found.
-    fn take_piece(&mut self, line: &mut Vec<u8>) -> Result<bool, AllocError> {
+    fn take_piece(&mut self, line: &mut Vec<u8>) -> Result<bool, AllocError>
+        ensures { IfOk result (λ found. Takes (bytes_left R.remaining self.old) (bytes_left R.remaining self.new) found
+            line.old.items line.new.items) }
+    {
         let bytes = &self.chunk[self.start..self.end];
-        let found = memchr(b'\n', bytes);
-        let (piece, used) = match found {
-            Some(at) => (&bytes[..at], at + 1),
-            None => (bytes, bytes.len()),
-        };
-        let room = (LINE_LIMIT + 1).saturating_sub(line.len());
-        line.extend_from_slice(&piece[..room.min(piece.len())])?;
-        self.start += used;
-        Ok(found.is_some())
+        match memchr(b'\n', bytes) {
+            Some(at) => {
+                keep(line, &bytes[..at])?;
+                self.start += at + 1;
+                Ok(true)
+            }
+            None => {
+                keep(line, bytes)?;
+                self.start = self.end;
+                Ok(false)
+            }
+        }
     }
 
-    /// Cuts the next line and copies it into `line`, whose earlier content is dropped.
+    /// Cuts the next line and copies it into `line`, whose earlier content is dropped. Of an over-long line
+    /// only its front is copied.
     ///
-    /// A read that was interrupted is made again. After `ReadFailed`, where the reader failed or the reads
-    /// are used up, and after `NoMemory`, the bytes of a line that was begun are lost.
-    pub fn next_line(&mut self, line: &mut Vec<u8>) -> Result<Cut, EngineFault> {
+    /// A read that was interrupted is made again. `ReadFailed` comes where the reader fails or all its reads
+    /// are used up, and `NoMemory` where the line's copy finds no room; the bytes of the line that was begun
+    /// are then lost.
+    pub fn next_line(&mut self, line: &mut Vec<u8>) -> Result<Cut, EngineFault>
+        ensures cut { IfOk result (λ cut. Cuts (bytes_left R.remaining self.old) (bytes_left R.remaining self.new) cut line.new.items) }
+        ensures kind { IfErr result (λ fault. fault ≢ EngineFault.WriteFailed) }
+    {
         line.clear();
         for _ in 0..=READS {
-            if !self.fill()? {
-                return Ok(if line.is_empty() {
-                    Cut::End
-                } else {
-                    whole(line)
-                });
+            match self.fill() {
+                Ok(true) => {}
+                Ok(false) => return Ok(last_cut(line)),
+                Err(fault) => return Err(fault),
             }
-            if self.take_piece(line)? {
-                return Ok(whole(line));
+            match self.take_piece(line) {
+                Ok(true) => return Ok(whole(line)),
+                Ok(false) => {}
+                Err(_) => return Err(EngineFault::NoMemory),
             }
         }
         Err(EngineFault::ReadFailed)
-    }
-}
-
-/// A line that was read to its newline or to the end.
-fn whole(line: &Vec<u8>) -> Cut {
-    if line.len() > LINE_LIMIT {
-        Cut::TooLong
-    } else {
-        Cut::Line
     }
 }

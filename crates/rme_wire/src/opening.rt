@@ -1,13 +1,19 @@
 //! The line that opens a world.
 
-ghost use Rattle.std.specs.Prelude.{◌≡◌, ◌∷◌, [], ◌<◌, ◌≤◌, ◌↔◌, IsTrue, IfOk, OnOk, OnErr, IfErr, Some, None, length, slice_index_or};
+ghost use Rattle.std.specs.Prelude.{◌≡◌, ◌≤◌, ◌++◌, IfOk, map, length, option_and_then, string_bytes, bytes_eq, [], true};
+ghost use Rattle.std.specs.List.{list_any};
+ghost use Rattle.serde_json.specs.View.{items_view, view};
+ghost use Rattle.rme_wire.specs.Openings as spec;
 
 use crate::names::{Names, is_name};
 use crate::value::small;
-use rme_words::{NoMemory, Refusal};
+use rme_words::NoMemory;
 use serde_json::Value;
 use std::alloc::{AllocError, Global};
 use std::marker::Model;
+
+/// The most names, one for each lock.
+const MOST_NAMES: usize = 16;
 
 /// The names of locks as a line gives them: any texts at all, in order.
 #[derive(Drop)]
@@ -32,7 +38,26 @@ pub struct Opening {
     pub jobs: u32,
 }
 
-/// The texts of a list, or `None` where a member is no text.
+/// The numbers of an opening.
+#[derive(Clone, Copy)]
+struct Sizes {
+    workers: u32,
+    cells: u32,
+    jobs: u32,
+}
+
+fn sizes_of(value: &Value) -> Option<Sizes> {
+    let workers = small(value.get("workers")?)?;
+    let cells = small(value.get("cells")?)?;
+    let jobs = small(value.get("jobs")?)?;
+    Some(Sizes {
+        workers,
+        cells,
+        jobs,
+    })
+}
+
+/// The texts of a list, or `None` where an item is no text.
 fn texts_of(alloc: Global, items: &[Value]) -> Result<Option<GivenNames>, AllocError> {
     let mut texts = Vec::new(alloc);
     for item in items {
@@ -50,7 +75,17 @@ pub fn opening_of(
     count: usize,
     value: &Value,
 ) -> Result<Option<Opening>, AllocError> {
-    let Some((workers, cells, jobs)) = numbers_of(count, value) else {
+    if count != 5 {
+        return Ok(None);
+    }
+    let Some(
+        Sizes {
+            workers,
+            cells,
+            jobs,
+        },
+    ) = sizes_of(value)
+    else {
         return Ok(None);
     };
     let Some(items) = value.get("locks").and_then(Value::as_array) else {
@@ -67,49 +102,77 @@ pub fn opening_of(
     }))
 }
 
-/// The workers, cells and jobs of an opening.
-fn numbers_of(count: usize, value: &Value) -> Option<(u32, u32, u32)> {
-    if count != 5 {
-        return None;
+/// Whether a text is one of these.
+fn is_among(text: &str, texts: &[String]) -> bool
+    ensures { result ≡ list_any (λ other. bytes_eq text.now (string_bytes other)) texts.now }
+{
+    texts.iter().any(|other| text == other.as_str())
+}
+
+/// Whether each text is a name, and none stands twice.
+fn are_new_names(texts: &[String]) -> bool
+    ensures { result ≡ spec.are_new_names [] (map string_bytes texts.now) }
+{
+    for (index, text) in texts.iter().enumerate() {
+        if !is_name(text.as_str()) {
+            return false;
+        }
+        if is_among(text.as_str(), &texts[..index]) {
+            return false;
+        }
     }
-    let workers = small(value.get("workers")?)?;
-    let cells = small(value.get("cells")?)?;
-    let jobs = small(value.get("jobs")?)?;
-    Some((workers, cells, jobs))
+    true
+}
+
+/// Whether texts may name the locks of a world: 1 to 16 names, each once.
+fn are_names(texts: &[String]) -> bool
+    ensures { result ≡ spec.are_names (map string_bytes texts.now) }
+{
+    if texts.is_empty() {
+        return false;
+    }
+    if texts.len() > MOST_NAMES {
+        return false;
+    }
+    are_new_names(texts)
+}
+
+/// Texts that are names, numbered in order.
+fn names_of(alloc: Global, texts: &[String]) -> Result<Names, NoMemory>
+    requires { spec.are_names (map string_bytes texts.now) ≡ true }
+    ensures { IfOk result (λ names. names ≡ map string_bytes texts.now) }
+{
+    let mut names = Names::new(alloc)?;
+    for text in texts {
+        match names.add(text.as_str()) {
+            Ok(_) => {}
+            Err(_) => return Err(NoMemory),
+        }
+    }
+    Ok(names)
 }
 
 impl GivenNames {
-    /// Whether these are names of locks: 1 to 16 names, each once.
-    pub fn are_names(&self) -> bool {
-        if self.texts.is_empty() || self.texts.len() > 16 {
-            return false;
-        }
-        for (index, text) in self.texts.iter().enumerate() {
-            if !is_name(text.as_str()) || is_among(text.as_str(), &self.texts[..index]) {
-                return false;
-            }
-        }
-        true
+    /// Whether these may name the locks of a world: 1 to 16 names, each once.
+    pub fn are_names(&self) -> bool
+        ensures result { result ≡ spec.are_names self.now }
+        ensures few { result ≡ true → length self.now ≤ 16 }
+    {
+        are_names(&self.texts)
     }
 
     /// How many texts there are.
-    pub fn len(&self) -> usize {
-        self.texts.len()
+    pub fn len(&self) -> usize
+        ensures { result ≡ length self.now }
+    {
+        self.texts.as_slice().len()
     }
 
-    /// The names, numbered in order.
-    ///
-    /// `BadShape` comes where these are no names, and `NoMemory` last.
-    pub fn names(&self, alloc: Global) -> Result<Names, Refusal> {
-        let mut names = Names::new(alloc)?;
-        for text in &self.texts {
-            names.add(text.as_str())?;
-        }
-        Ok(names)
+    /// These names, numbered in order.
+    pub fn names(&self, alloc: Global) -> Result<Names, NoMemory>
+        requires { spec.are_names self.now ≡ true }
+        ensures { IfOk result (λ names. names ≡ self.now) }
+    {
+        names_of(alloc, &self.texts)
     }
-}
-
-/// Whether a text is one of these.
-fn is_among(text: &str, texts: &[String]) -> bool {
-    texts.iter().any(|other| other.as_str() == text)
 }

@@ -75,7 +75,7 @@ pub fn push_receipt(out: &mut String, names: &Names, receipt: Receipt) -> Result
 }
 
 /// Appends a comma where something came earlier.
-fn push_comma(out: &mut String, later: bool) -> Result<(), AllocError>
+pub fn push_comma(out: &mut String, later: bool) -> Result<(), AllocError>
     ensures { OnOk result (string_bytes out.new ≡ string_bytes out.old ++ spec.comma later) }
 {
     if later { out.push_str(",") } else { Ok(()) }

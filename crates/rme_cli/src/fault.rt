@@ -1,0 +1,47 @@
+//! What ends the program early.
+
+use rme_wire::EngineFault;
+use std::alloc::AllocError;
+use thiserror::Error;
+
+/// What ended the program early. Its text goes to the standard error.
+#[derive(Clone, Copy, Debug, PartialEq, Eq, Error)]
+pub enum Fault {
+    /// The words of the command line can't be had as text, or ask for what can't be.
+    #[error("bad arguments")]
+    BadArguments,
+    #[error("read failed")]
+    ReadFailed,
+    #[error("write failed")]
+    WriteFailed,
+    #[error("no memory")]
+    NoMemory,
+}
+
+impl Fault {
+    /// The status of the program.
+    pub fn status(self) -> u8 {
+        match self {
+            Fault::BadArguments => 2,
+            Fault::ReadFailed => 3,
+            Fault::WriteFailed => 4,
+            Fault::NoMemory => 5,
+        }
+    }
+}
+
+impl From<EngineFault> for Fault {
+    fn from(fault: EngineFault) -> Fault {
+        match fault {
+            EngineFault::ReadFailed => Fault::ReadFailed,
+            EngineFault::WriteFailed => Fault::WriteFailed,
+            EngineFault::NoMemory => Fault::NoMemory,
+        }
+    }
+}
+
+impl From<AllocError> for Fault {
+    fn from(_refused: AllocError) -> Fault {
+        Fault::NoMemory
+    }
+}

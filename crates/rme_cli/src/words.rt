@@ -1,0 +1,82 @@
+//! The words of the command line.
+
+use clap::{Command, Error};
+use std::alloc::Global;
+
+/// What the words ask for.
+#[derive(Clone, Copy, Debug, PartialEq, Eq)]
+pub enum Task {
+    /// Answer the lines of the standard input.
+    Run,
+}
+
+const ABOUT: &str = "A recoverable mutual exclusion lock service, over lines of JSON";
+
+const EXAMPLE: &str = "\
+Try it: a worker asks for a lock, enters, crashes inside, and goes on where it fell.
+
+  rme run <<'END'
+  {\"do\":\"open\",\"workers\":2,\"locks\":[\"bank\"],\"cells\":1,\"jobs\":10}
+  {\"do\":\"submit\",\"worker\":0,\"lock\":\"bank\",\"script\":[[\"add\",0,5]]}
+  {\"do\":\"walk\",\"worker\":0,\"until\":\"entered\"}
+  {\"do\":\"crash\",\"worker\":0}
+  {\"do\":\"owner\",\"lock\":\"bank\"}
+  {\"do\":\"restart\",\"worker\":0}
+  {\"do\":\"walk\",\"worker\":0}
+  {\"do\":\"cells\",\"lock\":\"bank\"}
+  END
+
+`rme run --help` says what the lines mean.";
+
+const RUN_ABOUT: &str =
+    "Answers each line of the standard input by one line of the standard output";
+
+const RUN_LINES: &str = "\
+Each line is one JSON object; its keys may come in any order. A world must be open first.
+
+  {\"do\":\"open\",\"workers\":N,\"locks\":[NAME,..],\"cells\":N,\"jobs\":N}
+                                 opens a world: 1 to 256 workers, 1 to 16 locks of 1 to 16 cells each, at
+                                 most 1000000 jobs for each worker; a name has 1 to 32 of a-z 0-9 _ -
+  {\"do\":\"submit\",\"worker\":W,\"lock\":NAME,\"script\":[OP,..]}
+                                 hands a ready worker a job: at most 8 operations on that lock's cells,
+                                 [\"get\",c] [\"set\",c,v] [\"add\",c,v] [\"copy\",a,b] [\"swap\",a,b]
+  {\"do\":\"step\",\"worker\":W}       one step of a worker: one operation on one shared word
+  {\"do\":\"walk\",\"worker\":W}       steps until the worker is ready or blocked; \"until\":KIND ends it at a
+                                 note of that kind (asked entered reentered finished left ready
+                                 withdrew), \"max\":N after 1 to 10000 steps
+  {\"do\":\"crash\",\"worker\":W}      the worker loses all that it alone knows
+  {\"do\":\"restart\",\"worker\":W}    the worker begins to recover
+  {\"do\":\"withdraw\",\"worker\":W}   a waiting worker gives up its job
+  {\"do\":\"owner\",\"lock\":NAME}     who owns the lock
+  {\"do\":\"cells\",\"lock\":NAME}     what its cells hold, and whether no section is half done
+  {\"do\":\"last\",\"worker\":W}       the receipt of the worker's last job
+  {\"do\":\"history\"}               all finished jobs, in order
+
+A line that is refused is answered {\"code\":N,\"error\":NAME} and changes nothing.
+
+Status: 0 at the end of the input, 2 for words that are refused, 3 where reading failed, 4 where writing
+failed, 5 where memory ran out.";
+
+/// The command line of the program.
+fn command<'a>(alloc: Global) -> Result<Command<'a>, Error> {
+    let run = Command::new(alloc, "run")
+        .about(RUN_ABOUT)
+        .after_help(RUN_LINES);
+    let program = Command::new(alloc, "rme")
+        .bin_name("rme")?
+        .version("0.1.0")
+        .about(ABOUT)
+        .after_help(EXAMPLE)
+        .subcommand_required(true)
+        .arg_required_else_help(true)
+        .subcommand(run)?;
+    Ok(program)
+}
+
+/// What the words ask for, the first of which is the program's own name.
+///
+/// An error holds what is to be printed: help, the version or what is wrong; or its kind is `OutOfMemory`.
+pub fn task_of(alloc: Global, words: &[String]) -> Result<Task, Error> {
+    command(alloc)?.try_get_matches_from(words)?;
+    Ok(Task::Run)
+}

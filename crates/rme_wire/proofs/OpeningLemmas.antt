@@ -1,0 +1,81 @@
+-- Names that are given one after another.
+use Rattle.std.proofs.Common.{◌≡◌, ℕ, ◌+◌, ◌<◌, ◌≤◌, List, [], ◌∷◌, ◌++◌, map, length, take, drop, get_or, Bool, true, false, not, ◌&&◌, nat_le, nat_lt, String, Global, string_bytes, bytes_eq, refl, sym, ◌∙◌, arith, add-one}
+use Rattle.std.proofs.lemmas.Bool.{and_left, and_parts, and_right, le-leb, leb-true, lt-leb, lt-ltb}
+use Rattle.std.proofs.lemmas.List.{length-map, map-append, length-take-le}
+use Rattle.std.proofs.Math.Seq.{take-suc}
+use Rattle.std.specs.List.{list_any}
+use Rattle.rme_wire.specs.Names.{is_name, may_add}
+use Rattle.rme_wire.specs.Openings.{are_names, are_new_names}
+use Rattle.rme_wire.proofs.NameLemmas.{list_any_map}
+use Rattle.rme_wire.proofs.TextLemmas.{drop_read}
+
+abbrev pub texts : List (String Global) → List (List ℕ)
+texts xs = map string_bytes xs
+
+pub one_more : (earlier : List (List ℕ)) (text : List ℕ) (rest : List (List ℕ))
+    → are_new_names earlier (text ∷ rest) ≡ (is_name text && not (list_any (bytes_eq text) earlier) && are_new_names (earlier ++ text ∷ []) rest)
+unfolding are_new_names
+one_more earlier text rest = refl
+
+pub none_more : (earlier : List (List ℕ)) → are_new_names earlier [] ≡ true
+unfolding are_new_names
+none_more earlier = refl
+
+module _ (xs : List (String Global)) (i : ℕ) (x : String Global) (within : i < length xs) (item : x ≡ get_or xs i x) where
+  -- the text at the place, and those after it
+  here : are_new_names (texts (take i xs)) (texts (drop i xs))
+      ≡ (is_name (string_bytes x) && not (list_any (bytes_eq (string_bytes x)) (texts (take i xs))) && are_new_names (texts (take i xs) ++ string_bytes x ∷ []) (texts (drop (i + 1) xs)))
+  here = rw (drop_read xs i x within item) (one_more (texts (take i xs)) (string_bytes x) (texts (drop (i + 1) xs)))
+
+  pub texts_next : texts (take (i + 1) xs) ≡ texts (take i xs) ++ string_bytes x ∷ []
+  texts_next = rw (add-one, take-suc xs i x within, ← item) (map-append string_bytes (take i xs) (x ∷ []))
+
+  pub no_name : is_name (string_bytes x) ≡ false → are_new_names (texts (take i xs)) (texts (drop i xs)) ≡ false
+  no_name e = here ∙ rw e refl
+
+  pub stands_twice : is_name (string_bytes x) ≡ true → list_any (λ other. bytes_eq (string_bytes x) (string_bytes other)) (take i xs) ≡ true
+      → are_new_names (texts (take i xs)) (texts (drop i xs)) ≡ false
+  stands_twice e f = let f = rw (list_any_map string_bytes (bytes_eq (string_bytes x)) (take i xs)) at f in here ∙ rw (e, f) refl
+
+  pub new_name : is_name (string_bytes x) ≡ true → list_any (λ other. bytes_eq (string_bytes x) (string_bytes other)) (take i xs) ≡ false
+      → are_new_names (texts (take i xs)) (texts (drop i xs)) ≡ are_new_names (texts (take (i + 1) xs)) (texts (drop (i + 1) xs))
+  new_name e f = let f = rw (list_any_map string_bytes (bytes_eq (string_bytes x)) (take i xs)) at f in here ∙ rw (e, f, texts_next) refl
+
+  -- among few names that are all new, the next one may be added, and the others are new after it
+  pub may_add_next : length xs ≤ 16 → are_new_names (texts (take i xs)) (texts (drop i xs)) ≡ true
+      → (may_add (texts (take i xs)) (string_bytes x) ≡ true) × (are_new_names (texts (take (i + 1) xs)) (texts (drop (i + 1) xs)) ≡ true)
+  may_add_next few left =
+      let text = string_bytes x in
+      let earlier = texts (take i xs) in
+      let rest : Bool = are_new_names (earlier ++ text ∷ []) (texts (drop (i + 1) xs)) in
+      let fresh : Bool = not (list_any (bytes_eq text) earlier) in
+      let parts = and_parts (is_name text && fresh) rest (sym here ∙ left) in
+      let named = and_parts (is_name text) fresh parts.0 in
+      let short : length earlier ≤ i = omega (arith, length-map (take i xs) (λ (s : String Global). string_bytes s), length-take-le i xs (omega arith)) in
+      let room : nat_lt (length earlier) 16 ≡ true = lt-ltb _ _ (omega arith) in
+      (rw (named.0, room) named.1, rw texts_next parts.1)
+
+-- texts that may name locks are few, and all new
+pub are_few : (names : List (List ℕ)) → are_names names ≡ true → (length names ≤ 16) × (are_new_names [] names ≡ true)
+unfolding are_names
+are_few names h =
+    let parts = and_parts (nat_le 1 (length names) && nat_le (length names) 16) (are_new_names [] names) h in
+    let sizes = and_parts (nat_le 1 (length names)) (nat_le (length names) 16) parts.0 in (leb-true _ _ sizes.1, parts.1)
+
+pub none_given : (xs : List (String Global)) → length xs ≡ 0 → are_names (texts xs) ≡ false
+unfolding are_names
+none_given xs e = let none : length (texts xs) ≡ 0 = length-map xs string_bytes ∙ e in rw none refl
+
+pub too_many : (xs : List (String Global)) → 16 < length xs → are_names (texts xs) ≡ false
+unfolding are_names
+too_many xs many =
+    let e : length (texts xs) ≡ length xs = length-map xs string_bytes in
+    let over : nat_le (length (texts xs)) 16 ≡ false = lt-leb _ _ (omega arith) in
+    and_left _ _ (and_right (nat_le 1 (length (texts xs))) _ over)
+
+pub few_given : (xs : List (String Global)) → 1 ≤ length xs → length xs ≤ 16 → are_names (texts xs) ≡ are_new_names [] (texts xs)
+unfolding are_names
+few_given xs some few =
+    let e : length (texts xs) ≡ length xs = length-map xs string_bytes in
+    let at_least : nat_le 1 (length (texts xs)) ≡ true = le-leb _ _ (omega arith) in
+    let at_most : nat_le (length (texts xs)) 16 ≡ true = le-leb _ _ (omega arith) in rw (at_least, at_most) refl

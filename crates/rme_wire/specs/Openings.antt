@@ -1,0 +1,33 @@
+-- The line that opens a world.
+use Rattle.std.specs.Prelude.{ℕ, ◌&&◌, ◌==◌, List, [], ◌∷◌, ◌++◌, Bool, true, not, nat_le, length, bytes_eq, codes, if◌then◌else◌, Option, Some, None, option_map, option_and_then}
+use Rattle.std.specs.List.{list_any}
+use Rattle.serde_json.specs.Data.{Data, Items, no_items, item}
+use Rattle.serde_json.specs.Find.{get, as_array, as_str}
+use Rattle.rme_wire.specs.declared.opening.Opening.{Opening}
+use Rattle.rme_wire.specs.Names.{is_name}
+use Rattle.rme_wire.specs.Values.{small}
+
+-- whether each text is a name that isn't among the earlier ones
+unfoldable pub are_new_names : List (List ℕ) → List (List ℕ) → Bool
+are_new_names earlier [] = true
+are_new_names earlier (text ∷ texts) = is_name text && not (list_any (bytes_eq text) earlier) && are_new_names (earlier ++ text ∷ []) texts
+
+-- 1 to 16 names of locks, each once
+unfoldable pub are_names : List (List ℕ) → Bool
+are_names texts = nat_le 1 (length texts) && nat_le (length texts) 16 && are_new_names [] texts
+
+-- the texts of a list, where each item is one
+unfoldable pub texts_of : Items → Option (List (List ℕ))
+texts_of no_items = Some []
+texts_of (item d ds) = option_and_then (λ text. option_map (λ texts. text ∷ texts) (texts_of ds)) (as_str d)
+
+-- `{"cells":..,"do":"open","jobs":..,"locks":[..],"workers":..}`
+unfoldable pub opening_of : ℕ → Data → Option Opening
+opening_of count d =
+    if count == 5 then option_and_then (λ workers. option_and_then (λ cells. option_and_then (λ jobs. option_map (λ locks. record {
+      workers = workers;
+      locks = locks;
+      cells = cells;
+      jobs = jobs;
+    }) (option_and_then texts_of (option_and_then as_array (get (codes "locks") d)))) (option_and_then small (get (codes "jobs") d))) (option_and_then small (get (codes "cells") d)))
+    (option_and_then small (get (codes "workers") d)) else None
