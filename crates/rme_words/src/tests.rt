@@ -1,0 +1,85 @@
+//! Each public call once, with values worked out by hand.
+
+use crate::{Address, Bank, NoMemory, Refusal, Shape};
+use std::test::Fail;
+
+#[test]
+fn sizes_of_shapes(rt: HostRuntime) -> Result<(), Fail> {
+    for (workers, leaves, height) in [
+        (1, 2, 1),
+        (2, 2, 1),
+        (3, 4, 2),
+        (4, 4, 2),
+        (64, 64, 6),
+        (255, 256, 8),
+        (256, 256, 8),
+    ] {
+        let shape = Shape::new(workers, 3, 2, 10)?;
+        assert_eq!(rt; shape.leaves(), leaves, "of {workers} workers");
+        assert_eq!(rt; shape.height(), height, "of {workers} workers");
+        assert_eq!(rt;
+            shape.words(),
+            31 * workers as usize + 3 * (leaves as usize + 6)
+        );
+        assert_eq!(rt;
+            (shape.workers(), shape.locks(), shape.cells(), shape.jobs()),
+            (workers, 3, 2, 10)
+        );
+    }
+    Ok(())
+}
+
+#[test]
+fn numbers_outside_the_limits(rt: HostRuntime) {
+    for (workers, locks, cells, jobs) in [
+        (0, 1, 1, 1),
+        (257, 1, 1, 1),
+        (1, 0, 1, 1),
+        (1, 17, 1, 1),
+        (1, 1, 0, 1),
+        (1, 1, 17, 1),
+        (1, 1, 1, 0),
+        (1, 1, 1, 1_000_001),
+    ] {
+        let refused = matches!(
+            Shape::new(workers, locks, cells, jobs),
+            Err(Refusal::BadShape)
+        );
+        assert!(rt; refused, "{workers} {locks} {cells} {jobs}");
+    }
+}
+
+#[test]
+fn a_bank_of_37_words(rt: HostRuntime) -> Result<(), Fail> {
+    let shape = Shape::new(1, 1, 1, 1)?;
+    assert_eq!(rt; shape.words(), 37);
+    assert_eq!(rt; shape.word(Address::Cell(0, 0)), 33);
+    let Ok(mut bank) = Bank::new(rt.alloc(), shape) else {
+        return Err(Fail::from("no memory"));
+    };
+    bank.store(Address::Cell(0, 0), 9);
+    assert_eq!(rt; bank.load(Address::Cell(0, 0)), 9);
+    assert_eq!(rt; bank.load(Address::Turn(0)), 0);
+    assert_eq!(rt; bank.compare_exchange(Address::Node(0, 1), 0, 2), 0);
+    assert_eq!(rt; bank.compare_exchange(Address::Node(0, 1), 0, 1), 2);
+    assert_eq!(rt; bank.load(Address::Node(0, 1)), 2);
+    assert_eq!(rt; bank.shape().words(), 37);
+    Ok(())
+}
+
+#[test]
+fn refusals_have_numbers_and_names(rt: HostRuntime) {
+    assert_eq!(rt;
+        (Refusal::BadLine.code(), Refusal::BadLine.name()),
+        (1, "BadLine")
+    );
+    assert_eq!(rt;
+        (
+            Refusal::WrongNumber(2).code(),
+            Refusal::WrongNumber(2).name()
+        ),
+        (16, "WrongNumber")
+    );
+    assert_eq!(rt; Refusal::from(NoMemory).code(), 20);
+    assert_eq!(rt; Refusal::NotWaiting.name(), "NotWaiting");
+}
