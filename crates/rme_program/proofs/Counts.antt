@@ -1,5 +1,5 @@
 -- How many cells of a mask lie below a number.
-use Rattle.std.proofs.Common.{◌≡◌, ℕ, ◌+◌, ◌≤◌, ◌++◌, length, ap, ◌∙◌, arith, length-append}
+use Rattle.std.proofs.Common.{◌≡◌, ℕ, ◌+◌, ◌≤◌, length, ap, ◌∙◌, arith, length-append}
 use Rattle.rme_script.specs.Cells.{cells_named, cells_from}
 use Rattle.rme_script.proofs.Rising.{cells_named_split}
 use Rattle.rme_program.specs.Phases.{cells_below}

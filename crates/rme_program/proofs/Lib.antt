@@ -1,3 +1,12 @@
+pub mod Columns
 pub mod Counts
+pub mod Falls
+pub mod Firsts
+pub mod Fitting
+pub mod Lists
 pub mod MaskLemmas
+pub mod RowLaws
+pub mod Rows
 pub mod Scripting
+pub mod SectionRows
+pub mod Turns

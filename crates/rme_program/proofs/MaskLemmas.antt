@@ -1,14 +1,13 @@
 -- The mask of a script as one number, and the next cell of a mask.
-use Rattle.std.proofs.Common.{◌≡◌, ℕ, ◌+◌, ◌^◌, ◌<◌, List, [], ◌∷◌, refl, sym, ◌∙◌, ap, inl, inr, arith}
+use Rattle.std.proofs.Common.{◌≡◌, ℕ, ◌+◌, ◌^◌, List, [], ◌∷◌, refl, sym, ◌∙◌, inl, inr}
 use Rattle.std.specs.Prelude.{Bool, true, false, ◌==◌, ◌||◌, Option, Some, None, MatchOption, bit_or, max}
 use Rattle.std.specs.Int.{bit_at}
-use Rattle.std.specs.List.{list_any}
 use Rattle.std.proofs.lemmas.Bool.{cases_eq, eq-eqb, ne_eqb}
 use Rattle.std.proofs.lemmas.Nat.Bits.{bit_at_or, bit_at-pow_same, bit_at-pow_other, bit_at-zero, same_from_bits}
 use Rattle.rme_script.specs.declared.op.Op.{Op}
 use Rattle.rme_script.specs.declared.op.Op.TheVariants.{Get, Set, Add, Copy, Swap}
 use Rattle.rme_script.specs.Cells.{names, named_by, bit_of, IsMask, cells_from}
-use Rattle.rme_program.specs.Masks.{bits_named, mask_of, first_cell, head_of}
+use Rattle.rme_program.specs.Masks.{bits_named, mask_of, first_cell}
 
 bit_of-or : (a b : Bool) → max (bit_of a) (bit_of b) ≡ bit_of (a || b)
 bit_of-or true true = refl

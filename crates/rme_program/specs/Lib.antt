@@ -1,7 +1,13 @@
 -- In reading order: the masks of cells, what an action does to a memory, what each stage does next and what
--- follows from the value, and what `next` and `after` may rely on.
+-- follows from the value, what `next` and `after` may rely on, and the phases; then the step table: its rows, the
+-- place of a worker in a row, the stays that walk the rows, how each step brings a worker on, and the laws of rows.
 pub mod Masks
 pub mod Did
 pub mod Steps
 pub mod Conditions
 pub mod Phases
+pub mod Table
+pub mod Places
+pub mod Stays
+pub mod Progress
+pub mod RowLaws

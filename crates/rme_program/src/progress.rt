@@ -2,6 +2,7 @@
 
 ghost use Rattle.std.specs.Prelude.{◌≡◌, ◌≤◌, ◌+◌};
 ghost use Rattle.rme_program.specs.Phases.{cells_below, phase_of, left_of, left_of_recovery, left_of_log, left_of_redo, left_of_departure};
+ghost use Rattle.rme_program.specs.Progress.{IsOnTrack, IsColumn, IsWithinMost};
 ghost use Rattle.rme_program.specs.Conditions.{IsPrivate, IsRecovery, IsLog, IsRedo, IsDeparture};
 
 use crate::kinds::Phase;
@@ -28,9 +29,12 @@ pub fn phase(private: &Private) -> Phase
 ///
 /// In a section it is an upper bound until the mask is loaded: a script that names fewer cells than the lock
 /// has takes fewer steps.
+#[tactic(auto, using(crate::proofs::Columns::column_by, crate::proofs::Columns::most_by))]
 pub fn left(shape: Shape, private: &Private) -> u32
     requires { IsPrivate shape private.now }
-    ensures { result ≡ left_of shape private.now.stage }
+    ensures left { result ≡ left_of shape private.now.stage }
+    ensures column { IsColumn shape private.now result }
+    ensures most { IsOnTrack private.now.stage → IsWithinMost shape private.now.stage result }
 {
     match private.stage {
         Stage::Resting => 0,

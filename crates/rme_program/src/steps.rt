@@ -5,6 +5,8 @@ ghost use Rattle.rme_words.specs.Words.{IsOfShape};
 ghost use Rattle.rme_program.specs.Did.{address_of};
 ghost use Rattle.rme_program.specs.Steps.{action_of, private_after, note_after, after_at, begun_after};
 ghost use Rattle.rme_program.specs.Conditions.{IsPrivate, IsStage, Takes};
+ghost use Rattle.rme_program.specs.Stays.{TakesRow, FollowsRow};
+ghost use Rattle.rme_program.specs.Progress.{IsOnTrack, Falls, CountsOn};
 
 use crate::action::Action;
 use crate::note::Note;
@@ -17,11 +19,13 @@ use rme_words::Shape;
 ///
 /// The private state is one of the shape's, and the worker is not ready. Do the action, and hand the value
 /// that was loaded or found to `after`.
+#[tactic(auto, using(crate::proofs::Turns::takes_by))]
 pub fn next(shape: Shape, private: &Private) -> Action
     requires private { IsPrivate shape private.now }
     requires busy { private.now.stage ≢ Stage.Resting }
     ensures action { result ≡ action_of shape private.now }
     ensures within { IsOfShape shape (address_of result) }
+    ensures row { TakesRow shape private.now result }
 {
     let worker = private.worker;
     let begun = private.begun;
@@ -47,6 +51,14 @@ pub fn after(shape: Shape, private: Private, value: u64) -> (Private, Note)
     requires value { Takes shape private.stage value }
     ensures after { result ≡ (private_after shape private value, note_after shape private value) }
     ensures private { IsPrivate shape result.0 }
+
+    // The row of the step table goes on at its next place, or the phase is over as the table says.
+    ensures row { FollowsRow shape private value result.0 result.1 }
+
+    // What the values found do not matter for.
+    ensures track { IsOnTrack private.stage → IsOnTrack result.0.stage }
+    ensures falls { IsOnTrack private.stage → private.stage ≢ Stage.Resting → result.1 ≢ Note.Blocked → Falls shape private.stage result.0.stage }
+    ensures counts { IsOnTrack private.stage → private.stage ≢ Stage.Resting → CountsOn shape private.stage result.0.stage result.1 }
 {
     let begun = begun_after(shape, &private, value);
     let (stage, note) = stage_after(shape, &private, value);

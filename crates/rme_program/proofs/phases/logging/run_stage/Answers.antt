@@ -1,4 +1,4 @@
-use Rattle.std.proofs.Common.{◌≡◌, ℕ, ◌∙◌, sym, ap, List, length}
+use Rattle.std.proofs.Common.{◌∙◌, sym, ap, length}
 use Rattle.rme_script.specs.Eval.{Ran}
 use Rattle.rme_script.proofs.Laws.{eval_length}
 use Rattle.rme_program.proofs.phases.logging.run_stage.Goals as goal

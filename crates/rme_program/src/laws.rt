@@ -1,0 +1,34 @@
+//! The laws of the step table's rows.
+//!
+//! Each function here does nothing: its contract is a law of `specs/RowLaws.antt`. The crates above cite the
+//! lemmas of `proofs/RowLaws.antt` by the names given below.
+
+ghost use Rattle.std.specs.Prelude.{ℕ};
+ghost use Rattle.rme_words.specs.declared.shape.Shape.{Shape};
+ghost use Rattle.rme_program.specs.RowLaws.{RowLengths, NamedMaskLaw, Reentry, BeginLaw, PlaceLaw};
+
+/// How many steps each row of the step table has (lemma `row_lengths`).
+pub fn counting()
+    ensures { (shape : Shape) → RowLengths shape }
+{}
+
+/// An even section whose loaded mask is the script's own has 11 + 3n + 4t steps (lemma `named_mask`).
+pub fn masking()
+    ensures { NamedMaskLaw }
+{}
+
+/// A worker re-enters at step h + 3 of its Recover and at no other (lemma `reentry`).
+pub fn reentering()
+    ensures { (shape : Shape) (worker begun done lock : ℕ) → Reentry shape worker begun done lock }
+{}
+
+/// A stay begins at its first stage with no step made (lemma `begin_law`).
+pub fn beginning()
+    ensures { BeginLaw }
+{}
+
+/// A worker in a stay is on track, and what it has taken of the stay is its place in the row (lemma
+/// `place_law`).
+pub fn placing()
+    ensures { PlaceLaw }
+{}
