@@ -390,7 +390,7 @@ steps_on shape worker known (Leaving departure) value busy is takes on = departu
 
 -- ---- a worker, of what is known to follow
 
-track_on : (shape : Shape) (worker known : ℕ) (stage : Stage) (value : ℕ) → IsStage shape known stage → Takes shape stage value → IsOnTrack stage → IsOnTrack (after_at shape worker known stage value).0
+pub track_on : (shape : Shape) (worker known : ℕ) (stage : Stage) (value : ℕ) → IsStage shape known stage → Takes shape stage value → IsOnTrack stage → IsOnTrack (after_at shape worker known stage value).0
 track_on shape worker known Resting value is takes on = tt
 track_on shape worker known (Recovering recovery) value is takes on = (recovery_steps shape worker known value recovery is).track
 track_on shape worker known (Posting slate) value is takes on = (slate_steps shape known slate is.2).track

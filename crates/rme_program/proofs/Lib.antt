@@ -10,3 +10,4 @@ pub mod Rows
 pub mod Scripting
 pub mod SectionRows
 pub mod Turns
+pub mod WalkLaws

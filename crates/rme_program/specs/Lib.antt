@@ -1,6 +1,7 @@
 -- In reading order: the masks of cells, what an action does to a memory, what each stage does next and what
 -- follows from the value, what `next` and `after` may rely on, and the phases; then the step table: its rows, the
--- place of a worker in a row, the stays that walk the rows, how each step brings a worker on, and the laws of rows.
+-- place of a worker in a row, the stays that walk the rows, how each step brings a worker on, the laws of rows, and
+-- whole walks.
 pub mod Masks
 pub mod Did
 pub mod Steps
@@ -11,3 +12,4 @@ pub mod Places
 pub mod Stays
 pub mod Progress
 pub mod RowLaws
+pub mod Walks

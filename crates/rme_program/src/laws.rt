@@ -1,10 +1,11 @@
 //! The laws of the step table's rows.
 //!
-//! Each function here does nothing: its contract is a law of `specs/RowLaws.antt`. The crates above cite the
-//! lemmas of `proofs/RowLaws.antt` by the names given below.
+//! Each function here does nothing: its contract is a law of `specs/RowLaws.antt` or `specs/Walks.antt`. The
+//! crates above cite the lemmas of `proofs/RowLaws.antt` and `proofs/WalkLaws.antt` by the names given below.
 
 ghost use Rattle.std.specs.Prelude.{ℕ};
 ghost use Rattle.rme_words.specs.declared.shape.Shape.{Shape};
+ghost use Rattle.rme_program.specs.Walks.{WalkLaw, EndLaw};
 ghost use Rattle.rme_program.specs.RowLaws.{RowLengths, NamedMaskLaw, Reentry, BeginLaw, PlaceLaw};
 
 /// How many steps each row of the step table has (lemma `row_lengths`).
@@ -31,4 +32,14 @@ pub fn beginning()
 /// `place_law`).
 pub fn placing()
     ensures { PlaceLaw }
+{}
+
+/// The actions that a worker makes in a stay, in order, are its row's (lemma `walk_law`).
+pub fn walking()
+    ensures { WalkLaw }
+{}
+
+/// A stay ends with the last action of its row; Recover's alone may end before (lemma `end_law`).
+pub fn ending()
+    ensures { EndLaw }
 {}
