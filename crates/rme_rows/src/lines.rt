@@ -1,0 +1,304 @@
+//! Rows on lines: bytes in, bytes out, exact to the byte.
+
+use rme_server::run_lines;
+use std::alloc::Global;
+use std::process::Abort;
+use std::test::Fail;
+
+/// Lines with their answers.
+pub type Row = &'static [(&'static str, &'static str)];
+
+/// An open of two workers and one lock with one cell.
+pub const TWO_WORKERS: (&str, &str) = (
+    r#"{"cells":1,"do":"open","jobs":10,"locks":["bank"],"workers":2}"#,
+    r#"{"ok":"open"}"#,
+);
+
+/// Row `first run`.
+const FIRST_RUN: Row = &[
+    TWO_WORKERS,
+    (
+        r#"{"do":"submit","lock":"bank","script":[],"worker":0}"#,
+        r#"{"number":1,"ok":"submit"}"#,
+    ),
+    (
+        r#"{"do":"walk","until":"entered","worker":0}"#,
+        r#"{"end":"until","notes":[["asked",1],["entered","bank"]],"ok":"walk"}"#,
+    ),
+    (r#"{"do":"crash","worker":0}"#, r#"{"ok":"crash"}"#),
+    (
+        r#"{"do":"owner","lock":"bank"}"#,
+        r#"{"ok":"owner","owner":0}"#,
+    ),
+    (r#"{"do":"restart","worker":0}"#, r#"{"ok":"restart"}"#),
+    (
+        r#"{"do":"walk","worker":0}"#,
+        r#"{"end":"ready","notes":[["reentered","bank"],["finished","bank",1,0,0],["left","bank"]],"ok":"walk"}"#,
+    ),
+    (
+        r#"{"do":"owner","lock":"bank"}"#,
+        r#"{"ok":"owner","owner":null}"#,
+    ),
+];
+
+/// Rows `plain path` and `second worker`.
+const PLAIN_PATH: Row = &[
+    TWO_WORKERS,
+    (
+        r#"{"do":"submit","lock":"bank","script":[["add",0,5]],"worker":0}"#,
+        r#"{"number":1,"ok":"submit"}"#,
+    ),
+    (
+        r#"{"do":"walk","worker":0}"#,
+        r#"{"end":"ready","notes":[["asked",1],["entered","bank"],["finished","bank",1,0,5],["left","bank"]],"ok":"walk"}"#,
+    ),
+    (
+        r#"{"do":"cells","lock":"bank"}"#,
+        r#"{"cells":[5],"ok":"cells","settled":true}"#,
+    ),
+    (
+        r#"{"do":"history"}"#,
+        r#"{"entries":[{"lock":"bank","number":1,"place":0,"reply":5,"script":[["add",0,5]],"worker":0}],"ok":"history"}"#,
+    ),
+    (
+        r#"{"do":"submit","lock":"bank","script":[],"worker":1}"#,
+        r#"{"number":1,"ok":"submit"}"#,
+    ),
+    (
+        r#"{"do":"walk","worker":1}"#,
+        r#"{"end":"ready","notes":[["asked",1],["entered","bank"],["finished","bank",1,1,0],["left","bank"]],"ok":"walk"}"#,
+    ),
+    (
+        r#"{"do":"cells","lock":"bank"}"#,
+        r#"{"cells":[5],"ok":"cells","settled":true}"#,
+    ),
+];
+
+/// Row `re-entry`.
+const RE_ENTRY: Row = &[
+    TWO_WORKERS,
+    (
+        r#"{"do":"submit","lock":"bank","script":[["add",0,5]],"worker":0}"#,
+        r#"{"number":1,"ok":"submit"}"#,
+    ),
+    (
+        r#"{"do":"walk","until":"entered","worker":0}"#,
+        r#"{"end":"until","notes":[["asked",1],["entered","bank"]],"ok":"walk"}"#,
+    ),
+    (r#"{"do":"crash","worker":0}"#, r#"{"ok":"crash"}"#),
+    (
+        r#"{"do":"submit","lock":"bank","script":[["add",0,1]],"worker":1}"#,
+        r#"{"number":1,"ok":"submit"}"#,
+    ),
+    (
+        r#"{"do":"walk","worker":1}"#,
+        r#"{"end":"blocked","notes":[["asked",1],["blocked"]],"ok":"walk"}"#,
+    ),
+    (
+        r#"{"do":"owner","lock":"bank"}"#,
+        r#"{"ok":"owner","owner":0}"#,
+    ),
+    (
+        r#"{"do":"cells","lock":"bank"}"#,
+        r#"{"cells":[0],"ok":"cells","settled":false}"#,
+    ),
+    (r#"{"do":"restart","worker":0}"#, r#"{"ok":"restart"}"#),
+    (
+        r#"{"do":"walk","worker":0}"#,
+        r#"{"end":"ready","notes":[["reentered","bank"],["finished","bank",1,0,5],["left","bank"]],"ok":"walk"}"#,
+    ),
+    (
+        r#"{"do":"walk","worker":1}"#,
+        r#"{"end":"ready","notes":[["entered","bank"],["finished","bank",1,1,6],["left","bank"]],"ok":"walk"}"#,
+    ),
+    (
+        r#"{"do":"cells","lock":"bank"}"#,
+        r#"{"cells":[6],"ok":"cells","settled":true}"#,
+    ),
+];
+
+/// Row `stale receipt`.
+const STALE_RECEIPT: Row = &[
+    TWO_WORKERS,
+    (
+        r#"{"do":"submit","lock":"bank","script":[["set",0,7]],"worker":0}"#,
+        r#"{"number":1,"ok":"submit"}"#,
+    ),
+    (
+        r#"{"do":"walk","worker":0}"#,
+        r#"{"end":"ready","notes":[["asked",1],["entered","bank"],["finished","bank",1,0,7],["left","bank"]],"ok":"walk"}"#,
+    ),
+    (
+        r#"{"do":"last","worker":0}"#,
+        r#"{"last":{"lock":"bank","number":1,"place":0,"reply":7,"worker":0},"ok":"last"}"#,
+    ),
+    (
+        r#"{"do":"submit","lock":"bank","script":[["add",0,1]],"worker":0}"#,
+        r#"{"number":2,"ok":"submit"}"#,
+    ),
+    (
+        r#"{"do":"walk","max":22,"worker":0}"#,
+        r#"{"end":"max","notes":[["asked",2],["entered","bank"]],"ok":"walk"}"#,
+    ),
+    (r#"{"do":"crash","worker":0}"#, r#"{"ok":"crash"}"#),
+    (
+        r#"{"do":"last","worker":0}"#,
+        r#"{"last":null,"ok":"last"}"#,
+    ),
+    (r#"{"do":"restart","worker":0}"#, r#"{"ok":"restart"}"#),
+    (
+        r#"{"do":"walk","worker":0}"#,
+        r#"{"end":"ready","notes":[["reentered","bank"],["finished","bank",2,1,8],["left","bank"]],"ok":"walk"}"#,
+    ),
+    (
+        r#"{"do":"last","worker":0}"#,
+        r#"{"last":{"lock":"bank","number":2,"place":1,"reply":8,"worker":0},"ok":"last"}"#,
+    ),
+];
+
+/// Row `partial exit`.
+const PARTIAL_EXIT: Row = &[
+    (
+        r#"{"cells":1,"do":"open","jobs":10,"locks":["bank"],"workers":4}"#,
+        r#"{"ok":"open"}"#,
+    ),
+    (
+        r#"{"do":"submit","lock":"bank","script":[],"worker":0}"#,
+        r#"{"number":1,"ok":"submit"}"#,
+    ),
+    (
+        r#"{"do":"walk","until":"left","worker":0}"#,
+        r#"{"end":"until","notes":[["asked",1],["entered","bank"],["finished","bank",1,0,0],["left","bank"]],"ok":"walk"}"#,
+    ),
+    (r#"{"do":"crash","worker":0}"#, r#"{"ok":"crash"}"#),
+    (
+        r#"{"do":"submit","lock":"bank","script":[],"worker":1}"#,
+        r#"{"number":1,"ok":"submit"}"#,
+    ),
+    (
+        r#"{"do":"walk","worker":1}"#,
+        r#"{"end":"blocked","notes":[["asked",1],["blocked"]],"ok":"walk"}"#,
+    ),
+    (
+        r#"{"do":"submit","lock":"bank","script":[],"worker":2}"#,
+        r#"{"number":1,"ok":"submit"}"#,
+    ),
+    (
+        r#"{"do":"walk","until":"entered","worker":2}"#,
+        r#"{"end":"until","notes":[["asked",1],["entered","bank"]],"ok":"walk"}"#,
+    ),
+    (r#"{"do":"restart","worker":0}"#, r#"{"ok":"restart"}"#),
+    (
+        r#"{"do":"walk","worker":0}"#,
+        r#"{"end":"ready","notes":[["ready"]],"ok":"walk"}"#,
+    ),
+    (
+        r#"{"do":"owner","lock":"bank"}"#,
+        r#"{"ok":"owner","owner":2}"#,
+    ),
+    (
+        r#"{"do":"walk","worker":1}"#,
+        r#"{"end":"blocked","notes":[["blocked"]],"ok":"walk"}"#,
+    ),
+];
+
+/// Row `withdrawal`.
+const WITHDRAWAL: Row = &[
+    TWO_WORKERS,
+    (
+        r#"{"do":"submit","lock":"bank","script":[["add",0,5]],"worker":0}"#,
+        r#"{"number":1,"ok":"submit"}"#,
+    ),
+    (
+        r#"{"do":"walk","until":"entered","worker":0}"#,
+        r#"{"end":"until","notes":[["asked",1],["entered","bank"]],"ok":"walk"}"#,
+    ),
+    (r#"{"do":"crash","worker":0}"#, r#"{"ok":"crash"}"#),
+    (
+        r#"{"do":"submit","lock":"bank","script":[["add",0,1]],"worker":1}"#,
+        r#"{"number":1,"ok":"submit"}"#,
+    ),
+    (
+        r#"{"do":"walk","worker":1}"#,
+        r#"{"end":"blocked","notes":[["asked",1],["blocked"]],"ok":"walk"}"#,
+    ),
+    (r#"{"do":"restart","worker":0}"#, r#"{"ok":"restart"}"#),
+    (
+        r#"{"do":"walk","until":"reentered","worker":0}"#,
+        r#"{"end":"until","notes":[["reentered","bank"]],"ok":"walk"}"#,
+    ),
+    (
+        r#"{"do":"withdraw","worker":0}"#,
+        r#"{"code":21,"error":"NotWaiting"}"#,
+    ),
+    (r#"{"do":"withdraw","worker":1}"#, r#"{"ok":"withdraw"}"#),
+    (
+        r#"{"do":"walk","worker":1}"#,
+        r#"{"end":"ready","notes":[["withdrew",1]],"ok":"walk"}"#,
+    ),
+    (
+        r#"{"do":"last","worker":1}"#,
+        r#"{"last":null,"ok":"last"}"#,
+    ),
+    (
+        r#"{"do":"submit","lock":"bank","script":[],"worker":1}"#,
+        r#"{"number":2,"ok":"submit"}"#,
+    ),
+    (
+        r#"{"do":"withdraw","worker":1}"#,
+        r#"{"code":21,"error":"NotWaiting"}"#,
+    ),
+    (
+        r#"{"do":"walk","worker":0}"#,
+        r#"{"end":"ready","notes":[["finished","bank",1,0,5],["left","bank"]],"ok":"walk"}"#,
+    ),
+    (
+        r#"{"do":"walk","worker":1}"#,
+        r#"{"end":"ready","notes":[["asked",2],["entered","bank"],["finished","bank",2,1,0],["left","bank"]],"ok":"walk"}"#,
+    ),
+];
+
+/// Each row, with a name for messages.
+const ROWS: &[(&str, Row)] = &[
+    ("first run", FIRST_RUN),
+    ("plain path", PLAIN_PATH),
+    ("re-entry", RE_ENTRY),
+    ("stale receipt", STALE_RECEIPT),
+    ("partial exit", PARTIAL_EXIT),
+    ("withdrawal", WITHDRAWAL),
+];
+
+#[test]
+fn rows(rt: HostRuntime) -> Result<(), Fail> {
+    for (name, row) in ROWS {
+        check_row(&rt, rt.alloc(), name, row)?;
+    }
+    Ok(())
+}
+
+/// Runs the lines of a row and compares the whole output.
+pub fn check_row(rt: &impl Abort, alloc: Global, name: &str, row: Row) -> Result<(), Fail> {
+    let mut input = Vec::new(alloc);
+    let mut wanted = Vec::new(alloc);
+    for (line, answer) in row {
+        push_line(&mut input, line.as_bytes())?;
+        push_line(&mut wanted, answer.as_bytes())?;
+    }
+    let output = answers(alloc, input.as_slice())?;
+    assert_eq!(rt; output.as_slice(), wanted.as_slice(), "row {name}");
+    Ok(())
+}
+
+/// Appends a line and its newline.
+pub fn push_line(out: &mut Vec<u8>, line: &[u8]) -> Result<(), Fail> {
+    out.extend_from_slice(line)?;
+    out.push(b'\n')?;
+    Ok(())
+}
+
+/// What the lines of an input are answered.
+pub fn answers(alloc: Global, input: &[u8]) -> Result<Vec<u8>, Fail> {
+    let mut output = Vec::new(alloc);
+    run_lines(alloc, input, &mut output)?;
+    Ok(output)
+}

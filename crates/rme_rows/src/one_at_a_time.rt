@@ -1,0 +1,64 @@
+//! One worker at a time, and no crash.
+
+use crate::plays::Line::{Cells, Counts, Crash, History, Owner, Restart, Steps, Submit, Walk};
+use crate::plays::{FIVE, Line, play};
+use crate::walks::End;
+use crate::walks::Told::{Asked, Entered, Finished, Left, Reentered};
+use rme_script::Op;
+use std::test::Fail;
+
+/// Rows `plain path` and `second worker`: two workers, one after the other.
+const PLAIN_PATH: &[Line] = &[
+    Submit(0, &[Op::Add(0, 5)], 1),
+    Walk(0, End::Ready, &[Asked(1), Entered, Finished(1, 0, 5), Left]),
+    Counts(0, [0, 6, 1, 18, 3]),
+    Cells(&[5], true),
+    History(&[(0, 1, 0, 5, &[Op::Add(0, 5)])]),
+    Submit(1, &[], 1),
+    Walk(1, End::Ready, &[Asked(1), Entered, Finished(1, 1, 0), Left]),
+    Counts(1, [0, 3, 1, 11, 3]),
+    Cells(&[5], true),
+    History(&[(0, 1, 0, 5, &[Op::Add(0, 5)]), (1, 1, 1, 0, &[])]),
+    Owner(None),
+];
+
+/// Row `one worker`: a tree of two leaves, of which one is no worker's.
+const ONE_WORKER: &[Line] = &[
+    Submit(0, &[], 1),
+    Walk(0, End::Ready, &[Asked(1), Entered, Finished(1, 0, 0), Left]),
+    Counts(0, [0, 3, 1, 11, 3]),
+];
+
+/// Row `five operations`.
+const FIVE_OPERATIONS: &[Line] = &[
+    Submit(0, FIVE, 1),
+    Walk(0, End::Ready, &[Asked(1), Entered, Finished(1, 0, 5), Left]),
+    Counts(0, [0, 18, 1, 34, 3]),
+    Cells(&[0, 5], true),
+];
+
+/// Row `two of sixteen cells`, the whole way.
+const TWO_OF_SIXTEEN_CELLS: &[Line] = &[
+    Submit(0, &[Op::Copy(3, 7)], 1),
+    Walk(0, End::Ready, &[Asked(1), Entered, Finished(1, 0, 0), Left]),
+    Counts(0, [0, 6, 1, 22, 3]),
+];
+
+/// Row `two of sixteen cells`, crashed right after the store of Turn, the twelfth step of the section.
+const TWO_CELLS_REDONE: &[Line] = &[
+    Submit(0, &[Op::Copy(3, 7)], 1),
+    Steps(0, 6 + 1 + 12),
+    Crash(0),
+    Restart(0),
+    Walk(0, End::Ready, &[Reentered, Finished(1, 0, 0), Left]),
+    Counts(0, [4, 0, 0, 11, 3]),
+];
+
+#[test]
+fn one_at_a_time(rt: HostRuntime) -> Result<(), Fail> {
+    play(&rt, rt.alloc(), (2, 1, 10), PLAIN_PATH)?;
+    play(&rt, rt.alloc(), (1, 1, 10), ONE_WORKER)?;
+    play(&rt, rt.alloc(), (1, 2, 10), FIVE_OPERATIONS)?;
+    play(&rt, rt.alloc(), (1, 16, 10), TWO_OF_SIXTEEN_CELLS)?;
+    play(&rt, rt.alloc(), (1, 16, 10), TWO_CELLS_REDONE)
+}
