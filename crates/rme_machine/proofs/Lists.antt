@@ -1,0 +1,47 @@
+-- Lists made of a function over 0 .. n - 1.
+use Rattle.std.proofs.Common.{◌≡◌, ◌≢◌, ℕ, ◌<◌, List, length, get_or, sym, ◌∙◌, ap, inl, inr, arith}
+use Rattle.std.specs.Prelude.{Some, map, slice_get, slice_set}
+use Rattle.std.specs.List.{range_with_len}
+use Rattle.std.proofs.lemmas.Bool.{cases_eq}
+use Rattle.std.proofs.lemmas.List.{same_lists, length-set, set-get_or, get_or-set_same, get_or-set_other}
+use Rattle.std.proofs.lemmas.List.FromFn.{length-map-range_with_len, get_or-map-range_with_len}
+use Rattle.std.proofs.lemmas.Option.{slice_get-get_or, get_or_from_slice_get}
+
+-- The length of such a list, and its element at a place.
+pub made_long : {A : Type 0} (f : ℕ → A) (n : ℕ) → length (map f (range_with_len 0 n)) ≡ n
+made_long f n = length-map-range_with_len f 0 n
+
+pub made_at : {A : Type 0} (f : ℕ → A) (n i : ℕ) (d : A) → i < n → get_or (map f (range_with_len 0 n)) i d ≡ f i
+made_at f n i d within = get_or-map-range_with_len f 0 n i i d within (omega arith)
+
+-- Functions that agree below n make the same list.
+pub made_same : {A : Type 0} (f g : ℕ → A) (n : ℕ) → ((i : ℕ) → i < n → g i ≡ f i) → map g (range_with_len 0 n) ≡ map f (range_with_len 0 n)
+made_same f g n same =
+    same_lists _ _ (made_long g n ∙ sym (made_long f n)) (λ k d less.
+    let within : k < n = omega (arith, made_long g n) in
+    made_at g n k d within ∙ same k within ∙ sym (made_at f n k d within))
+
+pub made_get : {A : Type 0} (f : ℕ → A) (n i : ℕ) → i < n → slice_get (map f (range_with_len 0 n)) i ≡ Some (f i)
+made_get f n i within =
+    slice_get-get_or (map f (range_with_len 0 n)) i (f i) (omega (arith, made_long f n))
+    ∙ ap (λ (x : _). Some x) (made_at f n i (f i) within)
+
+-- Functions that agree but at one place make lists that differ there alone.
+pub made_set : {A : Type 0} (f g : ℕ → A) (n j : ℕ) (x : A) → j < n → g j ≡ x → ((i : ℕ) → i < n → i ≢ j → g i ≡ f i)
+    → map g (range_with_len 0 n) ≡ slice_set (map f (range_with_len 0 n)) j x
+made_set f g n j x within at off =
+    same_lists _ _ (made_long g n ∙ sym (length-set (map f (range_with_len 0 n)) j x ∙ made_long f n)) (λ k d less.
+    let inside : k < n = omega (arith, made_long g n) in
+    elim (cases_eq k j) [
+      | inl here ↦
+          (made_at g n k d inside ∙ ap g here ∙ at
+          ∙ sym (ap (λ (i : ℕ). get_or (slice_set (map f (range_with_len 0 n)) j x) i d) here
+          ∙ get_or-set_same (map f (range_with_len 0 n)) j x d (omega (arith, made_long f n))))
+      | inr apart ↦
+          (made_at g n k d inside ∙ off k inside apart
+          ∙ sym (get_or-set_other (map f (range_with_len 0 n)) j k x d apart ∙ made_at f n k d inside))
+    ])
+
+-- To store what stands there changes nothing.
+pub set_same : {A : Type 0} (xs : List A) (i : ℕ) (x : A) → slice_get xs i ≡ Some x → slice_set xs i x ≡ xs
+set_same xs i x at = ap (λ (y : _). slice_set xs i y) (sym (get_or_from_slice_get xs i x x at)) ∙ set-get_or xs i x

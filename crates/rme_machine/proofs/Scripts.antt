@@ -1,0 +1,109 @@
+-- The script that a section runs: what it is told by, and what it leaves on cells that were loaded one by one.
+use Rattle.std.proofs.Common.{◌≡◌, ℕ, zero, suc, ◌+◌, ◌*◌, ◌<◌, ◌≤◌, List, [], ◌∷◌, ◌++◌, length, take, subst, refl, sym, ◌∙◌, ap, inl, inr, arith}
+use Rattle.std.specs.Prelude.{true, ◌==◌, ◌||◌, nat_lt, slice_index, slice_set, Option, Some, None, unwrap_or, if◌then◌else◌}
+use Rattle.std.proofs.lemmas.Bool.{cases_lt, or_cases, eqb-true}
+use Rattle.std.specs.List.{All}
+use Rattle.std.proofs.lemmas.List.Elements.{All-head, All-tail}
+use Rattle.std.proofs.lemmas.List.{get_or_past, take_more, take_more_set}
+use Rattle.rme_words.specs.declared.shape.Shape.{Shape}
+use Rattle.rme_script.specs.declared.op.Op.{Op}
+use Rattle.rme_script.specs.declared.op.Op.TheVariants.{Get, Set, Add, Copy, Swap}
+use Rattle.rme_script.specs.Cells.{has, names, named_by}
+use Rattle.rme_script.specs.Eval.{eval_of, AgreeNamed}
+use Rattle.rme_script.specs.Programs.{Program}
+use Rattle.rme_script.specs.Scripts.{IsWithin, IsScript}
+use Rattle.rme_script.specs.Slates.{IsSlate, op_of, joined, ops_of, script_by, script_of}
+use Rattle.rme_script.proofs.Laws.{eval_local}
+use Rattle.rme_script.proofs.Rising.{has_named}
+use Rattle.rme_script.proofs.Slates.{script_slate}
+use Rattle.rme_program.specs.Masks.{mask_of}
+use Rattle.rme_program.proofs.MaskLemmas.{mask_of-is_mask}
+use Rattle.rme_machine.specs.Views.{WorkerWords, slate_script, slate_job, no_script}
+use Rattle.rme_machine.specs.Fits.{SameBelow}
+use Rattle.rme_machine.specs.Fact.{HasJob}
+
+-- Some operations go by their own words alone.
+ops_front : (n : ℕ) (words : List ℕ) → ops_of n words ≡ ops_of n (take (3 * n) words)
+ops_front zero words = refl
+ops_front (suc n) words = let three : 3 * suc n ≡ suc (suc (suc (3 * n))) = omega arith in rw three (front n words (λ rest. ops_front n rest))
+  where
+    front : (n : ℕ) (words : List ℕ) → ((rest : List ℕ) → ops_of n rest ≡ ops_of n (take (3 * n) rest))
+        → ops_of (suc n) words ≡ ops_of (suc n) (take (suc (suc (suc (3 * n)))) words)
+    front n [] below = refl
+    front n (kind ∷ []) below = refl
+    front n (kind ∷ first ∷ []) below = refl
+    front n (kind ∷ first ∷ second ∷ words) below = ap (joined (op_of kind first second)) (below words)
+
+pub script_same : (n : ℕ) (words others : List ℕ) → take (3 * n) words ≡ take (3 * n) others → script_of n words ≡ script_of n others
+script_same n words others same =
+    let ops : ops_of n words ≡ ops_of n others = ops_front n words ∙ ap (ops_of n) same ∙ sym (ops_front n others) in
+    ap (λ (found : Option (List Op)). if nat_lt 8 n then None else script_by n found) ops
+
+-- One word more is known.
+pub words_more : (words others : List ℕ) (loaded x : ℕ) → loaded < length words → loaded < length others → x ≡ slice_index others loaded
+    → take loaded words ≡ take loaded others → take (loaded + 1) (slice_set words loaded x) ≡ take (loaded + 1) others
+words_more words others loaded x within within_others is same =
+    take_more_set words loaded x within
+    ∙ ap (λ (front : List ℕ). front ++ x ∷ []) same
+    ∙ ap (λ (y : ℕ). take loaded others ++ y ∷ []) is
+    ∙ sym (take_more others loaded 0 within_others)
+
+-- The script of a pending job.
+pub record IsPosted (s : Shape) (own : WorkerWords) (script : Program) : Type 0 where
+  pub slate : slate_script own ≡ Some script
+  pub job : (slate_job own).script ≡ script
+  pub shaped : IsScript s.cells script
+  pub counted : script.n ≡ own.slate_len
+  pub few : own.slate_len ≤ 8
+
+pub posted : (s : Shape) (own : WorkerWords) → HasJob s own → (script : Program) × IsPosted s own script
+posted s own job =
+    let is : (slate_job own).script ≡ job.script = ap (λ (found : Option Program). unwrap_or found no_script) job.slate in
+    let words : IsSlate own.slate_len own.slate job.script = script_slate own.slate_len own.slate job.script job.slate in
+    let counted = words.counted in
+    let few = words.script.few in (
+      job.script,
+      record {
+        slate = job.slate;
+        job = is;
+        shaped = subst (λ (script : Program). IsScript s.cells script) is job.job.script;
+        counted = counted;
+        few = omega (arith, counted, few);
+      },
+    )
+
+-- Rows that hold the same in the named cells are left so, with one reply.
+pub left_same : (ops : List Op) (cells : ℕ) (row others : List ℕ) → length row ≡ cells → length others ≡ cells → SameBelow (mask_of ops) cells row others
+    → SameBelow (mask_of ops) cells (eval_of ops row).row (eval_of ops others).row × ((eval_of ops row).reply ≡ (eval_of ops others).reply)
+left_same ops cells row others long long_others same =
+    let named : (c : ℕ) → has (mask_of ops) c ≡ named_by ops c = has_named (mask_of ops) ops (mask_of-is_mask ops) in
+    let agree : AgreeNamed ops row others = record {
+      long = long ∙ sym long_others;
+      at = λ c t. elim (cases_lt c cells) [
+        | inl below ↦ same c below (named c ∙ t)
+        | inr past ↦ get_or_past row c 0 (omega (arith, past, long)) ∙ sym (get_or_past others c 0 (omega (arith, past, long_others)))
+      ];
+    } in
+    let left : AgreeNamed ops (eval_of ops row).row (eval_of ops others).row × ((eval_of ops row).reply ≡ (eval_of ops others).reply) = eval_local ops row others agree in
+    (λ c below t. left.0.at c (sym (named c) ∙ t), left.1)
+
+-- The cells that a script of a shape names are cells of the shape.
+either_within : (cells a b c : ℕ) → a < cells → b < cells → ((a == c) || (b == c)) ≡ true → c < cells
+either_within cells a b c first second t = elim (or_cases (a == c) (b == c) t) [
+  | inl l ↦ let same = eqb-true a c l in omega (arith, same, first)
+  | inr r ↦ let same = eqb-true b c r in omega (arith, same, second)
+]
+
+names_within : (cells : ℕ) (o : Op) (c : ℕ) → IsWithin cells o → names o c ≡ true → c < cells
+names_within cells (Get a) c within t = let same = eqb-true a c t in omega (arith, same, within)
+names_within cells (Set a v) c within t = let same = eqb-true a c t in omega (arith, same, within)
+names_within cells (Add a v) c within t = let same = eqb-true a c t in omega (arith, same, within)
+names_within cells (Copy a b) c within t = either_within cells a b c within.0 within.1 t
+names_within cells (Swap a b) c within t = either_within cells a b c within.0 within.1 t
+
+pub named_within : (cells : ℕ) (ops : List Op) (c : ℕ) → All (IsWithin cells) ops → named_by ops c ≡ true → c < cells
+named_within cells [] c within t = cc
+named_within cells (o ∷ os) c within t = elim (or_cases (names o c) (named_by os c) t) [
+  | inl here ↦ names_within cells o c (All-head (IsWithin cells) o os within) here
+  | inr later ↦ named_within cells os c (All-tail (IsWithin cells) o os within) later
+]

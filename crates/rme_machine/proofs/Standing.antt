@@ -1,0 +1,38 @@
+-- The lock that a worker is at.
+use Rattle.std.proofs.Common.{◌≡◌, ℕ, ◌<◌, List, inl, inr, arith}
+use Rattle.std.specs.Prelude.{false, []}
+use Rattle.std.proofs.lemmas.Bool.{cases_eq, cases_Bool}
+use Rattle.rme_words.specs.declared.shape.Shape.{Shape}
+use Rattle.rme_words.specs.declared.address.Address.{Address}
+use Rattle.rme_tree.specs.Nodes.{held_in}
+use Rattle.rme_program.specs.declared.note.Entry.{Entry}
+use Rattle.rme_program.specs.Steps.{withdrawn_place}
+use Rattle.rme_machine.specs.Histories.{last_by, IsDue}
+use Rattle.rme_machine.specs.Views.{worker_words, is_pending, site_of}
+use Rattle.rme_machine.specs.Shown.{Privates, job_of}
+use Rattle.rme_machine.specs.Fact.{Fact, IsReceipt}
+use Rattle.rme_machine.proofs.Lasts.{last_due}
+use Rattle.rme_machine.proofs.Ended.{IsEnded, ended}
+
+-- The lock that a worker is at is one of the shape's.
+pub site_small : (s : Shape) (mem : Address → ℕ) (privs : Privates) (es : List Entry) (w : ℕ) → Fact s mem privs es → w < s.workers
+    → 0 < (worker_words mem w).begun → site_of (worker_words mem w) < s.locks
+site_small s mem privs es w fact worker some =
+    elim (cases_Bool (is_pending (worker_words mem w))) [
+      | inl pending ↦ rw pending ((fact.accounts w worker).slate pending).job.lock
+      | inr past ↦ rw past (elim (cases_eq (worker_words mem w).place withdrawn_place) [
+        | inl gone ↦ ((fact.accounts w worker).withdrawn past some gone).at
+        | inr there ↦
+            (let receipt : IsReceipt (worker_words mem w) es w = (fact.accounts w worker).receipt past some there in
+            let due : (before : List Entry) × IsDue s before receipt.last = last_due s _ [] es receipt.last fact.legal receipt.found in
+            omega (arith, due.1.lock, receipt.at))
+      ])
+    ]
+
+-- The last entry of a worker that owns a lock with its job finished is of that lock.
+pub finished_lock : (s : Shape) (mem : Address → ℕ) (privs : Privates) (es : List Entry) (w l : ℕ) → Fact s mem privs es → w < s.workers
+    → l < s.locks → held_in s mem w l ≡ s.height → 0 < (worker_words mem w).begun → is_pending (worker_words mem w) ≡ false → (worker_words mem w).at ≡ l
+    → (job_of (last_by es w)).lock ≡ l
+finished_lock s mem privs es w l fact worker lock holds some past at =
+    let end : IsEnded es w l = ended s mem privs es w l fact worker lock holds past some at in
+    rw end.found end.at
