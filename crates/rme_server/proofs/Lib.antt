@@ -1,0 +1,4 @@
+pub mod WalkLemmas
+pub mod AnswerLemmas
+pub mod EngineLemmas
+pub mod RunLemmas

@@ -1,10 +1,11 @@
 //! What the lines so far have opened.
 
 use crate::answers::answer_command;
-use rme_wire::{Done, EngineFault, Names, Opening, Order, order_of, push_done, push_refusal};
-use rme_words::{NoMemory, Refusal, Shape};
+use crate::opened::open_world;
+use rme_wire::{Cut, Done, EngineFault, Names, Opening, Order, order_of, push_done, push_refusal};
+use rme_words::{NoMemory, Refusal};
 use rme_world::World;
-use std::alloc::Global;
+use std::alloc::{AllocError, Global};
 
 /// The world that the lines opened, if one did, and the names of its locks.
 #[derive(Drop)]
@@ -15,8 +16,16 @@ pub struct Engine {
 }
 
 impl Engine {
+    ghost use Rattle.std.specs.Prelude.{◌≡◌, ◌++◌, IfOk, IfErr, OnOk, string_bytes};
+    ghost use Rattle.rme_server.specs.States.{nothing_open};
+    ghost use Rattle.rme_server.specs.Lines.{Answers};
+    ghost use Rattle.rme_server.specs.Runs.{line_read};
+    ghost use Rattle.rme_server.specs.Engines.{TellsLine, TellsOpening, TellsOrder, state_of};
+
     /// Nothing is open.
-    pub fn new(alloc: Global) -> Result<Engine, NoMemory> {
+    pub fn new(alloc: Global) -> Result<Engine, NoMemory>
+        ensures { IfOk result (λ engine. state_of engine ≡ nothing_open) }
+    {
         let names = Names::new(alloc)?;
         Ok(Engine {
             alloc,
@@ -25,51 +34,66 @@ impl Engine {
         })
     }
 
-    /// Appends the answer to an over-long line.
-    pub fn refuse_long(&mut self, out: &mut String) -> Result<(), EngineFault> {
-        push_refusal(out, Refusal::LineTooLong)?;
-        Ok(())
+    /// Obeys the line that was cut, and puts its answer in the place of what `out` held.
+    ///
+    /// `NoMemory` says that there was no room for the line's value or for the text of the answer.
+    pub fn reply(&mut self, cut: Cut, line: &[u8], out: &mut String) -> Result<(), EngineFault>
+        ensures told { OnOk result (Answers (state_of self.old) (line_read cut line.now) (string_bytes out.new) (state_of self.new)) }
+        ensures kind { IfErr result (λ fault. fault ≡ EngineFault.NoMemory) }
+    {
+        out.clear();
+        let told = match cut {
+            Cut::TooLong => push_refusal(out, Refusal::LineTooLong),
+            Cut::Line | Cut::End => return self.answer(line, out),
+        };
+        match told {
+            Ok(()) => Ok(()),
+            Err(_) => Err(EngineFault::NoMemory),
+        }
     }
 
     /// Obeys a line, and appends its answer.
-    pub fn answer(&mut self, line: &[u8], out: &mut String) -> Result<(), EngineFault> {
-        match order_of(self.alloc, &self.names, line)? {
-            None => push_refusal(out, Refusal::BadLine)?,
-            Some(Order::Open(opening)) => self.open(&opening, out)?,
+    fn answer(&mut self, line: &[u8], out: &mut String) -> Result<(), EngineFault>
+        ensures told { OnOk result (TellsLine self.old line.now self.new (string_bytes out.old) (string_bytes out.new)) }
+        ensures kind { IfErr result (λ fault. fault ≡ EngineFault.NoMemory) }
+    {
+        let Ok(order) = order_of(self.alloc, &self.names, line) else {
+            return Err(EngineFault::NoMemory);
+        };
+        match self.obey(order, out) {
+            Ok(()) => Ok(()),
+            Err(_) => Err(EngineFault::NoMemory),
+        }
+    }
+
+    /// Obeys the order of a line, if it has one, and appends its answer.
+    fn obey(&mut self, order: Option<Order>, out: &mut String) -> Result<(), AllocError>
+        ensures { OnOk result (TellsOrder self.old order self.new (string_bytes out.old) (string_bytes out.new)) }
+    {
+        match order {
+            None => push_refusal(out, Refusal::BadLine),
+            Some(Order::Open(opening)) => self.open(&opening, out),
             Some(Order::World(command)) => match &mut self.world {
-                None => push_refusal(out, Refusal::NotOpen)?,
-                Some(world) => answer_command(self.alloc, &self.names, world, command, out)?,
+                None => push_refusal(out, Refusal::NotOpen),
+                Some(world) => answer_command(self.alloc, &self.names, world, command, out),
             },
         }
-        Ok(())
     }
 
-    /// Opens a world where none is open.
-    fn open(&mut self, opening: &Opening, out: &mut String) -> Result<(), EngineFault> {
+    /// Opens a world where none is open, and appends the answer.
+    fn open(&mut self, opening: &Opening, out: &mut String) -> Result<(), AllocError>
+        ensures { OnOk result (TellsOpening self.old opening.now self.new (string_bytes out.old) (string_bytes out.new)) }
+    {
         if self.world.is_some() {
-            push_refusal(out, Refusal::AlreadyOpen)?;
-            return Ok(());
+            return push_refusal(out, Refusal::AlreadyOpen);
         }
-        match opened(self.alloc, opening) {
-            Err(refusal) => push_refusal(out, refusal)?,
-            Ok((names, world)) => {
-                self.names = names;
-                self.world = Some(world);
-                push_done(out, Done::Open)?;
+        match open_world(self.alloc, opening) {
+            Err(refusal) => push_refusal(out, refusal),
+            Ok(opened) => {
+                self.names = opened.names;
+                self.world = Some(opened.world);
+                push_done(out, Done::Open)
             }
         }
-        Ok(())
     }
-}
-
-/// The shape of an opening, and its names and world. `NoMemory` comes last.
-fn opened(alloc: Global, opening: &Opening) -> Result<(Names, World), Refusal> {
-    if !opening.locks.are_names() {
-        return Err(Refusal::BadShape);
-    }
-    let locks = opening.locks.len() as u32;
-    let shape = Shape::new(opening.workers, locks, opening.cells, opening.jobs)?;
-    let names = opening.locks.names(alloc)?;
-    let world = World::new(alloc, shape)?;
-    Ok((names, world))
 }

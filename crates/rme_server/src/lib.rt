@@ -1,12 +1,14 @@
-//! The engines that answer lines.
+//! The engine that answers lines over a world.
 //!
-//! The crate stands on rme_wire, which reads commands and writes texts, and on rme_world, which obeys them.
-//! The one call that the program uses is `run_lines`: it answers each line that it reads, over one world.
-//! Begin with `run.rt`, and then `answers.rt`, which says what each command does.
+//! The crate stands on rme_wire, which cuts lines, reads their orders and writes texts, and on rme_world,
+//! whose calls obey them. The one contract that the program uses is that of `run_lines`: what is written is,
+//! for the lines that were read, the answer of each in order and nothing else (`specs/Runs.antt`). Begin with
+//! `run.rt`, then `engine.rt`, and then `answers.rt`, which says what each command does.
 #![tactic(auto)]
 
 mod answers;
 mod engine;
+mod opened;
 mod run;
 mod walk;
 

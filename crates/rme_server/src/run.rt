@@ -1,5 +1,11 @@
 //! Answering lines until none is left.
 
+ghost use Rattle.std.specs.Prelude.{◌≡◌, IfOk, IfErr, OnOk, string_bytes};
+ghost use Rattle.std.specs.Io.KnownBytes.{Appends};
+ghost use Rattle.rme_wire.specs.Readers.{bytes_left};
+ghost use Rattle.rme_server.specs.Engines.{state_of};
+ghost use Rattle.rme_server.specs.Runs.{AnswersAll, AnswersFirst, PutFails, TurnFails, Turns, written};
+
 use crate::engine::Engine;
 use rme_wire::{Cut, EngineFault, LineReader, put_all};
 use std::alloc::Global;
@@ -16,11 +22,20 @@ pub fn run_lines<R: Read + Drop, W: Write>(
     alloc: Global,
     reader: R,
     writer: &mut W,
-) -> Result<(), EngineFault> {
-    let mut lines = LineReader::new(alloc, reader)?;
-    let mut engine = Engine::new(alloc)?;
+) -> Result<(), EngineFault>
+    ensures ok { OnOk result (AnswersAll (R.remaining reader) (W.contents writer.old) (W.contents writer.new)) }
+    ensures err { IfErr result (λ fault. AnswersFirst fault (R.remaining reader) (W.contents writer.old) (W.contents writer.new)) }
+{
+    let Ok(mut lines) = LineReader::new(alloc, reader) else {
+        return Err(EngineFault::NoMemory);
+    };
+    let Ok(mut engine) = Engine::new(alloc) else {
+        return Err(EngineFault::NoMemory);
+    };
+    let Ok(mut answer) = String::with_capacity(alloc, REFUSAL_ROOM) else {
+        return Err(EngineFault::NoMemory);
+    };
     let mut line = Vec::new(alloc);
-    let mut answer = String::with_capacity(alloc, REFUSAL_ROOM)?;
     for _ in 0..u64::MAX {
         match turn(&mut lines, &mut engine, &mut line, &mut answer, writer) {
             Ok(true) => {}
@@ -31,22 +46,46 @@ pub fn run_lines<R: Read + Drop, W: Write>(
     Err(EngineFault::ReadFailed)
 }
 
-/// Answers the next line, and says whether there was one.
+/// Reads the next line, answers it and writes the answer, and says whether there was one.
 fn turn<R: Read + Drop, W: Write>(
     lines: &mut LineReader<R>,
     engine: &mut Engine,
     line: &mut Vec<u8>,
     answer: &mut String,
     writer: &mut W,
-) -> Result<bool, EngineFault> {
-    let cut = lines.next_line(line)?;
-    answer.clear();
-    match cut {
-        Cut::End => return Ok(false),
-        Cut::TooLong => engine.refuse_long(answer)?,
-        Cut::Line => engine.answer(line.as_slice(), answer)?,
+) -> Result<bool, EngineFault>
+    ensures ok { IfOk result (λ more. Turns (bytes_left R.remaining lines.old) (bytes_left R.remaining lines.new)
+        (state_of engine.old) (state_of engine.new) (W.contents writer.old) (W.contents writer.new) more) }
+    ensures err { IfErr result (λ fault. TurnFails fault (bytes_left R.remaining lines.old) (state_of engine.old)
+        (W.contents writer.old) (W.contents writer.new)) }
+{
+    let cut = match lines.next_line(line) {
+        Ok(cut) => cut,
+        Err(fault) => return Err(fault),
+    };
+    if cut == Cut::End {
+        return Ok(false);
     }
-    answer.push_str("\n")?;
-    put_all(writer, answer.as_bytes())?;
-    Ok(true)
+    match engine.reply(cut, line.as_slice(), answer) {
+        Ok(()) => {}
+        Err(fault) => return Err(fault),
+    }
+    match put_answer(writer, answer) {
+        Ok(()) => Ok(true),
+        Err(fault) => Err(fault),
+    }
+}
+
+/// Writes an answer and a newline.
+fn put_answer<W: Write>(writer: &mut W, answer: &mut String) -> Result<(), EngineFault>
+    ensures ok { OnOk result (Appends (W.contents writer.old) (W.contents writer.new) (written (string_bytes answer.old))) }
+    ensures err { IfErr result (λ fault. PutFails fault (W.contents writer.old) (W.contents writer.new) (string_bytes answer.old)) }
+{
+    if answer.push_str("\n").is_err() {
+        return Err(EngineFault::NoMemory);
+    }
+    match put_all(writer, answer.as_bytes()) {
+        Ok(()) => Ok(()),
+        Err(_) => Err(EngineFault::WriteFailed),
+    }
 }

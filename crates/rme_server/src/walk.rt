@@ -1,5 +1,12 @@
 //! Steps of one worker, up to the first that ends them.
 
+ghost use Rattle.std.specs.Prelude.{◌≡◌, ◌++◌, IfOk, List, Result, Bool, false, string_bytes};
+ghost use Rattle.rme_program.specs.declared.note.Note.{Note};
+ghost use Rattle.rme_words.specs.declared.refusal.Refusal.{Refusal};
+ghost use Rattle.rme_wire.specs.Texts.{note_text, separated};
+ghost use Rattle.rme_server.specs.Calls.{ShowsReady};
+ghost use Rattle.rme_server.specs.Walks as spec;
+
 use rme_program::Note;
 use rme_wire::{Names, Until, Walk, WalkEnd, push_comma, push_note};
 use rme_words::Refusal;
@@ -7,10 +14,10 @@ use rme_world::World;
 use std::alloc::AllocError;
 
 /// How a walk went.
-#[derive(Clone, Copy, Debug)]
+#[derive(Clone, Copy, Debug, PartialEq, Eq)]
 pub enum Walked {
     Ended(WalkEnd),
-    /// The first step was refused.
+    /// A step was refused, which only the first one is.
     Refused(Refusal),
 }
 
@@ -20,41 +27,91 @@ pub fn walk_notes(
     world: &mut World,
     walk: Walk,
     notes: &mut String,
-) -> Result<Walked, AllocError> {
+) -> Result<Walked, AllocError>
+    ensures { IfOk result (λ walked. (seen : List Note) × spec.Walks walk.max world.old walk.worker walk.until seen walked world.new
+        × (string_bytes notes.new ≡ string_bytes notes.old ++ separated (note_text names.now) false seen)) }
+{
     let mut later = false;
     for _ in 0..walk.max {
         let note = match world.step(walk.worker) {
             Ok(note) => note,
             Err(refusal) => return Ok(Walked::Refused(refusal)),
         };
-        if note != Note::Quiet {
-            push_comma(notes, later)?;
-            push_note(notes, names, note)?;
-            later = true;
-        }
-        if let Some(end) = end_of(world, walk, note) {
+        later = push_shown(notes, names, later, note)?;
+        if let Some(end) = end_after(world, walk, note) {
             return Ok(Walked::Ended(end));
         }
     }
     Ok(Walked::Ended(WalkEnd::Max))
 }
 
-/// Whether the walk ends after a step with this note, the number of steps aside.
-fn end_of(world: &World, walk: Walk, note: Note) -> Option<WalkEnd> {
-    if walk.until.is_some() && kind_of(note) == walk.until {
+/// Appends a note that isn't quiet, after a comma where a note came earlier, and says whether one has now.
+fn push_shown(
+    notes: &mut String,
+    names: &Names,
+    later: bool,
+    note: Note,
+) -> Result<bool, AllocError>
+    ensures { IfOk result (λ more. (rest : List Note) → string_bytes notes.new ++ separated (note_text names.now) more rest
+        ≡ string_bytes notes.old ++ separated (note_text names.now) later (spec.shown note ++ rest)) }
+{
+    if note == Note::Quiet {
+        return Ok(later);
+    }
+    push_comma(notes, later)?;
+    push_note(notes, names, note)?;
+    Ok(true)
+}
+
+/// Why the walk ends after a step with this note, the number of steps aside.
+fn end_after(world: &World, walk: Walk, note: Note) -> Option<WalkEnd>
+    ensures { (ready : Result Bool Refusal) × ShowsReady world.now walk.worker ready × (result ≡ spec.end_after walk.until note ready) }
+{
+    let ready = world.ready(walk.worker);
+    if meets(walk.until, kind_of(note)) {
         return Some(WalkEnd::Until);
     }
-    if matches!(world.ready(walk.worker), Ok(true)) {
+    if is_true(ready) {
         return Some(WalkEnd::Ready);
     }
-    if note == Note::Blocked {
+    if is_blocked(note) {
         return Some(WalkEnd::Blocked);
     }
     None
 }
 
+fn is_true(answer: Result<bool, Refusal>) -> bool
+    ensures { result ≡ spec.is_true answer }
+{
+    match answer {
+        Ok(answer) => answer,
+        Err(_) => false,
+    }
+}
+
+fn is_blocked(note: Note) -> bool
+    ensures { result ≡ spec.is_blocked note }
+{
+    note == Note::Blocked
+}
+
+/// Whether a note of this kind, if it has one, has the wanted kind, if one is wanted.
+fn meets(wanted: Option<Until>, kind: Option<Until>) -> bool
+    ensures { result ≡ spec.meets wanted kind }
+{
+    match wanted {
+        None => false,
+        Some(wanted) => match kind {
+            None => false,
+            Some(kind) => wanted == kind,
+        },
+    }
+}
+
 /// The kind of a note that may end a walk.
-fn kind_of(note: Note) -> Option<Until> {
+fn kind_of(note: Note) -> Option<Until>
+    ensures { result ≡ spec.kind_of note }
+{
     match note {
         Note::Quiet | Note::Blocked => None,
         Note::Asked(_) => Some(Until::Asked),

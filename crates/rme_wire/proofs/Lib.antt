@@ -3,3 +3,4 @@ pub mod PieceLemmas
 pub mod TextLemmas
 pub mod NameLemmas
 pub mod OpeningLemmas
+pub mod OrderLemmas

@@ -1,11 +1,13 @@
 -- Names that are given one after another.
-use Rattle.std.proofs.Common.{◌≡◌, ℕ, ◌+◌, ◌<◌, ◌≤◌, List, [], ◌∷◌, ◌++◌, map, length, take, drop, get_or, Bool, true, false, not, ◌&&◌, nat_le, nat_lt, String, Global, string_bytes, bytes_eq, refl, sym, ◌∙◌, arith, add-one}
+use Rattle.std.proofs.Common.{◌≡◌, ℕ, ◌+◌, ◌<◌, ◌≤◌, List, [], ◌∷◌, ◌++◌, map, length, take, drop, get_or, Bool, true, false, not, ◌&&◌, nat_le, nat_lt, String, Global, string_bytes, bytes_eq, refl, sym, ap, ◌∙◌, arith, add-one, append_assoc, append-nil, Option, Some, None, option_map}
 use Rattle.std.proofs.lemmas.Bool.{and_left, and_parts, and_right, le-leb, leb-true, lt-leb, lt-ltb}
 use Rattle.std.proofs.lemmas.List.{length-map, map-append, length-take-le}
 use Rattle.std.proofs.Math.Seq.{take-suc}
 use Rattle.std.specs.List.{list_any}
 use Rattle.rme_wire.specs.Names.{is_name, may_add}
-use Rattle.rme_wire.specs.Openings.{are_names, are_new_names}
+use Rattle.serde_json.specs.Data.{Data, Items, no_items, item}
+use Rattle.serde_json.specs.Find.{as_str}
+use Rattle.rme_wire.specs.Openings.{are_names, are_new_names, texts_of}
 use Rattle.rme_wire.proofs.NameLemmas.{list_any_map}
 use Rattle.rme_wire.proofs.TextLemmas.{drop_read}
 
@@ -79,3 +81,38 @@ few_given xs some few =
     let e : length (texts xs) ≡ length xs = length-map xs string_bytes in
     let at_least : nat_le 1 (length (texts xs)) ≡ true = le-leb _ _ (omega arith) in
     let at_most : nat_le (length (texts xs)) 16 ≡ true = le-leb _ _ (omega arith) in rw (at_least, at_most) refl
+
+-- ---- reading texts
+
+-- the texts read, and those of the rest, are the texts of all the items
+abbrev pub ReadsTexts : Items → List (List ℕ) → Items → Type 0
+ReadsTexts items done rest = option_map (λ later. done ++ later) (texts_of rest) ≡ texts_of items
+
+pub texts_first : (items : Items) → ReadsTexts items [] items
+texts_first items = by (texts_of items)
+  where
+    by : (found : Option (List (List ℕ))) → option_map (λ later. [] ++ later) found ≡ found
+    by None = refl
+    by (Some texts) = refl
+
+texts_step : (d : Data) (ds : Items) (text : List ℕ) → as_str d ≡ Some text → texts_of (item d ds) ≡ option_map (λ later. text ∷ later) (texts_of ds)
+unfolding texts_of
+texts_step d ds text e = rw e refl
+
+longer_by : (found : Option (List (List ℕ))) (done longer : List (List ℕ)) (text : List ℕ) → longer ≡ done ++ text ∷ []
+    → option_map (λ later. longer ++ later) found ≡ option_map (λ later. done ++ later) (option_map (λ later. text ∷ later) found)
+longer_by None done longer text e = refl
+longer_by (Some later) done longer text e = rw e (ap Some (append_assoc done (text ∷ []) later))
+
+pub texts_more : (items : Items) (done longer : List (List ℕ)) (d : Data) (ds : Items) (text : List ℕ) → ReadsTexts items done (item d ds) → as_str d ≡ Some text
+    → longer ≡ done ++ text ∷ [] → ReadsTexts items longer ds
+texts_more items done longer d ds text reads e f =
+    longer_by (texts_of ds) done longer text f ∙ sym (ap (option_map (λ later. done ++ later)) (texts_step d ds text e)) ∙ reads
+
+pub texts_stuck : (items : Items) (done : List (List ℕ)) (d : Data) (ds : Items) → ReadsTexts items done (item d ds) → as_str d ≡ None → texts_of items ≡ None
+unfolding texts_of
+texts_stuck items done d ds reads e = sym reads ∙ rw e refl
+
+pub texts_all : (items : Items) (done : List (List ℕ)) → ReadsTexts items done no_items → texts_of items ≡ Some done
+unfolding texts_of
+texts_all items done reads = sym reads ∙ ap Some (append-nil done)

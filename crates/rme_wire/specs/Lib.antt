@@ -8,5 +8,6 @@ pub mod Values
 pub mod Operations
 pub mod Openings
 pub mod Commands
+pub mod Orders
 pub mod Texts
 pub mod Replies

@@ -4,6 +4,7 @@ use Rattle.std.specs.List.{list_any}
 use Rattle.serde_json.specs.Data.{Data, Items, no_items, item}
 use Rattle.serde_json.specs.Find.{get, as_array, as_str}
 use Rattle.rme_wire.specs.declared.opening.Opening.{Opening}
+use Rattle.rme_wire.specs.declared.opening.Sizes.{Sizes}
 use Rattle.rme_wire.specs.Names.{is_name}
 use Rattle.rme_wire.specs.Values.{small}
 
@@ -21,13 +22,18 @@ unfoldable pub texts_of : Items → Option (List (List ℕ))
 texts_of no_items = Some []
 texts_of (item d ds) = option_and_then (λ text. option_map (λ texts. text ∷ texts) (texts_of ds)) (as_str d)
 
+-- the numbers of an opening
+unfoldable pub sizes_of : Data → Option Sizes
+sizes_of d =
+    option_and_then (λ workers. option_and_then (λ cells. option_map (λ jobs. record { workers = workers; cells = cells; jobs = jobs }) (option_and_then small (get (codes "jobs") d)))
+    (option_and_then small (get (codes "cells") d))) (option_and_then small (get (codes "workers") d))
+
+-- the member `locks`, a list of texts
+unfoldable pub locks_of : Data → Option (List (List ℕ))
+locks_of d = option_and_then texts_of (option_and_then as_array (get (codes "locks") d))
+
 -- `{"cells":..,"do":"open","jobs":..,"locks":[..],"workers":..}`
 unfoldable pub opening_of : ℕ → Data → Option Opening
 opening_of count d =
-    if count == 5 then option_and_then (λ workers. option_and_then (λ cells. option_and_then (λ jobs. option_map (λ locks. record {
-      workers = workers;
-      locks = locks;
-      cells = cells;
-      jobs = jobs;
-    }) (option_and_then texts_of (option_and_then as_array (get (codes "locks") d)))) (option_and_then small (get (codes "jobs") d))) (option_and_then small (get (codes "cells") d)))
-    (option_and_then small (get (codes "workers") d)) else None
+    if count == 5 then option_and_then (λ sizes. option_map (λ locks. record { workers = sizes.workers; locks = locks; cells = sizes.cells; jobs = sizes.jobs }) (locks_of d)) (sizes_of d)
+    else None

@@ -1,5 +1,9 @@
-//! Lines in and lines out: names of locks, the cutting of bytes into lines, the commands of lines, and the
-//! texts of answers.
+//! Lines in and lines out: how bytes are cut into lines, what order a line gives, and the text of each answer.
+//!
+//! The crate stands on rme_program and rme_script, whose notes, entries and scripts the texts show, on
+//! rme_words for the refusals, and on serde_json, indexmap and memchr; it knows no world and obeys nothing.
+//! The one contract that the crates above use is that of `order_of`: the order of a line is the one that
+//! `specs/Orders.antt` reads off its value. Begin with `lines.rt`, then `line.rt`, then `answer.rt`.
 #![tactic(auto)]
 
 mod answer;

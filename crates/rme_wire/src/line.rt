@@ -1,17 +1,23 @@
 //! The order that a line gives.
 
+ghost use Rattle.std.specs.Prelude.{◌≡◌, IfOk, IfErr, option_map};
+ghost use Rattle.serde_json.specs.View.{view};
+ghost use Rattle.rme_wire.specs.Orders as spec;
+
 use crate::command::{Command, command_named};
 use crate::fault::EngineFault;
 use crate::names::Names;
 use crate::opening::{Opening, opening_of};
 use crate::value::key_count;
 use serde_json::Value;
-use std::alloc::Global;
+use std::alloc::{AllocError, Global};
 
 /// What a line orders.
 #[derive(Drop)]
 pub enum Order {
+    /// To open a world.
     Open(Opening),
+    /// To do something to the world that is open.
     World(Command),
 }
 
@@ -19,9 +25,15 @@ pub enum Order {
 ///
 /// The names are those of the open world, and none where no world is open. `NoMemory` says that there was no
 /// room for the line's value.
-pub fn order_of(alloc: Global, names: &Names, line: &[u8]) -> Result<Option<Order>, EngineFault> {
+pub fn order_of(alloc: Global, names: &Names, line: &[u8]) -> Result<Option<Order>, EngineFault>
+    ensures order { IfOk result (λ order. order ≡ spec.order_of_line names.now line.now) }
+    ensures kind { IfErr result (λ fault. fault ≡ EngineFault.NoMemory) }
+{
     match Value::from_slice(alloc, line) {
-        Ok(value) => order_of_value(alloc, names, &value),
+        Ok(value) => match order_of_value(alloc, names, &value) {
+            Ok(order) => Ok(order),
+            Err(_) => Err(EngineFault::NoMemory),
+        },
         Err(error) => {
             if error.is_memory() {
                 return Err(EngineFault::NoMemory);
@@ -31,24 +43,42 @@ pub fn order_of(alloc: Global, names: &Names, line: &[u8]) -> Result<Option<Orde
     }
 }
 
-fn order_of_value(
-    alloc: Global,
-    names: &Names,
-    value: &Value,
-) -> Result<Option<Order>, EngineFault> {
+#[tactic(auto, unfolding(crate::specs::Orders::order_of))]
+fn order_of_value(alloc: Global, names: &Names, value: &Value) -> Result<Option<Order>, AllocError>
+    ensures { IfOk result (λ order. order ≡ spec.order_of names.now (view value.now)) }
+{
     let Some(count) = key_count(value) else {
         return Ok(None);
     };
-    let Some(word) = value.get("do").and_then(Value::as_str) else {
+    let Some(word) = word_of(value) else {
         return Ok(None);
     };
     if word == "open" {
         return open_order(alloc, count, value);
     }
-    Ok(command_named(names, word, count, value).map(Order::World))
+    Ok(world_order(names, word, count, value))
 }
 
-fn open_order(alloc: Global, count: usize, value: &Value) -> Result<Option<Order>, EngineFault> {
-    let opening = opening_of(alloc, count, value)?;
-    Ok(opening.map(Order::Open))
+/// The member `do`, a word.
+#[tactic(auto, unfolding(crate::specs::Orders::word_of))]
+fn word_of(value: &Value) -> Option<&str>
+    ensures { option_map (λ word. word.now) result ≡ spec.word_of (view value.now) }
+{
+    value.get("do")?.as_str()
+}
+
+fn open_order(alloc: Global, count: usize, value: &Value) -> Result<Option<Order>, AllocError>
+    ensures { IfOk result (λ order. order ≡ spec.open_order count (view value.now)) }
+{
+    let Some(opening) = opening_of(alloc, count, value)? else {
+        return Ok(None);
+    };
+    Ok(Some(Order::Open(opening)))
+}
+
+fn world_order(names: &Names, word: &str, count: usize, value: &Value) -> Option<Order>
+    ensures { result ≡ spec.world_order names.now word.now count (view value.now) }
+{
+    let command = command_named(names, word, count, value)?;
+    Some(Order::World(command))
 }

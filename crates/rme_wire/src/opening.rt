@@ -46,7 +46,10 @@ struct Sizes {
     jobs: u32,
 }
 
-fn sizes_of(value: &Value) -> Option<Sizes> {
+#[tactic(auto, unfolding(crate::specs::Openings::sizes_of))]
+fn sizes_of(value: &Value) -> Option<Sizes>
+    ensures { result ≡ spec.sizes_of (view value.now) }
+{
     let workers = small(value.get("workers")?)?;
     let cells = small(value.get("cells")?)?;
     let jobs = small(value.get("jobs")?)?;
@@ -58,7 +61,9 @@ fn sizes_of(value: &Value) -> Option<Sizes> {
 }
 
 /// The texts of a list, or `None` where an item is no text.
-fn texts_of(alloc: Global, items: &[Value]) -> Result<Option<GivenNames>, AllocError> {
+fn texts_of(alloc: Global, items: &[Value]) -> Result<Option<GivenNames>, AllocError>
+    ensures { IfOk result (λ given. given ≡ spec.texts_of (items_view items.now)) }
+{
     let mut texts = Vec::new(alloc);
     for item in items {
         let Some(text) = item.as_str() else {
@@ -69,36 +74,39 @@ fn texts_of(alloc: Global, items: &[Value]) -> Result<Option<GivenNames>, AllocE
     Ok(Some(GivenNames { texts }))
 }
 
+/// The member `locks`, a list of texts.
+#[tactic(auto, unfolding(crate::specs::Openings::locks_of))]
+fn locks_of(alloc: Global, value: &Value) -> Result<Option<GivenNames>, AllocError>
+    ensures { IfOk result (λ given. given ≡ spec.locks_of (view value.now)) }
+{
+    let Some(list) = value.get("locks") else {
+        return Ok(None);
+    };
+    let Some(items) = list.as_array() else {
+        return Ok(None);
+    };
+    texts_of(alloc, items)
+}
+
 /// The opening that a value is, where it has so many members.
-pub fn opening_of(
-    alloc: Global,
-    count: usize,
-    value: &Value,
-) -> Result<Option<Opening>, AllocError> {
+#[tactic(auto, unfolding(crate::specs::Openings::opening_of))]
+pub fn opening_of(alloc: Global, count: usize, value: &Value) -> Result<Option<Opening>, AllocError>
+    ensures { IfOk result (λ opening. opening ≡ spec.opening_of count (view value.now)) }
+{
     if count != 5 {
         return Ok(None);
     }
-    let Some(
-        Sizes {
-            workers,
-            cells,
-            jobs,
-        },
-    ) = sizes_of(value)
-    else {
+    let Some(sizes) = sizes_of(value) else {
         return Ok(None);
     };
-    let Some(items) = value.get("locks").and_then(Value::as_array) else {
-        return Ok(None);
-    };
-    let Some(locks) = texts_of(alloc, items)? else {
+    let Some(locks) = locks_of(alloc, value)? else {
         return Ok(None);
     };
     Ok(Some(Opening {
-        workers,
+        workers: sizes.workers,
         locks,
-        cells,
-        jobs,
+        cells: sizes.cells,
+        jobs: sizes.jobs,
     }))
 }
 

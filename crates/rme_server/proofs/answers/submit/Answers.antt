@@ -1,0 +1,15 @@
+use Rattle.std.proofs.Common.{Ok, Err, refl, string_bytes}
+use Rattle.rme_wire.specs.declared.command.Command.TheVariants as command
+use Rattle.rme_server.specs.States.{handed, refused}
+use Rattle.rme_server.proofs.AnswerLemmas.{told}
+use Rattle.rme_server.proofs.answers.submit.Goals as goal
+
+pub returns-in-Ok : goal.returns-in-Ok
+returns-in-Ok c =
+    told c.push_number.result c.args.names.now c.args.world.now (command.Submit c.args.worker c.args.job) c.submit.new.self (string_bytes c.args.out.now) (string_bytes c.push_number.new.out) (handed c.in-Ok.number) c.push_number.ensures
+    (Ok c.in-Ok.number, (c.in-Ok.ensures.accepted, tt, tt), refl)
+
+pub returns-in-Err : goal.returns-in-Err
+returns-in-Err c =
+    told c.push_refusal.result c.args.names.now c.args.world.now (command.Submit c.args.worker c.args.job) c.submit.new.self (string_bytes c.args.out.now) (string_bytes c.push_refusal.new.out) (refused c.in-Err.refusal) c.push_refusal.ensures
+    (Err c.in-Err.refusal, (tt, c.in-Err.ensures.refused, c.in-Err.ensures.unchanged), refl)

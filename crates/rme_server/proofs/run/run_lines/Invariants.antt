@@ -1,0 +1,9 @@
+-- The lines before were answered, and the others are left.
+use Rattle.rme_wire.specs.Readers.{bytes_left}
+use Rattle.rme_server.specs.Engines.{state_of}
+use Rattle.rme_server.proofs.RunLemmas.{SoFar}
+use Rattle.rme_server.proofs.run.run_lines.Given as goal
+
+abbrev pub invariant-loop : goal.invariant-loop
+invariant-loop g l =
+    SoFar (g.R.Read.remaining l.fn.reader) (g.W.Write.contents l.fn.writer) (bytes_left g.R.Read.remaining l.lines) (state_of l.engine) (g.W.Write.contents l.writer)

@@ -1,0 +1,28 @@
+use Rattle.std.proofs.Common.{◌≢◌, string_bytes, rules}
+use Rattle.rme_wire.specs.declared.cut.Cut.TheVariants.{End}
+use Rattle.rme_wire.specs.Readers.{bytes_left}
+use Rattle.rme_server.specs.Engines.{state_of}
+use Rattle.rme_server.specs.Runs.{line_read}
+use Rattle.rme_server.proofs.RunLemmas.{cut_off, put_failed}
+use Rattle.rme_server.proofs.run.turn.Goals as goal
+
+pub returns-in-Ok-put_answer-clause-ok : goal.returns-in-Ok-put_answer-clause-ok
+returns-in-Ok-put_answer-clause-ok g c =
+    let left = bytes_left g.R.Read.remaining in
+    let cuts = rw (← c.as_slice.ensures.value) at c.in-Ok.ensures.cut in
+    let more : c.in-Ok.cut ≢ End = search rules in (
+      line_read c.in-Ok.cut c.as_slice.result.now,
+      string_bytes c.reply.new.out,
+      cut_off (left c.args.lines.now) (left c.next_line.new.self) c.in-Ok.cut c.as_slice.result.now cuts more,
+      c.in-Ok-reply.ensures.told,
+      c.in-Ok-put_answer.ensures.ok,
+    )
+
+pub returns-in-Err-put_answer-clause-err : goal.returns-in-Err-put_answer-clause-err
+returns-in-Err-put_answer-clause-err g c =
+    let left = bytes_left g.R.Read.remaining in
+    let cuts = rw (← c.as_slice.ensures.value) at c.in-Ok.ensures.cut in
+    let more : c.in-Ok.cut ≢ End = search rules in
+    put_failed c.in-Err-put_answer.fault (left c.args.lines.now) (left c.next_line.new.self) (g.W.Write.contents c.args.writer.now) (g.W.Write.contents c.put_answer.new.writer)
+    (state_of c.args.engine.now) (state_of c.reply.new.self) (line_read c.in-Ok.cut c.as_slice.result.now) (string_bytes c.reply.new.out)
+    (cut_off (left c.args.lines.now) (left c.next_line.new.self) c.in-Ok.cut c.as_slice.result.now cuts more) c.in-Ok-reply.ensures.told c.in-Err-put_answer.ensures.err
