@@ -13,3 +13,6 @@ mod run;
 mod walk;
 
 pub use run::run_lines;
+
+#[cfg(test)]
+mod tests;
