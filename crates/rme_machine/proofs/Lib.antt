@@ -28,3 +28,6 @@ pub mod Shows
 pub mod Standing
 pub mod Taking
 pub mod Withdrawing
+pub mod Sections
+pub mod Clauses
+pub mod Further

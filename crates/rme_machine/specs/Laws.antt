@@ -1,20 +1,28 @@
 -- The laws of a step. Each stands on the contract of a function of the module `laws`.
-use Rattle.std.specs.Prelude.{◌≡◌, ◌≢◌, ℕ, ◌+◌, ◌<◌, List, [], Some, None}
+use Rattle.std.specs.Prelude.{suc, Bool, true, false, ◌≡◌, ◌≢◌, ℕ, ◌+◌, ◌<◌, List, [], Some, None}
 use Rattle.rme_words.specs.declared.shape.Shape.{Shape}
 use Rattle.rme_words.specs.declared.address.Address.{Address}
+use Rattle.rme_words.specs.declared.address.Address.TheVariants.{Node}
+use Rattle.rme_tree.specs.Paths.{node}
+use Rattle.rme_tree.specs.Nodes.{nodes_of, held_in}
+use Rattle.rme_tree.specs.Rooted.{IsBlocked}
 use Rattle.rme_script.specs.declared.job.Job.{Job}
 use Rattle.rme_program.specs.declared.note.Entry.{Entry}
 use Rattle.rme_program.specs.declared.private.Private.{Private}
-use Rattle.rme_program.specs.declared.stage.Stage.TheVariants.{Resting, Climbing}
+use Rattle.rme_program.specs.declared.stage.Stage.{Stage}
+use Rattle.rme_program.specs.declared.stage.Stage.TheVariants.{Resting, Recovering, Posting, Climbing, Logging, Copying, Leaving}
 use Rattle.rme_program.specs.declared.stage.Ascent.{Ascent}
 use Rattle.rme_program.specs.Did.{Did}
 use Rattle.rme_program.specs.Steps.{action_of, private_after, note_after, ready_private, restarted_private, submitted_private, withdrawing_private}
-use Rattle.rme_program.specs.Conditions.{IsJob, Takes}
+use Rattle.rme_program.specs.Conditions.{IsJob, IsPrivate, Takes}
 use Rattle.rme_machine.specs.declared.label.Act.{Act}
 use Rattle.rme_machine.specs.declared.label.Act.TheVariants.{Hand, Crash, Restart, Wait}
 use Rattle.rme_machine.specs.Machine.{Does, opening_state}
 use Rattle.rme_machine.specs.Shown.{Privates, shown, act_of}
+use Rattle.rme_machine.specs.Views.{worker_words, lock_words}
+use Rattle.rme_machine.specs.Fits.{Fits}
 use Rattle.rme_machine.specs.Fact.{Fact}
+use Rattle.rme_machine.specs.Clauses.{IsGood}
 use Rattle.rme_machine.specs.Changes.{Became, history_after}
 
 -- The fact is kept, and the state shown goes on by the machine's step.
@@ -63,3 +71,49 @@ abbrev pub OpeningLaw : Type 0
 OpeningLaw = (shape : Shape) (memory : Address → ℕ) (privates : Privates)
     → ((address : Address) → memory address ≡ 0) → ((worker : ℕ) → worker < shape.workers → privates worker ≡ Some (ready_private worker 0))
     → Fact shape memory privates [] × (shown shape memory privates [] ≡ opening_state shape)
+
+-- What an up worker knows is of the shape, and is its own: what `next` and `after` rely on.
+abbrev pub FitLaw : Type 0
+FitLaw = (shape : Shape) (memory : Address → ℕ) (privates : Privates) (history : List Entry) (worker : ℕ) (private : Private)
+    → Fact shape memory privates history → worker < shape.workers → privates worker ≡ Some private
+    → (private.worker ≡ worker) × IsPrivate shape private
+
+-- Where a climbing worker's node is not free, another worker holds it, from the other side.
+abbrev pub BlockedLaw : Type 0
+BlockedLaw = (shape : Shape) (memory : Address → ℕ) (privates : Privates) (history : List Entry) (worker : ℕ) (private : Private) (ascent : Ascent)
+    → Fact shape memory privates history → worker < shape.workers → privates worker ≡ Some private → private.stage ≡ Climbing ascent
+    → memory (Node ascent.lock (node shape.leaves worker (suc ascent.held))) ≢ 0
+    → IsBlocked (nodes_of memory ascent.lock) shape.leaves shape.height shape.workers worker ascent.held
+
+-- What a fallen worker knew still fits after an own step of another worker: nobody else writes what it knew.
+abbrev pub StaleLaw : Type 0
+StaleLaw = (shape : Shape) (old new : Address → ℕ) (before : Privates) (history : List Entry) (worker : ℕ) (private : Private) (found fallen : ℕ) (stale : Private)
+    → Fact shape old before history → worker < shape.workers → before worker ≡ Some private → private.stage ≢ Resting
+    → Did old new (action_of shape private) found
+    → fallen < shape.workers → fallen ≢ worker → before fallen ≡ None
+    → Fits shape (worker_words old fallen) (held_in shape old fallen) (lock_words shape old) fallen stale
+    → Fits shape (worker_words new fallen) (held_in shape new fallen) (lock_words shape new) fallen stale
+
+-- The phases Ready and Post.
+abbrev pub holds_nothing : Stage → Bool
+holds_nothing Resting = true
+holds_nothing (Recovering recovery) = false
+holds_nothing (Posting slate) = true
+holds_nothing (Climbing ascent) = false
+holds_nothing (Logging log) = false
+holds_nothing (Copying redo) = false
+holds_nothing (Leaving departure) = false
+
+-- A worker that is ready, or that still writes its job down, holds no node of any lock.
+abbrev pub IdleLaw : Type 0
+IdleLaw = (shape : Shape) (memory : Address → ℕ) (privates : Privates) (history : List Entry) (worker lock : ℕ) (private : Private)
+    → Fact shape memory privates history → worker < shape.workers → lock < shape.locks → privates worker ≡ Some private
+    → holds_nothing private.stage ≡ true → held_in shape memory worker lock ≡ 0
+
+-- The fact says the clauses of an image from `nodes` to `entries` as they are written, and no more of a world
+-- in which all workers are down.
+pub record ClausesLaw : Type 0 where
+  pub clauses : (shape : Shape) (memory : Address → ℕ) (privates : Privates) (history : List Entry)
+      → Fact shape memory privates history → IsGood shape memory history
+  pub fact : (shape : Shape) (memory : Address → ℕ) (privates : Privates) (history : List Entry)
+      → IsGood shape memory history → ((worker : ℕ) → worker < shape.workers → privates worker ≡ None) → Fact shape memory privates history

@@ -1,11 +1,13 @@
 -- In reading order: histories; the machine, its steps and its runs; the words of a worker and of a lock; the
--- state that a world shows.
+-- state that a world shows; what fits a private state; the one fact, and the clauses of an image as written; the
+-- label of an event; how private states and histories change; the laws.
 pub mod Histories
 pub mod Machine
 pub mod Views
 pub mod Shown
 pub mod Fits
 pub mod Fact
+pub mod Clauses
 pub mod Labels
 pub mod Changes
 pub mod Laws

@@ -3,7 +3,7 @@
 //! Each function here does nothing: its contract is a law of `specs/Laws.antt`, proved by the lemma of
 //! `proofs/` that the docstring names. The crates above cite the lemmas.
 
-ghost use Rattle.rme_machine.specs.Laws.{StepLaw, TakesLaw, SubmitLaw, CrashLaw, RestartLaw, WithdrawLaw, OpeningLaw};
+ghost use Rattle.rme_machine.specs.Laws.{StepLaw, TakesLaw, SubmitLaw, CrashLaw, RestartLaw, WithdrawLaw, OpeningLaw, FitLaw, BlockedLaw, StaleLaw, IdleLaw, ClausesLaw};
 
 /// Each own step of a worker, of every kind and whatever it finds, keeps the fact and is the machine's step
 /// of its note (lemma `own_step`).
@@ -11,32 +11,59 @@ pub fn stepping()
     ensures { StepLaw }
 {}
 
-/// What a step finds is a value that the worker may go on with (lemma `step_takes`).
+/// What a step finds is a value that the worker may go on with (lemma `taking`).
 pub fn taking()
     ensures { TakesLaw }
 {}
 
-/// Handing a job to a ready worker keeps the fact and is the machine's step hand (lemma `submits`).
+/// Handing a job to a ready worker keeps the fact and is the machine's step hand (lemma `submit`).
 pub fn handing()
     ensures { SubmitLaw }
 {}
 
-/// A crash keeps the fact and is the machine's crash: it releases nothing (lemma `crashes`).
+/// A crash keeps the fact and is the machine's crash: it releases nothing (lemma `crash`).
 pub fn crashing()
     ensures { CrashLaw }
 {}
 
-/// A restart keeps the fact and is the machine's restart (lemma `restarts`).
+/// A restart keeps the fact and is the machine's restart (lemma `restart`).
 pub fn restarting()
     ensures { RestartLaw }
 {}
 
-/// The beginning of a withdrawal keeps the fact, and the worker still waits (lemma `withdraws`).
+/// The beginning of a withdrawal keeps the fact, and the worker still waits (lemma `withdraw`).
 pub fn withdrawing()
     ensures { WithdrawLaw }
 {}
 
-/// The fact holds at the opening, which shows the opening state (lemma `opens`).
+/// The fact holds at the opening, which shows the opening state (lemma `opening`).
 pub fn opening()
     ensures { OpeningLaw }
+{}
+
+/// What an up worker knows is its own and of the shape, so that `next` may be asked (lemma `fitting`).
+pub fn fitting()
+    ensures { FitLaw }
+{}
+
+/// A blocked step names another holder: where a climbing worker's node is not free, another worker holds it,
+/// from the other side (lemma `blocking`).
+pub fn blocking()
+    ensures { BlockedLaw }
+{}
+
+/// What a fallen worker knew still fits after a step of another worker (lemma `staying`).
+pub fn staying()
+    ensures { StaleLaw }
+{}
+
+/// A worker in phase Ready or Post holds no node (lemma `idling`).
+pub fn idling()
+    ensures { IdleLaw }
+{}
+
+/// The fact says the clauses of an image from `nodes` to `entries` as they are written, and of a world with
+/// all workers down no more than those (lemma `clauses`).
+pub fn clauses()
+    ensures { ClausesLaw }
 {}
