@@ -13,6 +13,8 @@ mod crashes;
 #[cfg(test)]
 mod line_cuts;
 #[cfg(test)]
+mod line_readings;
+#[cfg(test)]
 mod line_refusals;
 #[cfg(test)]
 mod lines;

@@ -143,7 +143,7 @@ fn check_bad(rt: &impl Abort, alloc: Global, line: &[u8]) -> Result<(), Fail> {
 }
 
 /// What a line is answered that follows an open, without the newlines of both lines.
-fn answer_after_open(alloc: Global, line: &[u8]) -> Result<Vec<u8>, Fail> {
+pub fn answer_after_open(alloc: Global, line: &[u8]) -> Result<Vec<u8>, Fail> {
     let (open, opened) = TWO_WORKERS;
     let mut input = Vec::new(alloc);
     push_line(&mut input, open.as_bytes())?;
