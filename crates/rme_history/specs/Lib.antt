@@ -1,0 +1,6 @@
+-- In reading order: the order of entries, which lists of them are legal histories, what a replay has found so
+-- far, and the most steps of each phase.
+pub mod Places
+pub mod Legal
+pub mod Folds
+pub mod Tallies

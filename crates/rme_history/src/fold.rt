@@ -1,0 +1,76 @@
+//! What a replay has found so far.
+
+ghost use Rattle.std.specs.Prelude.{◌≡◌, ℕ, ◌<◌, ◌+◌, ◌↔◌, IsTrue, List, [], IfOk, IfErr, length, take, slice_index_or};
+ghost use Rattle.std.specs.Bool.{MatchBool};
+ghost use Rattle.rme_program.specs.declared.note.Entry.{Entry};
+ghost use Rattle.rme_program.specs.Conditions.{IsJob};
+ghost use Rattle.rme_history.specs.Legal.{entry_job};
+ghost use Rattle.rme_history.specs.Folds.{IsFold, FollowsAt};
+
+use crate::fault::ReplayFault;
+use rme_program::Entry;
+use rme_script::{Row, eval};
+use rme_words::Shape;
+use std::alloc::Global;
+
+/// The cells of each lock after some entries, and how many of these are of that lock.
+#[derive(Drop)]
+pub struct Fold {
+    pub shape: Shape,
+    pub rows: Vec<Row>,
+    pub counts: Vec<usize>,
+}
+
+impl Fold {
+    /// What there is before any entry.
+    pub fn new(alloc: Global, shape: Shape) -> Result<Fold, ReplayFault>
+        ensures start { IfOk result (λ fold. (fold.shape ≡ shape) × IsFold shape [] fold.rows.items fold.counts.items) }
+        ensures refused { IfErr result (λ fault. fault ≡ ReplayFault.NoMemory) }
+    {
+        let locks = shape.locks as usize;
+        let Ok(rows) = vec![in alloc; Row::zeros(shape); locks] else {
+            return Err(ReplayFault::NoMemory);
+        };
+        let Ok(counts) = vec![in alloc; 0usize; locks] else {
+            return Err(ReplayFault::NoMemory);
+        };
+        Ok(Fold {
+            shape,
+            rows,
+            counts,
+        })
+    }
+
+    /// Goes on by the entry at `i`, if it follows from those before it.
+    pub fn follow(&mut self, entries: &[Entry], i: usize) -> bool
+        requires within { i < length entries.now }
+        requires fold { IsFold self.old.shape (take i entries.now) self.old.rows.items self.old.counts.items }
+        ensures shape { self.new.shape ≡ self.old.shape }
+        ensures follows { MatchBool result (FollowsAt self.old.shape entries.now i) (¬ FollowsAt self.old.shape entries.now i) }
+        ensures fold { MatchBool result (IsFold self.old.shape (take (i + 1) entries.now) self.new.rows.items self.new.counts.items) (Unit {0}) }
+    {
+        let entry = &entries[i];
+        if !is_of_shape(entry, self.shape) {
+            return false;
+        }
+        let lock = entry.receipt.lock as usize;
+        let count = self.counts[lock];
+        if entry.receipt.place as usize != count {
+            return false;
+        }
+        let mut row = self.rows[lock];
+        if eval(&entry.script, &mut row) != entry.receipt.reply {
+            return false;
+        }
+        self.rows[lock] = row;
+        self.counts[lock] = count + 1;
+        true
+    }
+}
+
+/// The entry's lock and script are of the shape.
+fn is_of_shape(entry: &Entry, shape: Shape) -> bool
+    ensures { IsTrue result ↔ IsJob shape (entry_job entry.now) }
+{
+    entry.receipt.lock < shape.locks && entry.script.check(shape).is_ok()
+}

@@ -1,0 +1,19 @@
+//! What is said of finished sections once they are in a list: their order by lock and place, whether they
+//! are a history that could have been, and the most steps that each phase took.
+//!
+//! The crate stands on rme_program for entries and phases, on rme_script for running scripts, and on
+//! rme_machine for the definition `rows` of a lock's cells; it knows no word and no worker's private state.
+//! The one contract that the crates above use is that of `replay`: it says Ok to legal histories alone, and
+//! answers their rows. Begin with `specs/Legal.antt`, and then `replaying.rt`.
+#![tactic(auto)]
+
+mod fault;
+mod fold;
+mod places;
+mod replaying;
+mod tally;
+
+pub use fault::ReplayFault;
+pub use places::by_place;
+pub use replaying::replay;
+pub use tally::Tally;

@@ -1,0 +1,61 @@
+//! The most own steps that were seen of each phase.
+
+ghost use Rattle.std.specs.Prelude.{◌≡◌, ℕ};
+ghost use Rattle.rme_program.specs.declared.kinds.Phase.{Phase};
+ghost use Rattle.rme_history.specs.Tallies.{most_of, Sees};
+
+use rme_program::Phase;
+
+/// For each phase that has steps, the most own steps of a stay in it that were seen. All are 0 at first.
+#[derive(Clone, Copy, Debug, PartialEq, Eq)]
+pub struct Tally {
+    pub recover: u32,
+    pub post: u32,
+    pub enter: u32,
+    pub section: u32,
+    pub exit: u32,
+}
+
+impl Tally {
+    /// Nothing was seen: all are 0.
+    pub fn new() -> Tally
+        ensures { (phase : Phase) → most_of result phase ≡ 0 }
+    {
+        Tally {
+            recover: 0,
+            post: 0,
+            enter: 0,
+            section: 0,
+            exit: 0,
+        }
+    }
+
+    /// Keeps the greater of the phase's count and these steps. For phase Ready, which has no steps, it does
+    /// nothing.
+    pub fn see(&mut self, phase: Phase, steps: u32)
+        ensures { Sees self.old self.new phase steps }
+    {
+        match phase {
+            Phase::Recover => self.recover = self.recover.max(steps),
+            Phase::Post => self.post = self.post.max(steps),
+            Phase::Enter => self.enter = self.enter.max(steps),
+            Phase::Section => self.section = self.section.max(steps),
+            Phase::Exit => self.exit = self.exit.max(steps),
+            Phase::Ready => {}
+        }
+    }
+
+    /// The most steps that were seen of a phase; 0 for phase Ready.
+    pub fn most(&self, phase: Phase) -> u32
+        ensures { result ≡ most_of self.now phase }
+    {
+        match phase {
+            Phase::Recover => self.recover,
+            Phase::Post => self.post,
+            Phase::Enter => self.enter,
+            Phase::Section => self.section,
+            Phase::Exit => self.exit,
+            Phase::Ready => 0,
+        }
+    }
+}
