@@ -55,7 +55,7 @@ get_more (z ∷ zs) x y (suc i) at = elim (get_more zs x y i at) [
 ]
 
 -- What a list has where two parts of it meet.
-get_seam : {A : Type 0} (xs ys : List A) (x : A) → slice_get (xs ++ x ∷ ys) (length xs) ≡ Some x
+pub get_seam : {A : Type 0} (xs ys : List A) (x : A) → slice_get (xs ++ x ∷ ys) (length xs) ≡ Some x
 get_seam [] ys x = refl
 get_seam (z ∷ zs) ys x = get_seam zs ys x
 

@@ -2,5 +2,6 @@
 -- far, and the most steps of each phase.
 pub mod Places
 pub mod Legal
+pub mod Laws
 pub mod Folds
 pub mod Tallies

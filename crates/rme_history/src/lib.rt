@@ -9,6 +9,7 @@
 
 mod fault;
 mod fold;
+pub mod laws;
 mod places;
 mod replaying;
 mod tally;

@@ -11,6 +11,8 @@
 #[cfg(test)]
 mod crashes;
 #[cfg(test)]
+mod histories;
+#[cfg(test)]
 mod line_cuts;
 #[cfg(test)]
 mod line_readings;

@@ -1,0 +1,86 @@
+-- Lists of which each item stands to all later ones as a relation says, and what is kept of a list by a filter.
+use Rattle.std.proofs.Common.{◌≡◌, ℕ, zero, suc, ◌+◌, List, [], ◌∷◌, length, get_or, refl, sym, ◌∙◌, subst, inl, inr, arith}
+use Rattle.std.specs.Prelude.{Bool, true, false, filter, if◌then◌else◌}
+use Rattle.std.specs.List.{All, sum_by}
+use Rattle.std.specs.Cmp.{IsStrictWeakOrder}
+use Rattle.std.specs.List.Sorted.{IsPermutation, IsSortedBy}
+use Rattle.std.proofs.lemmas.Bool.{cases_Bool}
+use Rattle.std.proofs.lemmas.List.Elements.{All-nil, All-cons, All-head, All-tail, All-filter}
+use Rattle.std.proofs.lemmas.List.Sorted.{sorted_far, sum_by-IsPermutation}
+use Rattle.std.proofs.lemmas.List.Sums.{sum_by-cons}
+
+module _ {X : Type 0} where
+  abbrev pub IsPaired : (X → X → Type 0) → List X → Type 0
+  IsPaired R [] = Unit {0}
+  IsPaired R (x ∷ xs) = All (R x) xs × IsPaired R xs
+
+  -- In a sorted list no later item is less.
+  pub sorted_pairs : (lt : X → X → Bool) → IsStrictWeakOrder lt → (xs : List X) → IsSortedBy lt xs → IsPaired (λ x y. lt y x ≡ false) xs
+  sorted_pairs lt order [] up = tt
+  sorted_pairs lt order (x ∷ xs) up = (
+    λ k d within. sorted_far lt order (x ∷ xs) up zero (suc k) d (omega arith) (omega (arith, within)),
+    sorted_pairs lt order xs (λ k d low high.
+        let next : suc k + 1 ≡ suc (k + 1) = omega arith in
+        subst (λ (n : ℕ). lt (get_or (x ∷ xs) n d) (get_or xs k d) ≡ false) next (up (suc k) d (omega arith) (omega (arith, high)))),
+  )
+
+  pub paired_kept : (R : X → X → Type 0) (p : X → Bool) (xs : List X) → IsPaired R xs → IsPaired R (filter p xs)
+  paired_kept R p [] pairs = tt
+  paired_kept R p (x ∷ xs) pairs = elim (cases_Bool (p x)) [
+    | inl t ↦ rw t (All-filter p (R x) xs pairs.0, paired_kept R p xs pairs.1)
+    | inr f ↦ rw f (paired_kept R p xs pairs.1)
+  ]
+
+  -- What holds of all that a filter keeps holds of all that pass it, and the other way round.
+  pub kept_all : (p : X → Bool) (Q : X → Type 0) (xs : List X) → All Q (filter p xs) → All (λ x. p x ≡ true → Q x) xs
+  kept_all p Q [] all = All-nil (λ x. p x ≡ true → Q x)
+  kept_all p Q (x ∷ xs) all = elim (cases_Bool (p x)) [
+    | inl t ↦
+        let both : All Q (x ∷ filter p xs) = rw t at all in
+        All-cons (λ y. p y ≡ true → Q y) x xs (λ passes. All-head Q x (filter p xs) both) (kept_all p Q xs (All-tail Q x (filter p xs) both))
+    | inr f ↦
+        let rest : All Q (filter p xs) = rw f at all in
+        All-cons (λ y. p y ≡ true → Q y) x xs (λ passes. absurd (cc)) (kept_all p Q xs rest)
+  ]
+
+  pub all_kept : (p : X → Bool) (Q : X → Type 0) (xs : List X) → All (λ x. p x ≡ true → Q x) xs → All Q (filter p xs)
+  all_kept p Q [] all = All-nil Q
+  all_kept p Q (x ∷ xs) all =
+      let rest : All Q (filter p xs) = all_kept p Q xs (All-tail (λ y. p y ≡ true → Q y) x xs all) in
+      elim (cases_Bool (p x)) [
+        | inl t ↦ rw t (All-cons Q x (filter p xs) (All-head (λ y. p y ≡ true → Q y) x xs all t) rest)
+        | inr f ↦ rw f rest
+      ]
+
+  -- A sum over what a filter keeps does not go by the order.
+  sum_kept : (f : X → ℕ) (p : X → Bool) (xs : List X) → sum_by f (filter p xs) ≡ sum_by (λ x. if p x then f x else 0) xs
+  sum_kept f p [] = refl
+  sum_kept f p (x ∷ xs) =
+      let rest = sum_kept f p xs in
+      let all : sum_by (λ y. if p y then f y else 0) (x ∷ xs) ≡ (if p x then f x else 0) + sum_by (λ y. if p y then f y else 0) xs =
+      sum_by-cons (λ y. if p y then f y else 0) x xs in
+      elim (cases_Bool (p x)) [
+        | inl t ↦
+            let kept : sum_by f (filter p (x ∷ xs)) ≡ f x + sum_by f (filter p xs) = rw t (sum_by-cons f x (filter p xs)) in
+            let this : (if p x then f x else 0) ≡ f x = rw t refl in
+            omega (arith, kept, this, all, rest)
+        | inr no_pass ↦
+            let left : sum_by f (filter p (x ∷ xs)) ≡ sum_by f (filter p xs) = rw no_pass refl in
+            let this : (if p x then f x else 0) ≡ 0 = rw no_pass refl in
+            omega (arith, left, this, all, rest)
+      ]
+
+  pub sum_mixed : (f : X → ℕ) (p : X → Bool) (xs ys : List X) → IsPermutation xs ys → sum_by f (filter p ys) ≡ sum_by f (filter p xs)
+  sum_mixed f p xs ys mixed =
+      sum_kept f p ys ∙ sum_by-IsPermutation (λ x. if p x then f x else 0) xs ys mixed ∙ sym (sum_kept f p xs)
+
+  -- A sum of ones is the length, and where a sum is 0 all that it adds are.
+  pub sum_ones : (xs : List X) → sum_by (λ x. 1) xs ≡ length xs
+  sum_ones [] = refl
+  sum_ones (x ∷ xs) = sum_by-cons (λ y. 1) x xs ∙ (let rest = sum_ones xs in omega (arith, rest))
+
+  pub sum_none : (f : X → ℕ) (xs : List X) → sum_by f xs ≡ 0 → All (λ x. f x ≡ 0) xs
+  sum_none f [] none = All-nil (λ x. f x ≡ 0)
+  sum_none f (x ∷ xs) none =
+      let both = sum_by-cons f x xs in
+      All-cons (λ y. f y ≡ 0) x xs (omega (arith, both, none)) (sum_none f xs (omega (arith, both, none)))
