@@ -94,28 +94,23 @@ module _ (s : Shape) (entries : List Entry) (i : ℕ) (within : i < length entri
     | inr past ↦ absurd (omega (arith, past.0, within))
   ]
 
-  pub first_broken : (t : Shape) → t ≡ s → ¬ FollowsAt t entries i → IsFirstBroken s entries i
-  first_broken t same broken =
+  pub first_broken : ¬ FollowsAt s entries i → IsFirstBroken s entries i
+  first_broken broken =
       let e : Entry = found.0 in
       let here : slice_get entries i ≡ Some e = found.1 in
       record {
         before = before;
         entry = e;
         here = here;
-        broken = λ follows. broken (λ d there. subst (λ (u : Shape). Follows u (take i entries) d) (sym same) (subst (λ (x : Entry). Follows s (take i entries) x) (same_Some e d (sym here ∙ there)) follows));
+        broken = λ follows. broken (λ d there. subst (λ (x : Entry). Follows s (take i entries) x) (same_Some e d (sym here ∙ there)) follows);
       }
 
-  pub goes_on_legal : (t : Shape) → t ≡ s → FollowsAt t entries i → AreLegal s (take (i + 1) entries)
-  goes_on_legal t same follows =
+  pub goes_on_legal : FollowsAt s entries i → AreLegal s (take (i + 1) entries)
+  goes_on_legal follows =
       let e : Entry = found.0 in
       let here : slice_get entries i ≡ Some e = found.1 in
-      let this : Follows s (take i entries) e = subst (λ (u : Shape). Follows u (take i entries) e) same (follows e here) in
-      subst (λ (es : List Entry). AreLegal s es) (sym (take_next entries i e here)) (legal_more s (take i entries) e before this)
+      subst (λ (es : List Entry). AreLegal s es) (sym (take_next entries i e here)) (legal_more s (take i entries) e before (follows e here))
 
 -- In a legal list no entry fails to follow.
-pub never_broken : (s : Shape) (entries : List Entry) (i : ℕ) (t : Shape) → t ≡ s → ¬ FollowsAt t entries i → AreLegal s entries → ⊥
-never_broken s entries i t same broken legal =
-    broken (λ e here. subst (λ (u : Shape). Follows u (take i entries) e) (sym same) (follows_in s entries i e legal here))
-
-pub fold_of_same : (s t : Shape) (es : List Entry) (cells : List (List ℕ)) (counts : List ℕ) → t ≡ s → IsFold t es cells counts → IsFold s es cells counts
-fold_of_same s t es cells counts same fold = subst (λ (u : Shape). IsFold u es cells counts) same fold
+pub never_broken : (s : Shape) (entries : List Entry) (i : ℕ) → ¬ FollowsAt s entries i → AreLegal s entries → ⊥
+never_broken s entries i broken legal = broken (λ e here. follows_in s entries i e legal here)

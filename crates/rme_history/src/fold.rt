@@ -16,7 +16,6 @@ use std::alloc::Global;
 /// The cells of each lock after some entries, and how many of these are of that lock.
 #[derive(Drop)]
 pub struct Fold {
-    pub shape: Shape,
     pub rows: Vec<Row>,
     pub counts: Vec<usize>,
 }
@@ -24,7 +23,7 @@ pub struct Fold {
 impl Fold {
     /// What there is before any entry.
     pub fn new(alloc: Global, shape: Shape) -> Result<Fold, ReplayFault>
-        ensures start { IfOk result (λ fold. (fold.shape ≡ shape) × IsFold shape [] fold.rows.items fold.counts.items) }
+        ensures start { IfOk result (λ fold. IsFold shape [] fold.rows.items fold.counts.items) }
         ensures refused { IfErr result (λ fault. fault ≡ ReplayFault.NoMemory) }
     {
         let locks = shape.locks as usize;
@@ -34,23 +33,18 @@ impl Fold {
         let Ok(counts) = vec![in alloc; 0usize; locks] else {
             return Err(ReplayFault::NoMemory);
         };
-        Ok(Fold {
-            shape,
-            rows,
-            counts,
-        })
+        Ok(Fold { rows, counts })
     }
 
     /// Goes on by the entry at `i`, if it follows from those before it.
-    pub fn follow(&mut self, entries: &[Entry], i: usize) -> bool
+    pub fn follow(&mut self, shape: Shape, entries: &[Entry], i: usize) -> bool
         requires within { i < length entries.now }
-        requires fold { IsFold self.old.shape (take i entries.now) self.old.rows.items self.old.counts.items }
-        ensures shape { self.new.shape ≡ self.old.shape }
-        ensures follows { MatchBool result (FollowsAt self.old.shape entries.now i) (¬ FollowsAt self.old.shape entries.now i) }
-        ensures fold { MatchBool result (IsFold self.old.shape (take (i + 1) entries.now) self.new.rows.items self.new.counts.items) (Unit {0}) }
+        requires fold { IsFold shape (take i entries.now) self.old.rows.items self.old.counts.items }
+        ensures follows { MatchBool result (FollowsAt shape entries.now i) (¬ FollowsAt shape entries.now i) }
+        ensures fold { MatchBool result (IsFold shape (take (i + 1) entries.now) self.new.rows.items self.new.counts.items) (Unit {0}) }
     {
         let entry = &entries[i];
-        if !is_of_shape(entry, self.shape) {
+        if !is_of_shape(entry, shape) {
             return false;
         }
         let lock = entry.receipt.lock as usize;

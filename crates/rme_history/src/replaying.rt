@@ -24,7 +24,7 @@ pub fn replay(alloc: Global, shape: Shape, entries: &[Entry]) -> Result<Vec<Row>
 {
     let mut fold = Fold::new(alloc, shape)?;
     for i in 0..entries.len() {
-        if !fold.follow(entries, i) {
+        if !fold.follow(shape, entries, i) {
             return Err(ReplayFault::Broken(i));
         }
     }

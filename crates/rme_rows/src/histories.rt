@@ -69,6 +69,7 @@ fn replayed(rt: HostRuntime) -> Result<(), Fail> {
     assert_eq!(rt; rows.len(), 1);
     assert_eq!(rt; rows[0].len(), 1);
     assert_eq!(rt; rows[0].get(0), 6);
+    assert_eq!(rt; entries.len(), 2);
     entries[1].receipt.reply = 7;
     let broken = replay(rt.alloc(), shape, &entries).err();
     assert_eq!(rt; broken, Some(ReplayFault::Broken(1)));

@@ -1,18 +1,14 @@
-use Rattle.std.proofs.Common.{◌∙◌}
-use Rattle.rme_history.proofs.Following.{fold_of_same, first_broken, goes_on_legal, never_broken}
+use Rattle.rme_history.proofs.Following.{first_broken, goes_on_legal, never_broken}
 use Rattle.rme_history.proofs.replaying.replay.Goals as goal
 
 pub returns-then-not-follow-clause-broken : goal.returns-then-not-follow-clause-broken
-returns-then-not-follow-clause-broken c =
-    first_broken _ _ _ c.loop-i-test.true c.loop-i.invariant.legal _ c.loop-i.invariant.shape c.if-not-follow.ensures.follows
+returns-then-not-follow-clause-broken c = first_broken _ _ _ c.loop-i-test.true c.loop-i.invariant.legal c.if-not-follow.ensures.follows
 
 pub returns-then-not-follow-clause-accepted : goal.returns-then-not-follow-clause-accepted
-returns-then-not-follow-clause-accepted c =
-    λ legal. absurd (never_broken _ _ _ _ c.loop-i.invariant.shape c.if-not-follow.ensures.follows legal)
+returns-then-not-follow-clause-accepted c = λ legal. absurd (never_broken _ _ _ c.if-not-follow.ensures.follows legal)
 
 pub loop-i-preserved : goal.loop-i-preserved
 loop-i-preserved c = record {
-  shape = c.follow.ensures.shape ∙ c.loop-i.invariant.shape;
-  legal = goes_on_legal _ _ _ c.loop-i-test.true c.loop-i.invariant.legal _ c.loop-i.invariant.shape c.if-not-follow.ensures.follows;
-  fold = fold_of_same _ _ _ _ _ c.loop-i.invariant.shape c.if-not-follow.ensures.fold;
+  legal = goes_on_legal _ _ _ c.loop-i-test.true c.loop-i.invariant.legal c.if-not-follow.ensures.follows;
+  fold = c.if-not-follow.ensures.fold;
 }

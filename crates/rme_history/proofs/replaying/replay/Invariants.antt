@@ -1,11 +1,10 @@
-use Rattle.std.proofs.Common.{◌≡◌, take}
+use Rattle.std.proofs.Common.{take}
 use Rattle.rme_history.specs.Legal.{AreLegal}
 use Rattle.rme_history.specs.Folds.{IsFold}
 use Rattle.rme_history.proofs.replaying.replay.Given as goal
 
 abbrev pub invariant-loop-i : goal.invariant-loop-i
 invariant-loop-i l = record {
-  shape : l.fold.shape ≡ l.fn.shape;
   legal : AreLegal l.fn.shape (take l.i l.entries);
   fold : IsFold l.fn.shape (take l.i l.entries) l.fold.rows.items l.fold.counts.items;
 }
