@@ -13,6 +13,7 @@ use Rattle.rme_history.specs.Places.{place_order}
 abbrev pub LegalLaw : Type 0
 LegalLaw = (shape : Shape) (history : List Entry) → IsLegal shape history ↔ (All (λ (e : Entry). e.receipt.worker < shape.workers) history × AreLegal shape history)
 
--- Entries of a legal history that were mixed come back: in the order of their places, each lock's are as they were.
+-- Entries of a legal history that were mixed come back: in the order of their places, each lock's
+-- entries are as they were.
 abbrev pub OrderLaw : Type 0
 OrderLaw = (shape : Shape) (history mixed : List Entry) → AreLegal shape history → IsPermutation history mixed → IsSorted place_order mixed → (lock : ℕ) → entries_of mixed lock ≡ entries_of history lock

@@ -1,5 +1,5 @@
--- In reading order: the order of entries, which lists of them are legal histories, what a replay has found so
--- far, and the most steps of each phase.
+-- In reading order: the order of entries, which lists of them are legal histories and the laws of these, what a
+-- replay has found so far, and the most steps of each phase.
 pub mod Places
 pub mod Legal
 pub mod Laws
