@@ -5,6 +5,7 @@ pub mod Histories
 pub mod Machine
 pub mod Views
 pub mod Shown
+pub mod ShownCells
 pub mod Fits
 pub mod Fact
 pub mod Clauses

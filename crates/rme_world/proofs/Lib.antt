@@ -1,2 +1,14 @@
-pub mod Keeping
+pub mod Notes
+pub mod Stays
+pub mod Lists
+pub mod Owing
+pub mod Worlds
 pub mod Refusing
+pub mod Happening
+pub mod Headline
+pub mod Calls
+pub mod Filling
+pub mod Going
+pub mod Telling
+pub mod Opened
+pub mod Looking

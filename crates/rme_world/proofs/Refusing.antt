@@ -1,6 +1,6 @@
 -- Why a job is refused, from what a call found.
 use Rattle.std.proofs.Common.{◌≡◌, ℕ, ◌<◌, ◌≤◌, refl}
-use Rattle.std.specs.Prelude.{Option, Some, None, Result, Ok, Err, slice_get}
+use Rattle.std.specs.Prelude.{Some, None, Ok, Err, slice_get}
 use Rattle.std.proofs.lemmas.Bool.{lt-ltb, le-ltb}
 use Rattle.rme_words.specs.declared.refusal.Refusal.{Refusal}
 use Rattle.rme_words.specs.declared.refusal.Refusal.TheVariants.{TooManyJobs}
@@ -10,7 +10,7 @@ use Rattle.rme_script.specs.Scripts.{check_of}
 use Rattle.rme_program.specs.declared.private.Private.{Private}
 use Rattle.rme_program.specs.declared.stage.Stage.TheVariants.{Resting}
 use Rattle.rme_world.specs.Seen.{Seen}
-use Rattle.rme_world.specs.Refused.{submit_refusal, is_ready}
+use Rattle.rme_world.specs.Refused.{submit_refusal}
 
 module _ (seen : Seen) (worker : ℕ) (job : Job) (private : Private) (shape : Shape) (same : shape ≡ seen.shape)
     (found : slice_get seen.privates worker ≡ Some (Some private)) (ready : private.stage ≡ Resting) (lock : job.lock < shape.locks) where

@@ -1,29 +1,47 @@
 -- What each event changes.
-use Rattle.std.specs.Prelude.{◌≡◌, ℕ, ◌+◌, List, Option, Some, None, slice_get, slice_set, unwrap_or}
+use Rattle.std.specs.Prelude.{◌≡◌, ℕ, ◌+◌, ◌≤◌, Option, Some, None, length, slice_get, slice_set}
 use Rattle.rme_script.specs.declared.job.Job.{Job}
 use Rattle.rme_program.specs.declared.private.Private.{Private}
+use Rattle.rme_program.specs.declared.note.Note.{Note}
 use Rattle.rme_program.specs.declared.kinds.Phase.TheVariants.{Post, Exit}
-use Rattle.rme_program.specs.Steps.{restarted_private, submitted_private, withdrawing_private}
+use Rattle.rme_program.specs.Conditions.{IsJob}
+use Rattle.rme_program.specs.Did.{Did}
+use Rattle.rme_program.specs.Phases.{phase_of}
+use Rattle.rme_program.specs.Steps.{action_of, private_after, note_after, restarted_private, submitted_private, withdrawing_private}
+use Rattle.rme_machine.specs.Changes.{history_after}
 use Rattle.rme_world.specs.declared.counts.Counts.{Counts}
-use Rattle.rme_world.specs.Counting.{begun_stay, no_counts}
-use Rattle.rme_world.specs.Seen.{Seen}
-use Rattle.rme_world.specs.Refused.{submit_refusal, crash_refusal, restart_refusal, withdraw_refusal}
-
--- A worker's counts.
-abbrev pub counts_of : Seen → ℕ → Counts
-counts_of seen worker = unwrap_or (slice_get seen.counts worker) no_counts
+use Rattle.rme_world.specs.Counting.{CountsAfter, begun_stay, no_counts}
+use Rattle.rme_world.specs.Seen.{Seen, counts_of, memory_seen}
+use Rattle.rme_world.specs.Refused.{step_refusal, submit_refusal, crash_refusal, restart_refusal, withdraw_refusal}
 
 -- The same words and history, with one worker's private state and counts changed.
 abbrev pub with_worker : Seen → ℕ → Option Private → Counts → Seen
-with_worker seen worker private counts = record { shape = seen.shape; words = seen.words; privates = slice_set seen.privates worker private; history = seen.history; counts = slice_set seen.counts worker counts }
+with_worker seen worker private counts = record seen { privates = slice_set seen.privates worker private; counts = slice_set seen.counts worker counts }
 
--- `submit`: the worker knows its job, which will have the next number, and its stay in Post begins.
+-- `submit`: the worker knows its job, which will have the next number, and its stay in Post begins. There may be more
+-- room than before.
 pub record Submits (old : Seen) (worker : ℕ) (job : Job) (number : ℕ) (new : Seen) : Type 0 where
   pub may : submit_refusal old worker job ≡ None
+  pub is_job : IsJob old.shape job
   pub private : Private
   pub found : slice_get old.privates worker ≡ Some (Some private)
   pub next_number : number ≡ private.begun + 1
-  pub hands : new ≡ with_worker old worker (Some (submitted_private private job)) (begun_stay (counts_of old worker) Post)
+  pub hands : new ≡ record (with_worker old worker (Some (submitted_private private job)) (begun_stay (counts_of old worker) Post)) { room = new.room }
+
+-- `step`: the action that the worker's private state has next is done on one word. The new private state and the
+-- note are what follows from it and from the value found. The history grows by the entry of a finished section alone,
+-- for which there was room.
+pub record Steps (old : Seen) (worker : ℕ) (note : Note) (new : Seen) : Type 0 where
+  pub may : step_refusal old worker ≡ None
+  pub private : Private
+  pub found : slice_get old.privates worker ≡ Some (Some private)
+  pub value : ℕ
+  pub did : Did (memory_seen old) (memory_seen new) (action_of old.shape private) value
+  pub says : note ≡ note_after old.shape private value
+  pub counts : Counts
+  pub counted : CountsAfter (counts_of old worker) (phase_of private.stage) (phase_of (private_after old.shape private value).stage) note counts
+  pub goes : new ≡ record (with_worker old worker (Some (private_after old.shape private value)) counts) { words = new.words; history = history_after old.history (memory_seen old) worker note; room = new.room }
+  pub room : length old.history + old.room ≤ length new.history + new.room
 
 -- `crash`: the worker's private state is gone, and its counts stay.
 pub record Crashes (old : Seen) (worker : ℕ) (new : Seen) : Type 0 where

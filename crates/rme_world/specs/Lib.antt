@@ -1,7 +1,9 @@
--- In reading order: the counts of steps, what contracts see of a world, and when each event is refused.
+-- In reading order: the counts of steps, what contracts see of a world, the world at opening, when each event is
+-- refused, what each changes, and the headline.
 pub mod Counting
 pub mod Seen
 pub mod Opening
-pub mod Looks
 pub mod Refused
 pub mod Events
+pub mod Looks
+pub mod Running

@@ -1,9 +1,65 @@
 -- What the look-ups show.
-use Rattle.std.specs.Prelude.{ℕ}
-use Rattle.rme_words.specs.declared.address.Address.{Address}
-use Rattle.rme_words.specs.Words.{read}
-use Rattle.rme_world.specs.Seen.{Seen}
+use Rattle.std.specs.Prelude.{◌≡◌, ◌≢◌, ℕ, ◌<◌, Some, slice_get}
+use Rattle.rme_tree.specs.Nodes.{nodes_of, held_in}
+use Rattle.rme_tree.specs.Rooted.{IsBlocked}
+use Rattle.rme_program.specs.declared.note.Entry.{Entry}
+use Rattle.rme_program.specs.declared.note.Receipt.{Receipt}
+use Rattle.rme_program.specs.declared.private.Private.{Private}
+use Rattle.rme_program.specs.declared.stage.Ascent.{Ascent}
+use Rattle.rme_program.specs.declared.stage.Redo.TheVariants.{StoreDone}
+use Rattle.rme_program.specs.declared.stage.Visit.{Visit}
+use Rattle.rme_program.specs.declared.stage.Stage.TheVariants.{Resting, Climbing, Copying}
+use Rattle.rme_program.specs.Progress.{Falls}
+use Rattle.rme_program.specs.Steps.{withdrawn_place}
+use Rattle.rme_machine.specs.Histories.{last_by}
+use Rattle.rme_machine.specs.Views.{WorkerWords, worker_words, slate_job}
+use Rattle.rme_world.specs.Counting.{section_steps}
+use Rattle.rme_world.specs.Seen.{Seen, memory_seen}
 
--- The words of a world, as a function of the address.
-abbrev pub memory_seen : Seen → Address → ℕ
-memory_seen seen = read seen.shape seen.words
+-- The words of a worker have a receipt: its last job is done, and its number was not withdrawn.
+pub record HasReceipt (own : WorkerWords) : Type 0 where
+  pub done : own.done ≡ own.begun
+  pub some : own.begun ≢ 0
+  pub kept : own.place ≢ withdrawn_place
+
+abbrev pub words_seen : Seen → ℕ → WorkerWords
+words_seen seen worker = worker_words (memory_seen seen) worker
+
+-- The receipt is that of the worker's last entry.
+pub record IsLastReceipt (seen : Seen) (worker : ℕ) (receipt : Receipt) : Type 0 where
+  pub entry : Entry
+  pub last : last_by seen.history worker ≡ Some entry
+  pub same : receipt ≡ entry.receipt
+
+-- A worker is up, and in phase Ready.
+abbrev pub IsReady : Seen → ℕ → Type 0
+IsReady seen worker = (private : Private) × (slice_get seen.privates worker ≡ Some (Some private)) × (private.stage ≡ Resting)
+
+-- A worker holds no node of any lock.
+abbrev pub HoldsNone : Seen → ℕ → Type 0
+HoldsNone seen worker = (lock : ℕ) → lock < seen.shape.locks → held_in seen.shape (memory_seen seen) worker lock ≡ 0
+
+-- A step brought a worker nearer the end of its phase, or to a later phase.
+abbrev pub ComesOn : Seen → Seen → ℕ → Type 0
+ComesOn old new worker =
+    (before after : Private) → slice_get old.privates worker ≡ Some (Some before) → slice_get new.privates worker ≡ Some (Some after)
+    → Falls old.shape before.stage after.stage
+
+-- A worker has finished its section: the stay took all the steps that a section begun so takes, for the script of the
+-- worker's slate and the cells of the mask.
+pub record IsWholeSection (seen : Seen) (worker count : ℕ) : Type 0 where
+  pub private : Private
+  pub found : slice_get seen.privates worker ≡ Some (Some private)
+  pub visit : Visit
+  pub mask : ℕ
+  pub reply : ℕ
+  pub last : private.stage ≡ Copying (StoreDone visit mask reply)
+  pub steps : count ≡ section_steps seen.shape (slate_job (words_seen seen worker)).script mask visit.parity
+
+-- A worker climbs, and the next node of its path has the other side, which another worker holds.
+pub record IsStopped (seen : Seen) (worker : ℕ) : Type 0 where
+  pub private : Private
+  pub found : slice_get seen.privates worker ≡ Some (Some private)
+  pub ascent : Ascent
+  pub climbs : private.stage ≡ Climbing ascent
+  pub by : IsBlocked (nodes_of (memory_seen seen) ascent.lock) seen.shape.leaves seen.shape.height seen.shape.workers worker ascent.held

@@ -1,5 +1,5 @@
 -- The world at opening.
-use Rattle.std.specs.Prelude.{ℕ, List, [], map, replicate, Some}
+use Rattle.std.specs.Prelude.{ℕ, [], map, replicate, Some}
 use Rattle.std.specs.List.{range_with_len}
 use Rattle.rme_words.specs.declared.shape.Shape.{Shape}
 use Rattle.rme_words.specs.Words.{words_of}
@@ -15,4 +15,5 @@ opening shape = record {
   privates = map (λ (worker : ℕ). Some (ready_private worker 0)) (range_with_len 0 shape.workers);
   history = [];
   counts = replicate shape.workers no_counts;
+  room = 0;
 }

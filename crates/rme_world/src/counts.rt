@@ -1,9 +1,11 @@
 //! How many own steps each worker made.
 
 ghost use Rattle.std.specs.Prelude.{◌≡◌};
-ghost use Rattle.rme_world.specs.Counting.{count_of, counted, begun_stay};
+ghost use Rattle.std.specs.Prelude.{◌<◌, ◌↔◌, IsTrue};
+ghost use Rattle.rme_program.specs.declared.note.Note.{Note};
+ghost use Rattle.rme_world.specs.Counting.{CountsAfter, count_of, counted, begun_stay};
 
-use rme_program::Phase;
+use rme_program::{Note, Phase};
 
 /// One worker's own steps of its latest stay in each phase, blocked ones aside.
 #[derive(Clone, Copy, Debug, PartialEq, Eq)]
@@ -26,7 +28,7 @@ impl Counts {
     };
 
     /// The steps of one phase; 0 for phase Ready, which has no steps.
-    pub fn of(&self, phase: Phase) -> u32
+    pub(crate) fn of(&self, phase: Phase) -> u32
         ensures { result ≡ count_of self.now phase }
     {
         match phase {
@@ -39,29 +41,30 @@ impl Counts {
         }
     }
 
-    /// One more step in a phase. A stay is far shorter than the greatest number, so that none is lost.
-    pub fn count(self, phase: Phase) -> Counts
+    /// One more step in a phase.
+    fn count(self, phase: Phase) -> Counts
+        requires { count_of self phase < 4294967295 }
         ensures { result ≡ counted self phase }
     {
         match phase {
             Phase::Recover => Counts {
-                recover: self.recover.saturating_add(1),
+                recover: self.recover + 1,
                 ..self
             },
             Phase::Post => Counts {
-                post: self.post.saturating_add(1),
+                post: self.post + 1,
                 ..self
             },
             Phase::Enter => Counts {
-                enter: self.enter.saturating_add(1),
+                enter: self.enter + 1,
                 ..self
             },
             Phase::Section => Counts {
-                section: self.section.saturating_add(1),
+                section: self.section + 1,
                 ..self
             },
             Phase::Exit => Counts {
-                exit: self.exit.saturating_add(1),
+                exit: self.exit + 1,
                 ..self
             },
             Phase::Ready => self,
@@ -69,7 +72,7 @@ impl Counts {
     }
 
     /// A stay in a phase begins.
-    pub fn begin(self, phase: Phase) -> Counts
+    pub(crate) fn begin(self, phase: Phase) -> Counts
         ensures { result ≡ begun_stay self phase }
     {
         match phase {
@@ -81,4 +84,26 @@ impl Counts {
             Phase::Ready => self,
         }
     }
+
+    /// The counts after a step that was made in phase `before` and left the worker in phase `after`.
+    pub(crate) fn after_step(self, before: Phase, after: Phase, note: Note) -> Counts
+        requires { count_of self before < 4294967295 }
+        ensures { CountsAfter self before after note result }
+    {
+        if is_blocked(note) {
+            return self;
+        }
+        let counts = self.count(before);
+        if after == before {
+            return counts;
+        }
+        counts.begin(after)
+    }
+}
+
+/// The step did not take its node.
+fn is_blocked(note: Note) -> bool
+    ensures { IsTrue result ↔ (note ≡ Note.Blocked) }
+{
+    matches!(note, Note::Blocked)
 }

@@ -7,18 +7,22 @@ use rme_script::Job;
 use rme_words::Refusal;
 
 impl World {
-    ghost use Rattle.std.specs.Prelude.{◌≡◌, ◌<◌, ◌+◌, Some, None, IfSome, IfOk, IfErr, OnOk, OnErr, Option, slice_get, length};
+    ghost use Rattle.std.specs.Prelude.{◌≡◌, ◌<◌, ◌≤◌, ◌+◌, IsTrue, IsFalse, Some, None, IfOk, IfErr, OnOk, OnErr, Option, slice_get, length};
     ghost use Rattle.rme_words.specs.declared.refusal.Refusal.{Refusal};
     ghost use Rattle.rme_script.specs.declared.job.Job.{Job};
     ghost use Rattle.rme_program.specs.declared.private.Private.{Private};
     ghost use Rattle.rme_program.specs.declared.stage.Stage.{Stage};
-    ghost use Rattle.rme_program.specs.declared.stage.Stage.TheVariants.{Resting};
-    ghost use Rattle.rme_program.specs.Conditions.{IsPrivate, IsJob};
-    ghost use Rattle.rme_program.specs.Steps.{submitted_private};
     ghost use Rattle.rme_program.specs.declared.kinds.Phase.TheVariants.{Post};
+    ghost use Rattle.rme_program.specs.declared.event.Event.{Event};
+    ghost use Rattle.rme_program.specs.declared.event.Answer.{Answer};
+    ghost use Rattle.rme_program.specs.Conditions.{IsPrivate, IsJob};
+    ghost use Rattle.rme_program.specs.Phases.{left_of};
+    ghost use Rattle.rme_program.specs.Steps.{submitted_private};
     ghost use Rattle.rme_world.specs.Counting.{begun_stay};
+    ghost use Rattle.rme_world.specs.Seen.{Seen, IsKept, counts_of, owed, shown_by};
     ghost use Rattle.rme_world.specs.Refused.{of_up, submit_refusal, crash_refusal, restart_refusal, withdraw_refusal, IsRefused};
-    ghost use Rattle.rme_world.specs.Events.{Submits, Crashes, Restarts, Withdraws, with_worker, counts_of};
+    ghost use Rattle.rme_world.specs.Events.{Submits, Crashes, Restarts, Withdraws, with_worker};
+    ghost use Rattle.rme_world.specs.Running.{IsRunOfOne, answer_of};
 
     /// Hands a job to a worker that is ready, and answers the number that the job will have: one more than
     /// the worker has begun.
@@ -28,6 +32,8 @@ impl World {
     /// `TooManyJobs` and `NoMemory`; a refusal changes nothing.
     pub fn submit(&mut self, worker: u32, job: Job) -> Result<u32, Refusal>
         ensures accepted { IfOk result (λ number. Submits self.old worker job number self.new) }
+        ensures headline { IsRunOfOne self.old (Event.Submit worker job) (answer_of Answer.Handed result) self.new }
+        ensures room { owed (shown_by self.new).workers ≤ self.new.room }
         ensures refused { IfErr result (λ refusal. IsRefused (submit_refusal self.old worker job) refusal) }
         ensures unchanged { OnErr result (self.new ≡ self.old) }
     {
@@ -35,8 +41,7 @@ impl World {
             Ok(private) => private,
             Err(refusal) => return Err(refusal),
         };
-        let workers = self.shape().workers as usize;
-        if self.history.reserve(workers).is_err() {
+        if !self.make_room(self.shape().workers as usize) {
             return Err(Refusal::NoMemory);
         }
         Ok(self.hand(worker, private, job))
@@ -47,6 +52,7 @@ impl World {
     /// Refused by `NoWorker`, then by `Down`; a refusal changes nothing.
     pub fn crash(&mut self, worker: u32) -> Result<(), Refusal>
         ensures accepted { IfOk result (λ _. Crashes self.old worker self.new) }
+        ensures headline { IsRunOfOne self.old (Event.Crash worker) (answer_of (λ _. Answer.Crashed) result) self.new }
         ensures refused { IfErr result (λ refusal. crash_refusal self.old worker ≡ Some refusal) }
         ensures unchanged { OnErr result (self.new ≡ self.old) }
     {
@@ -62,29 +68,33 @@ impl World {
     /// Refused by `NoWorker`, then by `Up`; a refusal changes nothing.
     pub fn restart(&mut self, worker: u32) -> Result<(), Refusal>
         ensures accepted { IfOk result (λ _. Restarts self.old worker self.new) }
+        ensures headline { IsRunOfOne self.old (Event.Restart worker) (answer_of (λ _. Answer.Restarted) result) self.new }
         ensures refused { IfErr result (λ refusal. restart_refusal self.old worker ≡ Some refusal) }
         ensures unchanged { OnErr result (self.new ≡ self.old) }
     {
-        match self.privates.get(worker as usize) {
-            None => return Err(Refusal::NoWorker),
-            Some(Some(_)) => return Err(Refusal::Up),
-            Some(None) => {}
+        if let Err(refusal) = self.down(worker) {
+            return Err(refusal);
         }
         self.put(worker, Some(Private::restart(worker)), Counts::ZERO);
         Ok(())
     }
 
-    /// Has a worker that waits for a lock give its job up: its next steps withdraw the number and release
-    /// what it holds. It may still be asked for at any time before it owns the lock.
+    /// Has a worker that waits for a lock give its job up: its next steps, at most h + 3 of them, withdraw
+    /// the number and release what it holds. It may be asked for at any time before the worker owns the lock.
     ///
     /// Refused by `NoWorker`, then by `Down`, then by `NotWaiting` (not in phase Enter); a refusal changes
     /// nothing.
     pub fn withdraw(&mut self, worker: u32) -> Result<(), Refusal>
         ensures accepted { IfOk result (λ _. Withdraws self.old worker self.new) }
+        ensures headline { IsRunOfOne self.old (Event.Withdraw worker) (answer_of (λ _. Answer.Withdrawing) result) self.new }
+        ensures bound { OnOk result ((private : Private) → slice_get self.new.privates worker ≡ Some (Some private) → left_of self.new.shape private.stage ≤ self.new.shape.height + 3) }
         ensures refused { IfErr result (λ refusal. withdraw_refusal self.old worker ≡ Some refusal) }
         ensures unchanged { OnErr result (self.new ≡ self.old) }
     {
-        let private = self.up(worker)?;
+        let private = match self.up(worker) {
+            Ok(private) => private,
+            Err(refusal) => return Err(refusal),
+        };
         let Stage::Climbing(_) = private.stage else {
             return Err(Refusal::NotWaiting);
         };
@@ -95,9 +105,9 @@ impl World {
 
     /// The private state of a worker that is up, or why there is none.
     pub(crate) fn up(&self, worker: u32) -> Result<Private, Refusal>
-        ensures found { IfOk result (λ private. slice_get self.now.privates worker ≡ Some (Some private)) }
-        ensures private { IfOk result (λ private. (private.worker ≡ worker) × IsPrivate self.now.shape private) }
+        ensures kept { IsKept self.now }
         ensures worker { OnOk result (worker < self.now.shape.workers) }
+        ensures found { IfOk result (λ private. slice_get self.now.privates worker ≡ Some (Some private)) }
         ensures refused { IfErr result (λ refusal. (own : Private → Option Refusal) → of_up (slice_get self.now.privates worker) own ≡ Some refusal) }
     {
         match self.privates.get(worker as usize) {
@@ -107,15 +117,33 @@ impl World {
         }
     }
 
+    /// Whether a worker is down, or why it is not.
+    fn down(&self, worker: u32) -> Result<(), Refusal>
+        ensures kept { IsKept self.now }
+        ensures worker { OnOk result (worker < self.now.shape.workers) }
+        ensures found { OnOk result (slice_get self.now.privates worker ≡ Some None) }
+        ensures refused { IfErr result (λ refusal. restart_refusal self.now worker ≡ Some refusal) }
+    {
+        match self.privates.get(worker as usize) {
+            None => Err(Refusal::NoWorker),
+            Some(None) => Ok(()),
+            Some(Some(_)) => Err(Refusal::Up),
+        }
+    }
+
     /// The private state of a worker that may be handed this job, or why it may not.
     pub(crate) fn may_submit(&self, worker: u32, job: &Job) -> Result<Private, Refusal>
+        ensures kept { IsKept self.now }
+        ensures worker { OnOk result (worker < self.now.shape.workers) }
         ensures found { IfOk result (λ private. slice_get self.now.privates worker ≡ Some (Some private)) }
-        ensures may { IfOk result (λ private. submit_refusal self.now worker job.now ≡ None) }
-        ensures private { IfOk result (λ private. (private.worker ≡ worker) × IsPrivate self.now.shape private) }
+        ensures may { OnOk result (submit_refusal self.now worker job.now ≡ None) }
         ensures ready { IfOk result (λ private. (private.stage ≡ Stage.Resting) × (private.begun < self.now.shape.jobs) × IsJob self.now.shape job.now) }
         ensures refused { IfErr result (λ refusal. submit_refusal self.now worker job.now ≡ Some refusal) }
     {
-        let private = self.up(worker)?;
+        let private = match self.up(worker) {
+            Ok(private) => private,
+            Err(refusal) => return Err(refusal),
+        };
         let shape = self.shape();
         let Stage::Resting = private.stage else {
             return Err(Refusal::Busy);
@@ -132,13 +160,22 @@ impl World {
         Ok(private)
     }
 
+    /// Makes room for so many more entries of the history, or answers false and changes nothing.
+    pub(crate) fn make_room(&mut self, entries: usize) -> bool
+        ensures kept { IsKept self.new }
+        ensures room { self.new ≡ record self.old { room = self.new.room } }
+        ensures made { IsTrue result → entries ≤ self.new.room }
+        ensures unchanged { IsFalse result → self.new ≡ self.old }
+    {
+        self.history.reserve(entries).is_ok()
+    }
+
     /// Hands the job over, and answers its number.
     pub(crate) fn hand(&mut self, worker: u32, private: Private, job: Job) -> u32
         requires worker { worker < self.old.shape.workers }
-        requires private { (private.worker ≡ worker) × IsPrivate self.old.shape private }
         requires ready { private.stage ≡ Stage.Resting }
         requires few { private.begun < self.old.shape.jobs }
-        requires job { IsJob self.old.shape job }
+        requires kept { IsKept (with_worker self.old worker (Some (submitted_private private job)) (begun_stay (counts_of self.old worker) Post)) }
         ensures number { result ≡ private.begun + 1 }
         ensures hands { self.new ≡ with_worker self.old worker (Some (submitted_private private job)) (begun_stay (counts_of self.old worker) Post) }
     {
@@ -151,15 +188,16 @@ impl World {
     /// The counts of a worker.
     pub(crate) fn counts_at(&self, worker: u32) -> Counts
         requires { worker < self.now.shape.workers }
-        ensures { result ≡ counts_of self.now worker }
+        ensures kept { IsKept self.now }
+        ensures counts { result ≡ counts_of self.now worker }
     {
         self.counts[worker as usize]
     }
 
     /// Puts a worker's private state and its counts in place.
-    pub(crate) fn put(&mut self, worker: u32, private: Option<Private>, counts: Counts)
+    fn put(&mut self, worker: u32, private: Option<Private>, counts: Counts)
         requires worker { worker < self.old.shape.workers }
-        requires private { IfSome private (λ p. (p.worker ≡ worker) × IsPrivate self.old.shape p) }
+        requires kept { IsKept (with_worker self.old worker private counts) }
         ensures { self.new ≡ with_worker self.old worker private counts }
     {
         self.privates[worker as usize] = private;

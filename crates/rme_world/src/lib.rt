@@ -13,7 +13,6 @@ mod looks;
 mod perform;
 mod run;
 mod step;
-mod takes;
 mod world;
 
 pub use counts::Counts;

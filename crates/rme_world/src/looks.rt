@@ -1,5 +1,8 @@
 //! What a caller may look up; a look-up changes nothing.
 
+ghost use Rattle.std.specs.Prelude.{◌≡◌, ◌<◌, ◌^◌, ◌↔◌, IsTrue};
+ghost use Rattle.rme_program.specs.declared.stage.Stage.{Stage};
+
 use crate::world::World;
 use rme_program::{Entry, Phase, Private, Receipt, Stage};
 use rme_script::Row;
@@ -7,21 +10,22 @@ use rme_tree::owner;
 use rme_words::{Address, Refusal};
 
 impl World {
-    ghost use Rattle.std.specs.Prelude.{◌≡◌, ◌↔◌, ◌<◌, ◌≤◌, ℕ, Some, None, IsTrue, IfSome, IfOk, IfErr, IsOk, OnErr, slice_get, slice_index, length};
+    ghost use Rattle.std.specs.Prelude.{◌≡◌, ◌↔◌, ◌<◌, ◌≤◌, ◌+◌, Some, IsTrue, IsSome, IfSome, IfOk, IfErr, IsOk, slice_get};
     ghost use Rattle.rme_words.specs.declared.refusal.Refusal.{Refusal};
-    ghost use Rattle.rme_words.specs.Words.{read};
-    ghost use Rattle.rme_words.specs.declared.address.Address.TheVariants.{Cell, Begun, Done};
     ghost use Rattle.rme_tree.specs.Nodes.{owner_in};
     ghost use Rattle.rme_program.specs.declared.private.Private.{Private};
-    ghost use Rattle.rme_program.specs.declared.stage.Stage.{Stage};
-    ghost use Rattle.rme_world.specs.Counting.{count_of};
-    ghost use Rattle.rme_world.specs.Events.{counts_of};
-    ghost use Rattle.rme_world.specs.Looks.{memory_seen};
+    ghost use Rattle.rme_program.specs.Phases.{phase_of};
+    ghost use Rattle.rme_machine.specs.ShownCells.{ShownCells, owner_at, is_settled};
+    ghost use Rattle.rme_machine.specs.Views.{lock_words, is_pending};
+    ghost use Rattle.rme_world.specs.Counting.{IsStay, count_of, most_steps};
+    ghost use Rattle.rme_world.specs.Seen.{IsKept, counts_of, memory_seen, shown_by};
+    ghost use Rattle.rme_world.specs.Looks.{HasReceipt, IsLastReceipt, IsReady, HoldsNone, words_seen};
 
     /// The worker that owns a lock, if one does. `NoLock` where there is no such lock.
     pub fn owner(&self, lock: u32) -> Result<Option<u32>, Refusal>
         ensures accepted { IsOk result ↔ (lock < self.now.shape.locks) }
         ensures owner { IfOk result (λ o. o ≡ owner_in self.now.shape (memory_seen self.now) lock) }
+        ensures shown { IfOk result (λ o. o ≡ owner_at (shown_by self.now) lock) }
         ensures refused { IfErr result (λ refusal. refusal ≡ Refusal.NoLock) }
     {
         if lock >= self.shape().locks {
@@ -34,6 +38,9 @@ impl World {
     /// section is not finished. `NoLock` where there is no such lock.
     pub fn cells(&self, lock: u32) -> Result<(Row, bool), Refusal>
         ensures accepted { IsOk result ↔ (lock < self.now.shape.locks) }
+        ensures cells { IfOk result (λ out. out.0 ≡ (lock_words self.now.shape (memory_seen self.now) lock).cells) }
+        ensures shown { IfOk result (λ out. ShownCells self.now.shape (shown_by self.now) lock out.0) }
+        ensures settled { IfOk result (λ out. out.1 ≡ is_settled (shown_by self.now) lock) }
         ensures refused { IfErr result (λ refusal. refusal ≡ Refusal.NoLock) }
     {
         if lock >= self.shape().locks {
@@ -45,6 +52,8 @@ impl World {
     /// The cells of a lock.
     fn row(&self, lock: u32) -> Row
         requires { lock < self.now.shape.locks }
+        ensures cells { result ≡ (lock_words self.now.shape (memory_seen self.now) lock).cells }
+        ensures shown { ShownCells self.now.shape (shown_by self.now) lock result }
     {
         let shape = self.shape();
         let mut row = Row::zeros(shape);
@@ -57,12 +66,20 @@ impl World {
     /// A lock has no owner, or its owner's section is finished.
     fn settled(&self, lock: u32) -> bool
         requires { lock < self.now.shape.locks }
+        ensures { result ≡ is_settled (shown_by self.now) lock }
     {
         match owner(&self.bank, lock) {
             None => true,
-            Some(worker) => self.bank.load(Address::Done(worker))
-                == self.bank.load(Address::Begun(worker)),
+            Some(worker) => !self.is_pending(worker),
         }
+    }
+
+    /// A worker's last job is begun and not done.
+    fn is_pending(&self, worker: u32) -> bool
+        requires { worker < self.now.shape.workers }
+        ensures { result ≡ is_pending (words_seen self.now worker) }
+    {
+        self.bank.load(Address::Done(worker)) < self.bank.load(Address::Begun(worker))
     }
 
     /// The finished sections of all locks, in order of finishing.
@@ -72,24 +89,27 @@ impl World {
         &self.history
     }
 
-    /// Whether a worker is up and ready for a job. `NoWorker` where there is no such worker.
+    /// Whether a worker is up and ready for a job; it holds no node then. `NoWorker` where there is no such
+    /// worker.
     pub fn ready(&self, worker: u32) -> Result<bool, Refusal>
         ensures accepted { IsOk result ↔ (worker < self.now.shape.workers) }
-        ensures ready { IfOk result (λ b. IsTrue b ↔ ((p : Private) × (slice_get self.now.privates worker ≡ Some (Some p)) × (p.stage ≡ Stage.Resting))) }
+        ensures ready { IfOk result (λ b. IsTrue b ↔ IsReady self.now worker) }
+        ensures holds_none { IfOk result (λ b. IsTrue b → HoldsNone self.now worker) }
         ensures refused { IfErr result (λ refusal. refusal ≡ Refusal.NoWorker) }
     {
-        match self.privates.get(worker as usize) {
+        match self.private_of(worker) {
             None => Err(Refusal::NoWorker),
-            Some(
-                Some(
-                    Private {
-                        stage: Stage::Resting,
-                        ..
-                    },
-                ),
-            ) => Ok(true),
-            Some(_) => Ok(false),
+            Some(None) => Ok(false),
+            Some(Some(private)) => Ok(is_resting(private.stage)),
         }
+    }
+
+    /// What a worker knows, if there is the worker and it is up.
+    fn private_of(&self, worker: u32) -> Option<Option<Private>>
+        ensures kept { IsKept self.now }
+        ensures found { result ≡ slice_get self.now.privates worker }
+    {
+        self.privates.get(worker as usize).copied()
     }
 
     /// The receipt of a worker's last job, by the words alone, so that a worker that is down is answered
@@ -97,6 +117,8 @@ impl World {
     /// is no such worker.
     pub fn last(&self, worker: u32) -> Result<Option<Receipt>, Refusal>
         ensures accepted { IsOk result ↔ (worker < self.now.shape.workers) }
+        ensures some { IfOk result (λ receipt. IsSome receipt ↔ HasReceipt (words_seen self.now worker)) }
+        ensures receipt { IfOk result (λ last. IfSome last (λ receipt. IsLastReceipt self.now worker receipt)) }
         ensures refused { IfErr result (λ refusal. refusal ≡ Refusal.NoWorker) }
     {
         if worker >= self.shape().workers {
@@ -122,6 +144,8 @@ impl World {
     pub fn steps(&self, worker: u32, phase: Phase) -> Result<u32, Refusal>
         ensures accepted { IsOk result ↔ (worker < self.now.shape.workers) }
         ensures steps { IfOk result (λ n. n ≡ count_of (counts_of self.now worker) phase) }
+        ensures most { IfOk result (λ n. n ≤ most_steps self.now.shape phase) }
+        ensures stay { IfOk result (λ n. (private : Private) → slice_get self.now.privates worker ≡ Some (Some private) → phase_of private.stage ≡ phase → IsStay self.now.shape private.stage n) }
         ensures refused { IfErr result (λ refusal. refusal ≡ Refusal.NoWorker) }
     {
         if worker >= self.shape().workers {
@@ -131,7 +155,17 @@ impl World {
     }
 }
 
+/// A worker at this stage has nothing to do.
+fn is_resting(stage: Stage) -> bool
+    ensures { IsTrue result ↔ (stage ≡ Stage.Resting) }
+{
+    matches!(stage, Stage::Resting)
+}
+
 /// A word of a world that holds a number of 32 bits.
-fn small(value: u64) -> u32 {
-    u32::try_from(value).unwrap_or(u32::MAX)
+fn small(value: u64) -> u32
+    requires { value < 2 ^ 32 }
+    ensures { result ≡ value }
+{
+    value as u32
 }

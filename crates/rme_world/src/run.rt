@@ -6,7 +6,10 @@ use rme_script::Job;
 use rme_words::{NoMemory, Refusal};
 
 impl World {
-    ghost use Rattle.std.specs.Prelude.{◌≡◌, OnErr, IfOk, length, vec_len};
+    ghost use Rattle.std.specs.Prelude.{◌≡◌, ◌<◌, ◌≤◌, ◌+◌, ℕ, IfOk, IfErr, OnOk, OnErr, None, Some, length, vec_len};
+    ghost use Rattle.rme_world.specs.Refused.{submit_refusal};
+    ghost use Rattle.rme_world.specs.Events.{Submits};
+    ghost use Rattle.rme_world.specs.Running.{IsRun, Happens, AllHappen};
 
     /// Does the events of a list, one after the other, and gives one answer for each: what the single calls
     /// would answer.
@@ -14,7 +17,9 @@ impl World {
     /// It takes all memory first; after `NoMemory` nothing changed, and no answer is a refusal for want of
     /// memory.
     pub fn run(&mut self, events: &[Event]) -> Result<Vec<Answer>, NoMemory>
-        ensures answers { IfOk result (λ answers. vec_len answers ≡ length events.now) }
+        ensures headline { IfOk result (λ answers. IsRun self.old events.now answers.items self.new) }
+        ensures each { IfOk result (λ answers. (room : ℕ) × AllHappen record self.old { room = room } events.now answers.items self.new) }
+        ensures answers { IfOk result (λ answers. length answers.items ≡ length events.now) }
         ensures unchanged { OnErr result (self.new ≡ self.old) }
     {
         let alloc = *self.history.allocator();
@@ -22,15 +27,12 @@ impl World {
             return Err(NoMemory);
         };
         let workers = self.shape().workers as usize;
-        if self
-            .history
-            .reserve(workers.saturating_add(events.len()))
-            .is_err()
-        {
+        if !self.make_room(workers.saturating_add(events.len())) {
             return Err(NoMemory);
         }
         for event in events {
-            if answers.push(self.answer(event)).is_err() {
+            let answer = self.answer(event);
+            if answers.push(answer).is_err() {
                 unreachable!();
             }
         }
@@ -39,7 +41,10 @@ impl World {
 
     /// Does one event, with room in the history made before.
     fn answer(&mut self, event: &Event) -> Answer
-        ensures { self.new.shape ≡ self.old.shape }
+        requires { self.old.shape.workers ≤ self.old.room }
+        ensures happens { Happens self.old event.now result self.new }
+        ensures shape { self.new.shape ≡ self.old.shape }
+        ensures room { self.old.room ≤ self.new.room + 1 }
     {
         match *event {
             Event::Submit(worker, job) => match self.hand_over(worker, job) {
@@ -67,7 +72,11 @@ impl World {
 
     /// Hands a job over, with room in the history made before.
     fn hand_over(&mut self, worker: u32, job: Job) -> Result<u32, Refusal>
-        ensures { self.new.shape ≡ self.old.shape }
+        requires { self.old.shape.workers ≤ self.old.room }
+        ensures accepted { IfOk result (λ number. Submits self.old worker job number self.new) }
+        ensures room { self.new.room ≡ self.old.room }
+        ensures refused { IfErr result (λ refusal. submit_refusal self.old worker job ≡ Some refusal) }
+        ensures unchanged { OnErr result (self.new ≡ self.old) }
     {
         match self.may_submit(worker, &job) {
             Ok(private) => Ok(self.hand(worker, private, job)),

@@ -1,30 +1,46 @@
 //! One own step of one worker.
 
+ghost use Rattle.std.specs.Prelude.{◌≡◌, ◌<◌, ◌≤◌, vec_len, vec_capacity};
+ghost use Rattle.rme_program.specs.declared.note.Note.{Note};
+ghost use Rattle.rme_program.specs.declared.note.Receipt.{Receipt};
+ghost use Rattle.rme_machine.specs.Changes.{history_after};
+ghost use Rattle.rme_words.specs.Words.{memory_of};
+ghost use Rattle.rme_machine.specs.Views.{worker_words, slate_at, slate_job};
+
 use crate::perform::perform;
-use crate::takes::takes;
 use crate::world::World;
-use rme_program::{Action, Entry, Note, Private, Receipt, Stage, after, next, phase};
+use rme_program::{Entry, Note, Private, Stage, after, next, phase};
 use rme_script::{Script, from_slate};
-use rme_words::{Address, Refusal};
+use rme_words::{Address, Bank, Refusal};
 
 impl World {
-    ghost use Rattle.std.specs.Prelude.{◌≡◌, ◌≢◌, ◌<◌, None, Some, OnOk, OnErr, IfOk, IfErr, slice_get, length};
-    ghost use Rattle.rme_words.specs.Words.{IsOfShape};
+    ghost use Rattle.std.specs.Prelude.{◌≡◌, ◌≢◌, ◌<◌, ◌+◌, ℕ, Some, OnErr, IfOk, IfErr, slice_get};
+    ghost use Rattle.rme_program.specs.declared.note.Note.{Note};
+    ghost use Rattle.rme_program.specs.declared.note.Receipt.{Receipt};
+    ghost use Rattle.rme_program.specs.declared.kinds.Phase.TheVariants.{Recover, Section};
+    ghost use Rattle.rme_world.specs.Counting.{count_of};
+    ghost use Rattle.rme_world.specs.Seen.{counts_of};
+    ghost use Rattle.rme_world.specs.Looks.{IsStopped, IsWholeSection, ComesOn};
     ghost use Rattle.rme_program.specs.declared.stage.Stage.{Stage};
-    ghost use Rattle.rme_program.specs.Conditions.{IsPrivate};
-    ghost use Rattle.rme_program.specs.Did.{address_of};
+    ghost use Rattle.rme_program.specs.declared.event.Event.{Event};
+    ghost use Rattle.rme_program.specs.declared.event.Answer.{Answer};
     ghost use Rattle.rme_world.specs.Refused.{step_refusal};
-    ghost use Rattle.rme_world.specs.Events.{counts_of};
+    ghost use Rattle.rme_world.specs.Events.{Steps};
+    ghost use Rattle.rme_world.specs.Running.{IsRunOfOne, answer_of};
 
     /// Lets a worker make its next own step, one operation on one word, and answers what it brought about.
     ///
     /// Refused by `NoWorker`, then by `Down`, then by `Idle` (the worker is ready and has no job); a refusal
     /// changes nothing.
     pub fn step(&mut self, worker: u32) -> Result<Note, Refusal>
-        ensures accepted { OnOk result (step_refusal self.old worker ≡ None) }
+        ensures accepted { IfOk result (λ note. Steps self.old worker note self.new) }
+        ensures headline { IsRunOfOne self.old (Event.Step worker) (answer_of Answer.Stepped result) self.new }
+        ensures blocked { IfOk result (λ note. note ≡ Note.Blocked → IsStopped self.old worker) }
+        ensures comes_on { IfOk result (λ note. note ≢ Note.Blocked → ComesOn self.old self.new worker) }
+        ensures reentry { IfOk result (λ note. (lock : ℕ) → note ≡ Note.Reentered lock → count_of (counts_of self.new worker) Recover ≡ self.old.shape.height + 3) }
+        ensures section { IfOk result (λ note. (receipt : Receipt) → note ≡ Note.Finished receipt → IsWholeSection self.old worker (count_of (counts_of self.new worker) Section)) }
         ensures refused { IfErr result (λ refusal. step_refusal self.old worker ≡ Some refusal) }
         ensures unchanged { OnErr result (self.new ≡ self.old) }
-        ensures shape { self.new.shape ≡ self.old.shape }
     {
         let private = match self.up(worker) {
             Ok(private) => private,
@@ -39,57 +55,58 @@ impl World {
     /// The step of a worker that is up and not ready.
     fn go(&mut self, worker: u32, private: Private) -> Note
         requires worker { worker < self.old.shape.workers }
-        requires private { (private.worker ≡ worker) × IsPrivate self.old.shape private }
+        requires found { slice_get self.old.privates worker ≡ Some (Some private) }
         requires busy { private.stage ≢ Stage.Resting }
-        ensures { self.new.shape ≡ self.old.shape }
+        ensures { Steps self.old worker result self.new }
     {
-        let shape = self.shape();
-        let found = self.touch(next(shape, &private));
-        if !takes(shape, private.begun, private.stage, found) {
-            return Note::Quiet;
-        }
+        let shape = self.bank.shape();
         let before = phase(&private);
+        let counts = self.counts_at(worker);
+        let found = perform(&mut self.bank, next(shape, &private));
         let (private, note) = after(shape, private, found);
-        if let Note::Finished(receipt) = note {
-            self.record(worker, receipt);
-        }
-        let mut counts = self.counts_at(worker);
-        if note != Note::Blocked {
-            counts = counts.count(before);
-            if phase(&private) != before {
-                counts = counts.begin(phase(&private));
-            }
-        }
-        self.put(worker, Some(private), counts);
+        record(&mut self.history, &self.bank, worker, note);
+        self.counts[worker as usize] = counts.after_step(before, phase(&private), note);
+        self.privates[worker as usize] = Some(private);
         note
     }
+}
 
-    /// Does an action on the words.
-    fn touch(&mut self, action: Action) -> u64
-        requires { IsOfShape self.old.shape (address_of action) }
-        ensures { self.new.shape ≡ self.old.shape }
-    {
-        perform(&mut self.bank, action)
+/// Puts a finished section into the history, where there is room for it.
+fn record(history: &mut Vec<Entry>, bank: &Bank, worker: u32, note: Note)
+    requires worker { worker < bank.now.shape.workers }
+    requires room { (receipt : Receipt) → note ≡ Note.Finished receipt → vec_len history.old < vec_capacity history.old }
+    ensures entries { history.new.items ≡ history_after history.old.items (memory_of bank.now) worker note }
+    ensures capacity { vec_capacity history.old ≤ vec_capacity history.new }
+{
+    let Note::Finished(receipt) = note else {
+        return;
+    };
+    let script = slate(bank, worker);
+    if history.push(Entry { receipt, script }).is_err() {
+        unreachable!();
     }
+}
 
-    /// Puts a finished section into the history, where `submit` made room for it.
-    fn record(&mut self, worker: u32, receipt: Receipt)
-        requires { worker < self.old.shape.workers }
-        ensures { self.new.shape ≡ self.old.shape }
-    {
-        let script = self.slate(worker);
-        let _ = self.history.push(Entry { receipt, script });
+/// The script of a worker's slate; an empty one where the slate is none.
+fn slate(bank: &Bank, worker: u32) -> Script
+    requires { worker < bank.now.shape.workers }
+    ensures { result ≡ (slate_job (worker_words (memory_of bank.now) worker)).script }
+{
+    let n = bank.load(Address::SlateLen(worker));
+    match from_slate(n, &slate_loaded(bank, worker)) {
+        Some(script) => script,
+        None => Script::of(&[]),
     }
+}
 
-    /// The script of a worker's slate; an empty one where the slate is none.
-    fn slate(&self, worker: u32) -> Script
-        requires { worker < self.now.shape.workers }
-    {
-        let n = self.bank.load(Address::SlateLen(worker));
-        let mut words = [0; 24];
-        for i in 0..24u32 {
-            words[i as usize] = self.bank.load(Address::SlateWord(worker, i / 3, i % 3));
-        }
-        from_slate(n, &words).unwrap_or(Script::of(&[]))
+/// The words of a worker's slate.
+fn slate_loaded(bank: &Bank, worker: u32) -> [u64; 24]
+    requires { worker < bank.now.shape.workers }
+    ensures { result ≡ slate_at (memory_of bank.now) worker }
+{
+    let mut words = [0; 24];
+    for i in 0..24u32 {
+        words[i as usize] = bank.load(Address::SlateWord(worker, i / 3, i % 3));
     }
+    words
 }

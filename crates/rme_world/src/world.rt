@@ -3,7 +3,9 @@
 ghost use Rattle.std.specs.Prelude.{◌≡◌, ℕ, IfOk, map, replicate, Some};
 ghost use Rattle.std.specs.List.{range_with_len};
 ghost use Rattle.rme_program.specs.Steps.{ready_private};
+ghost use Rattle.rme_machine.specs.Machine.{opening_state};
 ghost use Rattle.rme_world.specs.Counting.{no_counts};
+ghost use Rattle.rme_world.specs.Seen.{shown_by};
 ghost use Rattle.rme_world.specs.Opening.{opening};
 
 use crate::counts::Counts;
@@ -25,20 +27,22 @@ pub struct World {
 }
 
 impl Model for World {
+    ghost use Rattle.std.specs.Prelude.{◌-◌, vec_len, vec_capacity};
     ghost use Rattle.rme_world.specs.Seen.{Seen, IsKept};
 
     ghost Value = { Seen };
 
-    ghost view = { λ world. record { shape = world.bank.shape; words = world.bank.words; privates = world.privates.items; history = world.history.items; counts = world.counts.items } };
+    ghost view = { λ world. record { shape = world.bank.shape; words = world.bank.words; privates = world.privates.items; history = world.history.items; counts = world.counts.items; room = vec_capacity world.history - vec_len world.history } };
 
-    ghost invariant = { λ world. IsKept record { shape = world.bank.shape; words = world.bank.words; privates = world.privates.items; history = world.history.items; counts = world.counts.items } };
+    ghost invariant = { λ world. IsKept record { shape = world.bank.shape; words = world.bank.words; privates = world.privates.items; history = world.history.items; counts = world.counts.items; room = vec_capacity world.history - vec_len world.history } };
 }
 
 impl World {
     /// A world of this shape: all words are 0, and all workers are up and ready. Takes memory for the words
     /// and the workers; `NoMemory` where it was refused.
     pub fn new(alloc: Global, shape: Shape) -> Result<World, NoMemory>
-        ensures { IfOk result (λ world. world ≡ opening shape) }
+        ensures opens { IfOk result (λ world. world ≡ opening shape) }
+        ensures shown { IfOk result (λ world. shown_by world ≡ opening_state shape) }
     {
         let bank = Bank::new(alloc, shape)?;
         let privates = ready_workers(alloc, shape)?;

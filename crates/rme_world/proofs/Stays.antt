@@ -1,0 +1,333 @@
+-- How the counts of a stay go on.
+use Rattle.std.proofs.Common.{◌≡◌, ◌≢◌, ◌⊎◌, ℕ, ◌+◌, ◌<◌, ◌≤◌, refl, sym, ◌∙◌, ap, subst, inl, inr, arith}
+use Rattle.rme_words.specs.declared.shape.Shape.{Shape}
+use Rattle.rme_program.specs.declared.kinds.Phase.{Phase}
+use Rattle.rme_program.specs.declared.kinds.Phase.TheVariants.{Recover, Post, Enter, Section, Exit, Ready}
+use Rattle.rme_program.specs.declared.note.Note.{Note}
+use Rattle.rme_program.specs.declared.note.Note.TheVariants.{Quiet, Asked, Blocked, Entered, Reentered, Finished, Left, Withdrew}
+use Rattle.rme_program.specs.declared.note.Note.TheVariants as note
+use Rattle.rme_program.specs.declared.private.Private.{Private}
+use Rattle.rme_program.specs.declared.stage.Stage.{Stage}
+use Rattle.rme_program.specs.declared.stage.Stage.TheVariants.{Resting, Recovering, Posting, Climbing, Logging, Copying, Leaving}
+use Rattle.rme_program.specs.declared.stage.Recovery.TheVariants.{LoadBegun, LoadDone, LoadLock, LoadPath}
+use Rattle.rme_program.specs.declared.stage.Log.{Log}
+use Rattle.rme_program.specs.declared.stage.Log.TheVariants.{LoadTurn, LoadLen, LoadSlate, LoadCells, StoreShadows, StoreShadowReply, StoreMask, StoreTurn}
+use Rattle.rme_program.specs.declared.stage.Redo.{Redo}
+use Rattle.rme_program.specs.declared.stage.Redo.TheVariants.{LoadMask, LoadShadow, StoreCell, LoadReply, StoreReply, StorePlace, StoreAt, StoreDone}
+use Rattle.rme_program.specs.declared.stage.Departure.{Departure}
+use Rattle.rme_program.specs.declared.stage.Departure.TheVariants.{LoadExitTurn, StoreExitTurn, Clear, WithdrawPlace, WithdrawAt, WithdrawReply, WithdrawDone}
+use Rattle.rme_program.specs.Conditions.{IsPrivate, IsStage, Takes}
+use Rattle.rme_program.specs.Phases.{phase_of, left_of, left_of_log, left_of_redo, left_of_departure}
+use Rattle.rme_program.specs.Progress.{IsOnTrack, Taken, rank}
+use Rattle.rme_program.specs.Steps.{private_after, note_after, after_at}
+use Rattle.rme_program.proofs.Columns.{within_most}
+use Rattle.rme_program.proofs.Counts.{cells_below_less}
+use Rattle.rme_program.proofs.Falls.{Steps, steps_on}
+use Rattle.rme_world.specs.declared.counts.Counts.{Counts}
+use Rattle.rme_world.specs.Counting.{IsStay, CountsAfter, count_of, with_count, counted, begun_stay, most_steps}
+use Rattle.rme_world.proofs.Notes.{Tells, told}
+
+-- ---- the counts of all phases
+
+-- The number that was put in a phase.
+pub count_here : (counts : Counts) (phase : Phase) (n : ℕ) → phase ≢ Ready → count_of (with_count counts phase n) phase ≡ n
+count_here counts Recover n some = refl
+count_here counts Post n some = refl
+count_here counts Enter n some = refl
+count_here counts Section n some = refl
+count_here counts Exit n some = refl
+count_here counts Ready n some = absurd (some refl)
+
+pub begun_here : (counts : Counts) (phase : Phase) → count_of (begun_stay counts phase) phase ≡ 0
+begun_here counts Recover = refl
+begun_here counts Post = refl
+begun_here counts Enter = refl
+begun_here counts Section = refl
+begun_here counts Exit = refl
+begun_here counts Ready = refl
+
+-- The number of another phase stays.
+pub count_there : (counts : Counts) (phase other : Phase) (n : ℕ) → other ≢ phase → count_of (with_count counts phase n) other ≡ count_of counts other
+count_there counts Recover Recover n apart = absurd (apart refl)
+count_there counts Recover Post n apart = refl
+count_there counts Recover Enter n apart = refl
+count_there counts Recover Section n apart = refl
+count_there counts Recover Exit n apart = refl
+count_there counts Recover Ready n apart = refl
+count_there counts Post Recover n apart = refl
+count_there counts Post Post n apart = absurd (apart refl)
+count_there counts Post Enter n apart = refl
+count_there counts Post Section n apart = refl
+count_there counts Post Exit n apart = refl
+count_there counts Post Ready n apart = refl
+count_there counts Enter Recover n apart = refl
+count_there counts Enter Post n apart = refl
+count_there counts Enter Enter n apart = absurd (apart refl)
+count_there counts Enter Section n apart = refl
+count_there counts Enter Exit n apart = refl
+count_there counts Enter Ready n apart = refl
+count_there counts Section Recover n apart = refl
+count_there counts Section Post n apart = refl
+count_there counts Section Enter n apart = refl
+count_there counts Section Section n apart = absurd (apart refl)
+count_there counts Section Exit n apart = refl
+count_there counts Section Ready n apart = refl
+count_there counts Exit Recover n apart = refl
+count_there counts Exit Post n apart = refl
+count_there counts Exit Enter n apart = refl
+count_there counts Exit Section n apart = refl
+count_there counts Exit Exit n apart = absurd (apart refl)
+count_there counts Exit Ready n apart = refl
+count_there counts Ready other n apart = refl
+
+-- Counts that were within limits are so with another number that is.
+pub within_limits : (counts : Counts) (limit : Phase → ℕ) (n : ℕ) (phase other : Phase) → n ≤ limit phase → ((p : Phase) → count_of counts p ≤ limit p)
+    → count_of (with_count counts phase n) other ≤ limit other
+within_limits counts limit n Recover Recover less all = less
+within_limits counts limit n Recover Post less all = all Post
+within_limits counts limit n Recover Enter less all = all Enter
+within_limits counts limit n Recover Section less all = all Section
+within_limits counts limit n Recover Exit less all = all Exit
+within_limits counts limit n Recover Ready less all = all Ready
+within_limits counts limit n Post Recover less all = all Recover
+within_limits counts limit n Post Post less all = less
+within_limits counts limit n Post Enter less all = all Enter
+within_limits counts limit n Post Section less all = all Section
+within_limits counts limit n Post Exit less all = all Exit
+within_limits counts limit n Post Ready less all = all Ready
+within_limits counts limit n Enter Recover less all = all Recover
+within_limits counts limit n Enter Post less all = all Post
+within_limits counts limit n Enter Enter less all = less
+within_limits counts limit n Enter Section less all = all Section
+within_limits counts limit n Enter Exit less all = all Exit
+within_limits counts limit n Enter Ready less all = all Ready
+within_limits counts limit n Section Recover less all = all Recover
+within_limits counts limit n Section Post less all = all Post
+within_limits counts limit n Section Enter less all = all Enter
+within_limits counts limit n Section Section less all = less
+within_limits counts limit n Section Exit less all = all Exit
+within_limits counts limit n Section Ready less all = all Ready
+within_limits counts limit n Exit Recover less all = all Recover
+within_limits counts limit n Exit Post less all = all Post
+within_limits counts limit n Exit Enter less all = all Enter
+within_limits counts limit n Exit Section less all = all Section
+within_limits counts limit n Exit Exit less all = less
+within_limits counts limit n Exit Ready less all = all Ready
+within_limits counts limit n Ready other less all = all other
+
+-- Two phases are the same or not.
+pub cases_phase : (a b : Phase) → (a ≡ b) ⊎ (a ≢ b)
+cases_phase Recover Recover = inl refl
+cases_phase Recover Post = inr (λ (e : Recover ≡ Post). cc)
+cases_phase Recover Enter = inr (λ (e : Recover ≡ Enter). cc)
+cases_phase Recover Section = inr (λ (e : Recover ≡ Section). cc)
+cases_phase Recover Exit = inr (λ (e : Recover ≡ Exit). cc)
+cases_phase Recover Ready = inr (λ (e : Recover ≡ Ready). cc)
+cases_phase Post Recover = inr (λ (e : Post ≡ Recover). cc)
+cases_phase Post Post = inl refl
+cases_phase Post Enter = inr (λ (e : Post ≡ Enter). cc)
+cases_phase Post Section = inr (λ (e : Post ≡ Section). cc)
+cases_phase Post Exit = inr (λ (e : Post ≡ Exit). cc)
+cases_phase Post Ready = inr (λ (e : Post ≡ Ready). cc)
+cases_phase Enter Recover = inr (λ (e : Enter ≡ Recover). cc)
+cases_phase Enter Post = inr (λ (e : Enter ≡ Post). cc)
+cases_phase Enter Enter = inl refl
+cases_phase Enter Section = inr (λ (e : Enter ≡ Section). cc)
+cases_phase Enter Exit = inr (λ (e : Enter ≡ Exit). cc)
+cases_phase Enter Ready = inr (λ (e : Enter ≡ Ready). cc)
+cases_phase Section Recover = inr (λ (e : Section ≡ Recover). cc)
+cases_phase Section Post = inr (λ (e : Section ≡ Post). cc)
+cases_phase Section Enter = inr (λ (e : Section ≡ Enter). cc)
+cases_phase Section Section = inl refl
+cases_phase Section Exit = inr (λ (e : Section ≡ Exit). cc)
+cases_phase Section Ready = inr (λ (e : Section ≡ Ready). cc)
+cases_phase Exit Recover = inr (λ (e : Exit ≡ Recover). cc)
+cases_phase Exit Post = inr (λ (e : Exit ≡ Post). cc)
+cases_phase Exit Enter = inr (λ (e : Exit ≡ Enter). cc)
+cases_phase Exit Section = inr (λ (e : Exit ≡ Section). cc)
+cases_phase Exit Exit = inl refl
+cases_phase Exit Ready = inr (λ (e : Exit ≡ Ready). cc)
+cases_phase Ready Recover = inr (λ (e : Ready ≡ Recover). cc)
+cases_phase Ready Post = inr (λ (e : Ready ≡ Post). cc)
+cases_phase Ready Enter = inr (λ (e : Ready ≡ Enter). cc)
+cases_phase Ready Section = inr (λ (e : Ready ≡ Section). cc)
+cases_phase Ready Exit = inr (λ (e : Ready ≡ Exit). cc)
+cases_phase Ready Ready = inl refl
+
+-- ---- what is left of a stay
+
+-- A worker that is not ready has a step left in its phase.
+log_left : (shape : Shape) (b : ℕ) (log : Log) → IsStage shape b (Logging log) → 1 ≤ left_of_log shape log
+log_left shape b (LoadTurn lock) is = omega arith
+log_left shape b (LoadLen lock turn) is = omega arith
+log_left shape b (LoadSlate lock turn operations words loaded) is = omega (arith, is.2)
+log_left shape b (LoadCells lock turn script named row cell) is = omega (arith, cells_below_less named cell shape.cells (omega (arith, is.1)))
+log_left shape b (StoreShadows visit named row reply cell) is = omega (arith, cells_below_less named cell shape.cells (omega (arith, is.1)))
+log_left shape b (StoreShadowReply visit named reply) is = omega arith
+log_left shape b (StoreMask visit named) is = omega arith
+log_left shape b (StoreTurn visit) is = omega arith
+
+redo_left : (shape : Shape) (b : ℕ) (redo : Redo) → IsStage shape b (Copying redo) → 1 ≤ left_of_redo shape redo
+redo_left shape b (LoadMask visit) is = omega arith
+redo_left shape b (LoadShadow visit mask cell) is = omega (arith, cells_below_less mask cell shape.cells (omega (arith, is.1)))
+redo_left shape b (StoreCell visit mask cell value) is = omega (arith, cells_below_less mask cell shape.cells (omega (arith, is.1)))
+redo_left shape b (LoadReply visit mask) is = omega arith
+redo_left shape b (StoreReply visit mask reply) is = omega arith
+redo_left shape b (StorePlace visit mask reply) is = omega arith
+redo_left shape b (StoreAt visit mask reply) is = omega arith
+redo_left shape b (StoreDone visit mask reply) is = omega arith
+
+departure_left : (shape : Shape) (b : ℕ) (departure : Departure) → IsStage shape b (Leaving departure) → 1 ≤ left_of_departure shape departure
+departure_left shape b (LoadExitTurn lock) is = omega arith
+departure_left shape b (StoreExitTurn lock turn) is = omega arith
+departure_left shape b (Clear lock level) is = is.1
+departure_left shape b (WithdrawPlace lock held) is = omega arith
+departure_left shape b (WithdrawAt lock held) is = omega arith
+departure_left shape b (WithdrawReply lock held) is = omega arith
+departure_left shape b (WithdrawDone lock held) is = omega arith
+
+pub some_left : (shape : Shape) (b : ℕ) (stage : Stage) → stage ≢ Resting → IsStage shape b stage → 1 ≤ left_of shape stage
+some_left shape b Resting busy is = absurd (busy refl)
+some_left shape b (Recovering LoadBegun) busy is = omega arith
+some_left shape b (Recovering LoadDone) busy is = omega arith
+some_left shape b (Recovering (LoadLock pending)) busy is = omega arith
+some_left shape b (Recovering (LoadPath pending lock held)) busy is = omega (arith, is.1)
+some_left shape b (Posting slate) busy is = omega (arith, is.2)
+some_left shape b (Climbing ascent) busy is = omega (arith, is.1)
+some_left shape b (Logging log) busy is = log_left shape b log is
+some_left shape b (Copying redo) busy is = redo_left shape b redo is
+some_left shape b (Leaving departure) busy is = departure_left shape b departure is
+
+-- A stay that begins has at most the steps of its phase.
+first_left : (shape : Shape) (b : ℕ) (stage : Stage) → IsStage shape b stage → Taken shape stage stage 0 → left_of shape stage ≤ most_steps shape (phase_of stage)
+first_left shape b Resting is taken = omega arith
+first_left shape b (Recovering LoadBegun) is taken = omega arith
+first_left shape b (Recovering LoadDone) is taken = absurd taken.0
+first_left shape b (Recovering (LoadLock pending)) is taken = absurd taken.0
+first_left shape b (Recovering (LoadPath pending lock held)) is taken = absurd taken.0
+first_left shape b (Posting slate) is taken = omega (arith, is.1.script)
+first_left shape b (Climbing ascent) is taken = omega arith
+first_left shape b (Logging (LoadTurn lock)) is taken = omega arith
+first_left shape b (Logging (LoadLen lock turn)) is taken = absurd taken.0
+first_left shape b (Logging (LoadSlate lock turn operations words loaded)) is taken = absurd taken.0
+first_left shape b (Logging (LoadCells lock turn script named row cell)) is taken = absurd taken.0
+first_left shape b (Logging (StoreShadows visit named row reply cell)) is taken = absurd taken.0
+first_left shape b (Logging (StoreShadowReply visit named reply)) is taken = absurd taken.0
+first_left shape b (Logging (StoreMask visit named)) is taken = absurd taken.0
+first_left shape b (Logging (StoreTurn visit)) is taken = absurd taken.0
+first_left shape b (Copying redo) is taken = absurd taken
+first_left shape b (Leaving (LoadExitTurn lock)) is taken = omega arith
+first_left shape b (Leaving (StoreExitTurn lock turn)) is taken = absurd taken
+first_left shape b (Leaving (Clear lock level)) is taken = omega (arith, is.2)
+first_left shape b (Leaving (WithdrawPlace lock held)) is taken = omega (arith, is.1)
+first_left shape b (Leaving (WithdrawAt lock held)) is taken = absurd taken
+first_left shape b (Leaving (WithdrawReply lock held)) is taken = absurd taken
+first_left shape b (Leaving (WithdrawDone lock held)) is taken = absurd taken
+
+-- A stay begins.
+pub stay_begins : (shape : Shape) (private : Private) → IsPrivate shape private → IsOnTrack private.stage → Taken shape private.stage private.stage 0 → IsStay shape private.stage 0
+stay_begins shape private is on taken = record {
+  track = on;
+  first = private.stage;
+  taken = taken;
+  within = within_most shape private is on private.stage 0 taken;
+  short = omega (arith, first_left shape private.begun private.stage is.stage taken);
+}
+
+pub busy_phase : (stage : Stage) → stage ≢ Resting → phase_of stage ≢ Ready
+busy_phase Resting busy e = busy refl
+busy_phase (Recovering recovery) busy e = cc
+busy_phase (Posting slate) busy e = cc
+busy_phase (Climbing ascent) busy e = cc
+busy_phase (Logging log) busy e = cc
+busy_phase (Copying redo) busy e = cc
+busy_phase (Leaving departure) busy e = cc
+
+-- The counts after a step of a worker: its stay goes on or the next one begins, and all counts stay within the steps
+-- of their phases.
+pub record GoOn (shape : Shape) (stage : Stage) (counts : Counts) : Type 0 where
+  pub stays : IsStay shape stage (count_of counts (phase_of stage))
+  pub short : (phase : Phase) → count_of counts phase ≤ most_steps shape phase
+
+module _ (shape : Shape) (private : Private) (value : ℕ) (old new : Counts) (is : IsPrivate shape private) (busy : private.stage ≢ Resting)
+    (takes : Takes shape private.stage value) (next : IsPrivate shape (private_after shape private value))
+    (stay : IsStay shape private.stage (count_of old (phase_of private.stage))) (short : (phase : Phase) → count_of old phase ≤ most_steps shape phase) where
+  steps : Steps shape private.stage (after_at shape private.worker private.begun private.stage value)
+  steps = steps_on shape private.worker private.begun private.stage value busy is.stage takes stay.track
+
+  -- The count of this step is not beyond the steps of its phase.
+  more : count_of old (phase_of private.stage) + 1 ≤ most_steps shape (phase_of private.stage)
+  more = omega (arith, stay.short, some_left shape private.begun private.stage busy is.stage)
+
+  on_short : (phase : Phase) → count_of (counted old (phase_of private.stage)) phase ≤ most_steps shape phase
+  on_short phase = within_limits old (most_steps shape) (count_of old (phase_of private.stage) + 1) (phase_of private.stage) phase more short
+
+  same_phase : note_after shape private value ≢ Blocked → phase_of (private_after shape private value).stage ≡ phase_of private.stage
+      → new ≡ counted old (phase_of private.stage) → GoOn shape (private_after shape private value).stage new
+  same_phase open_way same e =
+      let P : Counts → Type 0 = λ (c : Counts). GoOn shape (private_after shape private value).stage c in
+      subst P (sym e) record { stays = on_stay; short = on_short }
+    where
+      here : count_of (counted old (phase_of private.stage)) (phase_of (private_after shape private value).stage) ≡ count_of old (phase_of private.stage) + 1
+      here = ap (count_of (counted old (phase_of private.stage))) same ∙ count_here old (phase_of private.stage) _ (busy_phase private.stage busy)
+
+      taken : Taken shape stay.first (private_after shape private value).stage (count_of old (phase_of private.stage) + 1)
+      taken = steps.counts.more stay.first (count_of old (phase_of private.stage)) stay.taken same open_way
+
+      less : left_of shape (private_after shape private value).stage < left_of shape private.stage
+      less = elim (steps.falls open_way) [
+        | inl falls ↦ falls.1
+        | inr later ↦ (let none : rank (phase_of (private_after shape private value).stage) ≡ rank (phase_of private.stage) = ap rank same in absurd (omega (arith, later, none)))
+      ]
+
+      on_stay : IsStay shape (private_after shape private value).stage (count_of (counted old (phase_of private.stage)) (phase_of (private_after shape private value).stage))
+      on_stay = let S : ℕ → Type 0 = λ (n : ℕ). IsStay shape (private_after shape private value).stage n in
+          subst S (sym here) record {
+            track = steps.track;
+            first = stay.first;
+            taken = taken;
+            within = within_most shape (private_after shape private value) next steps.track stay.first _ taken;
+            short = (let limit : most_steps shape (phase_of (private_after shape private value).stage) ≡ most_steps shape (phase_of private.stage) = ap (most_steps shape) same in
+                omega (arith, stay.short, less, limit));
+          }
+
+  next_phase : phase_of (private_after shape private value).stage ≢ phase_of private.stage
+      → new ≡ begun_stay (counted old (phase_of private.stage)) (phase_of (private_after shape private value).stage) → GoOn shape (private_after shape private value).stage new
+  next_phase apart e =
+      let P : Counts → Type 0 = λ (c : Counts). GoOn shape (private_after shape private value).stage c in
+      let S : ℕ → Type 0 = λ (n : ℕ). IsStay shape (private_after shape private value).stage n in
+      subst P (sym e) record {
+        stays = subst S (sym (begun_here (counted old (phase_of private.stage)) (phase_of (private_after shape private value).stage)))
+            (stay_begins shape (private_after shape private value) next steps.track (steps.counts.begins apart));
+        short = λ phase. within_limits (counted old (phase_of private.stage)) (most_steps shape) 0 _ phase (omega arith) on_short;
+      }
+
+  blocked : note_after shape private value ≡ Blocked → new ≡ old → GoOn shape (private_after shape private value).stage new
+  blocked stuck e =
+      let T : Note → Type 0 = λ (n : Note). Tells shape private.stage value (private_after shape private value).stage n in
+      let tells : Tells shape private.stage value (private_after shape private value).stage Blocked = subst T stuck (told shape private.worker private.begun value private.stage) in
+      let same : (private_after shape private value).stage ≡ private.stage = tells.3 in
+      let P : Counts → Type 0 = λ (c : Counts). GoOn shape (private_after shape private value).stage c in
+      let Q : Stage → Type 0 = λ (s : Stage). GoOn shape s old in
+      subst P (sym e) (subst Q (sym same) record { stays = stay; short = short })
+
+  pub go_on : CountsAfter old (phase_of private.stage) (phase_of (private_after shape private value).stage) (note_after shape private value) new
+      → GoOn shape (private_after shape private value).stage new
+  go_on after = by_note (note_after shape private value) refl
+    where
+      open_case : note_after shape private value ≢ Blocked → GoOn shape (private_after shape private value).stage new
+      open_case open_way = elim (cases_phase (phase_of (private_after shape private value).stage) (phase_of private.stage)) [
+        | inl same ↦ same_phase open_way same (after.goes_on open_way same)
+        | inr apart ↦ next_phase apart (after.ends open_way apart)
+      ]
+
+      by_note : (note : Note) → note_after shape private value ≡ note → GoOn shape (private_after shape private value).stage new
+      by_note Blocked e = blocked e (after.blocked e)
+      by_note Quiet e = open_case (λ (b : note_after shape private value ≡ Blocked). (let f : Quiet ≡ Blocked = sym e ∙ b in cc))
+      by_note (Asked k) e = open_case (λ (b : note_after shape private value ≡ Blocked). (let f : Asked k ≡ Blocked = sym e ∙ b in cc))
+      by_note (Entered lock) e = open_case (λ (b : note_after shape private value ≡ Blocked). (let f : Entered lock ≡ Blocked = sym e ∙ b in cc))
+      by_note (Reentered lock) e = open_case (λ (b : note_after shape private value ≡ Blocked). (let f : Reentered lock ≡ Blocked = sym e ∙ b in cc))
+      by_note (Finished receipt) e = open_case (λ (b : note_after shape private value ≡ Blocked). (let f : Finished receipt ≡ Blocked = sym e ∙ b in cc))
+      by_note (Left lock) e = open_case (λ (b : note_after shape private value ≡ Blocked). (let f : Left lock ≡ Blocked = sym e ∙ b in cc))
+      by_note note.Ready e = open_case (λ (b : note_after shape private value ≡ Blocked). (let f : note.Ready ≡ Blocked = sym e ∙ b in cc))
+      by_note (Withdrew k) e = open_case (λ (b : note_after shape private value ≡ Blocked). (let f : Withdrew k ≡ Blocked = sym e ∙ b in cc))

@@ -1,0 +1,185 @@
+-- What the note of a step tells of a world.
+use Rattle.std.proofs.Common.{◌≡◌, ◌≢◌, ℕ, suc, ◌+◌, ◌*◌, ◌<◌, length, refl, sym, ◌∙◌, ap, subst, inl, inr, arith}
+use Rattle.std.specs.Prelude.{Option, Some, slice_get, unwrap_or}
+use Rattle.std.proofs.lemmas.Option.{same_Some}
+use Rattle.rme_words.specs.declared.shape.Shape.{Shape}
+use Rattle.rme_words.specs.declared.address.Address.TheVariants.{Node}
+use Rattle.rme_tree.specs.Paths.{node}
+use Rattle.rme_script.specs.Cells.{cells_of, cells_named}
+use Rattle.rme_script.specs.Programs.{Program}
+use Rattle.rme_script.proofs.Rising.{cells_named_mask}
+use Rattle.rme_program.specs.declared.kinds.Phase.{Phase}
+use Rattle.rme_program.specs.declared.kinds.Phase.TheVariants as phase
+use Rattle.rme_program.specs.declared.note.Note.{Note}
+use Rattle.rme_program.specs.declared.note.Note.TheVariants.{Blocked, Reentered, Finished}
+use Rattle.rme_program.specs.declared.note.Receipt.{Receipt}
+use Rattle.rme_program.specs.declared.private.Private.{Private}
+use Rattle.rme_program.specs.declared.stage.Ascent.{Ascent}
+use Rattle.rme_program.specs.declared.stage.Parity.{Parity}
+use Rattle.rme_program.specs.declared.stage.Parity.TheVariants.{Even, Odd}
+use Rattle.rme_program.specs.declared.stage.Recovery.{Recovery}
+use Rattle.rme_program.specs.declared.stage.Recovery.TheVariants.{LoadPath}
+use Rattle.rme_program.specs.declared.stage.Redo.{Redo}
+use Rattle.rme_program.specs.declared.stage.Redo.TheVariants.{StoreDone}
+use Rattle.rme_program.specs.declared.stage.Visit.{Visit}
+use Rattle.rme_program.specs.declared.stage.Stage.{Stage}
+use Rattle.rme_program.specs.declared.stage.Stage.TheVariants.{Resting, Recovering, Posting, Climbing, Logging, Copying, Leaving}
+use Rattle.rme_program.specs.Conditions.{IsPrivate, Takes}
+use Rattle.rme_program.specs.Did.{Did}
+use Rattle.rme_program.specs.Masks.{mask_of}
+use Rattle.rme_program.specs.Phases.{phase_of, cells_below}
+use Rattle.rme_program.specs.Places.{place_of_recovery, place_of_redo}
+use Rattle.rme_program.specs.Progress.{Taken, Falls}
+use Rattle.rme_program.specs.Steps.{action_of, private_after}
+use Rattle.rme_program.proofs.Falls.{steps_on}
+use Rattle.rme_program.proofs.MaskLemmas.{mask_of-is_mask}
+use Rattle.rme_machine.specs.Fits.{KnowsParity}
+use Rattle.rme_machine.specs.Views.{WorkerWords, LockWords, worker_words, lock_words, slate_job, no_script}
+use Rattle.rme_machine.proofs.Further.{fitting, blocking}
+use Rattle.rme_machine.proofs.Taking.{taking}
+use Rattle.rme_world.specs.declared.counts.Counts.{Counts}
+use Rattle.rme_world.specs.Counting.{CountsAfter, IsStay, count_of, counted, no_counts, section_steps}
+use Rattle.rme_world.specs.Seen.{Seen, IsKept, counts_of, memory_seen, privates_seen}
+use Rattle.rme_world.specs.Events.{Steps}
+use Rattle.rme_world.specs.Looks.{IsStopped, IsWholeSection, ComesOn}
+use Rattle.rme_world.proofs.Lists.{get_set}
+use Rattle.rme_world.proofs.Notes.{Tells, told}
+use Rattle.rme_world.proofs.Stays.{cases_phase, busy_phase, count_here, count_there}
+use Rattle.rme_world.proofs.Worlds.{busy_at, is_worker, up_at}
+
+taken_in_recovery : (shape : Shape) (first : Stage) (recovery : Recovery) (count : ℕ) → Taken shape first (Recovering recovery) count → count ≡ place_of_recovery recovery
+taken_in_recovery shape (Recovering first) recovery count taken = taken.1
+taken_in_recovery shape Resting recovery count taken = absurd taken
+taken_in_recovery shape (Posting slate) recovery count taken = absurd taken
+taken_in_recovery shape (Climbing ascent) recovery count taken = absurd taken
+taken_in_recovery shape (Logging log) recovery count taken = absurd taken
+taken_in_recovery shape (Copying redo) recovery count taken = absurd taken
+taken_in_recovery shape (Leaving departure) recovery count taken = absurd taken
+
+taken_in_section : (shape : Shape) (first : Stage) (redo : Redo) (count : ℕ) → Taken shape first (Copying redo) count → count ≡ place_of_redo shape redo
+taken_in_section shape (Logging first) redo count taken = taken.1
+taken_in_section shape Resting redo count taken = absurd taken
+taken_in_section shape (Recovering recovery) redo count taken = absurd taken
+taken_in_section shape (Posting slate) redo count taken = absurd taken
+taken_in_section shape (Climbing ascent) redo count taken = absurd taken
+taken_in_section shape (Copying first) redo count taken = absurd taken
+taken_in_section shape (Leaving departure) redo count taken = absurd taken
+
+-- A step that is not blocked counts one in its phase.
+counted_one : (old new : Counts) (before after : Phase) (note : Note) → before ≢ phase.Ready → note ≢ Blocked → CountsAfter old before after note new → count_of new before ≡ count_of old before + 1
+counted_one old new before after note some open_way counts = elim (cases_phase after before) [
+  | inl same ↦ ap (λ (c : Counts). count_of c before) (counts.goes_on open_way same) ∙ count_here old before _ some
+  | inr apart ↦ ap (λ (c : Counts). count_of c before) (counts.ends open_way apart) ∙ count_there (counted old before) after before 0 (λ e. apart (sym e)) ∙ count_here old before _ some
+]
+
+-- On the even way the mask is the script's own, and all is counted.
+whole_steps : (shape : Shape) (own : WorkerWords) (lock : LockWords) (visit : Visit) (mask reply count : ℕ) → KnowsParity own lock visit.parity → mask ≡ lock.mask
+    → count ≡ place_of_redo shape (StoreDone visit mask reply) + 1 → count ≡ section_steps shape (slate_job own).script mask visit.parity
+whole_steps shape own lock visit mask reply count knows is all = by_parity visit.parity refl
+  where
+    by_parity : (parity : Parity) → visit.parity ≡ parity → count ≡ section_steps shape (slate_job own).script mask parity
+    by_parity Odd e =
+        let here : place_of_redo shape (StoreDone visit mask reply) ≡ 1 + (5 + 2 * cells_below mask shape.cells)
+        = ap (λ (p : Parity). place_of_redo shape (StoreDone record { lock = visit.lock; turn = visit.turn; parity = p } mask reply)) e in
+        omega (arith, all, here)
+    by_parity (Even operations cells) e =
+        let knows_even : KnowsParity own lock (Even operations cells) = subst (λ (p : Parity). KnowsParity own lock p) e knows in
+        let script : Program = knows_even.0 in
+        let named : cells_named mask shape.cells ≡ cells_of script.ops shape.cells =
+        ap (λ (m : ℕ). cells_named m shape.cells) (is ∙ sym knows_even.4 ∙ knows_even.3) ∙ cells_named_mask (mask_of script.ops) script.ops (mask_of-is_mask script.ops) shape.cells in
+        let same_script : (slate_job own).script ≡ script = ap (λ (s : Option Program). unwrap_or s no_script) knows_even.1 in
+        let here : place_of_redo shape (StoreDone visit mask reply) ≡ 2 + 3 * operations + cells_below cells shape.cells + cells_below cells shape.cells + 3 + (5 + 2 * cells_below mask shape.cells)
+        = ap (λ (p : Parity). place_of_redo shape (StoreDone record { lock = visit.lock; turn = visit.turn; parity = p } mask reply)) e in
+        let t : cells_below mask shape.cells ≡ length (cells_of script.ops shape.cells) = ap length named in
+        let u : cells_below cells shape.cells ≡ cells_below mask shape.cells = ap (λ (m : ℕ). cells_below m shape.cells) (knows_even.4 ∙ sym is) in
+        let goal : count ≡ 11 + 3 * script.n + 4 * length (cells_of script.ops shape.cells) = omega (arith, all, here, t, u, knows_even.2) in
+        subst (λ (s : Program). count ≡ 11 + 3 * s.n + 4 * length (cells_of s.ops shape.cells)) (sym same_script) goal
+
+module _ (old new : Seen) (worker : ℕ) (note : Note) (kept : IsKept old) (steps : Steps old worker note new) where
+  within : worker < old.shape.workers
+  within = is_worker old worker (Some steps.private) kept.all_privates steps.found
+
+  up : privates_seen old worker ≡ Some steps.private
+  up = up_at old worker (Some steps.private) steps.found
+
+  busy : steps.private.stage ≢ Resting
+  busy = busy_at old new worker note steps
+
+  its : (steps.private.worker ≡ worker) × IsPrivate old.shape steps.private
+  its = fitting old.shape (memory_seen old) (privates_seen old) old.history worker steps.private kept.fact within up
+
+  tells : (n : Note) → note ≡ n → Tells old.shape steps.private.stage steps.value (private_after old.shape steps.private steps.value).stage n
+  tells n e =
+      subst (λ (m : Note). Tells old.shape steps.private.stage steps.value (private_after old.shape steps.private steps.value).stage m) (sym steps.says ∙ e)
+      (told old.shape steps.private.worker steps.private.begun steps.value steps.private.stage)
+
+  pub stopped : note ≡ Blocked → IsStopped old worker
+  stopped blocked =
+      let tale = tells Blocked blocked in
+      let ascent : Ascent = tale.0 in
+      let did : Did (memory_seen old) (memory_seen new) (action_of old.shape record { worker = worker; begun = steps.private.begun; stage = Climbing ascent }) steps.value
+      = rw (its.0, tale.1) at steps.did in
+      let up_one : ascent.held + 1 ≡ suc ascent.held = omega arith in
+      let P : ℕ → Type 0 = λ (level : ℕ). memory_seen old (Node ascent.lock (node old.shape.leaves worker level)) ≢ 0 in
+      record {
+        private = steps.private;
+        found = steps.found;
+        ascent = ascent;
+        climbs = tale.1;
+        by = blocking old.shape (memory_seen old) (privates_seen old) old.history worker steps.private ascent kept.fact within up tale.1
+            (subst P up_one (λ e. tale.2 (did.0 ∙ e)));
+      }
+
+  not_blocked : (n : Note) → note ≡ n → n ≢ Blocked → note ≢ Blocked
+  not_blocked n e apart b = apart (sym e ∙ b)
+
+  stay : IsStay old.shape steps.private.stage (count_of (counts_of old worker) (phase_of steps.private.stage))
+  stay = kept.stays worker steps.private within up
+
+  new_counts : counts_of new worker ≡ steps.counts
+  new_counts = ap (λ (s : Seen). counts_of s worker) steps.goes ∙ ap (λ (c : Option Counts). unwrap_or c no_counts) (get_set old.counts worker steps.counts (omega (arith, kept.all_counts, within)))
+
+  one_more : note ≢ Blocked → count_of (counts_of new worker) (phase_of steps.private.stage) ≡ count_of (counts_of old worker) (phase_of steps.private.stage) + 1
+  one_more open_way =
+      ap (λ (c : Counts). count_of c (phase_of steps.private.stage)) new_counts
+      ∙ counted_one (counts_of old worker) steps.counts (phase_of steps.private.stage) _ note (busy_phase steps.private.stage busy) open_way steps.counted
+
+  pub comes_on : note ≢ Blocked → ComesOn old new worker
+  comes_on open_way before after was is =
+      let takes : Takes old.shape steps.private.stage steps.value
+      = taking old.shape (memory_seen old) (memory_seen new) (privates_seen old) old.history worker steps.private steps.value kept.fact within up busy steps.did in
+      let falls : Falls old.shape steps.private.stage (private_after old.shape steps.private steps.value).stage
+      = (steps_on old.shape steps.private.worker steps.private.begun steps.private.stage steps.value busy its.1.stage takes stay.track).falls (λ e. open_way (steps.says ∙ e)) in
+      let same_before : steps.private ≡ before = same_Some _ _ (same_Some _ _ (sym steps.found ∙ was)) in
+      let there : slice_get new.privates worker ≡ Some (Some (private_after old.shape steps.private steps.value))
+      = ap (λ (s : Seen). slice_get s.privates worker) steps.goes ∙ get_set old.privates worker (Some (private_after old.shape steps.private steps.value)) (omega (arith, kept.all_privates, within)) in
+      let same_after : private_after old.shape steps.private steps.value ≡ after = same_Some _ _ (same_Some _ _ (sym there ∙ is)) in
+      subst (λ (p : Private). Falls old.shape p.stage after.stage) same_before (subst (λ (q : Private). Falls old.shape steps.private.stage q.stage) same_after falls)
+
+  pub reenters : (lock : ℕ) → note ≡ Reentered lock → count_of (counts_of new worker) phase.Recover ≡ old.shape.height + 3
+  reenters lock reentered =
+      let tale = tells (Reentered lock) reentered in
+      let P : Stage → Type 0 = λ (s : Stage). count_of (counts_of new worker) (phase_of s) ≡ count_of (counts_of old worker) (phase_of s) + 1 in
+      let more : count_of (counts_of new worker) phase.Recover ≡ count_of (counts_of old worker) phase.Recover + 1 = subst P tale.2 (one_more (not_blocked (Reentered lock) reentered (λ e. cc))) in
+      let Q : Stage → Type 0 = λ (s : Stage). Taken old.shape stay.first s (count_of (counts_of old worker) (phase_of s)) in
+      let place = taken_in_recovery old.shape stay.first (LoadPath tale.0 lock tale.1) _ (subst Q tale.2 stay.taken) in
+      omega (arith, more, place, tale.3)
+
+  pub finishes : (receipt : Receipt) → note ≡ Finished receipt → IsWholeSection old worker (count_of (counts_of new worker) phase.Section)
+  finishes receipt finished =
+      let tale = tells (Finished receipt) finished in
+      let P : Stage → Type 0 = λ (s : Stage). count_of (counts_of new worker) (phase_of s) ≡ count_of (counts_of old worker) (phase_of s) + 1 in
+      let more : count_of (counts_of new worker) phase.Section ≡ count_of (counts_of old worker) phase.Section + 1 = subst P tale.3 (one_more (not_blocked (Finished receipt) finished (λ e. cc))) in
+      let Q : Stage → Type 0 = λ (s : Stage). Taken old.shape stay.first s (count_of (counts_of old worker) (phase_of s)) in
+      let place = taken_in_section old.shape stay.first (StoreDone tale.0 tale.1 tale.2) _ (subst Q tale.3 stay.taken) in
+      let fits = kept.fact.fits worker steps.private within up in
+      let knows = rw tale.3 at fits.knows in
+      record {
+        private = steps.private;
+        found = steps.found;
+        visit = tale.0;
+        mask = tale.1;
+        reply = tale.2;
+        last = tale.3;
+        steps = whole_steps old.shape (worker_words (memory_seen old) worker) (lock_words old.shape (memory_seen old) tale.0.lock) tale.0 tale.1 tale.2 _ knows.1.0.1 knows.1.1 (omega (arith, more, place));
+      }
