@@ -1,46 +1,68 @@
--- What each call of a world answers and leaves, in the words of rme_world.
-use Rattle.std.specs.Prelude.{◌≡◌, ◌↔◌, ℕ, ◌<◌, List, Bool, IsTrue, IsOk, IfOk, IfErr, OnOk, OnErr, Option, Some, None, Result, slice_get}
+-- What each call of a world answers and leaves, in the words of rme_world: what was done or refused, and that it is a
+-- run of the abstract machine; for a look-up, that it is what the machine's state shows.
+use Rattle.std.specs.Prelude.{◌≡◌, ◌↔◌, ℕ, ◌<◌, List, Bool, IsTrue, IsOk, IsSome, IfOk, IfErr, IfSome, OnErr, Option, Some, Result}
 use Rattle.rme_words.specs.declared.refusal.Refusal.{Refusal}
 use Rattle.rme_words.specs.declared.refusal.Refusal.TheVariants.{NoLock, NoWorker}
-use Rattle.rme_tree.specs.Nodes.{owner_in}
 use Rattle.rme_script.specs.declared.job.Job.{Job}
+use Rattle.rme_program.specs.declared.event.Event.TheVariants as event
+use Rattle.rme_program.specs.declared.event.Answer.TheVariants as answer
 use Rattle.rme_program.specs.declared.note.Note.{Note}
 use Rattle.rme_program.specs.declared.note.Receipt.{Receipt}
-use Rattle.rme_program.specs.declared.private.Private.{Private}
-use Rattle.rme_program.specs.declared.stage.Stage.TheVariants.{Resting}
-use Rattle.rme_world.specs.Seen.{Seen}
-use Rattle.rme_world.specs.Looks.{memory_seen}
+use Rattle.rme_machine.specs.ShownCells.{ShownCells, owner_at, is_settled}
+use Rattle.rme_world.specs.Seen.{Seen, shown_by}
 use Rattle.rme_world.specs.Refused.{IsRefused, submit_refusal, step_refusal, crash_refusal, restart_refusal, withdraw_refusal}
-use Rattle.rme_world.specs.Events.{Submits, Crashes, Restarts, Withdraws}
+use Rattle.rme_world.specs.Events.{Submits, Steps, Crashes, Restarts, Withdraws}
+use Rattle.rme_world.specs.Looks.{HasReceipt, IsLastReceipt, IsReady, words_seen}
+use Rattle.rme_world.specs.Running.{IsRunOfOne, answer_of}
 
-abbrev pub Submitted : Seen → ℕ → Job → Result ℕ Refusal → Seen → Type 0
-Submitted old worker job result new =
-    IfOk result (λ number. Submits old worker job number new) × IfErr result (λ refusal. IsRefused (submit_refusal old worker job) refusal) × OnErr result (new ≡ old)
+pub record Submitted (old : Seen) (worker : ℕ) (job : Job) (result : Result ℕ Refusal) (new : Seen) : Type 0 where
+  pub accepted : IfOk result (λ number. Submits old worker job number new)
+  pub refused : IfErr result (λ refusal. IsRefused (submit_refusal old worker job) refusal)
+  pub unchanged : OnErr result (new ≡ old)
+  pub headline : IsRunOfOne old (event.Submit worker job) (answer_of answer.Handed result) new
 
-abbrev pub Stepped : Seen → ℕ → Result Note Refusal → Seen → Type 0
-Stepped old worker result new =
-    OnOk result (step_refusal old worker ≡ None) × IfErr result (λ refusal. step_refusal old worker ≡ Some refusal) × OnErr result (new ≡ old) × (new.shape ≡ old.shape)
+pub record Stepped (old : Seen) (worker : ℕ) (result : Result Note Refusal) (new : Seen) : Type 0 where
+  pub accepted : IfOk result (λ note. Steps old worker note new)
+  pub refused : IfErr result (λ refusal. step_refusal old worker ≡ Some refusal)
+  pub unchanged : OnErr result (new ≡ old)
+  pub headline : IsRunOfOne old (event.Step worker) (answer_of answer.Stepped result) new
 
-abbrev pub Crashed : Seen → ℕ → Result (Unit {0}) Refusal → Seen → Type 0
-Crashed old worker result new = IfOk result (λ _. Crashes old worker new) × IfErr result (λ refusal. crash_refusal old worker ≡ Some refusal) × OnErr result (new ≡ old)
+pub record Crashed (old : Seen) (worker : ℕ) (result : Result (Unit {0}) Refusal) (new : Seen) : Type 0 where
+  pub accepted : IfOk result (λ _. Crashes old worker new)
+  pub refused : IfErr result (λ refusal. crash_refusal old worker ≡ Some refusal)
+  pub unchanged : OnErr result (new ≡ old)
+  pub headline : IsRunOfOne old (event.Crash worker) (answer_of (λ _. answer.Crashed) result) new
 
-abbrev pub Restarted : Seen → ℕ → Result (Unit {0}) Refusal → Seen → Type 0
-Restarted old worker result new = IfOk result (λ _. Restarts old worker new) × IfErr result (λ refusal. restart_refusal old worker ≡ Some refusal) × OnErr result (new ≡ old)
+pub record Restarted (old : Seen) (worker : ℕ) (result : Result (Unit {0}) Refusal) (new : Seen) : Type 0 where
+  pub accepted : IfOk result (λ _. Restarts old worker new)
+  pub refused : IfErr result (λ refusal. restart_refusal old worker ≡ Some refusal)
+  pub unchanged : OnErr result (new ≡ old)
+  pub headline : IsRunOfOne old (event.Restart worker) (answer_of (λ _. answer.Restarted) result) new
 
-abbrev pub Withdrawn : Seen → ℕ → Result (Unit {0}) Refusal → Seen → Type 0
-Withdrawn old worker result new = IfOk result (λ _. Withdraws old worker new) × IfErr result (λ refusal. withdraw_refusal old worker ≡ Some refusal) × OnErr result (new ≡ old)
+pub record Withdrawn (old : Seen) (worker : ℕ) (result : Result (Unit {0}) Refusal) (new : Seen) : Type 0 where
+  pub accepted : IfOk result (λ _. Withdraws old worker new)
+  pub refused : IfErr result (λ refusal. withdraw_refusal old worker ≡ Some refusal)
+  pub unchanged : OnErr result (new ≡ old)
+  pub headline : IsRunOfOne old (event.Withdraw worker) (answer_of (λ _. answer.Withdrawing) result) new
 
-abbrev pub Owned : Seen → ℕ → Result (Option ℕ) Refusal → Type 0
-Owned seen lock result =
-    (IsOk result ↔ (lock < seen.shape.locks)) × IfOk result (λ owner. owner ≡ owner_in seen.shape (memory_seen seen) lock) × IfErr result (λ refusal. refusal ≡ NoLock)
+pub record Owned (seen : Seen) (lock : ℕ) (result : Result (Option ℕ) Refusal) : Type 0 where
+  pub accepted : IsOk result ↔ (lock < seen.shape.locks)
+  pub shown : IfOk result (λ owner. owner ≡ owner_at (shown_by seen) lock)
+  pub refused : IfErr result (λ refusal. refusal ≡ NoLock)
 
-abbrev pub ShowsCells : Seen → ℕ → Result (List ℕ × Bool) Refusal → Type 0
-ShowsCells seen lock result = (IsOk result ↔ (lock < seen.shape.locks)) × IfErr result (λ refusal. refusal ≡ NoLock)
+pub record ShowsCells (seen : Seen) (lock : ℕ) (result : Result (List ℕ × Bool) Refusal) : Type 0 where
+  pub accepted : IsOk result ↔ (lock < seen.shape.locks)
+  pub shown : IfOk result (λ shows. ShownCells seen.shape (shown_by seen) lock shows.0)
+  pub settled : IfOk result (λ shows. shows.1 ≡ is_settled (shown_by seen) lock)
+  pub refused : IfErr result (λ refusal. refusal ≡ NoLock)
 
-abbrev pub ShowsReady : Seen → ℕ → Result Bool Refusal → Type 0
-ShowsReady seen worker result =
-    (IsOk result ↔ (worker < seen.shape.workers)) × IfOk result (λ is. IsTrue is ↔ ((p : Private) × (slice_get seen.privates worker ≡ Some (Some p)) × (p.stage ≡ Resting)))
-    × IfErr result (λ refusal. refusal ≡ NoWorker)
+pub record ShowsReady (seen : Seen) (worker : ℕ) (result : Result Bool Refusal) : Type 0 where
+  pub accepted : IsOk result ↔ (worker < seen.shape.workers)
+  pub ready : IfOk result (λ is. IsTrue is ↔ IsReady seen worker)
+  pub refused : IfErr result (λ refusal. refusal ≡ NoWorker)
 
-abbrev pub ShowsLast : Seen → ℕ → Result (Option Receipt) Refusal → Type 0
-ShowsLast seen worker result = (IsOk result ↔ (worker < seen.shape.workers)) × IfErr result (λ refusal. refusal ≡ NoWorker)
+pub record ShowsLast (seen : Seen) (worker : ℕ) (result : Result (Option Receipt) Refusal) : Type 0 where
+  pub accepted : IsOk result ↔ (worker < seen.shape.workers)
+  pub some : IfOk result (λ last. IsSome last ↔ HasReceipt (words_seen seen worker))
+  pub receipt : IfOk result (λ last. IfSome last (λ receipt. IsLastReceipt seen worker receipt))
+  pub refused : IfErr result (λ refusal. refusal ≡ NoWorker)

@@ -8,9 +8,9 @@ use Rattle.rme_server.proofs.answers.restart.Goals as goal
 pub returns-in-Ok : goal.returns-in-Ok
 returns-in-Ok c =
     told c.push_done.result c.args.names.now c.args.world.now (command.Restart c.args.worker) c.restart.new.self (string_bytes c.args.out.now) (string_bytes c.push_done.new.out) (done word.Restart) c.push_done.ensures
-    (Ok tt, (c.in-Ok.ensures.accepted, tt, tt), refl)
+    (Ok tt, record { accepted = c.in-Ok.ensures.accepted; refused = tt; unchanged = tt; headline = c.in-Ok.ensures.headline }, refl)
 
 pub returns-in-Err : goal.returns-in-Err
 returns-in-Err c =
     told c.push_refusal.result c.args.names.now c.args.world.now (command.Restart c.args.worker) c.restart.new.self (string_bytes c.args.out.now) (string_bytes c.push_refusal.new.out) (refused c.in-Err.refusal) c.push_refusal.ensures
-    (Err c.in-Err.refusal, (tt, c.in-Err.ensures.refused, c.in-Err.ensures.unchanged), refl)
+    (Err c.in-Err.refusal, record { accepted = tt; refused = c.in-Err.ensures.refused; unchanged = c.in-Err.ensures.unchanged; headline = c.in-Err.ensures.headline }, refl)

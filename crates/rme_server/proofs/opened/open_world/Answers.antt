@@ -5,4 +5,4 @@ pub returns-clause-ok : goal.returns-clause-ok
 returns-clause-ok c =
     let numbers = c.in-Ok.ensures.numbers in
     let limits = rw c.len-locks.ensures at c.in-Ok.ensures.accepted.0 refl in
-    ((sym c.if-not-are_names.ensures.result, limits), c.in-Ok-names.ensures, (c.in-Ok.shape, (numbers.0, numbers.1 ∙ c.len-locks.ensures, numbers.2, numbers.3), c.in-Ok-new.ensures))
+    ((sym c.if-not-are_names.ensures.result, limits), c.in-Ok-names.ensures, (c.in-Ok.shape, (numbers.0, numbers.1 ∙ c.len-locks.ensures, numbers.2, numbers.3), c.in-Ok-new.ensures.opens))

@@ -13,7 +13,7 @@ returns-in-Err c =
     let walk = c.args.walk in
     let left = walk.max - c.loop.counter in
     let e : left ≡ (walk.max - (c.loop.counter + 1)) + 1 = omega arith in
-    let walks = walk_refused c.loop.world c.step.new.self walk.worker walk.until c.in-Err.refusal left _ e (tt, c.in-Err.ensures.refused, c.in-Err.ensures.unchanged, c.in-Err.ensures.shape) in
+    let walks = walk_refused c.loop.world c.step.new.self walk.worker walk.until c.in-Err.refusal left _ e record { accepted = tt; refused = c.in-Err.ensures.refused; unchanged = c.in-Err.ensures.unchanged; headline = c.in-Err.ensures.headline } in
     completes_all c.args.names.now walk.worker walk.until walk.max left c.args.world.now c.loop.world c.step.new.self (string_bytes c.args.notes.now) (string_bytes c.loop.notes)
     (string_bytes c.loop.notes) c.loop.later c.loop.later [] (Refused c.in-Err.refusal) c.loop.invariant walks refl
 
@@ -23,7 +23,7 @@ returns-in-Some c =
     let left = walk.max - c.loop.counter in
     let e : left ≡ (walk.max - (c.loop.counter + 1)) + 1 = omega arith in
     let ends = c.in-Some.ensures in
-    let walks = walk_ended c.loop.world c.step.new.self walk.worker walk.until c.in-Ok.note ends.0 c.in-Some.end left _ e (c.in-Ok.ensures.accepted, tt, tt, c.in-Ok.ensures.shape) ends.1 ends.2 in
+    let walks = walk_ended c.loop.world c.step.new.self walk.worker walk.until c.in-Ok.note ends.0 c.in-Some.end left _ e record { accepted = c.in-Ok.ensures.accepted; refused = tt; unchanged = tt; headline = c.in-Ok.ensures.headline } ends.1 ends.2 in
     completes_all c.args.names.now walk.worker walk.until walk.max left c.args.world.now c.loop.world c.step.new.self (string_bytes c.args.notes.now) (string_bytes c.loop.notes)
     (string_bytes c.push_shown.new.notes) c.loop.later c.in_ok-later.later (shown c.in-Ok.note) (Ended c.in-Some.end) c.loop.invariant walks (c.in_ok-later.ensures [])
 
@@ -33,7 +33,7 @@ loop-preserved c rest walked new walks =
     let left = walk.max - c.loop.counter in
     let e : left ≡ (walk.max - (c.loop.counter + 1)) + 1 = omega arith in
     let goes = c.in_default.ensures in
-    let longer = walk_goes c.loop.world c.step.new.self new walk.worker walk.until c.in-Ok.note goes.0 rest walked left _ e (c.in-Ok.ensures.accepted, tt, tt, c.in-Ok.ensures.shape) goes.1 goes.2 walks in
+    let longer = walk_goes c.loop.world c.step.new.self new walk.worker walk.until c.in-Ok.note goes.0 rest walked left _ e record { accepted = c.in-Ok.ensures.accepted; refused = tt; unchanged = tt; headline = c.in-Ok.ensures.headline } goes.1 goes.2 walks in
     let whole = c.loop.invariant (shown c.in-Ok.note ++ rest) walked new longer in (whole.0, whole.1, c.in_ok-later.ensures rest ∙ whole.2)
 
 pub returns : goal.returns
