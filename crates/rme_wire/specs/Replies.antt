@@ -8,6 +8,7 @@ use Rattle.rme_words.specs.declared.refusal.Refusal.TheVariants.{WrongNumber}
 use Rattle.rme_words.specs.Refusals.{code_of, name_of}
 use Rattle.rme_wire.specs.declared.answer.Done.{Done}
 use Rattle.rme_wire.specs.declared.answer.Done.TheVariants.{Open, Crash, Restart, Withdraw}
+use Rattle.rme_wire.specs.declared.answer.Report.{Report}
 use Rattle.rme_wire.specs.declared.answer.WalkEnd.{WalkEnd}
 use Rattle.rme_wire.specs.declared.answer.WalkEnd.TheVariants.{Until, Ready, Blocked, Max}
 use Rattle.rme_wire.specs.Texts.{cells_text, entries_text, note_text, receipt_text}
@@ -57,6 +58,11 @@ last_text names (Some receipt) = last_receipt_text names receipt
 
 abbrev pub history_text : List (List ℕ) → List Entry → List ℕ
 history_text names entries = codes "{\"entries\":[" ++ (entries_text names entries ++ codes "],\"ok\":\"history\"}")
+
+abbrev pub report_text : Report → List ℕ
+report_text r =
+    codes "{\"enter\":" ++ (decimal r.enter ++ (codes ",\"exit\":" ++ (decimal r.exit ++ (codes ",\"ok\":\"report\",\"post\":" ++ (decimal r.post
+    ++ (codes ",\"recover\":" ++ (decimal r.recover ++ (codes ",\"section\":" ++ (decimal r.section ++ codes "}")))))))))
 
 abbrev pub plain_refusal_text : ℕ → List ℕ → List ℕ
 plain_refusal_text code name = codes "{\"code\":" ++ (decimal code ++ (codes ",\"error\":\"" ++ (name ++ codes "\"}")))

@@ -149,6 +149,33 @@ pub fn push_history(out: &mut String, names: &Names, entries: &[Entry]) -> Resul
     Ok(())
 }
 
+/// For each phase that has steps, the most own steps of one stay in it.
+#[derive(Clone, Copy, Debug, PartialEq, Eq)]
+pub struct Report {
+    pub recover: u32,
+    pub post: u32,
+    pub enter: u32,
+    pub section: u32,
+    pub exit: u32,
+}
+
+/// Appends the answer of `report`.
+pub fn push_report(out: &mut String, report: Report) -> Result<(), AllocError>
+    ensures { OnOk result (string_bytes out.new ≡ string_bytes out.old ++ spec.report_text report) }
+{
+    let Report {
+        recover,
+        post,
+        enter,
+        section,
+        exit,
+    } = report;
+    write!(
+        out,
+        "{{\"enter\":{enter},\"exit\":{exit},\"ok\":\"report\",\"post\":{post},\"recover\":{recover},\"section\":{section}}}"
+    )
+}
+
 /// Appends the answer of a refused line.
 pub fn push_refusal(out: &mut String, refusal: Refusal) -> Result<(), AllocError>
     ensures { OnOk result (string_bytes out.new ≡ string_bytes out.old ++ spec.refusal_text refusal) }

@@ -20,8 +20,8 @@ mod texts;
 mod value;
 
 pub use answer::{
-    Done, WalkEnd, push_done, push_history, push_last, push_number, push_owner, push_refusal,
-    push_row, push_stepped, push_walked,
+    Done, Report, WalkEnd, push_done, push_history, push_last, push_number, push_owner,
+    push_refusal, push_report, push_row, push_stepped, push_walked,
 };
 pub use command::{Command, Until, Walk};
 pub use cut::Cut;
