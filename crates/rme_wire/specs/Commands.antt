@@ -3,7 +3,7 @@ use Rattle.std.specs.Prelude.{ℕ, ◌+◌, ◌==◌, ◌&&◌, ◌||◌, nat_le
 use Rattle.serde_json.specs.Data.{Data}
 use Rattle.serde_json.specs.Find.{get, as_str}
 use Rattle.rme_wire.specs.declared.command.Command.{Command}
-use Rattle.rme_wire.specs.declared.command.Command.TheVariants.{Submit, Step, Walk, Crash, Restart, Withdraw, Owner, Cells, Last, History}
+use Rattle.rme_wire.specs.declared.command.Command.TheVariants.{Submit, Step, Walk, Crash, Restart, Withdraw, Owner, Cells, Last, History, Report}
 use Rattle.rme_wire.specs.declared.command.Until.{Until}
 use Rattle.rme_wire.specs.declared.command.Until.TheVariants.{Asked, Entered, Reentered, Finished, Left, Ready, Withdrew}
 use Rattle.rme_wire.specs.Names.{number_of}
@@ -89,11 +89,21 @@ lock_command word lock =
 unfoldable pub of_lock : List (List ℕ) → List ℕ → ℕ → Data → Option Command
 of_lock names word count d = if count == 2 then option_and_then (lock_command word) (lock_of names d) else None
 
+-- `{"do":WORD}`
+abbrev pub world_command : List ℕ → Option Command
+world_command word =
+    if bytes_eq word (codes "history") then Some History
+    else (if bytes_eq word (codes "report") then Some Report
+    else None)
+
+unfoldable pub of_world : List ℕ → ℕ → Option Command
+of_world word count = if count == 1 then world_command word else None
+
 -- the command of an object with so many keys, whose `do` is this word
 unfoldable pub command_named : List (List ℕ) → List ℕ → ℕ → Data → Option Command
 command_named names word count d =
     if bytes_eq word (codes "submit") then submit_of names count d
     else (if bytes_eq word (codes "walk") then walk_of count d
-    else (if bytes_eq word (codes "history") then (if count == 1 then Some History else None)
+    else (if bytes_eq word (codes "history") || bytes_eq word (codes "report") then of_world word count
     else (if bytes_eq word (codes "owner") || bytes_eq word (codes "cells") then of_lock names word count d
     else of_worker word count d)))

@@ -49,6 +49,7 @@ pub enum Command {
     Cells(u32),
     Last(u32),
     History,
+    Report,
 }
 
 /// The number of a lock's name, or the number of names where there is no such name.
@@ -200,6 +201,23 @@ fn of_lock(names: &Names, word: &str, count: usize, value: &Value) -> Option<Com
     None
 }
 
+/// A look-up that names no worker and no lock.
+#[tactic(auto, unfolding(crate::specs::Commands::of_world))]
+fn of_world(word: &str, count: usize) -> Option<Command>
+    ensures { result ≡ spec.of_world word.now count }
+{
+    if count != 1 {
+        return None;
+    }
+    if word == "history" {
+        return Some(Command::History);
+    }
+    if word == "report" {
+        return Some(Command::Report);
+    }
+    None
+}
+
 /// The command that a value is, where its member `do` is a word and it has so many members.
 #[tactic(auto, unfolding(crate::specs::Commands::command_named))]
 pub fn command_named(names: &Names, word: &str, count: usize, value: &Value) -> Option<Command>
@@ -211,12 +229,8 @@ pub fn command_named(names: &Names, word: &str, count: usize, value: &Value) -> 
     if word == "walk" {
         return walk_of(count, value);
     }
-    if word == "history" {
-        return if count == 1 {
-            Some(Command::History)
-        } else {
-            None
-        };
+    if word == "history" || word == "report" {
+        return of_world(word, count);
     }
     if word == "owner" || word == "cells" {
         return of_lock(names, word, count, value);
