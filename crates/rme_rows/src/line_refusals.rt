@@ -84,7 +84,7 @@ const REFUSALS: Row = &[
 
 /// Row `lines`, the opening: nothing is open yet, one is open already, a shape outside the limits.
 const OPENINGS: Row = &[
-    (r#"{"do":"history"}"#, r#"{"code":3,"error":"NotOpen"}"#),
+    (r#"{"do":"report"}"#, r#"{"code":3,"error":"NotOpen"}"#),
     (
         r#"{"cells":1,"do":"open","jobs":10,"locks":["bank"],"workers":0}"#,
         r#"{"code":5,"error":"BadShape"}"#,

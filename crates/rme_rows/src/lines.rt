@@ -57,6 +57,10 @@ const PLAIN_PATH: Row = &[
         r#"{"cells":[5],"ok":"cells","settled":true}"#,
     ),
     (
+        r#"{"do":"report"}"#,
+        r#"{"enter":1,"exit":3,"ok":"report","post":6,"recover":0,"section":18}"#,
+    ),
+    (
         r#"{"do":"history"}"#,
         r#"{"entries":[{"lock":"bank","number":1,"place":0,"reply":5,"script":[["add",0,5]],"worker":0}],"ok":"history"}"#,
     ),
@@ -74,7 +78,7 @@ const PLAIN_PATH: Row = &[
     ),
 ];
 
-/// Row `re-entry`.
+/// Row `re-entry`, and the report at its end: the recovery took 4 steps.
 const RE_ENTRY: Row = &[
     TWO_WORKERS,
     (
@@ -114,6 +118,10 @@ const RE_ENTRY: Row = &[
     (
         r#"{"do":"cells","lock":"bank"}"#,
         r#"{"cells":[6],"ok":"cells","settled":true}"#,
+    ),
+    (
+        r#"{"do":"report"}"#,
+        r#"{"enter":1,"exit":3,"ok":"report","post":6,"recover":4,"section":18}"#,
     ),
 ];
 
@@ -258,6 +266,74 @@ const WITHDRAWAL: Row = &[
     ),
 ];
 
+/// The report has the steps of the command `step` and of walks, and those of a stay that a crash cut; a refused
+/// step, and a submission or a restart by itself, add nothing.
+const REPORTS: Row = &[
+    TWO_WORKERS,
+    (
+        r#"{"do":"report"}"#,
+        r#"{"enter":0,"exit":0,"ok":"report","post":0,"recover":0,"section":0}"#,
+    ),
+    (
+        r#"{"do":"submit","lock":"bank","script":[],"worker":0}"#,
+        r#"{"number":1,"ok":"submit"}"#,
+    ),
+    (
+        r#"{"do":"report"}"#,
+        r#"{"enter":0,"exit":0,"ok":"report","post":0,"recover":0,"section":0}"#,
+    ),
+    (
+        r#"{"do":"step","worker":0}"#,
+        r#"{"note":["quiet"],"ok":"step"}"#,
+    ),
+    (
+        r#"{"do":"report"}"#,
+        r#"{"enter":0,"exit":0,"ok":"report","post":1,"recover":0,"section":0}"#,
+    ),
+    (
+        r#"{"do":"step","worker":1}"#,
+        r#"{"code":10,"error":"Idle"}"#,
+    ),
+    (r#"{"do":"crash","worker":0}"#, r#"{"ok":"crash"}"#),
+    (
+        r#"{"do":"step","worker":0}"#,
+        r#"{"code":7,"error":"Down"}"#,
+    ),
+    (r#"{"do":"restart","worker":0}"#, r#"{"ok":"restart"}"#),
+    (
+        r#"{"do":"report"}"#,
+        r#"{"enter":0,"exit":0,"ok":"report","post":1,"recover":0,"section":0}"#,
+    ),
+    (
+        r#"{"do":"step","worker":0}"#,
+        r#"{"note":["quiet"],"ok":"step"}"#,
+    ),
+    (
+        r#"{"do":"step","worker":0}"#,
+        r#"{"note":["ready"],"ok":"step"}"#,
+    ),
+    (
+        r#"{"do":"report"}"#,
+        r#"{"enter":0,"exit":0,"ok":"report","post":1,"recover":2,"section":0}"#,
+    ),
+    (
+        r#"{"do":"submit","lock":"bank","script":[],"worker":0}"#,
+        r#"{"number":1,"ok":"submit"}"#,
+    ),
+    (
+        r#"{"do":"walk","until":"entered","worker":0}"#,
+        r#"{"end":"until","notes":[["asked",1],["entered","bank"]],"ok":"walk"}"#,
+    ),
+    (
+        r#"{"cells":1,"do":"open","jobs":10,"locks":["bank"],"workers":2}"#,
+        r#"{"code":4,"error":"AlreadyOpen"}"#,
+    ),
+    (
+        r#"{"do":"report"}"#,
+        r#"{"enter":1,"exit":0,"ok":"report","post":3,"recover":2,"section":0}"#,
+    ),
+];
+
 /// Each row, with a name for messages.
 const ROWS: &[(&str, Row)] = &[
     ("first run", FIRST_RUN),
@@ -266,6 +342,7 @@ const ROWS: &[(&str, Row)] = &[
     ("stale receipt", STALE_RECEIPT),
     ("partial exit", PARTIAL_EXIT),
     ("withdrawal", WITHDRAWAL),
+    ("reports", REPORTS),
 ];
 
 #[test]

@@ -1,3 +1,4 @@
+pub mod TallyLemmas
 pub mod WalkLemmas
 pub mod AnswerLemmas
 pub mod EngineLemmas

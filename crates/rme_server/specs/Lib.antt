@@ -1,7 +1,8 @@
--- In reading order: what the lines so far have opened, what each call of a world answers, what a walk and
--- each command do, what each line is answered, and what a run of lines writes.
+-- In reading order: what the lines so far have opened, what each call of a world answers, what a tally sees of a step,
+-- what a walk and each command do, what each line is answered, and what a run of lines writes.
 pub mod States
 pub mod Calls
+pub mod Tallies
 pub mod Walks
 pub mod Commands
 pub mod Lines

@@ -4,8 +4,6 @@ use Rattle.rme_words.specs.declared.refusal.Refusal.{Refusal}
 use Rattle.rme_words.specs.declared.refusal.Refusal.TheVariants.{BadLine, LineTooLong, NotOpen, AlreadyOpen, BadShape, NoMemory}
 use Rattle.rme_words.specs.declared.shape.Shape.{Shape}
 use Rattle.rme_words.specs.Shapes.{IsWithinLimits}
-use Rattle.rme_world.specs.Opening.{opening}
-use Rattle.rme_world.specs.Seen.{Seen}
 use Rattle.rme_wire.specs.declared.answer.Done.TheVariants as word
 use Rattle.rme_wire.specs.declared.command.Command.{Command}
 use Rattle.rme_wire.specs.declared.line.Order.{Order}
@@ -14,7 +12,9 @@ use Rattle.rme_wire.specs.declared.opening.Opening.{Opening}
 use Rattle.rme_wire.specs.Openings.{are_names}
 use Rattle.rme_wire.specs.Orders.{order_of_line}
 use Rattle.rme_wire.specs.Pieces.{InputLine, text, too_long}
+use Rattle.rme_server.specs.declared.tallied.TalliedWorld.{TalliedWorld}
 use Rattle.rme_server.specs.States.{Reply, State, done, refused, text_of}
+use Rattle.rme_server.specs.Tallies.{tallied_opening}
 use Rattle.rme_server.specs.Commands.{Does}
 
 -- names and numbers within the limits, as many locks as names
@@ -33,18 +33,18 @@ MayRefuse given other = ⊥
 
 -- a world is opened, or its opening is refused
 abbrev pub OpensBy : State → Opening → Result Shape Refusal → Reply → State → Type 0
-OpensBy old given (Ok shape) reply new = IsGood given × IsAsGiven given shape × (reply ≡ done word.Open) × (new ≡ record { names = given.locks; world = Some (opening shape) })
+OpensBy old given (Ok shape) reply new = IsGood given × IsAsGiven given shape × (reply ≡ done word.Open) × (new ≡ record { names = given.locks; world = Some (tallied_opening shape) })
 OpensBy old given (Err refusal) reply new = MayRefuse given refusal × (reply ≡ refused refusal) × (new ≡ old)
 
 -- `open` opens a world where none is open
-abbrev pub OpensIn : Option Seen → State → Opening → Reply → State → Type 0
+abbrev pub OpensIn : Option TalliedWorld → State → Opening → Reply → State → Type 0
 OpensIn (Some world) old given reply new = (reply ≡ refused AlreadyOpen) × (new ≡ old)
 OpensIn None old given reply new = (result : Result Shape Refusal) × OpensBy old given result reply new
 
 -- a command needs a world that is open
-abbrev pub DoesIn : Option Seen → State → Command → Reply → State → Type 0
+abbrev pub DoesIn : Option TalliedWorld → State → Command → Reply → State → Type 0
 DoesIn None old command reply new = (reply ≡ refused NotOpen) × (new ≡ old)
-DoesIn (Some world) old command reply new = (after : Seen) × Does world command reply after × (new ≡ record { names = old.names; world = Some after })
+DoesIn (Some world) old command reply new = (after : TalliedWorld) × Does world command reply after × (new ≡ record { names = old.names; world = Some after })
 
 abbrev pub Obeys : State → Option Order → Reply → State → Type 0
 Obeys old None reply new = (reply ≡ refused BadLine) × (new ≡ old)

@@ -3,14 +3,15 @@ use Rattle.std.specs.Prelude.{◌≡◌, ℕ, zero, suc, List, [], ◌∷◌, �
 use Rattle.rme_words.specs.declared.refusal.Refusal.{Refusal}
 use Rattle.rme_program.specs.declared.note.Note.{Note}
 use Rattle.rme_program.specs.declared.note.Note.TheVariants.{Quiet, Asked, Blocked, Entered, Reentered, Finished, Left, Ready, Withdrew}
-use Rattle.rme_world.specs.Seen.{Seen}
 use Rattle.rme_wire.specs.declared.answer.WalkEnd.{WalkEnd}
 use Rattle.rme_wire.specs.declared.answer.WalkEnd.TheVariants as end
 use Rattle.rme_wire.specs.declared.command.Until.{Until}
 use Rattle.rme_wire.specs.declared.command.Until.TheVariants as until
+use Rattle.rme_server.specs.declared.tallied.TalliedWorld.{TalliedWorld}
 use Rattle.rme_server.specs.declared.walk.Walked.{Walked}
 use Rattle.rme_server.specs.declared.walk.Walked.TheVariants.{Ended, Refused}
-use Rattle.rme_server.specs.Calls.{ShowsReady, Stepped}
+use Rattle.rme_server.specs.Calls.{ShowsReady}
+use Rattle.rme_server.specs.Tallies.{StepsTallied}
 
 -- the notes that a walk shows
 abbrev pub shown : Note → List Note
@@ -60,17 +61,17 @@ end_after wanted note ready =
     if meets wanted (kind_of note) then Some end.Until else (if is_true ready then Some end.Ready else (if is_blocked note then Some end.Blocked else None))
 
 -- a step with this note ended the walk, or the rest of the walk follows
-abbrev pub Goes : (List Note → Walked → Seen → Type 0) → Seen → Note → Option WalkEnd → List Note → Walked → Seen → Type 0
+abbrev pub Goes : (List Note → Walked → TalliedWorld → Type 0) → TalliedWorld → Note → Option WalkEnd → List Note → Walked → TalliedWorld → Type 0
 Goes rest mid note (Some end) notes walked new = (notes ≡ shown note) × (walked ≡ Ended end) × (new ≡ mid)
 Goes rest mid note None notes walked new = (more : List Note) × rest more walked new × (notes ≡ shown note ++ more)
 
 -- what follows a step: a refusal ends the walk
-abbrev pub Follows : (List Note → Walked → Seen → Type 0) → Seen → ℕ → Option Until → Result Note Refusal → List Note → Walked → Seen → Type 0
-Follows rest mid worker wanted (Ok note) notes walked new = (ready : Result Bool Refusal) × ShowsReady mid worker ready × Goes rest mid note (end_after wanted note ready) notes walked new
+abbrev pub Follows : (List Note → Walked → TalliedWorld → Type 0) → TalliedWorld → ℕ → Option Until → Result Note Refusal → List Note → Walked → TalliedWorld → Type 0
+Follows rest mid worker wanted (Ok note) notes walked new = (ready : Result Bool Refusal) × ShowsReady mid.world worker ready × Goes rest mid note (end_after wanted note ready) notes walked new
 Follows rest mid worker wanted (Err refusal) notes walked new = (notes ≡ []) × (walked ≡ Refused refusal) × (new ≡ mid)
 
 -- a walk of at most so many steps
-unfoldable pub Walks : ℕ → Seen → ℕ → Option Until → List Note → Walked → Seen → Type 0
+unfoldable pub Walks : ℕ → TalliedWorld → ℕ → Option Until → List Note → Walked → TalliedWorld → Type 0
 Walks zero old worker wanted notes walked new = (notes ≡ []) × (walked ≡ Ended end.Max) × (new ≡ old)
 Walks (suc most) old worker wanted notes walked new =
-    (result : Result Note Refusal) × (mid : Seen) × Stepped old worker result mid × Follows (Walks most mid worker wanted) mid worker wanted result notes walked new
+    (result : Result Note Refusal) × (mid : TalliedWorld) × StepsTallied old worker result mid × Follows (Walks most mid worker wanted) mid worker wanted result notes walked new

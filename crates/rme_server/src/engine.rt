@@ -2,17 +2,17 @@
 
 use crate::answers::answer_command;
 use crate::opened::open_world;
+use crate::tallied::TalliedWorld;
 use rme_wire::{Cut, Done, EngineFault, Names, Opening, Order, order_of, push_done, push_refusal};
 use rme_words::{NoMemory, Refusal};
-use rme_world::World;
 use std::alloc::{AllocError, Global};
 
-/// The world that the lines opened, if one did, and the names of its locks.
+/// The world that the lines opened, if one did, with its tally, and the names of its locks.
 #[derive(Drop)]
 pub struct Engine {
     alloc: Global,
     names: Names,
-    world: Option<World>,
+    world: Option<TalliedWorld>,
 }
 
 impl Engine {

@@ -10,6 +10,7 @@ mod answers;
 mod engine;
 mod opened;
 mod run;
+mod tallied;
 mod walk;
 
 pub use run::run_lines;

@@ -2,9 +2,10 @@
 
 ghost use Rattle.std.specs.Prelude.{◌≡◌, IfOk, IfErr};
 ghost use Rattle.rme_words.specs.declared.shape.Shape.{Shape};
-ghost use Rattle.rme_world.specs.Opening.{opening as world_at_opening};
 ghost use Rattle.rme_server.specs.Lines.{IsAsGiven, IsGood, MayRefuse};
+ghost use Rattle.rme_server.specs.Tallies.{tallied_opening};
 
+use crate::tallied::TalliedWorld;
 use rme_wire::{Names, Opening};
 use rme_words::{Refusal, Shape};
 use rme_world::World;
@@ -14,14 +15,14 @@ use std::alloc::Global;
 #[derive(Drop)]
 pub struct Opened {
     pub names: Names,
-    pub world: World,
+    pub world: TalliedWorld,
 }
 
 /// The world and the names of an opening. `BadShape` comes where the names or the numbers are outside the
 /// limits, and `NoMemory` last.
 pub fn open_world(alloc: Global, opening: &Opening) -> Result<Opened, Refusal>
     ensures ok { IfOk result (λ opened. IsGood opening.now × (opened.names ≡ opening.now.locks)
-        × ((shape : Shape) × IsAsGiven opening.now shape × (opened.world ≡ world_at_opening shape))) }
+        × ((shape : Shape) × IsAsGiven opening.now shape × (opened.world ≡ tallied_opening shape))) }
     ensures err { IfErr result (MayRefuse opening.now) }
 {
     if !opening.locks.are_names() {
@@ -38,5 +39,8 @@ pub fn open_world(alloc: Global, opening: &Opening) -> Result<Opened, Refusal>
     let Ok(world) = World::new(alloc, shape) else {
         return Err(Refusal::NoMemory);
     };
-    Ok(Opened { names, world })
+    Ok(Opened {
+        names,
+        world: TalliedWorld::new(world),
+    })
 }

@@ -161,7 +161,7 @@ static FORMS: [(&str, bool); 22] = [
     ("\"owner\"", false),
     ("{}", false),
     ("\r", false),
-    ("{\"do\":\"report\"}", false),
+    ("{\"do\":\"report\",\"lock\":\"bank\"}", false),
     ("{\"do\":\"save\"}", false),
     (
         "{\"do\":\"load\",\"image\":\"\",\"locks\":[\"bank\"]}",

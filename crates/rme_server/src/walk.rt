@@ -7,6 +7,7 @@ ghost use Rattle.rme_wire.specs.Texts.{note_text, separated};
 ghost use Rattle.rme_server.specs.Calls.{ShowsReady};
 ghost use Rattle.rme_server.specs.Walks as spec;
 
+use crate::tallied::TalliedWorld;
 use rme_program::Note;
 use rme_wire::{Names, Until, Walk, WalkEnd, push_comma, push_note};
 use rme_words::Refusal;
@@ -24,21 +25,21 @@ pub enum Walked {
 /// Steps the worker until a step ends the walk, and appends the notes that aren't quiet, separated by commas.
 pub fn walk_notes(
     names: &Names,
-    world: &mut World,
+    tallied: &mut TalliedWorld,
     walk: Walk,
     notes: &mut String,
 ) -> Result<Walked, AllocError>
-    ensures { IfOk result (λ walked. (seen : List Note) × spec.Walks walk.max world.old walk.worker walk.until seen walked world.new
+    ensures { IfOk result (λ walked. (seen : List Note) × spec.Walks walk.max tallied.old walk.worker walk.until seen walked tallied.new
         × (string_bytes notes.new ≡ string_bytes notes.old ++ separated (note_text names.now) false seen)) }
 {
     let mut later = false;
     for _ in 0..walk.max {
-        let note = match world.step(walk.worker) {
+        let note = match tallied.step(walk.worker) {
             Ok(note) => note,
             Err(refusal) => return Ok(Walked::Refused(refusal)),
         };
         later = push_shown(notes, names, later, note)?;
-        if let Some(end) = end_after(world, walk, note) {
+        if let Some(end) = end_after(&tallied.world, walk, note) {
             return Ok(Walked::Ended(end));
         }
     }

@@ -6,10 +6,10 @@ use Rattle.rme_server.proofs.answers.step.Goals as goal
 
 pub returns-in-Ok : goal.returns-in-Ok
 returns-in-Ok c =
-    told c.push_stepped.result c.args.names.now c.args.world.now (command.Step c.args.worker) c.step.new.self (string_bytes c.args.out.now) (string_bytes c.push_stepped.new.out) (stepped c.in-Ok.note) c.push_stepped.ensures
-    (Ok c.in-Ok.note, record { accepted = c.in-Ok.ensures.accepted; refused = tt; unchanged = tt; headline = c.in-Ok.ensures.headline }, refl)
+    told c.push_stepped.result c.args.names.now c.args.tallied.now (command.Step c.args.worker) c.step.new.self (string_bytes c.args.out.now) (string_bytes c.push_stepped.new.out) (stepped c.in-Ok.note) c.push_stepped.ensures
+    (Ok c.in-Ok.note, c.in-Ok.ensures, refl)
 
 pub returns-in-Err : goal.returns-in-Err
 returns-in-Err c =
-    told c.push_refusal.result c.args.names.now c.args.world.now (command.Step c.args.worker) c.step.new.self (string_bytes c.args.out.now) (string_bytes c.push_refusal.new.out) (refused c.in-Err.refusal) c.push_refusal.ensures
-    (Err c.in-Err.refusal, record { accepted = tt; refused = c.in-Err.ensures.refused; unchanged = c.in-Err.ensures.unchanged; headline = c.in-Err.ensures.headline }, refl)
+    told c.push_refusal.result c.args.names.now c.args.tallied.now (command.Step c.args.worker) c.step.new.self (string_bytes c.args.out.now) (string_bytes c.push_refusal.new.out) (refused c.in-Err.refusal) c.push_refusal.ensures
+    (Err c.in-Err.refusal, c.in-Err.ensures, refl)

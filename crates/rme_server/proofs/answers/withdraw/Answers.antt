@@ -1,16 +1,19 @@
 use Rattle.std.proofs.Common.{Ok, Err, refl, string_bytes}
 use Rattle.rme_wire.specs.declared.command.Command.TheVariants as command
 use Rattle.rme_wire.specs.declared.answer.Done.TheVariants as word
+use Rattle.rme_server.specs.declared.tallied.TalliedWorld.{TalliedWorld}
 use Rattle.rme_server.specs.States.{done, refused}
 use Rattle.rme_server.proofs.AnswerLemmas.{told}
 use Rattle.rme_server.proofs.answers.withdraw.Goals as goal
 
 pub returns-in-Ok : goal.returns-in-Ok
 returns-in-Ok c =
-    told c.push_done.result c.args.names.now c.args.world.now (command.Withdraw c.args.worker) c.withdraw.new.self (string_bytes c.args.out.now) (string_bytes c.push_done.new.out) (done word.Withdraw) c.push_done.ensures
-    (Ok tt, record { accepted = c.in-Ok.ensures.accepted; refused = tt; unchanged = tt; headline = c.in-Ok.ensures.headline }, refl)
+    let new : TalliedWorld = record { world = c.withdraw.new.self; tally = c.args.tallied.now.tally } in
+    told c.push_done.result c.args.names.now c.args.tallied.now (command.Withdraw c.args.worker) new (string_bytes c.args.out.now) (string_bytes c.push_done.new.out) (done word.Withdraw) c.push_done.ensures
+    (Ok tt, record { accepted = c.in-Ok.ensures.accepted; refused = tt; unchanged = tt; headline = c.in-Ok.ensures.headline }, refl, refl)
 
 pub returns-in-Err : goal.returns-in-Err
 returns-in-Err c =
-    told c.push_refusal.result c.args.names.now c.args.world.now (command.Withdraw c.args.worker) c.withdraw.new.self (string_bytes c.args.out.now) (string_bytes c.push_refusal.new.out) (refused c.in-Err.refusal) c.push_refusal.ensures
-    (Err c.in-Err.refusal, record { accepted = tt; refused = c.in-Err.ensures.refused; unchanged = c.in-Err.ensures.unchanged; headline = c.in-Err.ensures.headline }, refl)
+    let new : TalliedWorld = record { world = c.withdraw.new.self; tally = c.args.tallied.now.tally } in
+    told c.push_refusal.result c.args.names.now c.args.tallied.now (command.Withdraw c.args.worker) new (string_bytes c.args.out.now) (string_bytes c.push_refusal.new.out) (refused c.in-Err.refusal) c.push_refusal.ensures
+    (Err c.in-Err.refusal, record { accepted = tt; refused = c.in-Err.ensures.refused; unchanged = c.in-Err.ensures.unchanged; headline = c.in-Err.ensures.headline }, refl, refl)

@@ -5,4 +5,4 @@ use Rattle.rme_server.proofs.walk.walk_notes.Given as goal
 
 abbrev pub invariant-loop : goal.invariant-loop
 invariant-loop l =
-    Completes l.names l.walk.worker l.walk.until l.walk.max l.fn.world (string_bytes l.fn.notes) (l.walk.max - l.counter) l.world (string_bytes l.notes) l.later
+    Completes l.names l.walk.worker l.walk.until l.walk.max l.fn.tallied (string_bytes l.fn.notes) (l.walk.max - l.counter) l.tallied (string_bytes l.notes) l.later

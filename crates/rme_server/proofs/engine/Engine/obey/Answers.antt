@@ -22,7 +22,7 @@ returns-in-None-world c =
 pub returns-in-Some : goal.returns-in-Some
 returns-in-Some c =
     let self = c.args.self.now in
-    let new : Engine = record { alloc = self.alloc; names = self.names; world = Some c.answer_command.new.world } in
+    let new : Engine = record { alloc = self.alloc; names = self.names; world = Some c.answer_command.new.tallied } in
     rw (c.in-Some-World.is, c.in-Some-World.field-0-is)
-    (commanded c.answer_command.result self new c.in-Some-World.command c.in-Some.world c.answer_command.new.world (string_bytes c.args.out.now) (string_bytes c.answer_command.new.out)
+    (commanded c.answer_command.result self new c.in-Some-World.command c.in-Some.world c.answer_command.new.tallied (string_bytes c.args.out.now) (string_bytes c.answer_command.new.out)
     c.in-Some.is refl c.answer_command.ensures)

@@ -1,0 +1,38 @@
+-- A world whose steps are tallied.
+use Rattle.std.specs.Prelude.{◌≡◌, ℕ, max, Result, Ok, Err}
+use Rattle.rme_words.specs.declared.refusal.Refusal.{Refusal}
+use Rattle.rme_words.specs.declared.shape.Shape.{Shape}
+use Rattle.rme_program.specs.declared.kinds.Phase.{Phase}
+use Rattle.rme_program.specs.declared.note.Note.{Note}
+use Rattle.rme_history.specs.declared.tally.Tally.{Tally}
+use Rattle.rme_history.specs.Tallies.{most_of}
+use Rattle.rme_world.specs.Counting.{count_of}
+use Rattle.rme_world.specs.Opening.{opening}
+use Rattle.rme_world.specs.Seen.{Seen, counts_of}
+use Rattle.rme_server.specs.declared.tallied.TalliedWorld.{TalliedWorld}
+use Rattle.rme_server.specs.Calls.{Stepped}
+
+abbrev pub nothing_seen : Tally
+nothing_seen = record { recover = 0; post = 0; enter = 0; section = 0; exit = 0 }
+
+-- a world at opening, of which the tally saw nothing
+abbrev pub tallied_opening : Shape → TalliedWorld
+tallied_opening shape = record { world = opening shape; tally = nothing_seen }
+
+-- the own steps of a worker in a phase, which the call `steps` of a world answers
+abbrev pub steps_of : Seen → ℕ → Phase → ℕ
+steps_of world worker phase = count_of (counts_of world worker) phase
+
+-- a tally sees the steps of a worker's phases: of each it keeps the greater number
+abbrev pub SeesPhases : Tally → Seen → ℕ → Tally → Type 0
+SeesPhases old world worker new = (phase : Phase) → most_of new phase ≡ max (most_of old phase) (steps_of world worker phase)
+
+-- after an accepted step a tally sees the steps of the worker's phases; a refused step feeds it nothing
+abbrev pub IsFed : Tally → Result Note Refusal → Seen → ℕ → Tally → Type 0
+IsFed old (Ok note) world worker new = SeesPhases old world worker new
+IsFed old (Err refusal) world worker new = new ≡ old
+
+-- a step of a worker, which is tallied
+pub record StepsTallied (old : TalliedWorld) (worker : ℕ) (result : Result Note Refusal) (new : TalliedWorld) : Type 0 where
+  pub stepped : Stepped old.world worker result new.world
+  pub fed : IsFed old.tally result new.world worker new.tally

@@ -1,0 +1,68 @@
+//! A world whose steps are tallied.
+
+ghost use Rattle.std.specs.Prelude.{◌≡◌, ◌<◌};
+ghost use Rattle.rme_history.specs.Tallies.{Sees};
+ghost use Rattle.rme_server.specs.Tallies.{SeesPhases, steps_of};
+
+use rme_history::Tally;
+use rme_program::{Note, Phase};
+use rme_words::Refusal;
+use rme_world::World;
+
+/// A world, and for each phase the most own steps of one stay in it, over all its workers.
+#[derive(Drop)]
+pub struct TalliedWorld {
+    pub world: World,
+    pub tally: Tally,
+}
+
+impl TalliedWorld {
+    ghost use Rattle.std.specs.Prelude.{◌≡◌};
+    ghost use Rattle.rme_server.specs.Tallies.{StepsTallied, nothing_seen};
+
+    /// A world of which no step was made.
+    pub fn new(world: World) -> TalliedWorld
+        ensures { result ≡ record { world = world; tally = nothing_seen } }
+    {
+        TalliedWorld {
+            world,
+            tally: Tally::new(),
+        }
+    }
+
+    /// Lets a worker make its next own step, and then the tally see the steps of its phases.
+    ///
+    /// Refused as the world's own step is; a refusal changes nothing.
+    pub fn step(&mut self, worker: u32) -> Result<Note, Refusal>
+        ensures { StepsTallied self.old worker result self.new }
+    {
+        let note = match self.world.step(worker) {
+            Ok(note) => note,
+            Err(refusal) => return Err(refusal),
+        };
+        see_phases(&mut self.tally, &self.world, worker);
+        Ok(note)
+    }
+}
+
+/// The tally sees the steps of each phase of a worker.
+fn see_phases(tally: &mut Tally, world: &World, worker: u32)
+    requires { worker < world.now.shape.workers }
+    ensures { SeesPhases tally.old world.now worker tally.new }
+{
+    see_phase(tally, world, worker, Phase::Recover);
+    see_phase(tally, world, worker, Phase::Post);
+    see_phase(tally, world, worker, Phase::Enter);
+    see_phase(tally, world, worker, Phase::Section);
+    see_phase(tally, world, worker, Phase::Exit);
+}
+
+fn see_phase(tally: &mut Tally, world: &World, worker: u32, phase: Phase)
+    requires { worker < world.now.shape.workers }
+    ensures { Sees tally.old tally.new phase (steps_of world.now worker phase) }
+{
+    let Ok(steps) = world.steps(worker, phase) else {
+        unreachable!();
+    };
+    tally.see(phase, steps);
+}
