@@ -51,6 +51,7 @@ Each line is one JSON object; its keys may come in any order. A world must be op
   {\"do\":\"cells\",\"lock\":NAME}     what its cells hold, and whether no section is half done
   {\"do\":\"last\",\"worker\":W}       the receipt of the worker's last job
   {\"do\":\"history\"}               all finished jobs, in order
+  {\"do\":\"report\"}                the most steps of one stay in each phase, over all workers
 
 A line that is refused is answered {\"code\":N,\"error\":NAME} and changes nothing.
 

@@ -1,5 +1,5 @@
 -- What a tally sees of one step.
-use Rattle.std.proofs.Common.{◌≡◌, ◌≢◌, ℕ, ◌<◌, List, [], ◌∷◌, length, max, ap, subst, sym, ◌∙◌, refl, arith}
+use Rattle.std.proofs.Common.{◌≡◌, ℕ, ◌<◌, List, [], ◌∷◌, length, max, ap, subst, sym, ◌∙◌, refl, arith}
 use Rattle.std.proofs.lemmas.List.FromFn.{length-map-range_with_len}
 use Rattle.std.proofs.lemmas.Option.{same_Some, slice_get_within}
 use Rattle.rme_program.specs.declared.event.Answer.TheVariants as answer
@@ -9,7 +9,7 @@ use Rattle.rme_program.specs.declared.kinds.Phase.TheVariants.{Recover, Post, En
 use Rattle.rme_program.specs.declared.note.Note.{Note}
 use Rattle.rme_machine.specs.declared.label.Label.{Label}
 use Rattle.rme_machine.specs.declared.label.Label.TheVariants.{Of}
-use Rattle.rme_machine.specs.Machine.{Does, Run, State, Step}
+use Rattle.rme_machine.specs.Machine.{Does, Run, Step}
 use Rattle.rme_machine.specs.Shown.{act_of, shown_worker}
 use Rattle.rme_history.specs.declared.tally.Tally.{Tally}
 use Rattle.rme_history.specs.Tallies.{Sees, most_of}

@@ -1,9 +1,10 @@
 //! The engine that answers lines over a world.
 //!
-//! The crate stands on rme_wire, which cuts lines, reads their orders and writes texts, and on rme_world,
-//! whose calls obey them. The one contract that the program uses is that of `run_lines`: what is written is,
-//! for the lines that were read, the answer of each in order and nothing else (`specs/Runs.antt`). Begin with
-//! `run.rt`, then `engine.rt`, and then `answers.rt`, which says what each command does.
+//! The crate stands on rme_wire, which cuts lines, reads their orders and writes texts, on rme_world, whose
+//! calls obey them, and on rme_history, whose tally `report` shows. The one contract that the program uses is
+//! that of `run_lines`: what is written is, for the lines that were read, the answer of each in order and
+//! nothing else (`specs/Runs.antt`). Begin with `run.rt`, then `engine.rt`, and then `answers.rt`, which says
+//! what each command does.
 #![tactic(auto)]
 
 mod answers;

@@ -20,7 +20,7 @@ impl TalliedWorld {
     ghost use Rattle.std.specs.Prelude.{◌≡◌};
     ghost use Rattle.rme_server.specs.Tallies.{StepsTallied, nothing_seen};
 
-    /// A world of which no step was made.
+    /// A world of which the tally has seen nothing yet.
     pub fn new(world: World) -> TalliedWorld
         ensures { result ≡ record { world = world; tally = nothing_seen } }
     {
@@ -30,7 +30,7 @@ impl TalliedWorld {
         }
     }
 
-    /// Lets a worker make its next own step, and then the tally see the steps of its phases.
+    /// Lets a worker make its next own step, after which the tally sees the steps of its phases.
     ///
     /// Refused as the world's own step is; a refusal changes nothing.
     pub fn step(&mut self, worker: u32) -> Result<Note, Refusal>
@@ -45,7 +45,7 @@ impl TalliedWorld {
     }
 }
 
-/// The tally sees the steps of each phase of a worker.
+/// Lets the tally see the steps of each phase of a worker.
 fn see_phases(tally: &mut Tally, world: &World, worker: u32)
     requires { worker < world.now.shape.workers }
     ensures { SeesPhases tally.old world.now worker tally.new }
