@@ -12,3 +12,4 @@ pub mod Going
 pub mod Telling
 pub mod Opened
 pub mod Looking
+pub mod Returns

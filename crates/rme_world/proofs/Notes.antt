@@ -29,7 +29,7 @@ Tells shape stage value new (Asked k) = Unit {0}
 Tells shape stage value new (Entered lock) = Unit {0}
 Tells shape stage value new (Left lock) = Unit {0}
 Tells shape stage value new Ready = Unit {0}
-Tells shape stage value new (Withdrew k) = Unit {0}
+Tells shape stage value new (Withdrew k) = (lock held : ℕ) × (stage ≡ Leaving (WithdrawDone lock held))
 
 pick : (shape : Shape) (stage : Stage) (value : ℕ) (b : Bool) (x y : Stage × Note) → (b ≡ true → Tells shape stage value x.0 x.1) → (b ≡ false → Tells shape stage value y.0 y.1)
     → Tells shape stage value (if b then x else y).0 (if b then x else y).1
@@ -86,7 +86,7 @@ departure_told shape begun value (Clear lock level) = cleared_told shape (Leavin
 departure_told shape begun value (WithdrawPlace lock held) = tt
 departure_told shape begun value (WithdrawAt lock held) = tt
 departure_told shape begun value (WithdrawReply lock held) = tt
-departure_told shape begun value (WithdrawDone lock held) = tt
+departure_told shape begun value (WithdrawDone lock held) = (lock, held, refl)
 
 pub told : (shape : Shape) (worker begun value : ℕ) (stage : Stage) → Tells shape stage value (after_at shape worker begun stage value).0 (after_at shape worker begun stage value).1
 told shape worker begun value Resting = tt

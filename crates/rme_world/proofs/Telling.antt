@@ -47,7 +47,7 @@ use Rattle.rme_world.proofs.Notes.{Tells, told}
 use Rattle.rme_world.proofs.Stays.{cases_phase, busy_phase, count_here, count_there}
 use Rattle.rme_world.proofs.Worlds.{busy_at, is_worker, up_at}
 
-taken_in_recovery : (shape : Shape) (first : Stage) (recovery : Recovery) (count : ℕ) → Taken shape first (Recovering recovery) count → count ≡ place_of_recovery recovery
+pub taken_in_recovery : (shape : Shape) (first : Stage) (recovery : Recovery) (count : ℕ) → Taken shape first (Recovering recovery) count → count ≡ place_of_recovery recovery
 taken_in_recovery shape (Recovering first) recovery count taken = taken.1
 taken_in_recovery shape Resting recovery count taken = absurd taken
 taken_in_recovery shape (Posting slate) recovery count taken = absurd taken
@@ -96,19 +96,19 @@ whole_steps shape own lock visit mask reply count knows is all = by_parity visit
         subst (λ (s : Program). count ≡ 11 + 3 * s.n + 4 * length (cells_of s.ops shape.cells)) (sym same_script) goal
 
 module _ (old new : Seen) (worker : ℕ) (note : Note) (kept : IsKept old) (steps : Steps old worker note new) where
-  within : worker < old.shape.workers
+  pub within : worker < old.shape.workers
   within = is_worker old worker (Some steps.private) kept.all_privates steps.found
 
-  up : privates_seen old worker ≡ Some steps.private
+  pub up : privates_seen old worker ≡ Some steps.private
   up = up_at old worker (Some steps.private) steps.found
 
-  busy : steps.private.stage ≢ Resting
+  pub busy : steps.private.stage ≢ Resting
   busy = busy_at old new worker note steps
 
-  its : (steps.private.worker ≡ worker) × IsPrivate old.shape steps.private
+  pub its : (steps.private.worker ≡ worker) × IsPrivate old.shape steps.private
   its = fitting old.shape (memory_seen old) (privates_seen old) old.history worker steps.private kept.fact within up
 
-  tells : (n : Note) → note ≡ n → Tells old.shape steps.private.stage steps.value (private_after old.shape steps.private steps.value).stage n
+  pub tells : (n : Note) → note ≡ n → Tells old.shape steps.private.stage steps.value (private_after old.shape steps.private steps.value).stage n
   tells n e =
       subst (λ (m : Note). Tells old.shape steps.private.stage steps.value (private_after old.shape steps.private steps.value).stage m) (sym steps.says ∙ e)
       (told old.shape steps.private.worker steps.private.begun steps.value steps.private.stage)
@@ -133,10 +133,10 @@ module _ (old new : Seen) (worker : ℕ) (note : Note) (kept : IsKept old) (step
   not_blocked : (n : Note) → note ≡ n → n ≢ Blocked → note ≢ Blocked
   not_blocked n e apart b = apart (sym e ∙ b)
 
-  stay : IsStay old.shape steps.private.stage (count_of (counts_of old worker) (phase_of steps.private.stage))
+  pub stay : IsStay old.shape steps.private.stage (count_of (counts_of old worker) (phase_of steps.private.stage))
   stay = kept.stays worker steps.private within up
 
-  new_counts : counts_of new worker ≡ steps.counts
+  pub new_counts : counts_of new worker ≡ steps.counts
   new_counts = ap (λ (s : Seen). counts_of s worker) steps.goes ∙ ap (λ (c : Option Counts). unwrap_or c no_counts) (get_set old.counts worker steps.counts (omega (arith, kept.all_counts, within)))
 
   one_more : note ≢ Blocked → count_of (counts_of new worker) (phase_of steps.private.stage) ≡ count_of (counts_of old worker) (phase_of steps.private.stage) + 1

@@ -1,8 +1,13 @@
 -- What the look-ups show.
-use Rattle.std.specs.Prelude.{◌≡◌, ◌≢◌, ℕ, ◌<◌, Some, slice_get}
+use Rattle.std.specs.Prelude.{◌≡◌, ◌≢◌, ℕ, ◌+◌, ◌<◌, ◌≤◌, false, Some, slice_get}
 use Rattle.rme_tree.specs.Nodes.{nodes_of, held_in}
 use Rattle.rme_tree.specs.Rooted.{IsBlocked}
+use Rattle.rme_program.specs.declared.kinds.Phase.{Phase}
+use Rattle.rme_program.specs.declared.kinds.Phase.TheVariants.{Recover}
 use Rattle.rme_program.specs.declared.note.Entry.{Entry}
+use Rattle.rme_program.specs.declared.note.Note.{Note}
+use Rattle.rme_program.specs.declared.note.Note.TheVariants.{Quiet, Reentered}
+use Rattle.rme_program.specs.Phases.{phase_of}
 use Rattle.rme_program.specs.declared.note.Receipt.{Receipt}
 use Rattle.rme_program.specs.declared.private.Private.{Private}
 use Rattle.rme_program.specs.declared.stage.Ascent.{Ascent}
@@ -11,10 +16,10 @@ use Rattle.rme_program.specs.declared.stage.Visit.{Visit}
 use Rattle.rme_program.specs.declared.stage.Stage.TheVariants.{Resting, Climbing, Copying}
 use Rattle.rme_program.specs.Progress.{Falls}
 use Rattle.rme_program.specs.Steps.{withdrawn_place}
-use Rattle.rme_machine.specs.Histories.{last_by}
+use Rattle.rme_machine.specs.Histories.{last_by, has_entry}
 use Rattle.rme_machine.specs.Views.{WorkerWords, worker_words, slate_job}
-use Rattle.rme_world.specs.Counting.{section_steps}
-use Rattle.rme_world.specs.Seen.{Seen, memory_seen}
+use Rattle.rme_world.specs.Counting.{count_of, section_steps}
+use Rattle.rme_world.specs.Seen.{Seen, counts_of, memory_seen}
 
 -- The words of a worker have a receipt: its last job is done, and its number was not withdrawn.
 pub record HasReceipt (own : WorkerWords) : Type 0 where
@@ -30,6 +35,10 @@ pub record IsLastReceipt (seen : Seen) (worker : ℕ) (receipt : Receipt) : Type
   pub entry : Entry
   pub last : last_by seen.history worker ≡ Some entry
   pub same : receipt ≡ entry.receipt
+
+-- A worker is up, and in a phase.
+abbrev pub IsIn : Seen → ℕ → Phase → Type 0
+IsIn seen worker phase = (private : Private) × (slice_get seen.privates worker ≡ Some (Some private)) × (phase_of private.stage ≡ phase)
 
 -- A worker is up, and in phase Ready.
 abbrev pub IsReady : Seen → ℕ → Type 0
@@ -55,6 +64,18 @@ pub record IsWholeSection (seen : Seen) (worker count : ℕ) : Type 0 where
   pub reply : ℕ
   pub last : private.stage ≡ Copying (StoreDone visit mask reply)
   pub steps : count ≡ section_steps seen.shape (slate_job (words_seen seen worker)).script mask visit.parity
+
+-- The worker's last number was given up: it has no entry, and the words have no receipt.
+pub record IsGivenUp (seen : Seen) (worker number : ℕ) : Type 0 where
+  pub last_number : number ≡ (words_seen seen worker).done
+  pub no_entry : has_entry seen.history worker number ≡ false
+  pub no_receipt : HasReceipt (words_seen seen worker) → ⊥
+
+-- BOUNDED RE-ENTRY. The own steps of an owner's Recover are quiet, but step h + 3, which re-enters.
+pub record ComesBack (old new : Seen) (worker lock : ℕ) (note : Note) : Type 0 where
+  pub before : count_of (counts_of old worker) Recover < old.shape.height + 2 → (note ≡ Quiet) × IsIn new worker Recover
+  pub there : count_of (counts_of old worker) Recover ≡ old.shape.height + 2 → note ≡ Reentered lock
+  pub within : count_of (counts_of old worker) Recover ≤ old.shape.height + 2
 
 -- A worker climbs, and the next node of its path has the other side, which another worker holds.
 pub record IsStopped (seen : Seen) (worker : ℕ) : Type 0 where

@@ -18,9 +18,10 @@ impl World {
     ghost use Rattle.rme_program.specs.declared.note.Note.{Note};
     ghost use Rattle.rme_program.specs.declared.note.Receipt.{Receipt};
     ghost use Rattle.rme_program.specs.declared.kinds.Phase.TheVariants.{Recover, Section};
+    ghost use Rattle.rme_tree.specs.Nodes.{owner_in};
     ghost use Rattle.rme_world.specs.Counting.{count_of};
-    ghost use Rattle.rme_world.specs.Seen.{counts_of};
-    ghost use Rattle.rme_world.specs.Looks.{IsStopped, IsWholeSection, ComesOn};
+    ghost use Rattle.rme_world.specs.Seen.{counts_of, memory_seen};
+    ghost use Rattle.rme_world.specs.Looks.{IsStopped, IsWholeSection, IsGivenUp, IsIn, ComesBack, ComesOn};
     ghost use Rattle.rme_program.specs.declared.stage.Stage.{Stage};
     ghost use Rattle.rme_program.specs.declared.event.Event.{Event};
     ghost use Rattle.rme_program.specs.declared.event.Answer.{Answer};
@@ -38,7 +39,9 @@ impl World {
         ensures blocked { IfOk result (λ note. note ≡ Note.Blocked → IsStopped self.old worker) }
         ensures comes_on { IfOk result (λ note. note ≢ Note.Blocked → ComesOn self.old self.new worker) }
         ensures reentry { IfOk result (λ note. (lock : ℕ) → note ≡ Note.Reentered lock → count_of (counts_of self.new worker) Recover ≡ self.old.shape.height + 3) }
+        ensures comes_back { IfOk result (λ note. (lock : ℕ) → lock < self.old.shape.locks → owner_in self.old.shape (memory_seen self.old) lock ≡ Some worker → IsIn self.old worker Recover → ComesBack self.old self.new worker lock note) }
         ensures section { IfOk result (λ note. (receipt : Receipt) → note ≡ Note.Finished receipt → IsWholeSection self.old worker (count_of (counts_of self.new worker) Section)) }
+        ensures withdrew { IfOk result (λ note. (number : ℕ) → note ≡ Note.Withdrew number → IsGivenUp self.new worker number) }
         ensures refused { IfErr result (λ refusal. step_refusal self.old worker ≡ Some refusal) }
         ensures unchanged { OnErr result (self.new ≡ self.old) }
     {
