@@ -2,9 +2,11 @@
 //!
 //! A world holds the words that survive a crash and the private state of each worker that is up. `step` lets
 //! one worker make one own step, one operation on one word; `submit`, `crash`, `restart` and `withdraw` are
-//! the other events, and a list of events is one interleaving of the workers. The crate stands on
-//! rme_program, whose `next` and `after` decide each step, and on rme_words, which does it. Begin with
-//! `world.rt`.
+//! the other events, and a list of events is one interleaving of the workers. Whatever the list, the answers,
+//! the owners and the cells are those of a run of an abstract machine: this is the contract of `World::run`.
+//! The crate stands on rme_program, whose `next` and `after` decide each step, on rme_words, which does it,
+//! and on the laws of rme_machine, which say that each step is one of the machine's. Begin with `world.rt`,
+//! and for what is proved with `specs/Running.antt`.
 #![tactic(auto)]
 
 mod counts;
