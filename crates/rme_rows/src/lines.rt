@@ -1,5 +1,8 @@
 //! Rows on lines: bytes in, bytes out, exact to the byte.
 
+ghost use Rattle.std.specs.Prelude.{IfOk};
+ghost use Rattle.rme_rows.specs.Answered.{AreAnswers};
+
 use rme_server::run_lines;
 use std::alloc::Global;
 use std::process::Abort;
@@ -373,8 +376,10 @@ pub fn push_line(out: &mut Vec<u8>, line: &[u8]) -> Result<(), Fail> {
     Ok(())
 }
 
-/// What the lines of an input are answered.
-pub fn answers(alloc: Global, input: &[u8]) -> Result<Vec<u8>, Fail> {
+/// What the lines of an input are answered. The contract follows from that of `run_lines` alone.
+pub fn answers(alloc: Global, input: &[u8]) -> Result<Vec<u8>, Fail>
+    ensures { IfOk result (λ output. AreAnswers input.now output.items) }
+{
     let mut output = Vec::new(alloc);
     run_lines(alloc, input, &mut output)?;
     Ok(output)

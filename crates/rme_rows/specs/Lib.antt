@@ -1,0 +1,2 @@
+-- What a caller of the engine over bytes in memory may rely on.
+pub mod Answered
