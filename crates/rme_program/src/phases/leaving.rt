@@ -46,41 +46,28 @@ pub fn after(shape: Shape, begun: u32, departure: Departure, value: u64) -> (Sta
 {
     match departure {
         Departure::LoadExitTurn { lock } => (exit_stage(shape, lock, value as u32), Note::Quiet),
-        Departure::StoreExitTurn { lock, .. } => {
-            (
-                Stage::Leaving(Departure::Clear {
-                    lock,
-                    level: shape.height,
-                }),
-                Note::Quiet,
-            )
-        }
+        Departure::StoreExitTurn { lock, .. } => go_on(Departure::Clear {
+            lock,
+            level: shape.height,
+        }),
         Departure::Clear { lock, level } => {
             (
                 clear_stage(lock, level - 1),
                 cleared_note(shape, lock, level),
             )
         }
-        Departure::WithdrawPlace { lock, held } => {
-            (
-                Stage::Leaving(Departure::WithdrawAt { lock, held }),
-                Note::Quiet,
-            )
-        }
-        Departure::WithdrawAt { lock, held } => {
-            (
-                Stage::Leaving(Departure::WithdrawReply { lock, held }),
-                Note::Quiet,
-            )
-        }
-        Departure::WithdrawReply { lock, held } => {
-            (
-                Stage::Leaving(Departure::WithdrawDone { lock, held }),
-                Note::Quiet,
-            )
-        }
+        Departure::WithdrawPlace { lock, held } => go_on(Departure::WithdrawAt { lock, held }),
+        Departure::WithdrawAt { lock, held } => go_on(Departure::WithdrawReply { lock, held }),
+        Departure::WithdrawReply { lock, held } => go_on(Departure::WithdrawDone { lock, held }),
         Departure::WithdrawDone { lock, held } => (clear_stage(lock, held), Note::Withdrew(begun)),
     }
+}
+
+/// The exit goes on at this place, and the step brought nothing else about.
+fn go_on(departure: Departure) -> (Stage, Note)
+    ensures { result ≡ (Stage.Leaving departure, Note.Quiet) }
+{
+    (Stage::Leaving(departure), Note::Quiet)
 }
 
 /// So many levels are still to be cleared.

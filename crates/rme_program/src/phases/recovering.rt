@@ -37,28 +37,19 @@ pub fn after(shape: Shape, worker: u32, begun: u32, recovery: Recovery, value: u
     ensures stage { IsStage shape begun result.0 }
 {
     match recovery {
-        Recovery::LoadBegun => (Stage::Recovering(Recovery::LoadDone), Note::Quiet),
+        Recovery::LoadBegun => go_on(Recovery::LoadDone),
         Recovery::LoadDone => {
             if begun == 0 {
                 return (Stage::Resting, Note::Ready);
             }
             let pending = value < u64::from(begun);
-            (
-                Stage::Recovering(Recovery::LoadLock { pending }),
-                Note::Quiet,
-            )
+            go_on(Recovery::LoadLock { pending })
         }
-        Recovery::LoadLock { pending } => {
-            let lock = value as u32;
-            (
-                Stage::Recovering(Recovery::LoadPath {
-                    pending,
-                    lock,
-                    held: 0,
-                }),
-                Note::Quiet,
-            )
-        }
+        Recovery::LoadLock { pending } => go_on(Recovery::LoadPath {
+            pending,
+            lock: value as u32,
+            held: 0,
+        }),
         Recovery::LoadPath {
             pending,
             lock,
@@ -72,6 +63,13 @@ pub fn after(shape: Shape, worker: u32, begun: u32, recovery: Recovery, value: u
     }
 }
 
+/// The recovery goes on at this place, and the step brought nothing else about.
+fn go_on(recovery: Recovery) -> (Stage, Note)
+    ensures { result ≡ (Stage.Recovering recovery, Note.Quiet) }
+{
+    (Stage::Recovering(recovery), Note::Quiet)
+}
+
 /// So many nodes of the path are the worker's, the last of them just found.
 fn after_own(shape: Shape, pending: bool, lock: u32, held: u32) -> (Stage, Note)
     requires lock { lock < shape.locks }
@@ -82,14 +80,11 @@ fn after_own(shape: Shape, pending: bool, lock: u32, held: u32) -> (Stage, Note)
     if held == shape.height {
         return (re_entry(pending, lock), Note::Reentered(lock));
     }
-    (
-        Stage::Recovering(Recovery::LoadPath {
-            pending,
-            lock,
-            held,
-        }),
-        Note::Quiet,
-    )
+    go_on(Recovery::LoadPath {
+        pending,
+        lock,
+        held,
+    })
 }
 
 /// The whole path is the worker's: its section goes on, or its exit does.
