@@ -1,10 +1,11 @@
 //! Phase Section from the odd turn on: the worker copies what was written down, and then counts its job as
 //! done.
 
-ghost use Rattle.std.specs.Prelude.{◌≡◌, ◌<◌, ◌≤◌, ◌+◌, ◌/◌, IfSome};
+ghost use Rattle.std.specs.Prelude.{◌≡◌, ◌<◌, ◌≤◌, ◌+◌, ◌/◌, ℕ};
 ghost use Rattle.rme_words.specs.Words.{IsOfShape};
 ghost use Rattle.rme_program.specs.Steps.{redo_action, after_redo, copies_from};
 ghost use Rattle.rme_program.specs.Conditions.{IsRedo, IsStage};
+ghost use Rattle.rme_program.specs.Masks.{first_cell};
 ghost use Rattle.rme_program.specs.Did.{address_of};
 
 use crate::action::Action;
@@ -44,9 +45,9 @@ pub fn after(shape: Shape, worker: u32, begun: u32, redo: Redo, value: u64) -> (
     ensures after { result ≡ after_redo shape worker begun redo value }
     ensures stage { IsStage shape begun result.0 }
 {
-    let stage = match redo {
-        Redo::LoadMask { visit } => copies_from(visit, value, first_cell(value, 0, shape.cells)),
-        Redo::LoadShadow { visit, mask, cell } => Stage::Copying(Redo::StoreCell {
+    match redo {
+        Redo::LoadMask { visit } => copies_from(shape, visit, value, 0),
+        Redo::LoadShadow { visit, mask, cell } => go_on(Redo::StoreCell {
             visit,
             mask,
             cell,
@@ -57,30 +58,36 @@ pub fn after(shape: Shape, worker: u32, begun: u32, redo: Redo, value: u64) -> (
             mask,
             cell,
             ..
-        } => { copies_from(visit, mask, first_cell(mask, cell + 1, shape.cells)) }
-        Redo::LoadReply { visit, mask } => Stage::Copying(Redo::StoreReply {
+        } => copies_from(shape, visit, mask, cell + 1),
+        Redo::LoadReply { visit, mask } => go_on(Redo::StoreReply {
             visit,
             mask,
             reply: value,
         }),
-        Redo::StoreReply { visit, mask, reply } => Stage::Copying(Redo::StorePlace {
-            visit,
-            mask,
-            reply,
-        }),
-        Redo::StorePlace { visit, mask, reply } => Stage::Copying(Redo::StoreAt {
-            visit,
-            mask,
-            reply,
-        }),
-        Redo::StoreAt { visit, mask, reply } => Stage::Copying(Redo::StoreDone {
-            visit,
-            mask,
-            reply,
-        }),
-        Redo::StoreDone { visit, reply, .. } => return finished(worker, begun, visit, reply),
-    };
-    (stage, Note::Quiet)
+        Redo::StoreReply { visit, mask, reply } => go_on(Redo::StorePlace { visit, mask, reply }),
+        Redo::StorePlace { visit, mask, reply } => go_on(Redo::StoreAt { visit, mask, reply }),
+        Redo::StoreAt { visit, mask, reply } => go_on(Redo::StoreDone { visit, mask, reply }),
+        Redo::StoreDone { visit, reply, .. } => finished(worker, begun, visit, reply),
+    }
+}
+
+/// The section goes on at this place, and the step brought nothing else about.
+fn go_on(redo: Redo) -> (Stage, Note)
+    ensures { result ≡ (Stage.Copying redo, Note.Quiet) }
+{
+    (Stage::Copying(redo), Note::Quiet)
+}
+
+/// The mask's cells before `from` are copied.
+fn copies_from(shape: Shape, visit: Visit, mask: u64, from: u32) -> (Stage, Note)
+    requires lock { visit.lock < shape.locks }
+    ensures after { result ≡ (copies_from visit mask (first_cell mask from shape.cells), Note.Quiet) }
+    ensures stage { (begun : ℕ) → IsStage shape begun result.0 }
+{
+    match first_cell(mask, from, shape.cells) {
+        Some(cell) => go_on(Redo::LoadShadow { visit, mask, cell }),
+        None => go_on(Redo::LoadReply { visit, mask }),
+    }
 }
 
 /// The job is done.
@@ -98,14 +105,4 @@ fn finished(worker: u32, begun: u32, visit: Visit, reply: u64) -> (Stage, Note)
         Stage::Leaving(Departure::LoadExitTurn { lock: visit.lock }),
         Note::Finished(receipt),
     )
-}
-
-/// The mask's cells before `next` are copied.
-fn copies_from(visit: Visit, mask: u64, next: Option<u32>) -> Stage
-    ensures { result ≡ copies_from visit mask next }
-{
-    match next {
-        Some(cell) => Stage::Copying(Redo::LoadShadow { visit, mask, cell }),
-        None => Stage::Copying(Redo::LoadReply { visit, mask }),
-    }
 }
