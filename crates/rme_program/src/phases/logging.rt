@@ -1,12 +1,13 @@
 //! Phase Section until the turn is odd: the worker runs its script and writes down what it leaves.
 
-ghost use Rattle.std.specs.Prelude.{◌≡◌, ◌<◌, ◌≤◌, ◌+◌, ◌*◌, ◌^◌, ℕ, Some, length, replicate, IfSome, slice_set};
+ghost use Rattle.std.specs.Prelude.{◌≡◌, ◌<◌, ◌≤◌, ◌+◌, ◌*◌, ◌^◌, ℕ, Some, length, replicate, slice_set};
 ghost use Rattle.rme_words.specs.Words.{IsOfShape};
 ghost use Rattle.rme_script.specs.Programs.{Program};
 ghost use Rattle.rme_script.specs.Scripts.{IsScript};
 ghost use Rattle.rme_script.specs.Slates.{script_of};
 ghost use Rattle.rme_program.specs.Steps.{log_action, after_log, turn_stage, slate_stage, script_stage, cells_from_here, run_stage, shadows_from};
 ghost use Rattle.rme_program.specs.Conditions.{IsLog, IsStage, Takes};
+ghost use Rattle.rme_program.specs.Masks.{first_cell};
 ghost use Rattle.rme_program.specs.Did.{address_of};
 
 use crate::action::Action;
@@ -61,12 +62,9 @@ pub fn after(shape: Shape, begun: u32, log: Log, value: u64) -> Stage
             lock,
             turn,
             operations,
-            mut words,
+            words,
             loaded,
-        } => {
-            words[loaded as usize] = value;
-            slate_stage(shape, lock, turn, operations, words, loaded + 1)
-        }
+        } => word_stage(shape, lock, turn, operations, words, loaded, value),
         Log::LoadCells {
             lock,
             turn,
@@ -76,15 +74,7 @@ pub fn after(shape: Shape, begun: u32, log: Log, value: u64) -> Stage
             cell,
         } => {
             row.set(cell, value);
-            cells_from_here(
-                shape,
-                lock,
-                turn,
-                script,
-                named,
-                row,
-                first_cell(named, cell + 1, shape.cells),
-            )
+            cells_from_here(shape, lock, turn, script, named, row, cell + 1)
         }
         Log::StoreShadows {
             visit,
@@ -92,23 +82,18 @@ pub fn after(shape: Shape, begun: u32, log: Log, value: u64) -> Stage
             row,
             reply,
             cell,
-        } => {
-            shadows_from(
-                shape,
-                visit,
-                named,
-                row,
-                reply,
-                first_cell(named, cell + 1, shape.cells),
-            )
-        }
-        Log::StoreShadowReply { visit, named, .. } => Stage::Logging(Log::StoreMask {
-            visit,
-            named,
-        }),
-        Log::StoreMask { visit, .. } => Stage::Logging(Log::StoreTurn { visit }),
+        } => shadows_from(shape, visit, named, row, reply, cell + 1),
+        Log::StoreShadowReply { visit, named, .. } => go_on(Log::StoreMask { visit, named }),
+        Log::StoreMask { visit, .. } => go_on(Log::StoreTurn { visit }),
         Log::StoreTurn { visit } => Stage::Copying(Redo::LoadMask { visit }),
     }
+}
+
+/// The section goes on at this place.
+fn go_on(log: Log) -> Stage
+    ensures { result ≡ Stage.Logging log }
+{
+    Stage::Logging(log)
 }
 
 /// The turn is known: at an odd one all is written down already.
@@ -116,7 +101,7 @@ fn turn_stage(lock: u32, turn: u32) -> Stage
     ensures { result ≡ turn_stage lock turn }
 {
     if turn % 2 == 0 {
-        return Stage::Logging(Log::LoadLen { lock, turn });
+        return go_on(Log::LoadLen { lock, turn });
     }
     Stage::Copying(Redo::LoadMask {
         visit: Visit {
@@ -125,6 +110,25 @@ fn turn_stage(lock: u32, turn: u32) -> Stage
             parity: Parity::Odd,
         },
     })
+}
+
+/// One more word of the slate is known.
+fn word_stage(
+    shape: Shape,
+    lock: u32,
+    turn: u32,
+    operations: u32,
+    mut words: [u64; 24],
+    loaded: u32,
+    value: u64,
+) -> Stage
+    requires stage { IsLog shape (Log.LoadSlate lock turn operations words loaded) }
+    requires value { Takes shape (Stage.Logging (Log.LoadSlate lock turn operations words loaded)) value }
+    ensures after { result ≡ slate_stage shape lock turn operations (slice_set words loaded value) (loaded + 1) }
+    ensures stage { (begun : ℕ) → IsStage shape begun result }
+{
+    words[loaded as usize] = value;
+    slate_stage(shape, lock, turn, operations, words, loaded + 1)
 }
 
 /// So many words of the slate are known.
@@ -144,7 +148,7 @@ fn slate_stage(
     ensures stage { (begun : ℕ) → IsStage shape begun result }
 {
     if loaded < 3 * operations {
-        return Stage::Logging(Log::LoadSlate {
+        return go_on(Log::LoadSlate {
             lock,
             turn,
             operations,
@@ -167,18 +171,10 @@ fn script_stage(shape: Shape, lock: u32, turn: u32, script: Script) -> Stage
 {
     let named = mask_of(&script);
     let row = Row::zeros(shape);
-    cells_from_here(
-        shape,
-        lock,
-        turn,
-        script,
-        named,
-        row,
-        first_cell(named, 0, shape.cells),
-    )
+    cells_from_here(shape, lock, turn, script, named, row, 0)
 }
 
-/// The named cells before `next` are known; where there is no next, the script is run.
+/// The named cells before `from` are known; where there is no further one, the script is run.
 fn cells_from_here(
     shape: Shape,
     lock: u32,
@@ -186,17 +182,16 @@ fn cells_from_here(
     script: Script,
     named: u64,
     row: Row,
-    next: Option<u32>,
+    from: u32,
 ) -> Stage
     requires lock { lock < shape.locks }
     requires script { IsScript shape.cells script }
     requires row { length row ≡ shape.cells }
-    requires next { IfSome next (λ cell. cell < shape.cells) }
-    ensures after { result ≡ cells_from_here shape lock turn script named row next }
+    ensures after { result ≡ cells_from_here shape lock turn script named row (first_cell named from shape.cells) }
     ensures stage { (begun : ℕ) → IsStage shape begun result }
 {
-    match next {
-        Some(cell) => Stage::Logging(Log::LoadCells {
+    match first_cell(named, from, shape.cells) {
+        Some(cell) => go_on(Log::LoadCells {
             lock,
             turn,
             script,
@@ -221,40 +216,26 @@ fn run_stage(shape: Shape, lock: u32, turn: u32, script: Script, named: u64, mut
         operations: script.n(),
         cells: named,
     };
-    shadows_from(
-        shape,
-        Visit { lock, turn, parity },
-        named,
-        row,
-        reply,
-        first_cell(named, 0, shape.cells),
-    )
+    let visit = Visit { lock, turn, parity };
+    shadows_from(shape, visit, named, row, reply, 0)
 }
 
-/// The shadow words of the named cells before `next` are stored.
-fn shadows_from(
-    shape: Shape,
-    visit: Visit,
-    named: u64,
-    row: Row,
-    reply: u64,
-    next: Option<u32>,
-) -> Stage
+/// The shadow words of the named cells before `from` are stored.
+fn shadows_from(shape: Shape, visit: Visit, named: u64, row: Row, reply: u64, from: u32) -> Stage
     requires lock { visit.lock < shape.locks }
     requires row { length row ≡ shape.cells }
-    requires next { IfSome next (λ cell. cell < shape.cells) }
-    ensures after { result ≡ shadows_from visit named row reply next }
+    ensures after { result ≡ shadows_from visit named row reply (first_cell named from shape.cells) }
     ensures stage { (begun : ℕ) → IsStage shape begun result }
 {
-    match next {
-        Some(cell) => Stage::Logging(Log::StoreShadows {
+    match first_cell(named, from, shape.cells) {
+        Some(cell) => go_on(Log::StoreShadows {
             visit,
             named,
             row,
             reply,
             cell,
         }),
-        None => Stage::Logging(Log::StoreShadowReply {
+        None => go_on(Log::StoreShadowReply {
             visit,
             named,
             reply,
