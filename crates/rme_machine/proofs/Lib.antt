@@ -7,7 +7,6 @@ pub mod Events
 pub mod Exits
 pub mod Faces
 pub mod Finishing
-pub mod Firsts
 pub mod Historical
 pub mod Kept
 pub mod Lasts

@@ -14,7 +14,7 @@ use Rattle.rme_machine.specs.Views.{WorkerWords, LockWords, worker_words, site_o
 use Rattle.rme_machine.specs.Shown.{Privates, lock_owned, job_of, worker_by, shown_worker, shown}
 use Rattle.rme_machine.specs.Fact.{Fact}
 use Rattle.rme_machine.specs.Changes.{Became}
-use Rattle.rme_machine.proofs.Firsts.{first_passes, first_same, first_only, first_fails}
+use Rattle.rme_tree.proofs.Firsts.{first_passes, first_same, first_only, first_fails}
 use Rattle.rme_machine.proofs.Historical.{last_by_other, withdrawn_other}
 use Rattle.rme_machine.proofs.Lists.{made_same, made_get, made_set}
 use Rattle.rme_machine.proofs.Moves.{OwnMove, LockMove, NodeMove}

@@ -1,8 +1,10 @@
 -- In the order in which they stand on one another: the levels of a path, what is held, the laws of one step,
--- the owner, the clause on single nodes, the descent from the root, the stores of a memory.
+-- the first number that passes a test, the owner, the clause on single nodes, the descent from the root, the
+-- stores of a memory.
 pub mod Levels
 pub mod Holding
 pub mod Steps
+pub mod Firsts
 pub mod Ownership
 pub mod Local
 pub mod Descent

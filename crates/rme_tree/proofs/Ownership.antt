@@ -1,52 +1,12 @@
 -- The owner is the worker that holds every level of its path, and how a step of one worker moves the ownership.
-use Rattle.std.proofs.Common.{◌≡◌, ◌≢◌, ℕ, zero, suc, ◌^◌, ◌<◌, ◌≤◌, ◌⊎◌, Bool, true, false, eqb, refl, sym, ◌∙◌, ap, ap₂, subst, inl, inr, arith, Option, Some, None}
-use Rattle.std.specs.Prelude.{if◌then◌else◌}
-use Rattle.std.specs.Option.{option_or}
+use Rattle.std.proofs.Common.{◌≡◌, ◌≢◌, ℕ, zero, suc, ◌^◌, ◌<◌, ◌≤◌, Bool, true, false, eqb, refl, sym, ◌∙◌, ap, subst, inl, inr, arith, Option, Some, None}
 use Rattle.std.proofs.lemmas.Bool.{cases_eq, eqb-true, eqb-false, ne_eqb}
-use Rattle.std.proofs.lemmas.Option.{same_Some, none-some}
-use Rattle.rme_tree.specs.Paths.{node, held, owner, first_of_all, Owns}
+use Rattle.rme_tree.specs.Paths.{node, held, owner, Owns}
 use Rattle.rme_tree.specs.Rooted.{Holder, TreeStep}
 use Rattle.rme_tree.specs.Laws.{OwnerLaw, OwnerStepLaw, SameTreeLaw}
+use Rattle.rme_tree.proofs.Firsts.{first_passes, first_none, first_same}
 use Rattle.rme_tree.proofs.Holding.{held_at, held_within, held_least, held_same}
 use Rattle.rme_tree.proofs.Steps.{same_owner}
-
-either_some : (early : Option ℕ) (late : Bool) (n w : ℕ) → option_or early (if late then Some n else None) ≡ Some w
-    → (early ≡ Some w) ⊎ ((late ≡ true) × (n ≡ w))
-either_some None true n w e = inr (refl, same_Some n w e)
-either_some None false n w e = absurd (none-some w e)
-either_some (Some x) late n w e = inl e
-
-either_none : (early : Option ℕ) (late : Bool) (n : ℕ) → option_or early (if late then Some n else None) ≡ None → (early ≡ None) × (late ≡ false)
-either_none None true n e = absurd (none-some n (sym e))
-either_none None false n e = (refl, refl)
-either_none (Some x) late n e = absurd (none-some x (sym e))
-
--- What is found is below the bound and passes the test.
-first_passes : (n : ℕ) (test : ℕ → Bool) (w : ℕ) → first_of_all n test ≡ Some w → (w < n) × (test w ≡ true)
-first_passes zero test w e = absurd (none-some w e)
-first_passes (suc n) test w e =
-    elim (either_some (first_of_all n test) (test n) n w e) [
-      | inl early ↦ (let at : (w < n) × (test w ≡ true) = first_passes n test w early in (omega (arith, at.0), at.1))
-      | inr late ↦ (omega (arith, late.1), (let P : ℕ → Type 0 = λ n. test n ≡ true in subst P late.1 late.0))
-    ]
-
--- Where nothing is found nothing passes.
-first_none : (n : ℕ) (test : ℕ → Bool) (w : ℕ) → first_of_all n test ≡ None → w < n → test w ≡ false
-first_none zero test w e less = absurd (omega arith)
-first_none (suc n) test w e less =
-    let parts : (first_of_all n test ≡ None) × (test n ≡ false) = either_none (first_of_all n test) (test n) n e in
-    elim (cases_eq w n) [
-      | inl same ↦ (let P : ℕ → Type 0 = λ n. test n ≡ false in subst P (sym same) parts.1)
-      | inr below ↦ first_none n test w parts.0 (omega arith)
-    ]
-
--- Tests that agree below the bound find the same.
-first_same : (n : ℕ) (one other : ℕ → Bool) → ((w : ℕ) → w < n → one w ≡ other w) → first_of_all n one ≡ first_of_all n other
-first_same zero one other same = refl
-first_same (suc n) one other same =
-    ap₂ (λ (early : Option ℕ) (late : Bool). option_or early (if late then Some n else None))
-    (first_same n one other (λ w less. same w (omega arith)))
-    (same n (omega arith))
 
 -- A worker owns the lock exactly where it holds every level.
 pub owns-held : (f : ℕ → ℕ) (m h w : ℕ) → Owns f m h w → held f m w h ≡ h
