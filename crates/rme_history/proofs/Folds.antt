@@ -1,22 +1,20 @@
 -- What a replay has found before any entry, and after one more.
-use Rattle.std.proofs.Common.{◌≡◌, ℕ, zero, suc, ◌+◌, ◌<◌, List, [], ◌∷◌, ◌++◌, refl, sym, ◌∙◌, ap}
-use Rattle.std.specs.Prelude.{map, replicate, slice_set}
-use Rattle.std.specs.List.{range_with_len}
+use Rattle.std.proofs.Common.{◌≡◌, ℕ, ◌+◌, ◌<◌, List, [], ◌∷◌, ◌++◌, refl, sym, ◌∙◌, ap}
+use Rattle.std.specs.Prelude.{replicate, slice_set}
 use Rattle.rme_words.specs.declared.shape.Shape.{Shape}
 use Rattle.rme_script.specs.Eval.{eval_of}
 use Rattle.rme_program.specs.declared.note.Entry.{Entry}
 use Rattle.rme_machine.specs.Histories.{place_of, row_from, rows}
 use Rattle.rme_machine.proofs.Historical.{place_same, place_other, row_same, row_other}
-use Rattle.rme_machine.proofs.Lists.{made_set}
+use Rattle.rme_machine.proofs.Lists.{made_of_one, made_set}
 use Rattle.rme_history.specs.Folds.{IsFold}
-
-made_alike : {A : Type 0} (x : A) (n from : ℕ) → replicate n x ≡ map (λ (i : ℕ). x) (range_with_len from n)
-made_alike x zero from = refl
-made_alike x (suc n) from = ap (λ (xs : List _). x ∷ xs) (made_alike x n (from + 1))
 
 pub fold_none : (s : Shape) → IsFold s [] (replicate s.locks (replicate s.cells 0)) (replicate s.locks 0)
 unfolding place_of row_from
-fold_none s = record { rows = made_alike (replicate s.cells 0) s.locks 0; places = made_alike 0 s.locks 0 }
+fold_none s = record {
+  rows = sym (made_of_one (λ (lock : ℕ). rows s [] lock) (replicate s.cells 0) 0 s.locks (λ lock below. refl));
+  places = sym (made_of_one (λ (lock : ℕ). place_of [] lock) 0 0 s.locks (λ lock below. refl));
+}
 
 -- One entry more: its lock's row is what its script leaves, and its lock has one entry more.
 pub fold_more : (s : Shape) (es : List Entry) (e : Entry) (cells : List (List ℕ)) (counts row : List ℕ) (count : ℕ) → e.receipt.lock < s.locks

@@ -8,7 +8,7 @@ use Rattle.std.proofs.lemmas.Option.{get_or_from_slice_get, slice_get_within, sa
 use Rattle.std.proofs.Math.Seq.{take-append_seam}
 use Rattle.rme_words.specs.declared.shape.Shape.{Shape}
 use Rattle.rme_script.specs.Eval.{eval_of}
-use Rattle.rme_script.proofs.Lists.{drop_at}
+use Rattle.rme_script.proofs.Lists.{drop_at, get_seam}
 use Rattle.rme_program.specs.declared.note.Entry.{Entry}
 use Rattle.rme_program.specs.Conditions.{IsJob}
 use Rattle.rme_machine.specs.Histories.{place_of, row_from}
@@ -53,11 +53,6 @@ get_more (z ∷ zs) x y (suc i) at = elim (get_more zs x y i at) [
   | inl old ↦ inl (omega (arith, old.0), old.1)
   | inr new ↦ inr (ap suc new.0, new.1)
 ]
-
--- What a list has where two parts of it meet.
-pub get_seam : {A : Type 0} (xs ys : List A) (x : A) → slice_get (xs ++ x ∷ ys) (length xs) ≡ Some x
-get_seam [] ys x = refl
-get_seam (z ∷ zs) ys x = get_seam zs ys x
 
 module _ (s : Shape) where
   pub legal_none : AreLegal s []

@@ -5,11 +5,12 @@ use Rattle.std.proofs.lemmas.List.{append-nil}
 use Rattle.std.proofs.lemmas.List.Elements.{All-nil, All-cons, All-head, All-tail}
 use Rattle.std.proofs.Math.Seq.{take-append_seam}
 use Rattle.rme_words.specs.declared.shape.Shape.{Shape}
+use Rattle.rme_script.proofs.Lists.{get_seam}
 use Rattle.rme_program.specs.declared.note.Entry.{Entry}
 use Rattle.rme_machine.specs.Histories.{IsDue, IsLegalAfter}
 use Rattle.rme_history.specs.Legal.{AreLegal, Follows}
 use Rattle.rme_history.specs.Laws.{LegalLaw}
-use Rattle.rme_history.proofs.Legal.{legal_none, legal_more, follows_in, get_seam}
+use Rattle.rme_history.proofs.Legal.{legal_none, legal_more, follows_in}
 
 abbrev IsWorker : Shape → Entry → Type 0
 IsWorker s e = e.receipt.worker < s.workers

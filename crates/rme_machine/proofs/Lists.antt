@@ -1,6 +1,6 @@
 -- Lists made of a function over 0 .. n - 1.
-use Rattle.std.proofs.Common.{◌≡◌, ◌≢◌, ℕ, ◌<◌, List, length, get_or, sym, ◌∙◌, ap, inl, inr, arith}
-use Rattle.std.specs.Prelude.{Some, map, slice_get, slice_set}
+use Rattle.std.proofs.Common.{◌≡◌, ◌≢◌, ℕ, zero, suc, ◌+◌, ◌<◌, List, ◌∷◌, length, get_or, refl, sym, ◌∙◌, ap, ap₂, inl, inr, arith}
+use Rattle.std.specs.Prelude.{Some, map, replicate, slice_get, slice_set}
 use Rattle.std.specs.List.{range_with_len}
 use Rattle.std.proofs.lemmas.Bool.{cases_eq}
 use Rattle.std.proofs.lemmas.List.{same_lists, length-set, set-get_or, get_or-set_same, get_or-set_other}
@@ -41,6 +41,12 @@ made_set f g n j x within at off =
           (made_at g n k d inside ∙ off k inside apart
           ∙ sym (get_or-set_other (map f (range_with_len 0 n)) j k x d apart ∙ made_at f n k d inside))
     ])
+
+-- A function that is the same everywhere makes one value many times.
+pub made_of_one : {A : Type 0} (f : ℕ → A) (x : A) (from n : ℕ) → ((i : ℕ) → i < from + n → f i ≡ x) → map f (range_with_len from n) ≡ replicate n x
+made_of_one {A = A} f x from zero same = refl
+made_of_one {A = A} f x from (suc n) same =
+    ap₂ (λ (head : A) (rest : List A). head ∷ rest) (same from (omega arith)) (made_of_one f x (from + 1) n (λ i below. same i (omega (arith, below))))
 
 -- To store what stands there changes nothing.
 pub set_same : {A : Type 0} (xs : List A) (i : ℕ) (x : A) → slice_get xs i ≡ Some x → slice_set xs i x ≡ xs

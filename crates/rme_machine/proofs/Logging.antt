@@ -16,6 +16,7 @@ use Rattle.rme_script.specs.Scripts.{IsScript}
 use Rattle.rme_script.specs.Slates.{script_of}
 use Rattle.rme_script.proofs.Laws.{eval_length}
 use Rattle.rme_script.proofs.Rising.{has_named}
+use Rattle.rme_script.proofs.Weaker.{named_below}
 use Rattle.rme_program.proofs.MaskLemmas.{mask_of-is_mask}
 use Rattle.rme_program.specs.declared.note.Entry.{Entry}
 use Rattle.rme_program.specs.declared.stage.Stage.{Stage}
@@ -40,7 +41,7 @@ use Rattle.rme_machine.specs.Changes.{Became, history_after}
 use Rattle.rme_machine.specs.Laws.{Goes}
 use Rattle.rme_machine.proofs.Moves.{LockMove, turn_move, shadow_move, shadow_reply_move, mask_move, cells_long, shadows_long, slate_long, cell_read, slate_read}
 use Rattle.rme_machine.proofs.Masking.{next_some, same_start, same_next, same_all, same_stored}
-use Rattle.rme_machine.proofs.Scripts.{IsPosted, posted, script_same, words_more, left_same, named_within}
+use Rattle.rme_machine.proofs.Scripts.{IsPosted, posted, script_same, words_more, left_same}
 use Rattle.rme_machine.proofs.Owning.{Owner, Inside, logs, copies, stands_even, quiet_load, quiet_lock}
 
 -- Where a section goes on, for each of its loads. `lock` are the words of its lock.
@@ -110,7 +111,7 @@ logged_now : (s : Shape) (lock : LockWords) (turn : ℕ) (row : List ℕ) (place
     → lock.shadow_reply ≡ (left_by lock script).reply → IsLogged s record lock { turn = turn + 1 } row place script
 logged_now s lock turn row place script settled odd shaped mask shadows replies =
     let named : (c : ℕ) → has lock.mask c ≡ named_by script.ops c = λ c. ap (λ (m : ℕ). has m c) mask ∙ has_named (mask_of script.ops) script.ops (mask_of-is_mask script.ops) c in
-    let within : (c : ℕ) → has lock.mask c ≡ true → c < s.cells = λ c set. named_within s.cells script.ops c shaped.within (sym (named c) ∙ set) in
+    let within : (c : ℕ) → has lock.mask c ≡ true → c < s.cells = λ c set. named_below s.cells script.ops c shaped.within (sym (named c) ∙ set) in
     let left : (eval_of script.ops row).row ≡ (left_by lock script).row = ap (λ (cells : List ℕ). (eval_of script.ops cells).row) (sym settled.cells) in
     record {
       turn = odd;

@@ -1,7 +1,6 @@
 -- The opening: all words are 0, and all workers are ready.
-use Rattle.std.proofs.Common.{◌≡◌, ℕ, zero, suc, ◌+◌, ◌<◌, List, [], ◌∷◌, refl, sym, ◌∙◌, ap₂, subst, arith}
-use Rattle.std.specs.Prelude.{true, false, Option, Some, None, map, replicate}
-use Rattle.std.specs.List.{range_with_len}
+use Rattle.std.proofs.Common.{◌≡◌, ℕ, ◌<◌, List, [], refl, sym, ◌∙◌, ap₂, subst, arith}
+use Rattle.std.specs.Prelude.{true, false, Option, Some, None}
 use Rattle.std.proofs.lemmas.Option.{same_Some}
 use Rattle.rme_words.specs.declared.shape.Shape.{Shape}
 use Rattle.rme_words.specs.declared.address.Address.{Address}
@@ -19,14 +18,9 @@ use Rattle.rme_machine.specs.Fits.{Fits}
 use Rattle.rme_machine.specs.Fact.{Fact, Account, Stands}
 use Rattle.rme_machine.specs.Laws.{OpeningLaw}
 use Rattle.rme_machine.proofs.Kept.{owner_holds_in}
+use Rattle.rme_machine.proofs.Lists.{made_of_one}
 use Rattle.rme_machine.proofs.Shows.{owned_none}
 use Rattle.rme_machine.proofs.Faces.{shown_as}
-
--- A function that is the same everywhere makes one value many times.
-made_of_one : {A : Type 0} (f : ℕ → A) (x : A) (from n : ℕ) → ((i : ℕ) → i < from + n → f i ≡ x) → map f (range_with_len from n) ≡ replicate n x
-made_of_one {A = A} f x from zero same = refl
-made_of_one {A = A} f x from (suc n) same =
-    ap₂ (λ (head : A) (rest : List A). head ∷ rest) (same from (omega arith)) (made_of_one f x (from + 1) n (λ i below. same i (omega (arith, below))))
 
 module _ (s : Shape) (mem : Address → ℕ) (privs : Privates) (blank : (address : Address) → mem address ≡ 0)
     (ready : (worker : ℕ) → worker < s.workers → privs worker ≡ Some (ready_private worker 0)) where

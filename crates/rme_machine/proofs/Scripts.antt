@@ -1,19 +1,18 @@
 -- The script that a section runs: what it is told by, and what it leaves on cells that were loaded one by one.
-use Rattle.std.proofs.Common.{◌≡◌, ℕ, zero, suc, ◌+◌, ◌*◌, ◌<◌, ◌≤◌, List, [], ◌∷◌, ◌++◌, length, take, subst, refl, sym, ◌∙◌, ap, inl, inr, arith}
-use Rattle.std.specs.Prelude.{true, ◌==◌, ◌||◌, nat_lt, slice_index, slice_set, Option, Some, None, unwrap_or, if◌then◌else◌}
-use Rattle.std.proofs.lemmas.Bool.{cases_lt, or_cases, eqb-true}
-use Rattle.std.specs.List.{All}
-use Rattle.std.proofs.lemmas.List.Elements.{All-head, All-tail}
-use Rattle.std.proofs.lemmas.List.{get_or_past, take_more, take_more_set}
+use Rattle.std.proofs.Common.{◌≡◌, ℕ, zero, suc, ◌+◌, ◌*◌, ◌<◌, ◌≤◌, List, [], ◌∷◌, length, take, subst, refl, sym, ◌∙◌, ap, inl, inr, arith}
+use Rattle.std.specs.Prelude.{nat_lt, slice_index, slice_set, Option, Some, None, unwrap_or, if◌then◌else◌}
+use Rattle.std.proofs.lemmas.Bool.{cases_lt}
+use Rattle.std.proofs.lemmas.List.{get_or_past}
+use Rattle.std.proofs.lemmas.Option.{slice_get-get_or}
 use Rattle.rme_words.specs.declared.shape.Shape.{Shape}
 use Rattle.rme_script.specs.declared.op.Op.{Op}
-use Rattle.rme_script.specs.declared.op.Op.TheVariants.{Get, Set, Add, Copy, Swap}
-use Rattle.rme_script.specs.Cells.{has, names, named_by}
+use Rattle.rme_script.specs.Cells.{has, named_by}
 use Rattle.rme_script.specs.Eval.{eval_of, AgreeNamed}
 use Rattle.rme_script.specs.Programs.{Program}
-use Rattle.rme_script.specs.Scripts.{IsWithin, IsScript}
+use Rattle.rme_script.specs.Scripts.{IsScript}
 use Rattle.rme_script.specs.Slates.{IsSlate, op_of, joined, ops_of, script_by, script_of}
 use Rattle.rme_script.proofs.Laws.{eval_local}
+use Rattle.rme_script.proofs.Lists.{take_stored}
 use Rattle.rme_script.proofs.Rising.{has_named}
 use Rattle.rme_script.proofs.Slates.{script_slate}
 use Rattle.rme_program.specs.Masks.{mask_of}
@@ -43,10 +42,7 @@ script_same n words others same =
 pub words_more : (words others : List ℕ) (loaded x : ℕ) → loaded < length words → loaded < length others → x ≡ slice_index others loaded
     → take loaded words ≡ take loaded others → take (loaded + 1) (slice_set words loaded x) ≡ take (loaded + 1) others
 words_more words others loaded x within within_others is same =
-    take_more_set words loaded x within
-    ∙ ap (λ (front : List ℕ). front ++ x ∷ []) same
-    ∙ ap (λ (y : ℕ). take loaded others ++ y ∷ []) is
-    ∙ sym (take_more others loaded 0 within_others)
+    take_stored words others loaded x within (slice_get-get_or others loaded 0 within_others ∙ ap (λ (y : ℕ). Some y) (sym is)) same
 
 -- The script of a pending job.
 pub record IsPosted (s : Shape) (own : WorkerWords) (script : Program) : Type 0 where
@@ -86,24 +82,3 @@ left_same ops cells row others long long_others same =
     } in
     let left : AgreeNamed ops (eval_of ops row).row (eval_of ops others).row × ((eval_of ops row).reply ≡ (eval_of ops others).reply) = eval_local ops row others agree in
     (λ c below t. left.0.at c (sym (named c) ∙ t), left.1)
-
--- The cells that a script of a shape names are cells of the shape.
-either_within : (cells a b c : ℕ) → a < cells → b < cells → ((a == c) || (b == c)) ≡ true → c < cells
-either_within cells a b c first second t = elim (or_cases (a == c) (b == c) t) [
-  | inl l ↦ let same = eqb-true a c l in omega (arith, same, first)
-  | inr r ↦ let same = eqb-true b c r in omega (arith, same, second)
-]
-
-names_within : (cells : ℕ) (o : Op) (c : ℕ) → IsWithin cells o → names o c ≡ true → c < cells
-names_within cells (Get a) c within t = let same = eqb-true a c t in omega (arith, same, within)
-names_within cells (Set a v) c within t = let same = eqb-true a c t in omega (arith, same, within)
-names_within cells (Add a v) c within t = let same = eqb-true a c t in omega (arith, same, within)
-names_within cells (Copy a b) c within t = either_within cells a b c within.0 within.1 t
-names_within cells (Swap a b) c within t = either_within cells a b c within.0 within.1 t
-
-pub named_within : (cells : ℕ) (ops : List Op) (c : ℕ) → All (IsWithin cells) ops → named_by ops c ≡ true → c < cells
-named_within cells [] c within t = cc
-named_within cells (o ∷ os) c within t = elim (or_cases (names o c) (named_by os c) t) [
-  | inl here ↦ names_within cells o c (All-head (IsWithin cells) o os within) here
-  | inr later ↦ named_within cells os c (All-tail (IsWithin cells) o os within) later
-]

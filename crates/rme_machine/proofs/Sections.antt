@@ -8,6 +8,7 @@ use Rattle.std.proofs.Math.Seq.{take-length}
 use Rattle.std.proofs.lemmas.List.Elements.{filter-append}
 use Rattle.rme_words.specs.declared.shape.Shape.{Shape}
 use Rattle.rme_script.specs.Eval.{eval_of}
+use Rattle.rme_script.proofs.Lists.{get_seam}
 use Rattle.rme_program.specs.declared.note.Entry.{Entry}
 use Rattle.rme_machine.specs.Histories.{place_of, row_from, rows, last_of, last_at, IsDue, IsLegalAfter, IsLegal}
 use Rattle.rme_machine.specs.Clauses.{entries_at, rows_before}
@@ -86,10 +87,6 @@ split s earlier (x ∷ es) l e legal found =
         let P : List Entry → Type 0 = λ all. IsSplit s all l e in
         subst P (append_assoc earlier (x ∷ []) es) (rest (is ∙ one))
 
-at_end : (xs : List Entry) (e : Entry) → slice_get (xs ++ e ∷ []) (length xs) ≡ Some e
-at_end [] e = refl
-at_end (x ∷ xs) e = at_end xs e
-
 -- The last entry of a lock, in a legal history: it stands at the last place, its reply is that of its script on
 -- the fold of those before it, and the rows are what the script leaves on that fold.
 pub record IsLastSection (s : Shape) (es : List Entry) (l : ℕ) (e : Entry) : Type 0 where
@@ -110,7 +107,7 @@ last_section s es l e legal found =
     record {
       place = length before;
       next = place_count es l ∙ ap length one.all ∙ length-append before (e ∷ []);
-      there = ap (λ (some : List Entry). slice_get some (length before)) one.all ∙ at_end before e;
+      there = ap (λ (some : List Entry). slice_get some (length before)) one.all ∙ get_seam before [] e;
       row = row_entries (replicate s.cells 0) es l ∙ ap (λ (some : List Entry). row_from (replicate s.cells 0) some l) one.all
           ∙ row_same (replicate s.cells 0) before e l at
           ∙ ap (λ (row : List ℕ). (eval_of e.script.ops row).row) (sym (row_entries (replicate s.cells 0) one.before l) ∙ sym fold);

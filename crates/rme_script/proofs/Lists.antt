@@ -1,18 +1,21 @@
 -- What a list has at a place, and the list from there on and up to there.
-use Rattle.std.proofs.Common.{◌≡◌, ℕ, zero, suc, ◌+◌, Some, List, [], ◌∷◌, ◌++◌, take, drop, slice_get, add-one}
-
-drop_here : {X : Type 0} (xs : List X) (i : ℕ) (x : X) → slice_get xs i ≡ Some x → drop i xs ≡ x ∷ drop (suc i) xs
-drop_here [] i x e = cc
-drop_here (y ∷ ys) zero x e = cc
-drop_here (y ∷ ys) (suc i) x e = drop_here ys i x e
+use Rattle.std.proofs.Common.{◌≡◌, ℕ, ◌+◌, ◌<◌, Some, List, [], ◌∷◌, ◌++◌, length, take, drop, slice_get, refl, sym, ◌∙◌, ap}
+use Rattle.std.specs.Prelude.{slice_set}
+use Rattle.std.proofs.lemmas.List.{drop_more, take_more, take_more_set}
+use Rattle.std.proofs.lemmas.Option.{slice_get_within, get_or_from_slice_get}
 
 pub drop_at : {X : Type 0} (xs : List X) (i : ℕ) (x : X) → slice_get xs i ≡ Some x → drop i xs ≡ x ∷ drop (i + 1) xs
-drop_at xs i x e = rw add-one (drop_here xs i x e)
-
-take_here : {X : Type 0} (xs : List X) (i : ℕ) (x : X) → slice_get xs i ≡ Some x → take (suc i) xs ≡ take i xs ++ x ∷ []
-take_here [] i x e = cc
-take_here (y ∷ ys) zero x e = cc
-take_here (y ∷ ys) (suc i) x e = let h = take_here ys i x e in cc
+drop_at {X = X} xs i x e = drop_more xs i x (slice_get_within xs i x e) ∙ ap (λ (y : X). y ∷ drop (i + 1) xs) (get_or_from_slice_get xs i x x e)
 
 pub take_next : {X : Type 0} (xs : List X) (i : ℕ) (x : X) → slice_get xs i ≡ Some x → take (i + 1) xs ≡ take i xs ++ x ∷ []
-take_next xs i x e = rw add-one (take_here xs i x e)
+take_next {X = X} xs i x e = take_more xs i x (slice_get_within xs i x e) ∙ ap (λ (y : X). take i xs ++ y ∷ []) (get_or_from_slice_get xs i x x e)
+
+-- Where two lists agree up to a place, and what the other has there is stored in the one, they agree one further.
+pub take_stored : {X : Type 0} (xs ys : List X) (i : ℕ) (x : X) → i < length xs → slice_get ys i ≡ Some x → take i xs ≡ take i ys
+    → take (i + 1) (slice_set xs i x) ≡ take (i + 1) ys
+take_stored {X = X} xs ys i x within at same = take_more_set xs i x within ∙ ap (λ (front : List X). front ++ x ∷ []) same ∙ sym (take_next ys i x at)
+
+-- What stands where two parts of a list meet.
+pub get_seam : {X : Type 0} (xs ys : List X) (x : X) → slice_get (xs ++ x ∷ ys) (length xs) ≡ Some x
+get_seam [] ys x = refl
+get_seam (z ∷ zs) ys x = get_seam zs ys x

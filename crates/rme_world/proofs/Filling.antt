@@ -1,32 +1,20 @@
 -- Lists that are filled from the front on.
-use Rattle.std.proofs.Common.{◌≡◌, ℕ, zero, suc, ◌+◌, ◌/◌, ◌%◌, ◌<◌, ◌≤◌, List, [], ◌∷◌, length, take, sym, ◌∙◌, ap, subst, arith}
-use Rattle.std.specs.Prelude.{Some, map, slice_get, slice_set}
+use Rattle.std.proofs.Common.{◌≡◌, ℕ, ◌+◌, ◌/◌, ◌%◌, ◌<◌, ◌≤◌, List, length, take, sym, ◌∙◌, ap, subst, arith}
+use Rattle.std.specs.Prelude.{Some, map, slice_set}
 use Rattle.std.specs.List.{range_with_len}
 use Rattle.std.proofs.lemmas.List.{take_all}
 use Rattle.std.proofs.lemmas.List.FromFn.{length-map-range_with_len}
-use Rattle.std.proofs.lemmas.Option.{none-some}
 use Rattle.rme_words.specs.declared.address.Address.{Address}
 use Rattle.rme_words.specs.declared.address.Address.TheVariants.{SlateWord}
+use Rattle.rme_script.proofs.Lists.{take_stored}
 use Rattle.rme_machine.specs.Views.{slate_at}
 use Rattle.rme_machine.proofs.Lists.{made_get}
-
-filled : {A : Type 0} (xs ys : List A) (i : ℕ) (x : A) → i < length xs → slice_get ys i ≡ Some x → take i xs ≡ take i ys → take (suc i) (slice_set xs i x) ≡ take (suc i) ys
-filled [] ys i x within at same = absurd (omega (arith, within))
-filled (a ∷ xs) [] i x within at same = absurd (none-some x at)
-filled (a ∷ xs) (b ∷ ys) zero x within at same = cc
-filled {A = A} (a ∷ xs) (b ∷ ys) (suc i) x within at same =
-    let cons : a ∷ take i xs ≡ b ∷ take i ys = same in
-    let heads : a ≡ b = cc in
-    let tails : take i xs ≡ take i ys = cc in
-    ap (λ (h : A). h ∷ take (suc i) (slice_set xs i x)) heads ∙ ap (λ (t : List A). b ∷ t) (filled xs ys i x (omega (arith, within)) at tails)
 
 -- One more item of a list that a function makes.
 pub filled_next : {A : Type 0} (f : ℕ → A) (n : ℕ) (xs : List A) (i : ℕ) (x : A) → length xs ≡ n → i < n → x ≡ f i
     → take i xs ≡ take i (map f (range_with_len 0 n)) → take (i + 1) (slice_set xs i x) ≡ take (i + 1) (map f (range_with_len 0 n))
 filled_next {A = A} f n xs i x long within is same =
-    let P : ℕ → Type 0 = λ (k : ℕ). take k (slice_set xs i x) ≡ take k (map f (range_with_len 0 n)) in
-    let next : suc i ≡ i + 1 = omega arith in
-    subst P next (filled xs (map f (range_with_len 0 n)) i x (omega (arith, long, within)) (made_get f n i within ∙ ap (λ (y : A). Some y) (sym is)) same)
+    take_stored xs (map f (range_with_len 0 n)) i x (omega (arith, long, within)) (made_get f n i within ∙ ap (λ (y : A). Some y) (sym is)) same
 
 -- All of it.
 pub filled_whole : {A : Type 0} (f : ℕ → A) (n : ℕ) (xs : List A) → length xs ≡ n → take n xs ≡ take n (map f (range_with_len 0 n)) → xs ≡ map f (range_with_len 0 n)

@@ -1,9 +1,10 @@
 -- THE HEADLINE: what happens is a run of the abstract machine.
-use Rattle.std.proofs.Common.{◌≡◌, ℕ, zero, suc, take, get_or, ◌+◌, ◌<◌, List, [], ◌∷◌, ◌++◌, length, refl, sym, ◌∙◌, ap, subst, arith}
+use Rattle.std.proofs.Common.{◌≡◌, ℕ, suc, take, get_or, ◌+◌, ◌<◌, List, [], ◌∷◌, ◌++◌, length, refl, sym, ◌∙◌, ap, subst}
 use Rattle.std.specs.Prelude.{Some, slice_get}
-use Rattle.std.proofs.lemmas.Option.{none-some, same_Some, slice_get-get_or}
+use Rattle.std.proofs.lemmas.Option.{slice_get-get_or}
 use Rattle.rme_words.specs.declared.shape.Shape.{Shape}
 use Rattle.rme_words.specs.declared.refusal.Refusal.{Refusal}
+use Rattle.rme_script.proofs.Lists.{take_next}
 use Rattle.rme_program.specs.declared.event.Event.{Event}
 use Rattle.rme_program.specs.declared.event.Event.TheVariants.{Submit, Step, Crash, Restart, Withdraw}
 use Rattle.rme_program.specs.declared.event.Answer.{Answer}
@@ -78,16 +79,6 @@ all_run old new [] (answer ∷ answers) sound happen = absurd happen
 all_run old new (event ∷ events) [] sound happen = absurd happen
 
 -- ---- one event after others
-
-take_suc : (events : List Event) (i : ℕ) (event : Event) → slice_get events i ≡ Some event → take (suc i) events ≡ take i events ++ event ∷ []
-take_suc [] i event at = absurd (none-some event at)
-take_suc (e ∷ es) zero event at = ap (λ (x : Event). x ∷ []) (same_Some e event at)
-take_suc (e ∷ es) (suc i) event at = ap (λ (xs : List Event). e ∷ xs) (take_suc es i event at)
-
-take_next : (events : List Event) (i : ℕ) (event : Event) → slice_get events i ≡ Some event → take (i + 1) events ≡ take i events ++ event ∷ []
-take_next events i event at =
-    let next : suc i ≡ i + 1 = omega arith in
-    subst (λ (k : ℕ). take k events ≡ take i events ++ event ∷ []) next (take_suc events i event at)
 
 pub all_snoc : (old mid new : Seen) (events : List Event) (answers : List Answer) (event : Event) (answer : Answer) → AllHappen old events answers mid → Happens mid event answer new
     → AllHappen old (events ++ event ∷ []) (answers ++ answer ∷ []) new

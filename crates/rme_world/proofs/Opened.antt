@@ -1,9 +1,9 @@
 -- The world at opening.
-use Rattle.std.proofs.Common.{◌≡◌, ℕ, zero, suc, ◌<◌, ◌≤◌, List, [], refl, sym, ◌∙◌, ap, subst, inl, inr, arith}
-use Rattle.std.specs.Prelude.{Option, Some, map, replicate, slice_get, slice_index, unwrap_or}
+use Rattle.std.proofs.Common.{◌≡◌, ℕ, zero, suc, ◌<◌, ◌≤◌, List, [], get_or, refl, sym, ◌∙◌, ap, subst, inl, inr, arith}
+use Rattle.std.specs.Prelude.{Option, Some, map, replicate, slice_get, unwrap_or}
 use Rattle.std.specs.List.{range_with_len}
 use Rattle.std.proofs.lemmas.Bool.{cases_Bool}
-use Rattle.std.proofs.lemmas.Option.{same_Some}
+use Rattle.std.proofs.lemmas.Option.{same_Some, unwrap_or-slice_get}
 use Rattle.std.proofs.lemmas.List.FromFn.{length-map-range_with_len}
 use lib.ListN.{length-replicate}
 use Rattle.rme_words.specs.declared.shape.Shape.{Shape}
@@ -26,15 +26,16 @@ use Rattle.rme_world.specs.Opening.{opening}
 use Rattle.rme_world.proofs.Happening.{none_short}
 use Rattle.rme_world.proofs.Stays.{stay_begins}
 
-zeros_at : (n i : ℕ) → slice_index (replicate n 0) i ≡ 0
-zeros_at zero i = refl
-zeros_at (suc n) zero = refl
-zeros_at (suc n) (suc i) = zeros_at n i
+-- A list of one value many times has it everywhere, and past its end where that is what is asked for.
+same_at : {A : Type 0} (x : A) (n i : ℕ) → get_or (replicate n x) i x ≡ x
+same_at x zero i = refl
+same_at x (suc n) zero = refl
+same_at x (suc n) (suc i) = same_at x n i
 
 blank : (shape : Shape) (address : Address) → read shape (replicate (words_of shape) 0) address ≡ 0
 unfolding read
 blank shape address = elim (cases_Bool (is_of_shape shape address)) [
-  | inl is ↦ rw is (zeros_at (words_of shape) (word shape address))
+  | inl is ↦ rw is (same_at 0 (words_of shape) (word shape address))
   | inr not ↦ rw not refl
 ]
 
@@ -53,9 +54,7 @@ nothing_owed zero = refl
 nothing_owed (suc n) = omega (arith, nothing_owed n)
 
 counts_at : (n worker : ℕ) → unwrap_or (slice_get (replicate n no_counts) worker) no_counts ≡ no_counts
-counts_at zero worker = refl
-counts_at (suc n) zero = refl
-counts_at (suc n) (suc worker) = counts_at n worker
+counts_at n worker = unwrap_or-slice_get (replicate n no_counts) worker no_counts ∙ same_at no_counts n worker
 
 pub opening_kept : (shape : Shape) (room : ℕ) → IsKept (with_room shape room)
 opening_kept shape room = record {
