@@ -2,12 +2,12 @@
 use Rattle.std.proofs.Common.{◌≡◌, ◌≢◌, ℕ, zero, suc, ◌+◌, ◌*◌, ◌^◌, ◌<◌, ◌≤◌, List, [], ◌∷◌, ◌++◌, length, refl, sym, ◌∙◌, ap, subst, inl, inr, arith, append_assoc}
 use Rattle.std.specs.Prelude.{Bool, true, false, not, ◌&&◌, ◌||◌, ◌==◌, if◌then◌else◌, Some, filter}
 use Rattle.std.specs.List.{range_with_len}
-use Rattle.std.proofs.lemmas.Bool.{cases_eq, cases_Bool, eq-eqb, ne_eqb, and_from, and_left, and_right, or_left, or_right}
+use Rattle.std.proofs.lemmas.Bool.{cases_eq, cases_Bool, eq-eqb, ne_eqb, and_from, and_left, and_right, or_from, or_left, or_right}
 use Rattle.std.proofs.Math.Nat.{mul-le-mul, suc-mul}
 use Rattle.std.proofs.lemmas.List.{append-nil, map-id}
-use Rattle.std.proofs.lemmas.List.FromFn.{map-range_with_len_more}
+use Rattle.std.proofs.lemmas.List.FromFn.{filter_of_map_range_with_len_more}
 use Rattle.std.proofs.lemmas.List.Folds.{list_any-append}
-use Rattle.std.proofs.lemmas.List.Elements.{filter-append, filter_agree}
+use Rattle.std.proofs.lemmas.List.Elements.{filter_agree}
 use Rattle.rme_words.specs.declared.shape.Shape.{Shape}
 use Rattle.rme_words.specs.declared.address.Address.{Address}
 use Rattle.rme_script.specs.Eval.{eval_of}
@@ -145,26 +145,20 @@ pub entry_under : (es : List Entry) (e : Entry) (worker k : ℕ) → e.receipt.n
 entry_under es e worker k off = entry_else es e worker k (and_right (e.receipt.worker == worker) (e.receipt.number == k) (ne_eqb e.receipt.number k off))
 
 -- A worker has no entry above its numbers.
-none_above : (es : List Entry) (worker low most k : ℕ) → RisesFrom low most (numbers_by es worker) → most < k → has_entry es worker k ≡ false
+pub no_entry : (es : List Entry) (worker low most k : ℕ) → RisesFrom low most (numbers_by es worker) → most < k → has_entry es worker k ≡ false
 unfolding numbers_by
-none_above [] worker low most k rises over = refl
-none_above (d ∷ es) worker low most k rises over = elim (cases_Bool (d.receipt.worker == worker)) [
+no_entry [] worker low most k rises over = refl
+no_entry (d ∷ es) worker low most k rises over = elim (cases_Bool (d.receipt.worker == worker)) [
   | inl t ↦
       let parts : RisesFrom low most (d.receipt.number ∷ numbers_by es worker) = rw t at rises in
       let apart : d.receipt.number ≢ k = λ q. omega (arith, q, parts.1, over) in
-      or_none ((d.receipt.worker == worker) && (d.receipt.number == k)) (has_entry es worker k)
-      (and_right (d.receipt.worker == worker) (d.receipt.number == k) (ne_eqb d.receipt.number k apart)) (none_above es worker d.receipt.number most k parts.2 over)
+      or_from ((d.receipt.worker == worker) && (d.receipt.number == k)) (has_entry es worker k)
+      (and_right (d.receipt.worker == worker) (d.receipt.number == k) (ne_eqb d.receipt.number k apart)) (no_entry es worker d.receipt.number most k parts.2 over)
   | inr f ↦
       let parts : RisesFrom low most (numbers_by es worker) = rw f at rises in
-      or_none ((d.receipt.worker == worker) && (d.receipt.number == k)) (has_entry es worker k)
-      (and_left (d.receipt.worker == worker) (d.receipt.number == k) f) (none_above es worker low most k parts over)
+      or_from ((d.receipt.worker == worker) && (d.receipt.number == k)) (has_entry es worker k)
+      (and_left (d.receipt.worker == worker) (d.receipt.number == k) f) (no_entry es worker low most k parts over)
 ]
-  where
-    or_none : (x y : Bool) → x ≡ false → y ≡ false → (x || y) ≡ false
-    or_none x y a b = rw (a, b) refl
-
-pub no_entry_above : (es : List Entry) (worker most k : ℕ) → RisesFrom 0 most (numbers_by es worker) → most < k → has_entry es worker k ≡ false
-no_entry_above es worker most k rises over = none_above es worker 0 most k rises over
 
 -- The numbers that pass a test among so many, and among one more.
 filter_range : (p q : ℕ → Bool) (a n : ℕ) → ((k : ℕ) → k < a + n → p k ≡ q k) → filter p (range_with_len a n) ≡ filter q (range_with_len a n)
@@ -174,13 +168,10 @@ filter_range p q a (suc n) same =
     let here : p a ≡ q a = same a (omega arith) in
     rw (here, rest) refl
 
-filter_more : (p : ℕ → Bool) (n : ℕ) → filter p (range_with_len 1 (n + 1)) ≡ filter p (range_with_len 1 n) ++ (if p (n + 1) then (n + 1) ∷ [] else [])
-filter_more p n =
-    let next : 1 + n ≡ n + 1 = omega arith in
-    ap (filter p) (counting 1 n (n + 1) next) ∙ filter-append p (range_with_len 1 n) ((n + 1) ∷ [])
-  where
-    counting : (a n j : ℕ) → a + n ≡ j → range_with_len a (n + 1) ≡ range_with_len a n ++ j ∷ []
-    counting a n j e = sym (map-id (range_with_len a (n + 1))) ∙ map-range_with_len_more (λ (k : ℕ). k) a n j e ∙ ap (λ (ks : List ℕ). ks ++ j ∷ []) (map-id (range_with_len a n))
+filter_more : (p : ℕ → Bool) (n j : ℕ) → j ≡ n + 1 → filter p (range_with_len 1 (n + 1)) ≡ filter p (range_with_len 1 n) ++ (if p j then j ∷ [] else [])
+filter_more p n j next =
+    ap (filter p) (sym (map-id (range_with_len 1 (n + 1)))) ∙ filter_of_map_range_with_len_more p (λ (k : ℕ). k) 1 n j (omega (arith, next))
+    ∙ ap (λ (ks : List ℕ). filter p ks ++ (if p j then j ∷ [] else [])) (map-id (range_with_len 1 n))
 
 -- A number with an entry is not withdrawn, one without is, and another worker's withdrawn numbers stay.
 pub withdrawn_finished : (es : List Entry) (e : Entry) (worker done : ℕ) → e.receipt.worker ≡ worker → e.receipt.number ≡ done + 1
@@ -188,19 +179,16 @@ pub withdrawn_finished : (es : List Entry) (e : Entry) (worker done : ℕ) → e
 withdrawn_finished es e worker done by under =
     let test : (ℕ → Bool) = λ (k : ℕ). not (has_entry (es ++ e ∷ []) worker k) in
     let has : test (done + 1) ≡ false = ap not (entry_same es e worker (done + 1) by under) in
-    let more : filter test (range_with_len 1 (done + 1)) ≡ filter test (range_with_len 1 done) ++ (if test (done + 1) then (done + 1) ∷ [] else []) = filter_more test done in
+    let more : filter test (range_with_len 1 (done + 1)) ≡ filter test (range_with_len 1 done) ++ (if test (done + 1) then (done + 1) ∷ [] else []) = filter_more test done (done + 1) refl in
     let dropped : filter test (range_with_len 1 done) ++ (if test (done + 1) then (done + 1) ∷ [] else []) ≡ filter test (range_with_len 1 done) = rw has (append-nil (filter test (range_with_len 1 done))) in
     more ∙ dropped
     ∙ filter_range test (λ (k : ℕ). not (has_entry es worker k)) 1 done
     (λ k l. ap not (entry_under es e worker k (λ q. omega (arith, q, l, under))))
 
-pub withdrawn_more : (es : List Entry) (worker done : ℕ) → has_entry es worker (done + 1) ≡ false
-    → withdrawn_of es worker (done + 1) ≡ withdrawn_of es worker done ++ (done + 1) ∷ []
-withdrawn_more es worker done none =
-    let test : (ℕ → Bool) = λ (k : ℕ). not (has_entry es worker k) in
-    let passes : test (done + 1) ≡ true = ap not none in
-    let more : filter test (range_with_len 1 (done + 1)) ≡ filter test (range_with_len 1 done) ++ (if test (done + 1) then (done + 1) ∷ [] else []) = filter_more test done in
-    more ∙ (rw passes refl)
+pub withdrawn_more : (es : List Entry) (worker done number : ℕ) → number ≡ done + 1 → has_entry es worker number ≡ false
+    → withdrawn_of es worker number ≡ withdrawn_of es worker done ++ number ∷ []
+withdrawn_more es worker done number next none =
+    ap (λ (n : ℕ). withdrawn_of es worker n) next ∙ filter_more (λ (k : ℕ). not (has_entry es worker k)) done number next ∙ (rw none refl)
 
 pub withdrawn_other : (es : List Entry) (e : Entry) (worker done : ℕ) → e.receipt.worker ≢ worker → withdrawn_of (es ++ e ∷ []) worker done ≡ withdrawn_of es worker done
 withdrawn_other es e worker done off =

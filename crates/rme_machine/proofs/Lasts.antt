@@ -1,29 +1,58 @@
--- The last entry of a legal history that passes a test.
-use Rattle.std.proofs.Common.{◌≡◌, refl, ◌∙◌, subst, inl, inr}
-use Rattle.std.specs.Prelude.{Bool, true, List, [], ◌∷◌, ◌++◌, Option, Some, None, if◌then◌else◌}
+-- The last entry that passes a test: where it stands in a history, and that it is due there in a legal one.
+use Rattle.std.proofs.Common.{◌≡◌, refl, sym, ◌∙◌, ap, subst, inl, inr, append_assoc}
+use Rattle.std.specs.Prelude.{Bool, true, List, [], ◌∷◌, ◌++◌, filter, Option, Some, None, if◌then◌else◌}
 use Rattle.std.proofs.lemmas.Bool.{cases_Bool}
-use Rattle.std.proofs.lemmas.Option.{none-some}
+use Rattle.std.proofs.lemmas.List.{append-nil}
+use Rattle.std.proofs.lemmas.Option.{none-some, cond_some}
 use Rattle.rme_words.specs.declared.shape.Shape.{Shape}
 use Rattle.rme_program.specs.declared.note.Entry.{Entry}
-use Rattle.rme_machine.specs.Histories.{last_of, IsDue, IsLegalAfter}
+use Rattle.rme_machine.specs.Histories.{last_of, IsDue, IsLegalAfter, IsLegal}
 
-in_one : (test : Entry → Bool) (x e : Entry) → (if test x then Some x else None) ≡ Some e → (x ≡ e) × (test x ≡ true)
-in_one test x e at =
-    elim (cases_Bool (test x)) [
-      | inl passes ↦ (let found : Some x ≡ Some e = rw passes at at in (cc, passes))
-      | inr fails ↦ (let found : None ≡ Some e = rw fails at at in absurd (none-some e found))
+-- It passes, and none of those after it does.
+pub record IsLast (test : Entry → Bool) (es : List Entry) (e : Entry) : Type 0 where
+  pub before : List Entry
+  pub after : List Entry
+  pub stands : es ≡ before ++ e ∷ after
+  pub passes : test e ≡ true
+  pub none : filter test after ≡ []
+
+-- Where none is the last, none passes.
+none_passes : (test : Entry → Bool) (es : List Entry) → last_of test es ≡ None → filter test es ≡ []
+unfolding last_of
+none_passes test [] none = refl
+none_passes test (x ∷ es) none = go (λ rest. none_passes test es rest) (last_of test es) refl
+  where
+    here : last_of test es ≡ None → (filter test es ≡ []) → (if test x then x ∷ filter test es else filter test es) ≡ []
+    here is rest = elim (cases_Bool (test x)) [
+      | inl passes ↦ (let first : (if test x then Some x else None) ≡ None = rw is at none in let one : Some x ≡ None = rw passes at first in absurd (none-some x (sym one)))
+      | inr fails ↦ rw fails rest
     ]
 
--- What is found in a legal history is due after some entries.
-pub last_due : (s : Shape) (test : Entry → Bool) (earlier es : List Entry) (e : Entry) → IsLegalAfter s earlier es → last_of test es ≡ Some e
-    → (before : List Entry) × IsDue s before e
+    go : (last_of test es ≡ None → filter test es ≡ []) → (later : Option Entry) → last_of test es ≡ later → (if test x then x ∷ filter test es else filter test es) ≡ []
+    go rest None is = here is (rest is)
+    go rest (Some y) is = (let one : Some y ≡ None = rw is at none in absurd (none-some y (sym one)))
+
+-- What is found is the last.
+pub last_stands : (test : Entry → Bool) (es : List Entry) (e : Entry) → last_of test es ≡ Some e → IsLast test es e
 unfolding last_of
-last_due s test earlier [] e legal found = absurd (none-some e found)
-last_due s test earlier (x ∷ es) e legal found = go (last_due s test (earlier ++ x ∷ []) es e legal.1) (last_of test es) refl
+last_stands test [] e found = absurd (none-some e found)
+last_stands test (x ∷ es) e found = go (last_stands test es e) (last_of test es) refl
   where
-    go : (last_of test es ≡ Some e → (before : List Entry) × IsDue s before e) → (later : Option Entry) → last_of test es ≡ later
-        → (before : List Entry) × IsDue s before e
-    go rest None none =
-        let at : (if test x then Some x else None) ≡ Some e = rw none at found in
-        (earlier, (let P : Entry → Type 0 = λ y. IsDue s earlier y in subst P (in_one test x e at).0 legal.0))
-    go rest (Some y) some = (let at : Some y ≡ Some e = rw some at found in rest (some ∙ at))
+    go : (last_of test es ≡ Some e → IsLast test es e) → (later : Option Entry) → last_of test es ≡ later → IsLast test (x ∷ es) e
+    go rest None is =
+        let first : (if test x then Some x else None) ≡ Some e = rw is at found in
+        let its : (test x ≡ true) × (x ≡ e) = cond_some (test x) x e first in
+        subst (λ (y : Entry). IsLast test (x ∷ es) y) its.1 record { before = []; after = es; stands = refl; passes = its.0; none = none_passes test es is }
+    go rest (Some y) is =
+        let later : Some y ≡ Some e = rw is at found in
+        let its : IsLast test es e = rest (is ∙ later) in
+        record { before = x ∷ its.before; after = its.after; stands = ap (λ (xs : List Entry). x ∷ xs) its.stands; passes = its.passes; none = its.none }
+
+-- Each entry of a legal history is due after those before it.
+due_there : (s : Shape) (earlier before after : List Entry) (e : Entry) → IsLegalAfter s earlier (before ++ e ∷ after) → IsDue s (earlier ++ before) e
+due_there s earlier [] after e legal = subst (λ (es : List Entry). IsDue s es e) (sym (append-nil earlier)) legal.0
+due_there s earlier (x ∷ before) after e legal =
+    subst (λ (es : List Entry). IsDue s es e) (append_assoc earlier (x ∷ []) before) (due_there s (earlier ++ x ∷ []) before after e legal.1)
+
+pub last_due : (s : Shape) (test : Entry → Bool) (es : List Entry) (e : Entry) → IsLegal s es → (its : IsLast test es e) → IsDue s its.before e
+last_due s test es e legal its = due_there s [] its.before its.after e (subst (λ (all : List Entry). IsLegal s all) its.stands legal)

@@ -1,6 +1,6 @@
 -- The lock that a worker is at.
 use Rattle.std.proofs.Common.{◌≡◌, ℕ, ◌<◌, List, inl, inr, arith}
-use Rattle.std.specs.Prelude.{false, []}
+use Rattle.std.specs.Prelude.{false, ◌==◌}
 use Rattle.std.proofs.lemmas.Bool.{cases_eq, cases_Bool}
 use Rattle.rme_words.specs.declared.shape.Shape.{Shape}
 use Rattle.rme_words.specs.declared.address.Address.{Address}
@@ -11,8 +11,21 @@ use Rattle.rme_machine.specs.Histories.{last_by, IsDue}
 use Rattle.rme_machine.specs.Views.{worker_words, is_pending, site_of}
 use Rattle.rme_machine.specs.Shown.{Privates, job_of}
 use Rattle.rme_machine.specs.Fact.{Fact, IsReceipt}
-use Rattle.rme_machine.proofs.Lasts.{last_due}
+use Rattle.rme_machine.proofs.Lasts.{IsLast, last_stands, last_due}
 use Rattle.rme_machine.proofs.Ended.{IsEnded, ended}
+
+-- The word At of a worker that has begun jobs and has none pending is a lock.
+pub at_lock : (s : Shape) (mem : Address → ℕ) (privs : Privates) (es : List Entry) (w : ℕ) → Fact s mem privs es → w < s.workers
+    → is_pending (worker_words mem w) ≡ false → 0 < (worker_words mem w).begun → (worker_words mem w).at < s.locks
+at_lock s mem privs es w fact worker past some =
+    elim (cases_eq (worker_words mem w).place withdrawn_place) [
+      | inl gone ↦ ((fact.accounts w worker).withdrawn past some gone).at
+      | inr there ↦
+          (let receipt : IsReceipt (worker_words mem w) es w = (fact.accounts w worker).receipt past some there in
+          let last : IsLast (λ (e : Entry). e.receipt.worker == w) es receipt.last = last_stands _ es receipt.last receipt.found in
+          let due : IsDue s last.before receipt.last = last_due s _ es receipt.last fact.legal last in
+          omega (arith, receipt.at, due.lock))
+    ]
 
 -- The lock that a worker is at is one of the shape's.
 pub site_small : (s : Shape) (mem : Address → ℕ) (privs : Privates) (es : List Entry) (w : ℕ) → Fact s mem privs es → w < s.workers
@@ -20,13 +33,7 @@ pub site_small : (s : Shape) (mem : Address → ℕ) (privs : Privates) (es : Li
 site_small s mem privs es w fact worker some =
     elim (cases_Bool (is_pending (worker_words mem w))) [
       | inl pending ↦ rw pending ((fact.accounts w worker).slate pending).job.lock
-      | inr past ↦ rw past (elim (cases_eq (worker_words mem w).place withdrawn_place) [
-        | inl gone ↦ ((fact.accounts w worker).withdrawn past some gone).at
-        | inr there ↦
-            (let receipt : IsReceipt (worker_words mem w) es w = (fact.accounts w worker).receipt past some there in
-            let due : (before : List Entry) × IsDue s before receipt.last = last_due s _ [] es receipt.last fact.legal receipt.found in
-            omega (arith, due.1.lock, receipt.at))
-      ])
+      | inr past ↦ rw past (at_lock s mem privs es w fact worker past some)
     ]
 
 -- The last entry of a worker that owns a lock with its job finished is of that lock.

@@ -1,7 +1,6 @@
 -- What a step finds is a value that its worker may go on with.
 use Rattle.std.proofs.Common.{◌≡◌, ℕ, ◌+◌, ◌*◌, ◌^◌, ◌<◌, ◌≤◌, List, take, refl, sym, ◌∙◌, ap, subst, inl, inr, arith}
 use Rattle.std.specs.Prelude.{Bool, true, false, Option, Some, None, slice_set}
-use Rattle.std.proofs.lemmas.Bool.{cases_eq}
 use Rattle.rme_words.specs.declared.shape.Shape.{Shape}
 use Rattle.rme_words.specs.declared.address.Address.{Address}
 use Rattle.rme_words.specs.declared.address.Address.TheVariants.{Turn}
@@ -18,17 +17,17 @@ use Rattle.rme_program.specs.declared.stage.Log.TheVariants.{LoadTurn, LoadLen, 
 use Rattle.rme_program.specs.declared.stage.Departure.{Departure}
 use Rattle.rme_program.specs.declared.stage.Departure.TheVariants.{LoadExitTurn, StoreExitTurn, Clear, WithdrawPlace, WithdrawAt, WithdrawReply, WithdrawDone}
 use Rattle.rme_program.specs.Did.{Did}
-use Rattle.rme_program.specs.Steps.{action_of, recovery_action, log_action, departure_action, withdrawn_place}
+use Rattle.rme_program.specs.Steps.{action_of, recovery_action, log_action, departure_action}
 use Rattle.rme_program.specs.Conditions.{Takes}
-use Rattle.rme_machine.specs.Histories.{IsDue, place_of}
+use Rattle.rme_machine.specs.Histories.{place_of}
 use Rattle.rme_machine.specs.Views.{WorkerWords, worker_words, lock_words, is_pending}
 use Rattle.rme_machine.specs.Shown.{Privates}
 use Rattle.rme_machine.specs.Fits.{Fits, KnowsRecovery}
-use Rattle.rme_machine.specs.Fact.{Fact, HasJob, IsReceipt, Stands, StandsOwned}
+use Rattle.rme_machine.specs.Fact.{Fact, HasJob, Stands, StandsOwned}
 use Rattle.rme_machine.specs.Laws.{TakesLaw}
 use Rattle.rme_machine.proofs.Moves.{slate_long, slate_read}
-use Rattle.rme_machine.proofs.Lasts.{last_due}
 use Rattle.rme_machine.proofs.Historical.{turn_small}
+use Rattle.rme_machine.proofs.Standing.{at_lock}
 use Rattle.rme_machine.proofs.Scripts.{IsPosted, posted, script_same, words_more}
 
 -- A turn is at most one more than twice the place of the next section.
@@ -52,18 +51,6 @@ turn_most s mem privs es l fact lock = stood (owner_in s mem l) (fact.stands l l
 
 turn_below : (s : Shape) (mem : Address → ℕ) (privs : Privates) (es : List Entry) (l found : ℕ) → Fact s mem privs es → l < s.locks → found ≡ mem (Turn l) → found < 2 ^ 32
 turn_below s mem privs es l found fact lock is = omega (arith, is, turn_most s mem privs es l fact lock, turn_small s mem privs es l fact)
-
--- The word At of a worker that has begun jobs and has none pending is a lock.
-at_lock : (s : Shape) (mem : Address → ℕ) (privs : Privates) (es : List Entry) (w : ℕ) → Fact s mem privs es → w < s.workers
-    → is_pending (worker_words mem w) ≡ false → 0 < (worker_words mem w).begun → (worker_words mem w).at < s.locks
-at_lock s mem privs es w fact worker past some =
-    elim (cases_eq (worker_words mem w).place withdrawn_place) [
-      | inl gone ↦ ((fact.accounts w worker).withdrawn past some gone).at
-      | inr there ↦
-          (let receipt : IsReceipt (worker_words mem w) es w = (fact.accounts w worker).receipt past some there in
-          let due : (before : List Entry) × IsDue s before receipt.last = last_due s _ _ es receipt.last fact.legal receipt.found in
-          omega (arith, receipt.at, due.1.lock))
-    ]
 
 -- Recover.
 takes_recovery : (s : Shape) (mem mem' : Address → ℕ) (privs : Privates) (es : List Entry) (w b : ℕ) (recovery : Recovery) (found : ℕ) → Fact s mem privs es

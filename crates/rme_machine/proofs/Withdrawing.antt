@@ -23,9 +23,8 @@ use Rattle.rme_machine.specs.Laws.{Goes}
 use Rattle.rme_machine.proofs.Moves.{OwnMove}
 use Rattle.rme_machine.proofs.Kept.{own_kept}
 use Rattle.rme_machine.proofs.Shows.{own_frame, owned_site, shown_moves}
-use Rattle.rme_machine.proofs.Historical.{rises_wider}
+use Rattle.rme_machine.proofs.Historical.{rises_wider, no_entry, withdrawn_more}
 use Rattle.rme_machine.proofs.Faces.{face, shown_as, does_as, quiet}
-use Rattle.rme_machine.proofs.Ended.{no_entry, withdrawn_more}
 use Rattle.rme_machine.proofs.Exits.{leaver}
 use Rattle.rme_machine.proofs.Clearing.{cleared, clear_outside}
 

@@ -1,11 +1,9 @@
 -- What the look-ups show.
-use Rattle.std.proofs.Common.{◌≡◌, ℕ, suc, ◌+◌, ◌*◌, ◌^◌, ◌<◌, ◌≤◌, Bool, true, false, not, List, [], ◌∷◌, ◌++◌, length, take, refl, sym, ◌∙◌, ap, subst, inl, inr, arith, length-append}
-use Rattle.std.specs.Prelude.{Option, Some, None, slice_get, slice_set, slice_index, if◌then◌else◌, ◌==◌}
-use Rattle.std.proofs.lemmas.Bool.{cases_Bool, le-ltb, eqb-true}
-use Rattle.std.proofs.lemmas.Option.{none-some, same_Some}
+use Rattle.std.proofs.Common.{◌≡◌, ℕ, suc, ◌+◌, ◌*◌, ◌^◌, ◌<◌, ◌≤◌, Bool, true, false, not, List, ◌∷◌, length, take, refl, sym, ◌∙◌, ap, subst, inl, inr, arith, length-append}
+use Rattle.std.specs.Prelude.{Option, Some, None, slice_get, slice_set, slice_index, ◌==◌}
+use Rattle.std.proofs.lemmas.Bool.{le-ltb, eqb-true}
 use Rattle.std.proofs.lemmas.List.FromFn.{length-map-range_with_len}
 use Rattle.std.proofs.Math.Nat.{mul-le-mul}
-use Rattle.rme_words.specs.declared.shape.Shape.{Shape}
 use Rattle.rme_words.specs.declared.address.Address.TheVariants.{Cell}
 use Rattle.rme_world.proofs.Filling.{filled_next, filled_whole}
 use Rattle.std.proofs.lemmas.List.{length-set}
@@ -15,7 +13,7 @@ use Rattle.rme_program.specs.declared.note.Entry.{Entry}
 use Rattle.rme_program.specs.declared.note.Receipt.{Receipt}
 use Rattle.rme_program.specs.declared.private.Private.{Private}
 use Rattle.rme_machine.specs.declared.stance.Stance.{Stance}
-use Rattle.rme_machine.specs.Histories.{last_of, last_by, IsDue, IsLegalAfter}
+use Rattle.rme_machine.specs.Histories.{last_by, IsDue}
 use Rattle.rme_machine.specs.Shown.{lock_owned, shown_worker, job_of}
 use Rattle.rme_machine.specs.Shown as shown
 use Rattle.rme_machine.specs.ShownCells.{ShownCells, AreCells, owner_by, owner_at, stance_of_owner, owners_stance, is_settled, settled_by}
@@ -25,6 +23,7 @@ use Rattle.rme_machine.specs.Fact.{Account, IsReceipt, StandsOwned, Stands}
 use Rattle.rme_machine.proofs.Further.{idling}
 use Rattle.rme_machine.proofs.Historical.{entries_few, place_few}
 use Rattle.rme_machine.proofs.Kept.{owner_holds_in}
+use Rattle.rme_machine.proofs.Lasts.{IsLast, last_stands, last_due}
 use Rattle.rme_machine.proofs.Lists.{made_get}
 use Rattle.rme_machine.proofs.Shows.{owned_at}
 use Rattle.rme_program.specs.declared.kinds.Phase.{Phase}
@@ -129,39 +128,6 @@ ready_holds seen worker kept (private, found, resting) lock below =
 
 -- ---- the last receipt
 
--- What is found last in a legal history passes the test, is due after some entries, and has a place that is not beyond
--- the history's length.
-record IsLastDue (shape : Shape) (test : Entry → Bool) (entries : ℕ) (e : Entry) : Type 0 where
-  passes : test e ≡ true
-  lock : e.receipt.lock < shape.locks
-  place : e.receipt.place ≤ entries
-
-in_one : (test : Entry → Bool) (x e : Entry) → (if test x then Some x else None) ≡ Some e → (x ≡ e) × (test x ≡ true)
-in_one test x e at =
-    elim (cases_Bool (test x)) [
-      | inl passes ↦ (let found : Some x ≡ Some e = rw passes at at in (same_Some x e found, passes))
-      | inr fails ↦ (let found : None ≡ Some e = rw fails at at in absurd (none-some e found))
-    ]
-
-last_due : (shape : Shape) (test : Entry → Bool) (earlier es : List Entry) (e : Entry) → IsLegalAfter shape earlier es → last_of test es ≡ Some e
-    → IsLastDue shape test (length earlier + length es) e
-unfolding last_of
-last_due shape test earlier [] e legal found = absurd (none-some e found)
-last_due shape test earlier (x ∷ es) e legal found = go (last_due shape test (earlier ++ x ∷ []) es e legal.1) (last_of test es) refl
-  where
-    go : (last_of test es ≡ Some e → IsLastDue shape test (length (earlier ++ x ∷ []) + length es) e) → (later : Option Entry) → last_of test es ≡ later
-        → IsLastDue shape test (length earlier + suc (length es)) e
-    go rest None none =
-        let at : (if test x then Some x else None) ≡ Some e = rw none at found in
-        let is : (x ≡ e) × (test x ≡ true) = in_one test x e at in
-        let P : Entry → Type 0 = λ (y : Entry). test y ≡ true → IsDue shape earlier y → IsLastDue shape test (length earlier + suc (length es)) y in
-        subst P is.0 (λ (t : test x ≡ true) (due : IsDue shape earlier x). record { passes = t; lock = due.lock; place = omega (arith, due.place, place_few earlier x.receipt.lock) }) (subst (λ (y : Entry). test y ≡ true) is.0 is.1)
-        (subst (λ (y : Entry). IsDue shape earlier y) is.0 legal.0)
-    go rest (Some y) some =
-        let at : Some y ≡ Some e = rw some at found in
-        let its = rest (some ∙ at) in
-        record { passes = its.passes; lock = its.lock; place = omega (arith, its.place, length-append earlier (x ∷ [])) }
-
 module _ (seen : Seen) (worker : ℕ) (kept : IsKept seen) (within : worker < seen.shape.workers) (has : HasReceipt (words_seen seen worker)) where
   account : Account seen.shape (worker_words (memory_seen seen) worker) (held_in seen.shape (memory_seen seen) worker) seen.history worker
   account = kept.fact.accounts worker within
@@ -169,18 +135,23 @@ module _ (seen : Seen) (worker : ℕ) (kept : IsKept seen) (within : worker < se
   receipt : IsReceipt (worker_words (memory_seen seen) worker) seen.history worker
   receipt = account.receipt (le-ltb _ _ (omega (arith, has.done))) (omega (arith, has.some)) has.kept
 
-  due : IsLastDue seen.shape (λ (e : Entry). e.receipt.worker == worker) (length seen.history) receipt.last
-  due =
-      let all : 0 + length seen.history ≡ length seen.history = omega arith in
-      subst (λ (n : ℕ). IsLastDue seen.shape (λ (e : Entry). e.receipt.worker == worker) n receipt.last) all
-      (last_due seen.shape (λ (e : Entry). e.receipt.worker == worker) [] seen.history receipt.last kept.fact.legal receipt.found)
+  last : IsLast (λ (e : Entry). e.receipt.worker == worker) seen.history receipt.last
+  last = last_stands (λ (e : Entry). e.receipt.worker == worker) seen.history receipt.last receipt.found
+
+  due : IsDue seen.shape last.before receipt.last
+  due = last_due seen.shape (λ (e : Entry). e.receipt.worker == worker) seen.history receipt.last kept.fact.legal last
+
+  place_within : receipt.last.receipt.place ≤ length seen.history
+  place_within =
+      let all : length seen.history ≡ length last.before + suc (length last.after) = ap (λ (es : List Entry). length es) last.stands ∙ length-append last.before (receipt.last ∷ last.after) in
+      omega (arith, due.place, place_few last.before receipt.last.receipt.lock, all)
 
   -- The words of a receipt are numbers of 32 bits.
   pub receipt_small : ((words_seen seen worker).at < 2 ^ 32) × ((words_seen seen worker).done < 2 ^ 32) × ((words_seen seen worker).place < 2 ^ 32)
   receipt_small = (
     omega (arith, receipt.at, due.lock, seen.shape.counted.limits),
     omega (arith, account.done, account.few, seen.shape.counted.limits),
-    omega (arith, receipt.place, due.place, entries_few seen.shape (memory_seen seen) (privates_seen seen) seen.history kept.fact, most),
+    omega (arith, receipt.place, place_within, entries_few seen.shape (memory_seen seen) (privates_seen seen) seen.history kept.fact, most),
   )
     where
       most : seen.shape.workers * seen.shape.jobs ≤ 256 * 1000000
@@ -191,7 +162,7 @@ module _ (seen : Seen) (worker : ℕ) (kept : IsKept seen) (within : worker < se
   last_receipt r is lock number place reply = record {
     entry = receipt.last;
     last = receipt.found;
-    same = (let by : receipt.last.receipt.worker ≡ worker = eqb-true _ _ due.passes in
+    same = (let by : receipt.last.receipt.worker ≡ worker = eqb-true _ _ last.passes in
         same_receipt r receipt.last.receipt (is ∙ sym by) (lock ∙ receipt.at) (number ∙ sym receipt.number) (place ∙ receipt.place) (reply ∙ receipt.reply));
   }
     where
