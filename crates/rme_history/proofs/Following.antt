@@ -8,10 +8,10 @@ use Rattle.rme_script.specs.Scripts.{IsScript}
 use Rattle.rme_script.proofs.Lists.{take_next}
 use Rattle.rme_program.specs.declared.note.Entry.{Entry}
 use Rattle.rme_program.specs.Conditions.{IsJob}
-use Rattle.rme_machine.specs.Histories.{place_of, rows}
+use Rattle.rme_machine.specs.Histories.{place_of, rows, entry_job, Follows}
 use Rattle.rme_machine.proofs.Finishing.{rows_long}
 use Rattle.rme_machine.proofs.Lists.{made_at, made_long}
-use Rattle.rme_history.specs.Legal.{entry_job, AreLegal, Follows, IsFirstBroken}
+use Rattle.rme_history.specs.Legal.{AreLegal, IsFirstBroken}
 use Rattle.rme_history.specs.Folds.{IsFold, FollowsAt}
 use Rattle.rme_history.proofs.Legal.{legal_more, follows_in}
 use Rattle.rme_history.proofs.Folds.{fold_more}

@@ -1,7 +1,7 @@
 -- What one entry more does to the legal histories of a list, and what each entry of a legal list has.
 use Rattle.std.proofs.Common.{◌≡◌, ◌≢◌, ℕ, zero, suc, ◌+◌, ◌<◌, List, [], ◌∷◌, ◌++◌, length, take, drop, refl, sym, ◌∙◌, ap, subst, inl, inr, arith}
 use Rattle.std.specs.Prelude.{◌==◌, ◌⊎◌, slice_get, Some, replicate}
-use Rattle.std.proofs.lemmas.Bool.{cases_eq, cases_Bool, eq-eqb, ne_eqb}
+use Rattle.std.proofs.lemmas.Bool.{cases_eq, eq-eqb, ne_eqb}
 use Rattle.std.proofs.lemmas.List.{append-nil, take-append-drop, take-append-le}
 use Rattle.std.proofs.lemmas.List.Elements.{filter-append, All-nil, All-push, All-get_or}
 use Rattle.std.proofs.lemmas.Option.{get_or_from_slice_get, slice_get_within, same_Some}
@@ -11,37 +11,20 @@ use Rattle.rme_script.specs.Eval.{eval_of}
 use Rattle.rme_script.proofs.Lists.{drop_at, get_seam}
 use Rattle.rme_program.specs.declared.note.Entry.{Entry}
 use Rattle.rme_program.specs.Conditions.{IsJob}
-use Rattle.rme_machine.specs.Histories.{place_of, row_from}
-use Rattle.rme_history.specs.Legal.{entry_job, entries_of, IsLegalEntry, IsLegalHistory, AreLegal, Follows}
-
--- There are as many entries of a lock as its next place says.
-pub entries_counted : (es : List Entry) (lock : ℕ) → place_of es lock ≡ length (entries_of es lock)
-unfolding place_of
-entries_counted [] lock = refl
-entries_counted (e ∷ es) lock = elim (cases_Bool (e.receipt.lock == lock)) [
-  | inl t ↦ rw t (omega (arith, entries_counted es lock))
-  | inr f ↦ rw f (entries_counted es lock)
-]
-
--- Their fold is that of all entries.
-entries_folded : (row : List ℕ) (es : List Entry) (lock : ℕ) → row_from row (entries_of es lock) lock ≡ row_from row es lock
-unfolding row_from
-entries_folded row [] lock = refl
-entries_folded row (e ∷ es) lock = elim (cases_Bool (e.receipt.lock == lock)) [
-  | inl t ↦ rw t (rw t (entries_folded (eval_of e.script.ops row).row es lock))
-  | inr f ↦ rw f (entries_folded row es lock)
-]
+use Rattle.rme_machine.specs.Histories.{entries_at, entry_job, Follows}
+use Rattle.rme_machine.proofs.Sections.{place_count, row_entries}
+use Rattle.rme_history.specs.Legal.{IsLegalEntry, IsLegalHistory, AreLegal}
 
 -- One entry more is one more of its own lock's.
-entries_same : (es : List Entry) (e : Entry) (lock : ℕ) → e.receipt.lock ≡ lock → entries_of (es ++ e ∷ []) lock ≡ entries_of es lock ++ e ∷ []
+entries_same : (es : List Entry) (e : Entry) (lock : ℕ) → e.receipt.lock ≡ lock → entries_at (es ++ e ∷ []) lock ≡ entries_at es lock ++ e ∷ []
 entries_same es e lock at =
     filter-append (λ (d : Entry). d.receipt.lock == lock) es (e ∷ [])
     ∙ (rw (eq-eqb e.receipt.lock lock at) refl)
 
-entries_other : (es : List Entry) (e : Entry) (lock : ℕ) → e.receipt.lock ≢ lock → entries_of (es ++ e ∷ []) lock ≡ entries_of es lock
+entries_other : (es : List Entry) (e : Entry) (lock : ℕ) → e.receipt.lock ≢ lock → entries_at (es ++ e ∷ []) lock ≡ entries_at es lock
 entries_other es e lock off =
     filter-append (λ (d : Entry). d.receipt.lock == lock) es (e ∷ [])
-    ∙ (rw (ne_eqb e.receipt.lock lock off) (append-nil (entries_of es lock)))
+    ∙ (rw (ne_eqb e.receipt.lock lock off) (append-nil (entries_at es lock)))
 
 -- What a list has at a place, once it has one item more.
 get_more : {A : Type 0} (xs : List A) (x y : A) (i : ℕ) → slice_get (xs ++ x ∷ []) i ≡ Some y
@@ -71,11 +54,11 @@ module _ (s : Shape) where
 
   -- An entry that follows from legal ones is legal for its lock.
   own_entry : (es : List Entry) (e : Entry) → Follows s es e
-      → IsLegalEntry s e.receipt.lock (length (entries_of es e.receipt.lock)) (entries_of es e.receipt.lock) e
+      → IsLegalEntry s e.receipt.lock (length (entries_at es e.receipt.lock)) (entries_at es e.receipt.lock) e
   own_entry es e follows = record {
     of_lock = refl;
-    at_place = follows.place ∙ entries_counted es e.receipt.lock;
-    reply = follows.reply ∙ ap (λ (row : List ℕ). (eval_of e.script.ops row).reply) (sym (entries_folded (replicate s.cells 0) es e.receipt.lock));
+    at_place = follows.place ∙ place_count es e.receipt.lock;
+    reply = follows.reply ∙ ap (λ (row : List ℕ). (eval_of e.script.ops row).reply) (row_entries (replicate s.cells 0) es e.receipt.lock);
   }
 
   pub legal_more : (es : List Entry) (e : Entry) → AreLegal s es → Follows s es e → AreLegal s (es ++ e ∷ [])
@@ -83,9 +66,9 @@ module _ (s : Shape) where
     jobs = All-push (λ (d : Entry). IsJob s (entry_job d)) es e legal.jobs follows.job;
     histories = λ lock. elim (cases_eq e.receipt.lock lock) [
       | inl here ↦
-          let new : IsLegalEntry s lock (length (entries_of es lock)) (entries_of es lock) e =
-          subst (λ (l : ℕ). IsLegalEntry s l (length (entries_of es l)) (entries_of es l) e) here (own_entry es e follows) in
-          let more : IsLegalHistory s lock (entries_of es lock ++ e ∷ []) = history_more lock (entries_of es lock) e (legal.histories lock) new in
+          let new : IsLegalEntry s lock (length (entries_at es lock)) (entries_at es lock) e =
+          subst (λ (l : ℕ). IsLegalEntry s l (length (entries_at es l)) (entries_at es l) e) here (own_entry es e follows) in
+          let more : IsLegalHistory s lock (entries_at es lock ++ e ∷ []) = history_more lock (entries_at es lock) e (legal.histories lock) new in
           subst (λ (own : List Entry). IsLegalHistory s lock own) (sym (entries_same es e lock here)) more
       | inr apart ↦ subst (λ (own : List Entry). IsLegalHistory s lock own) (sym (entries_other es e lock apart)) (legal.histories lock)
     ];
@@ -95,20 +78,20 @@ module _ (s : Shape) where
   pub follows_in : (es : List Entry) (i : ℕ) (e : Entry) → AreLegal s es → slice_get es i ≡ Some e → Follows s (take i es) e
   follows_in es i e legal at =
       let lock = e.receipt.lock in
-      let own : List Entry = entries_of (take i es) lock in
-      let later : List Entry = entries_of (drop (i + 1) es) lock in
+      let own : List Entry = entries_at (take i es) lock in
+      let later : List Entry = entries_at (drop (i + 1) es) lock in
       let cut : es ≡ take i es ++ e ∷ drop (i + 1) es =
       sym (take-append-drop i es) ∙ ap (λ (rest : List Entry). take i es ++ rest) (drop_at es i e at) in
-      let parts : entries_of es lock ≡ own ++ e ∷ later =
-      ap (λ (all : List Entry). entries_of all lock) cut
+      let parts : entries_at es lock ≡ own ++ e ∷ later =
+      ap (λ (all : List Entry). entries_at all lock) cut
       ∙ filter-append (λ (d : Entry). d.receipt.lock == lock) (take i es) (e ∷ drop (i + 1) es)
       ∙ ap (λ (rest : List Entry). own ++ rest) (rw (eq-eqb lock lock refl) refl) in
-      let here : slice_get (entries_of es lock) (length own) ≡ Some e = ap (λ (all : List Entry). slice_get all (length own)) parts ∙ get_seam own later e in
-      let front : take (length own) (entries_of es lock) ≡ own = ap (λ (all : List Entry). take (length own) all) parts ∙ take-append_seam own (e ∷ later) in
+      let here : slice_get (entries_at es lock) (length own) ≡ Some e = ap (λ (all : List Entry). slice_get all (length own)) parts ∙ get_seam own later e in
+      let front : take (length own) (entries_at es lock) ≡ own = ap (λ (all : List Entry). take (length own) all) parts ∙ take-append_seam own (e ∷ later) in
       let entry : IsLegalEntry s lock (length own) own e =
       subst (λ (earlier : List Entry). IsLegalEntry s lock (length own) earlier e) front (legal.histories lock (length own) e here) in
       record {
         job = subst (λ (d : Entry). IsJob s (entry_job d)) (get_or_from_slice_get es i e e at) (All-get_or (λ (d : Entry). IsJob s (entry_job d)) es i e (slice_get_within es i e at) legal.jobs);
-        place = entry.at_place ∙ sym (entries_counted (take i es) lock);
-        reply = entry.reply ∙ ap (λ (row : List ℕ). (eval_of e.script.ops row).reply) (entries_folded (replicate s.cells 0) (take i es) lock);
+        place = entry.at_place ∙ sym (place_count (take i es) lock);
+        reply = entry.reply ∙ ap (λ (row : List ℕ). (eval_of e.script.ops row).reply) (sym (row_entries (replicate s.cells 0) (take i es) lock));
       }

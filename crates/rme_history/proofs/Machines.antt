@@ -7,24 +7,20 @@ use Rattle.std.proofs.Math.Seq.{take-append_seam}
 use Rattle.rme_words.specs.declared.shape.Shape.{Shape}
 use Rattle.rme_script.proofs.Lists.{get_seam}
 use Rattle.rme_program.specs.declared.note.Entry.{Entry}
-use Rattle.rme_machine.specs.Histories.{IsDue, IsLegalAfter}
-use Rattle.rme_history.specs.Legal.{AreLegal, Follows}
+use Rattle.rme_machine.specs.Histories.{Follows, IsLegalAfter}
+use Rattle.rme_history.specs.Legal.{AreLegal}
 use Rattle.rme_history.specs.Laws.{LegalLaw}
 use Rattle.rme_history.proofs.Legal.{legal_none, legal_more, follows_in}
 
 abbrev IsWorker : Shape → Entry → Type 0
 IsWorker s e = e.receipt.worker < s.workers
 
--- What is due follows.
-due_follows : (s : Shape) (earlier : List Entry) (e : Entry) → IsDue s earlier e → Follows s earlier e
-due_follows s earlier e due = record { job = record { lock = due.lock; script = due.script }; place = due.place; reply = due.reply }
-
 -- In the machine's histories each lock's entries are legal.
 legal_from : (s : Shape) (earlier es : List Entry) → AreLegal s earlier → IsLegalAfter s earlier es → AreLegal s (earlier ++ es)
 legal_from s earlier [] legal after = subst (λ (all : List Entry). AreLegal s all) (sym (append-nil earlier)) legal
 legal_from s earlier (e ∷ es) legal after =
     subst (λ (all : List Entry). AreLegal s all) (append_assoc earlier (e ∷ []) es)
-    (legal_from s (earlier ++ e ∷ []) es (legal_more s earlier e legal (due_follows s earlier e after.0)) after.1)
+    (legal_from s (earlier ++ e ∷ []) es (legal_more s earlier e legal after.0.follows) after.1)
 
 workers_from : (s : Shape) (earlier es : List Entry) → IsLegalAfter s earlier es → All (IsWorker s) es
 workers_from s earlier [] after = All-nil (IsWorker s)
@@ -35,15 +31,8 @@ machine_from : (s : Shape) (earlier es : List Entry) → All (IsWorker s) es →
 machine_from s earlier [] workers legal = tt
 machine_from s earlier (e ∷ es) workers legal =
     let this : Follows s (take (length earlier) (earlier ++ e ∷ es)) e = follows_in s (earlier ++ e ∷ es) (length earlier) e legal (get_seam earlier es e) in
-    let follows : Follows s earlier e = subst (λ (front : List Entry). Follows s front e) (take-append_seam earlier (e ∷ es)) this in
-    let due : IsDue s earlier e = record {
-      worker = All-head (IsWorker s) e es workers;
-      lock = follows.job.lock;
-      script = follows.job.script;
-      place = follows.place;
-      reply = follows.reply;
-    } in (
-      due,
+    let follows : Follows s earlier e = subst (λ (front : List Entry). Follows s front e) (take-append_seam earlier (e ∷ es)) this in (
+      record { worker = All-head (IsWorker s) e es workers; follows = follows },
       machine_from s (earlier ++ e ∷ []) es (All-tail (IsWorker s) e es workers)
           (subst (λ (all : List Entry). AreLegal s all) (sym (append_assoc earlier (e ∷ []) es)) legal),
     )

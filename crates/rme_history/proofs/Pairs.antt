@@ -1,35 +1,20 @@
--- Lists of which each item stands to all later ones as a relation says, and what is kept of a list by a filter.
-use Rattle.std.proofs.Common.{◌≡◌, ℕ, zero, suc, ◌+◌, List, [], ◌∷◌, length, get_or, refl, sym, ◌∙◌, subst, inl, inr, arith}
-use Rattle.std.specs.Prelude.{Bool, true, false, filter, if◌then◌else◌}
-use Rattle.std.specs.List.{All, sum_by}
-use Rattle.std.specs.Cmp.{IsStrictWeakOrder}
-use Rattle.std.specs.List.Sorted.{IsPermutation, IsSortedBy}
+-- The first item of a list and the later ones, and what is kept of a list by a filter.
+use Rattle.std.proofs.Common.{◌≡◌, ℕ, zero, suc, ◌+◌, List, [], ◌∷◌, length, refl, sym, ◌∙◌, inl, inr, arith}
+use Rattle.std.specs.Prelude.{Bool, true, filter, if◌then◌else◌}
+use Rattle.std.specs.List.{All, AllPairs, sum_by}
+use Rattle.std.specs.List.Sorted.{IsPermutation}
 use Rattle.std.proofs.lemmas.Bool.{cases_Bool}
-use Rattle.std.proofs.lemmas.List.Elements.{All-nil, All-cons, All-head, All-tail, All-filter}
-use Rattle.std.proofs.lemmas.List.Sorted.{sorted_far, sum_by-IsPermutation}
+use Rattle.std.proofs.lemmas.List.Elements.{All-nil, All-cons, All-head, All-tail}
+use Rattle.std.proofs.lemmas.List.Sorted.{sum_by-IsPermutation}
 use Rattle.std.proofs.lemmas.List.Sums.{sum_by-cons}
 
 module _ {X : Type 0} where
-  abbrev pub IsPaired : (X → X → Type 0) → List X → Type 0
-  IsPaired R [] = Unit {0}
-  IsPaired R (x ∷ xs) = All (R x) xs × IsPaired R xs
+  -- Where each item of a list stands to all later ones as a relation says, so does the first, and so do the others.
+  pub pairs_head : (R : X → X → Type 0) (x : X) (xs : List X) → AllPairs R (x ∷ xs) → All (R x) xs
+  pairs_head R x xs pairs k d within = pairs zero (suc k) d (omega arith) (omega (arith, within))
 
-  -- In a sorted list no later item is less.
-  pub sorted_pairs : (lt : X → X → Bool) → IsStrictWeakOrder lt → (xs : List X) → IsSortedBy lt xs → IsPaired (λ x y. lt y x ≡ false) xs
-  sorted_pairs lt order [] up = tt
-  sorted_pairs lt order (x ∷ xs) up = (
-    λ k d within. sorted_far lt order (x ∷ xs) up zero (suc k) d (omega arith) (omega (arith, within)),
-    sorted_pairs lt order xs (λ k d low high.
-        let next : suc k + 1 ≡ suc (k + 1) = omega arith in
-        subst (λ (n : ℕ). lt (get_or (x ∷ xs) n d) (get_or xs k d) ≡ false) next (up (suc k) d (omega arith) (omega (arith, high)))),
-  )
-
-  pub paired_kept : (R : X → X → Type 0) (p : X → Bool) (xs : List X) → IsPaired R xs → IsPaired R (filter p xs)
-  paired_kept R p [] pairs = tt
-  paired_kept R p (x ∷ xs) pairs = elim (cases_Bool (p x)) [
-    | inl t ↦ rw t (All-filter p (R x) xs pairs.0, paired_kept R p xs pairs.1)
-    | inr f ↦ rw f (paired_kept R p xs pairs.1)
-  ]
+  pub pairs_tail : (R : X → X → Type 0) (x : X) (xs : List X) → AllPairs R (x ∷ xs) → AllPairs R xs
+  pairs_tail R x xs pairs i j d less within = pairs (suc i) (suc j) d (omega (arith, less)) (omega (arith, within))
 
   -- What holds of all that a filter keeps holds of all that pass it, and the other way round.
   pub kept_all : (p : X → Bool) (Q : X → Type 0) (xs : List X) → All Q (filter p xs) → All (λ x. p x ≡ true → Q x) xs

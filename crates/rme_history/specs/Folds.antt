@@ -3,8 +3,8 @@ use Rattle.std.specs.Prelude.{◌≡◌, ℕ, List, map, take, slice_get, Some}
 use Rattle.std.specs.List.{range_with_len}
 use Rattle.rme_words.specs.declared.shape.Shape.{Shape}
 use Rattle.rme_program.specs.declared.note.Entry.{Entry}
-use Rattle.rme_machine.specs.Histories.{place_of}
-use Rattle.rme_history.specs.Legal.{Follows, rows_of_locks}
+use Rattle.rme_machine.specs.Histories.{place_of, Follows}
+use Rattle.rme_history.specs.Legal.{rows_of_locks}
 
 -- The rows of all locks, and how many of the entries are of each.
 pub record IsFold (shape : Shape) (earlier : List Entry) (cells : List (List ℕ)) (counts : List ℕ) : Type 0 where

@@ -1,22 +1,13 @@
 -- `legal history`: which entries of a lock could have been, and the first entry of a list that could not.
-use Rattle.std.specs.Prelude.{◌≡◌, ℕ, ◌==◌, List, filter, map, take, slice_get, Some}
+use Rattle.std.specs.Prelude.{◌≡◌, ℕ, List, map, take, slice_get, Some}
 use Rattle.std.specs.List.{All, range_with_len}
 use Rattle.rme_words.specs.declared.shape.Shape.{Shape}
-use Rattle.rme_script.specs.declared.job.Job.{Job}
 use Rattle.rme_script.specs.Eval.{eval_of}
 use Rattle.rme_program.specs.declared.note.Entry.{Entry}
 use Rattle.rme_program.specs.Conditions.{IsJob}
-use Rattle.rme_machine.specs.Histories.{place_of, rows}
+use Rattle.rme_machine.specs.Histories.{entries_at, rows, entry_job, Follows}
 use Rattle.rme_history.specs.declared.fault.ReplayFault.{ReplayFault}
 use Rattle.rme_history.specs.declared.fault.ReplayFault.TheVariants.{Broken, NoMemory}
-
--- The job of an entry: what its worker asked of the lock.
-abbrev pub entry_job : Entry → Job
-entry_job e = record { lock = e.receipt.lock; script = e.script }
-
--- The entries of a lock, in order.
-abbrev pub entries_of : List Entry → ℕ → List Entry
-entries_of entries lock = filter (λ (e : Entry). e.receipt.lock == lock) entries
 
 -- An entry of a lock at a place, after the earlier ones: its reply is that of its script on their fold.
 pub record IsLegalEntry (shape : Shape) (lock place : ℕ) (earlier : List Entry) (e : Entry) : Type 0 where
@@ -32,16 +23,9 @@ IsLegalHistory shape lock history = (i : ℕ) (e : Entry) → slice_get history 
 -- All jobs are of the shape, and each lock's entries are a legal history.
 pub record AreLegal (shape : Shape) (entries : List Entry) : Type 0 where
   pub jobs : All (λ (e : Entry). IsJob shape (entry_job e)) entries
-  pub histories : (lock : ℕ) → IsLegalHistory shape lock (entries_of entries lock)
+  pub histories : (lock : ℕ) → IsLegalHistory shape lock (entries_at entries lock)
 
--- An entry follows from the earlier ones: its lock and script are of the shape, its place is how many of them
--- are of its lock, and its reply is that of its script on their fold.
-pub record Follows (shape : Shape) (earlier : List Entry) (e : Entry) : Type 0 where
-  pub job : IsJob shape (entry_job e)
-  pub place : e.receipt.place ≡ place_of earlier e.receipt.lock
-  pub reply : e.receipt.reply ≡ (eval_of e.script.ops (rows shape earlier e.receipt.lock)).reply
-
--- The first entry that does not: those before it are legal.
+-- The first entry that does not follow from those before it, which are legal.
 pub record IsFirstBroken (shape : Shape) (entries : List Entry) (i : ℕ) : Type 0 where
   pub before : AreLegal shape (take i entries)
   pub entry : Entry

@@ -4,7 +4,7 @@ ghost use Rattle.std.specs.Prelude.{◌≡◌, ℕ, ◌<◌, ◌+◌, ◌↔◌,
 ghost use Rattle.std.specs.Bool.{MatchBool};
 ghost use Rattle.rme_program.specs.declared.note.Entry.{Entry};
 ghost use Rattle.rme_program.specs.Conditions.{IsJob};
-ghost use Rattle.rme_history.specs.Legal.{entry_job};
+ghost use Rattle.rme_machine.specs.Histories.{entry_job};
 ghost use Rattle.rme_history.specs.Folds.{IsFold, FollowsAt};
 
 use crate::fault::ReplayFault;

@@ -2,7 +2,8 @@
 //! are a history that could have been, and the most steps that each phase took.
 //!
 //! The crate stands on rme_program for entries and phases, on rme_script for running scripts, and on
-//! rme_machine for the definition `rows` of a lock's cells; it knows no word and no worker's private state.
+//! rme_machine for the definitions of a lock's entries and cells (`entries_at`, `rows`) and of when an entry
+//! follows from earlier ones (`Follows`); it knows no word and no worker's private state.
 //! The one contract that the crates above use is that of `replay`: it says Ok to legal histories alone, and
 //! answers their rows. Begin with `specs/Legal.antt`, and then `replaying.rt`.
 #![tactic(auto)]

@@ -12,11 +12,11 @@ use Rattle.rme_script.specs.Scripts.{IsScript}
 use Rattle.rme_script.specs.Eval.{eval_of}
 use Rattle.rme_script.proofs.Slates.{slate_some, script_slate}
 use Rattle.rme_program.specs.declared.note.Entry.{Entry}
-use Rattle.rme_machine.specs.Histories.{place_of, rows, last_at, IsLegal}
+use Rattle.rme_machine.specs.Histories.{entries_at, place_of, rows, last_at, IsLegal}
 use Rattle.rme_machine.specs.Views.{WorkerWords, LockWords, worker_words, is_pending, site_of, slate_script, slate_job, no_script}
 use Rattle.rme_machine.specs.Shown.{Privates}
 use Rattle.rme_machine.specs.Fact.{Fact, Account, HasJob, Stands, StandsOwned, IsLogged, IsOver, IsOwnersLast}
-use Rattle.rme_machine.specs.Clauses.{HasNumbers, HasSlate, HasEntries, HasTurn, HasShadow, IsShadow, HasCells, HasRows, IsGood, entries_at, rows_before}
+use Rattle.rme_machine.specs.Clauses.{HasNumbers, HasSlate, HasEntries, HasTurn, HasShadow, IsShadow, HasCells, HasRows, IsGood, rows_before}
 use Rattle.rme_machine.proofs.Kept.{owner_holds_in}
 use Rattle.rme_machine.proofs.Locals.{local_rooted, one_by_stake}
 use Rattle.rme_machine.proofs.Sections.{IsLastSection, last_section, rows_all}

@@ -114,10 +114,11 @@ module _ (s : Shape) (mem : Address → ℕ) (privs : Privates) (es : List Entry
   due : IsDue s es (entry_of (worker_words mem w) w b visit reply)
   due = record {
     worker = owner.worker;
-    lock = owner.lock;
-    script = ((fact.accounts w owner.worker).slate owner.at.pending).job.script;
-    place = placed;
-    reply = replied;
+    follows = record {
+      job = record { lock = owner.lock; script = ((fact.accounts w owner.worker).slate owner.at.pending).job.script };
+      place = placed;
+      reply = replied;
+    };
   }
 
   begun_next : b ≡ (worker_words mem w).done + 1

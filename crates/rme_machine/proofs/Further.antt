@@ -2,6 +2,7 @@
 use Rattle.std.proofs.Common.{◌≡◌, ◌≢◌, ℕ, refl, sym, ◌∙◌, subst}
 use Rattle.std.specs.Prelude.{true, Some, ◌==◌, if◌then◌else◌}
 use Rattle.std.proofs.lemmas.Bool.{eq-eqb, ne_eqb}
+use Rattle.std.proofs.lemmas.Option.{same_Some}
 use Rattle.rme_tree.proofs.Memory.{blocked_in}
 use Rattle.rme_tree.specs.Nodes.{held_in}
 use Rattle.rme_program.specs.declared.private.Private.{Private}
@@ -42,14 +43,11 @@ pub staying : StaleLaw
 staying s mem mem' privs es w p found u q fact worker was busy did fallen other down fits =
     let raised : Privates = with_private privs u q in
     let fact_raised = private_kept s mem privs raised es u (Some q) fact record { at = there privs u q; off = λ v apart. elsewhere privs u v q apart }
-    (λ r e. let P : Private → Type 0 = λ (x : Private). Fits s (worker_words mem u) (held_in s mem u) (lock_words s mem) u x in subst P (same_private q r e) fits) in
+    (λ r e. let P : Private → Type 0 = λ (x : Private). Fits s (worker_words mem u) (held_in s mem u) (lock_words s mem) u x in subst P (same_Some q r e) fits) in
     let moved : Privates = with_private raised w (private_after s p found) in
     let goes = own_step s mem mem' raised moved es w p found fact_raised worker (elsewhere privs u w q (λ e. other (sym e)) ∙ was) busy did
     record { at = there raised w (private_after s p found); off = λ v apart. elsewhere raised w v (private_after s p found) apart } in
     goes.0.fits u q fallen (elsewhere raised w u (private_after s p found) other ∙ there privs u q)
-  where
-    same_private : (a b : Private) → Some a ≡ Some b → a ≡ b
-    same_private a b e = cc
 
 pub idling : IdleLaw
 idling s mem privs es w l p fact worker lock was none = by_stage p.stage none (fact.fits w p worker was).knows

@@ -21,7 +21,7 @@ use Rattle.rme_machine.specs.Fits.{Fits, Knows, KnowsLog, KnowsRedo, KnowsRecove
 use Rattle.rme_machine.specs.Fact.{Fact, Account, IsWithdrawn, IsReceipt, IsSettled, IsLogged, IsOver, Stands, StandsOwned}
 use Rattle.rme_machine.specs.Shown.{Privates}
 use Rattle.rme_machine.specs.Changes.{Became}
-use Rattle.rme_machine.proofs.Moves.{OwnMove, LockMove, NodeMove}
+use Rattle.rme_machine.proofs.Moves.{OwnMove, LockMove, NodeMove, held_others}
 use Rattle.rme_machine.proofs.Historical.{place_other, row_other, last_at_other, last_by_other, numbers_other, entry_other, legal_more}
 
 -- What is known of a job at a lock depends on the levels held there.
@@ -338,15 +338,6 @@ module _ (s : Shape) (mem mem' : Address → ℕ) (privs privs' : Privates) (es 
 -- A change of a node of the worker's path. The new owner of the lock is told by how many levels are held.
 module _ (s : Shape) (mem mem' : Address → ℕ) (privs privs' : Privates) (es : List Entry) (w l levels : ℕ) (p : Option Private)
     (fact : Fact s mem privs es) (worker : w < s.workers) (lock : l < s.locks) (move : NodeMove s mem mem' l w levels) (became : Became privs privs' w p) where
-  -- Another worker holds what it held.
-  node_others : (u : ℕ) → u < s.workers → u ≢ w → (k : ℕ) → held_in s mem' u k ≡ held_in s mem u k
-  node_others u is_worker apart k =
-      elim (cases_eq k l) [
-        | inl same ↦
-            (let P : ℕ → Type 0 = λ k. held_in s mem' u k ≡ held_in s mem u k in subst P (sym same) (move.others u is_worker apart))
-        | inr off ↦ move.elsewhere u k off
-      ]
-
   node_stake : (0 < levels → (0 < (worker_words mem w).begun) × (site_of (worker_words mem w) ≡ l))
       → (k : ℕ) → k < s.locks → 0 < held_in s mem' w k → (0 < (worker_words mem w).begun) × (site_of (worker_words mem w) ≡ k)
   node_stake stake k is_lock some =
@@ -365,7 +356,7 @@ module _ (s : Shape) (mem mem' : Address → ℕ) (privs privs' : Privates) (es 
         | inl same ↦
             (let P : ℕ → Type 0 = λ u. Account s (worker_words mem u) (held_in s mem' u) es u in
             subst P (sym same) (account_moved s _ _ _ es w (node_stake stake) (fact.accounts w worker)))
-        | inr apart ↦ account_same s _ _ _ es u (node_others u is_worker apart) (fact.accounts u is_worker)
+        | inr apart ↦ account_same s _ _ _ es u (λ k. held_others s mem mem' l w levels move u k is_worker apart) (fact.accounts u is_worker)
       ])
 
   node_fits : ((q : Private) → p ≡ Some q → (held : ℕ → ℕ) → held l ≡ levels → ((k : ℕ) → k ≢ l → held k ≡ held_in s mem w k)
@@ -374,7 +365,7 @@ module _ (s : Shape) (mem mem' : Address → ℕ) (privs privs' : Privates) (es 
   node_fits fits = fits_each s mem mem' privs privs' w p became
       (λ u q is_worker apart up.
       let Q : WorkerWords → Type 0 = λ own. Fits s own (held_in s mem' u) (lock_words s mem') u q in
-      subst Q (sym (move.owns u)) (fits_same s _ _ _ _ _ u q (node_others u is_worker apart) (λ k _. move.locks k) (fact.fits u q is_worker up)))
+      subst Q (sym (move.owns u)) (fits_same s _ _ _ _ _ u q (λ k. held_others s mem mem' l w levels move u k is_worker apart) (λ k _. move.locks k) (fact.fits u q is_worker up)))
       (λ q is.
       let Q : WorkerWords → Type 0 = λ own. Fits s own (held_in s mem' w) (lock_words s mem') w q in
       subst Q (sym (move.owns w)) (fits_same s _ _ _ _ _ w q (λ k. refl) (λ k _. move.locks k) (fits q is (held_in s mem' w) move.self (move.elsewhere w))))

@@ -3,9 +3,9 @@ use Rattle.std.proofs.Common.{◌≡◌, ◌≢◌, ℕ, zero, suc, ◌+◌, ◌
 use Rattle.std.specs.Prelude.{Some, map, replicate, slice_get, slice_set}
 use Rattle.std.specs.List.{range_with_len}
 use Rattle.std.proofs.lemmas.Bool.{cases_eq}
-use Rattle.std.proofs.lemmas.List.{same_lists, length-set, set-get_or, get_or-set_same, get_or-set_other}
+use Rattle.std.proofs.lemmas.List.{same_lists, length-set, get_or-set_same, get_or-set_other}
 use Rattle.std.proofs.lemmas.List.FromFn.{length-map-range_with_len, get_or-map-range_with_len}
-use Rattle.std.proofs.lemmas.Option.{slice_get-get_or, get_or_from_slice_get}
+use Rattle.std.proofs.lemmas.Option.{slice_get-get_or}
 
 -- The length of such a list, and its element at a place.
 pub made_long : {A : Type 0} (f : ℕ → A) (n : ℕ) → length (map f (range_with_len 0 n)) ≡ n
@@ -47,7 +47,3 @@ pub made_of_one : {A : Type 0} (f : ℕ → A) (x : A) (from n : ℕ) → ((i : 
 made_of_one {A = A} f x from zero same = refl
 made_of_one {A = A} f x from (suc n) same =
     ap₂ (λ (head : A) (rest : List A). head ∷ rest) (same from (omega arith)) (made_of_one f x (from + 1) n (λ i below. same i (omega (arith, below))))
-
--- To store what stands there changes nothing.
-pub set_same : {A : Type 0} (xs : List A) (i : ℕ) (x : A) → slice_get xs i ≡ Some x → slice_set xs i x ≡ xs
-set_same xs i x at = ap (λ (y : _). slice_set xs i y) (sym (get_or_from_slice_get xs i x x at)) ∙ set-get_or xs i x

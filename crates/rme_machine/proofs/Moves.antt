@@ -45,6 +45,15 @@ pub record NodeMove (s : Shape) (mem mem' : Address → ℕ) (l w levels : ℕ) 
   pub owner_step : OwnerStep s.leaves s.height s.workers (nodes_of mem l) (nodes_of mem' l) w levels
   pub rooted : (k : ℕ) → k < s.locks → Rooted (nodes_of mem k) s.leaves s.height s.workers → Rooted (nodes_of mem' k) s.leaves s.height s.workers
 
+-- Every other worker holds what it held, in each lock.
+pub held_others : (s : Shape) (mem mem' : Address → ℕ) (l w levels : ℕ) → NodeMove s mem mem' l w levels
+    → (u k : ℕ) → u < s.workers → u ≢ w → held_in s mem' u k ≡ held_in s mem u k
+held_others s mem mem' l w levels move u k other apart =
+    elim (cases_eq k l) [
+      | inl here ↦ (let P : ℕ → Type 0 = λ k. held_in s mem' u k ≡ held_in s mem u k in subst P (sym here) (move.others u other apart))
+      | inr elsewhere ↦ move.elsewhere u k elsewhere
+    ]
+
 -- Two views that are the same part by part are the same.
 own_parts : (one other : WorkerWords) → one.begun ≡ other.begun → one.done ≡ other.done → one.reply ≡ other.reply → one.place ≡ other.place
     → one.at ≡ other.at → one.slate_lock ≡ other.slate_lock → one.slate_len ≡ other.slate_len → one.slate ≡ other.slate → one ≡ other

@@ -9,8 +9,8 @@ use Rattle.rme_words.specs.declared.shape.Shape.{Shape}
 use Rattle.rme_script.specs.Eval.{eval_of}
 use Rattle.rme_script.proofs.Lists.{get_seam}
 use Rattle.rme_program.specs.declared.note.Entry.{Entry}
-use Rattle.rme_machine.specs.Histories.{place_of, row_from, rows, last_at, IsDue, IsLegal}
-use Rattle.rme_machine.specs.Clauses.{entries_at, rows_before}
+use Rattle.rme_machine.specs.Histories.{entries_at, place_of, row_from, rows, last_at, IsDue, IsLegal}
+use Rattle.rme_machine.specs.Clauses.{rows_before}
 use Rattle.rme_machine.proofs.Historical.{row_same}
 use Rattle.rme_machine.proofs.Lasts.{IsLast, last_stands, last_due}
 
@@ -64,5 +64,5 @@ last_section s es l e legal found =
       row = row_entries (replicate s.cells 0) es l ∙ ap (λ (some : List Entry). row_from (replicate s.cells 0) some l) all
           ∙ row_same (replicate s.cells 0) before e l at
           ∙ ap (λ (row : List ℕ). (eval_of e.script.ops row).row) (sym (row_entries (replicate s.cells 0) last.before l) ∙ sym fold);
-      reply = due.reply ∙ ap (λ (lock : ℕ). (eval_of e.script.ops (rows s last.before lock)).reply) at ∙ ap (λ (row : List ℕ). (eval_of e.script.ops row).reply) (sym fold);
+      reply = due.follows.reply ∙ ap (λ (lock : ℕ). (eval_of e.script.ops (rows s last.before lock)).reply) at ∙ ap (λ (row : List ℕ). (eval_of e.script.ops row).reply) (sym fold);
     }

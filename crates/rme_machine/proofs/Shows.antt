@@ -17,7 +17,7 @@ use Rattle.rme_machine.specs.Changes.{Became}
 use Rattle.rme_tree.proofs.Firsts.{first_passes, first_same, first_only, first_fails}
 use Rattle.rme_machine.proofs.Historical.{last_by_other, withdrawn_other}
 use Rattle.rme_machine.proofs.Lists.{made_same, made_get, made_set}
-use Rattle.rme_machine.proofs.Moves.{OwnMove, LockMove, NodeMove}
+use Rattle.rme_machine.proofs.Moves.{OwnMove, LockMove, NodeMove, held_others}
 
 -- A worker that holds a node in one lock holds none in another.
 pub holds_one : (s : Shape) (mem : Address → ℕ) (privs : Privates) (es : List Entry) (w l k : ℕ) → Fact s mem privs es → w < s.workers
@@ -126,19 +126,12 @@ lock_frame s mem mem' privs privs' es w l p new move became = record {
 pub node_frame : (s : Shape) (mem mem' : Address → ℕ) (privs privs' : Privates) (es : List Entry) (w l levels : ℕ) (p : Option Private)
     → NodeMove s mem mem' l w levels → Became privs privs' w p → Frame s mem mem' privs privs' es es w
 node_frame s mem mem' privs privs' es w l levels p move became = record {
-  owned = λ u other apart. owned_same s mem mem' u (λ k lock. same u k other apart);
+  owned = λ u other apart. owned_same s mem mem' u (λ k lock. held_others s mem mem' l w levels move u k other apart);
   words = λ u apart. move.owns u;
   privates = became.off;
   last = λ u apart. refl;
   withdrawn = λ u done apart. refl;
 }
-  where
-    same : (u k : ℕ) → u < s.workers → u ≢ w → held_in s mem' u k ≡ held_in s mem u k
-    same u k other apart =
-        elim (cases_eq k l) [
-          | inl here ↦ (let P : ℕ → Type 0 = λ k. held_in s mem' u k ≡ held_in s mem u k in subst P (sym here) (move.others u other apart))
-          | inr elsewhere ↦ move.elsewhere u k elsewhere
-        ]
 
 -- An entry of the worker itself changes nothing of the others.
 pub entry_frame : (s : Shape) (mem mem' : Address → ℕ) (privs privs' : Privates) (es : List Entry) (w : ℕ) (e : Entry)

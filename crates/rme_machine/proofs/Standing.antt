@@ -24,7 +24,8 @@ at_lock s mem privs es w fact worker past some =
           (let receipt : IsReceipt (worker_words mem w) es w = (fact.accounts w worker).receipt past some there in
           let last : IsLast (λ (e : Entry). e.receipt.worker == w) es receipt.last = last_stands _ es receipt.last receipt.found in
           let due : IsDue s last.before receipt.last = last_due s _ es receipt.last fact.legal last in
-          omega (arith, receipt.at, due.lock))
+          let below = due.follows.job.lock in
+          omega (arith, receipt.at, below))
     ]
 
 -- The lock that a worker is at is one of the shape's.

@@ -1,6 +1,6 @@
 -- The clauses of an image from `nodes` to `entries`, one by one: of the nodes, the workers and the locks of a
 -- memory, and of the entries of a history. With no private state at all they say what the one fact says.
-use Rattle.std.specs.Prelude.{◌≡◌, ◌≢◌, ◌⊎◌, ℕ, ◌+◌, ◌*◌, ◌<◌, ◌≤◌, ◌==◌, true, List, take, filter, replicate, slice_get, slice_index, Option, Some, None}
+use Rattle.std.specs.Prelude.{◌≡◌, ◌≢◌, ◌⊎◌, ℕ, ◌+◌, ◌*◌, ◌<◌, ◌≤◌, true, List, take, replicate, slice_get, slice_index, Option, Some, None}
 use Rattle.rme_words.specs.declared.shape.Shape.{Shape}
 use Rattle.rme_words.specs.declared.address.Address.{Address}
 use Rattle.rme_tree.specs.Rooted.{IsLocal}
@@ -13,7 +13,7 @@ use Rattle.rme_script.specs.Slates.{IsSlate}
 use Rattle.rme_script.specs.Eval.{eval_of}
 use Rattle.rme_program.specs.declared.note.Entry.{Entry}
 use Rattle.rme_program.specs.Steps.{withdrawn_place}
-use Rattle.rme_machine.specs.Histories.{place_of, row_from, rows, numbers_by, RisesFrom, IsLegal}
+use Rattle.rme_machine.specs.Histories.{entries_at, place_of, row_from, rows, numbers_by, RisesFrom, IsLegal}
 use Rattle.rme_machine.specs.Views.{WorkerWords, LockWords, worker_words, lock_words, slate_job}
 use Rattle.rme_machine.specs.Fact.{Covers, IsOwnersLast, IsWithdrawn, IsReceipt}
 
@@ -50,10 +50,7 @@ pub record HasEntries (shape : Shape) (own : WorkerWords) (history : List Entry)
   pub receipt : own.done ≡ own.begun → 0 < own.begun → own.place ≢ withdrawn_place → IsReceipt own history worker
   pub blank : own.begun ≡ 0 → (own.reply ≡ 0) × (own.place ≡ 0) × (own.at ≡ 0)
 
--- The entries of a lock, in order, and the fold of the first of them.
-abbrev pub entries_at : List Entry → ℕ → List Entry
-entries_at history lock = filter (λ (e : Entry). e.receipt.lock == lock) history
-
+-- The fold of the first entries of a lock.
 abbrev pub rows_before : Shape → List Entry → ℕ → ℕ → List ℕ
 rows_before shape history lock place = row_from (replicate shape.cells 0) (take place (entries_at history lock)) lock
 

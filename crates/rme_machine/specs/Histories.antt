@@ -2,9 +2,14 @@
 use Rattle.std.specs.Prelude.{◌≡◌, ℕ, ◌+◌, ◌<◌, ◌≤◌, Bool, ◌==◌, ◌&&◌, not, List, [], ◌∷◌, ◌++◌, filter, replicate, if◌then◌else◌, Option, Some, None}
 use Rattle.std.specs.List.{list_any, range_with_len}
 use Rattle.rme_words.specs.declared.shape.Shape.{Shape}
-use Rattle.rme_script.specs.Scripts.{IsScript}
+use Rattle.rme_script.specs.declared.job.Job.{Job}
 use Rattle.rme_script.specs.Eval.{eval_of}
 use Rattle.rme_program.specs.declared.note.Entry.{Entry}
+use Rattle.rme_program.specs.Conditions.{IsJob}
+
+-- The entries of a lock, in order.
+abbrev pub entries_at : List Entry → ℕ → List Entry
+entries_at history lock = filter (λ (e : Entry). e.receipt.lock == lock) history
 
 -- How many entries of a history are of a lock: the place of its next section.
 unfoldable pub place_of : List Entry → ℕ → ℕ
@@ -52,14 +57,21 @@ abbrev pub RisesFrom : ℕ → ℕ → List ℕ → Type 0
 RisesFrom low most [] = Unit {0}
 RisesFrom low most (k ∷ ks) = (low < k) × (k ≤ most) × RisesFrom k most ks
 
--- An entry is due after the earlier ones: its worker, lock and script are of the shape, its place is how many
--- of them are of its lock, and its reply is that of its script on their fold.
-pub record IsDue (shape : Shape) (earlier : List Entry) (e : Entry) : Type 0 where
-  pub worker : e.receipt.worker < shape.workers
-  pub lock : e.receipt.lock < shape.locks
-  pub script : IsScript shape.cells e.script
+-- The job of an entry: what its worker asked of the lock.
+abbrev pub entry_job : Entry → Job
+entry_job e = record { lock = e.receipt.lock; script = e.script }
+
+-- An entry follows from the earlier ones: its job is of the shape, its place is how many of them are of its lock,
+-- and its reply is that of its script on their fold.
+pub record Follows (shape : Shape) (earlier : List Entry) (e : Entry) : Type 0 where
+  pub job : IsJob shape (entry_job e)
   pub place : e.receipt.place ≡ place_of earlier e.receipt.lock
   pub reply : e.receipt.reply ≡ (eval_of e.script.ops (rows shape earlier e.receipt.lock)).reply
+
+-- It is due after them where besides its worker is of the shape.
+pub record IsDue (shape : Shape) (earlier : List Entry) (e : Entry) : Type 0 where
+  pub worker : e.receipt.worker < shape.workers
+  pub follows : Follows shape earlier e
 
 -- Each entry is due after those before it.
 abbrev pub IsLegalAfter : Shape → List Entry → List Entry → Type 0

@@ -144,12 +144,12 @@ module _ (seen : Seen) (worker : ℕ) (kept : IsKept seen) (within : worker < se
   place_within : receipt.last.receipt.place ≤ length seen.history
   place_within =
       let all : length seen.history ≡ length last.before + suc (length last.after) = ap (λ (es : List Entry). length es) last.stands ∙ length-append last.before (receipt.last ∷ last.after) in
-      omega (arith, due.place, place_few last.before receipt.last.receipt.lock, all)
+      omega (arith, due.follows.place, place_few last.before receipt.last.receipt.lock, all)
 
   -- The words of a receipt are numbers of 32 bits.
   pub receipt_small : ((words_seen seen worker).at < 2 ^ 32) × ((words_seen seen worker).done < 2 ^ 32) × ((words_seen seen worker).place < 2 ^ 32)
   receipt_small = (
-    omega (arith, receipt.at, due.lock, seen.shape.counted.limits),
+    (let below = due.follows.job.lock in omega (arith, receipt.at, below, seen.shape.counted.limits)),
     omega (arith, account.done, account.few, seen.shape.counted.limits),
     omega (arith, receipt.place, place_within, entries_few seen.shape (memory_seen seen) (privates_seen seen) seen.history kept.fact, most),
   )
