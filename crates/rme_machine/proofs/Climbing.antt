@@ -11,7 +11,7 @@ use Rattle.rme_tree.specs.Paths.{node, side}
 use Rattle.rme_tree.specs.Nodes.{nodes_of, held_in, owner_in}
 use Rattle.rme_tree.proofs.Levels.{side_pos}
 use Rattle.rme_tree.proofs.Steps.{same_root}
-use Rattle.rme_tree.proofs.Ownership.{held-owns}
+use Rattle.rme_tree.proofs.Ownership.{owner_absent, held-owns}
 use Rattle.rme_program.specs.declared.note.Entry.{Entry}
 use Rattle.rme_program.specs.declared.note.Note.{Note}
 use Rattle.rme_program.specs.declared.note.Note.TheVariants.{Quiet, Blocked, Entered}
@@ -32,7 +32,7 @@ use Rattle.rme_machine.specs.Fact.{Fact, IsSettled, Stands, StandsOwned}
 use Rattle.rme_machine.specs.Changes.{Became, history_after}
 use Rattle.rme_machine.specs.Laws.{Goes}
 use Rattle.rme_machine.proofs.Moves.{NodeMove, take_move}
-use Rattle.rme_machine.proofs.Kept.{owner_holds_in, node_kept}
+use Rattle.rme_machine.proofs.Kept.{node_kept}
 use Rattle.rme_machine.proofs.Shows.{owned_at, owned_site, load_frame, node_frame, shown_owner, shown_still, shown_owns}
 use Rattle.rme_machine.proofs.Faces.{face, shown_as, does_as}
 use Rattle.rme_machine.proofs.Loads.{load_fact}
@@ -43,18 +43,14 @@ climber w b ascent = record { worker = w; begun = b; stage = Climbing ascent }
 
 -- A lock whose root is free has no owner.
 root_free : (s : Shape) (mem : Address → ℕ) (l w k : ℕ) → w < s.workers → suc k ≡ s.height → mem (Node l (node s.leaves w (suc k))) ≡ 0 → owner_in s mem l ≡ None
-root_free s mem l w k worker top free = go (owner_in s mem l) refl
-  where
-    go : (found : Option ℕ) → owner_in s mem l ≡ found → found ≡ None
-    go None e = refl
-    go (Some u) e =
-        let at : (u < s.workers) × (held_in s mem u l ≡ s.height) = owner_holds_in s mem l u e in
-        let own : mem (Node l (node s.leaves u (suc k))) ≡ side s.leaves u (suc k) = held-owns (nodes_of mem l) s.leaves s.height u at.1 k (omega arith) in
-        let P : ℕ → Type 0 = λ h. node s.leaves u h ≡ node s.leaves w h in
-        let root : node s.leaves u (suc k) ≡ node s.leaves w (suc k) =
-        subst P (sym top) (same_root s.leaves s.height u w s.counted.tree.is_power (omega (arith, at.0, s.counted.tree.enough)) (omega (arith, worker, s.counted.tree.enough))) in
-        let here : mem (Node l (node s.leaves u (suc k))) ≡ 0 = ap (λ (v : ℕ). mem (Node l v)) root ∙ free in
-        absurd (omega (arith, own, here, side_pos s.leaves u (suc k)))
+root_free s mem l w k worker top free =
+    owner_absent (nodes_of mem l) s.leaves s.height s.workers (λ u other all.
+    let own : mem (Node l (node s.leaves u (suc k))) ≡ side s.leaves u (suc k) = held-owns (nodes_of mem l) s.leaves s.height u all k (omega arith) in
+    let P : ℕ → Type 0 = λ h. node s.leaves u h ≡ node s.leaves w h in
+    let root : node s.leaves u (suc k) ≡ node s.leaves w (suc k) =
+    subst P (sym top) (same_root s.leaves s.height u w s.counted.tree.is_power (omega (arith, other, s.counted.tree.enough)) (omega (arith, worker, s.counted.tree.enough))) in
+    let here : mem (Node l (node s.leaves u (suc k))) ≡ 0 = ap (λ (v : ℕ). mem (Node l v)) root ∙ free in
+    omega (arith, own, here, side_pos s.leaves u (suc k)))
 
 module _ (s : Shape) (mem mem' : Address → ℕ) (privs privs' : Privates) (es : List Entry) (w b : ℕ) (ascent : Ascent) (fact : Fact s mem privs es)
     (worker : w < s.workers) (was : privs w ≡ Some (climber w b ascent)) where

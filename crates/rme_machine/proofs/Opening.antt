@@ -7,6 +7,7 @@ use Rattle.rme_words.specs.declared.address.Address.{Address}
 use Rattle.rme_words.specs.declared.address.Address.TheVariants.{Node, Turn, Cell, Begun, Done, Reply, Place, At}
 use Rattle.rme_tree.specs.Rooted.{Rooted}
 use Rattle.rme_tree.specs.Nodes.{nodes_of, held_in, owner_in}
+use Rattle.rme_tree.proofs.Ownership.{owner_absent}
 use Rattle.rme_tree.proofs.Steps.{free_tree}
 use Rattle.rme_program.specs.declared.private.Private.{Private}
 use Rattle.rme_program.specs.Steps.{ready_private}
@@ -17,7 +18,6 @@ use Rattle.rme_machine.specs.Shown.{Privates, shown, shown_worker}
 use Rattle.rme_machine.specs.Fits.{Fits}
 use Rattle.rme_machine.specs.Fact.{Fact, Account, Stands}
 use Rattle.rme_machine.specs.Laws.{OpeningLaw}
-use Rattle.rme_machine.proofs.Kept.{owner_holds_in}
 use Rattle.rme_machine.proofs.Lists.{made_of_one}
 use Rattle.rme_machine.proofs.Shows.{owned_none}
 use Rattle.rme_machine.proofs.Faces.{shown_as}
@@ -34,13 +34,7 @@ module _ (s : Shape) (mem : Address → ℕ) (privs : Privates) (blank : (addres
   not_pending w = rw (blank (Begun w)) (rw (blank (Done w)) refl)
 
   no_owner : (l : ℕ) → owner_in s mem l ≡ None
-  no_owner l = go (owner_in s mem l) refl
-    where
-      go : (found : Option ℕ) → owner_in s mem l ≡ found → found ≡ None
-      go None is = refl
-      go (Some w) is =
-          let holds : (w < s.workers) × (held_in s mem w l ≡ s.height) = owner_holds_in s mem l w is in
-          absurd (omega (arith, holds.1, holds_none w l holds.0, s.counted.tree.some_level))
+  no_owner l = owner_absent (nodes_of mem l) s.leaves s.height s.workers (λ w worker all. omega (arith, all, holds_none w l worker, s.counted.tree.some_level))
 
   account : (w : ℕ) → w < s.workers → Account s (worker_words mem w) (held_in s mem w) [] w
   unfolding numbers_by

@@ -5,7 +5,7 @@ use Rattle.std.proofs.lemmas.Bool.{cases_eq}
 use Rattle.rme_tree.specs.Paths.{node, side, owner, Owns}
 use Rattle.rme_tree.specs.Rooted.{child}
 use Rattle.rme_tree.proofs.Levels.{comes, node-zero, node-down, side_pos, side_le}
-use Rattle.rme_tree.proofs.Ownership.{owner_holds, owner_is, held-owns, owns-held}
+use Rattle.rme_tree.proofs.Ownership.{owner_absent, owner_holds, owner_is, held-owns, owns-held}
 use Rattle.rme_tree.proofs.Steps.{path_law}
 
 -- The descent has come to a node `depth` levels below the root, `level` levels above the leaves. Whoever's path
@@ -86,18 +86,12 @@ came_down f m h v c power came inside some few e =
           omega (arith, e, at.0, at.1, node-down m u below.0);
     }
 
-owner_absent : (f : ℕ → ℕ) (m h n : ℕ) → ((u : ℕ) → u < n → Owns f m h u → ⊥) → owner f m h n ≡ None
-owner_absent f m h n nobody = go (owner f m h n) refl
-  where
-    go : (found : Option ℕ) → owner f m h n ≡ found → found ≡ None
-    go None e = refl
-    go (Some u) e = absurd (nobody u (owner_holds f m h n u e).0 (held-owns f m h u (owner_holds f m h n u e).1))
-
 -- A node whose word is no side ends the descent: nobody owns the lock.
 pub came_none : (f : ℕ → ℕ) (m h n v : ℕ) → m ≡ 2 ^ h → n ≤ m → Came f m h v → v < m → f v ≢ 1 → f v ≢ 2 → owner f m h n ≡ None
 came_none f m h n v power few came inside not_left not_right =
     let below : (level : ℕ) × (came.level ≡ suc level) = level_below f m h v power came inside in
-    owner_absent f m h n (λ u is_worker owns.
+    owner_absent f m h n (λ u is_worker holds.
+    let owns : Owns f m h u = held-owns f m h u holds in
     omega (
       arith,
       not_left,
@@ -119,7 +113,8 @@ came_leaf f m h n v power few came outside is_worker =
 pub came_other : (f : ℕ → ℕ) (m h n v : ℕ) → m ≡ 2 ^ h → n ≤ m → Came f m h v → m ≤ v → n ≤ v - m → owner f m h n ≡ None
 came_other f m h n v power few came outside no_worker =
     let bottom : came.level ≡ 0 = no_level_below f m h v power came outside in
-    owner_absent f m h n (λ u is_worker owns.
+    owner_absent f m h n (λ u is_worker holds.
+    let owns : Owns f m h u = held-owns f m h u holds in
     omega (arith, came.passed u (omega arith) owns, ap (node m u) bottom, node-zero m u))
 
 -- What a contract says of the owner.

@@ -1,10 +1,10 @@
 -- The owner is the worker that holds every level of its path, and how a step of one worker moves the ownership.
-use Rattle.std.proofs.Common.{◌≡◌, ◌≢◌, ℕ, zero, suc, ◌^◌, ◌<◌, ◌≤◌, Bool, true, false, eqb, refl, sym, ◌∙◌, ap, subst, inl, inr, arith, Option, Some, None}
+use Rattle.std.proofs.Common.{◌≡◌, ◌≢◌, ℕ, suc, ◌^◌, ◌<◌, ◌≤◌, true, eqb, refl, sym, ◌∙◌, ap, subst, inl, inr, arith, Option, Some, None}
 use Rattle.std.proofs.lemmas.Bool.{cases_eq, eqb-true, eqb-false, ne_eqb}
 use Rattle.rme_tree.specs.Paths.{node, held, owner, Owns}
 use Rattle.rme_tree.specs.Rooted.{Holder, TreeStep}
 use Rattle.rme_tree.specs.Laws.{OwnerLaw, OwnerStepLaw, SameTreeLaw}
-use Rattle.rme_tree.proofs.Firsts.{first_passes, first_none, first_same}
+use Rattle.rme_tree.proofs.Firsts.{first_passes, first_none, first_same, first_fails}
 use Rattle.rme_tree.proofs.Holding.{held_at, held_within, held_least, held_same}
 use Rattle.rme_tree.proofs.Steps.{same_owner}
 
@@ -34,6 +34,11 @@ owner_is f m h n w power few less holds = go (owner f m h n) refl
         let at : (u < n) × (held f m u h ≡ h) = owner_holds f m h n u e in
         ap (λ (x : ℕ). Some x) (same_owner f m h u w power (omega (arith, at.0)) (omega arith) (held-owns f m h u at.1) (held-owns f m h w holds))
 
+-- Where no worker holds every level there is no owner.
+pub owner_absent : (f : ℕ → ℕ) (m h n : ℕ) → ((w : ℕ) → w < n → held f m w h ≢ h) → owner f m h n ≡ None
+unfolding owner
+owner_absent f m h n nobody = first_fails n (λ (w : ℕ). eqb (held f m w h) h) (λ w less all. nobody w less (eqb-true _ _ all))
+
 pub owner_law : OwnerLaw
 owner_law f m h n w power few less = (λ e. (owner_holds f m h n w e).1, owner_is f m h n w power few less)
 
@@ -54,17 +59,12 @@ owner_kept f g m h n w k step was is =
 
 -- After a step of the owner below the root there is no owner.
 pub owner_left : (f g : ℕ → ℕ) (m h n w k : ℕ) → m ≡ 2 ^ h → n ≤ m → w < n → TreeStep m h n f g w k → held f m w h ≡ h → k ≢ h → owner g m h n ≡ None
-owner_left f g m h n w k power few less step was is = go (owner g m h n) refl
-  where
-    go : (found : Option ℕ) → owner g m h n ≡ found → found ≡ None
-    go None e = refl
-    go (Some u) e =
-        let at : (u < n) × (held g m u h ≡ h) = owner_holds g m h n u e in
-        elim (cases_eq u w) [
-          | inl same ↦ absurd (is (sym step.self ∙ ap (λ (v : ℕ). held g m v h) (sym same) ∙ at.1))
-          | inr other ↦ absurd (other (same_owner f m h u w power (omega (arith, at.0)) (omega arith)
-              (held-owns f m h u (sym (step.others u at.0 other) ∙ at.1)) (held-owns f m h w was)))
-        ]
+owner_left f g m h n w k power few less step was is =
+    owner_absent g m h n (λ u below all. elim (cases_eq u w) [
+      | inl same ↦ is (sym step.self ∙ ap (λ (v : ℕ). held g m v h) (sym same) ∙ all)
+      | inr other ↦ other (same_owner f m h u w power (omega (arith, below, few)) (omega (arith, less, few))
+          (held-owns f m h u (sym (step.others u below other) ∙ all)) (held-owns f m h w was))
+    ])
 
 pub owner_step_law : OwnerStepLaw
 owner_step_law f g m h n w k power few less step = record {
