@@ -1,6 +1,6 @@
 -- What a caller over bytes in memory may rely on.
 use Rattle.std.specs.Prelude.{◌≡◌, ℕ, List}
-use Rattle.rme_wire.specs.Pieces.{lines_of}
+use Rattle.rme_lines.specs.Pieces.{lines_of}
 use Rattle.rme_server.specs.Runs.{Run, all_written}
 use Rattle.rme_server.specs.States.{State, nothing_open}
 

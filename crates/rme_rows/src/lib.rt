@@ -11,6 +11,8 @@
 #[cfg(test)]
 mod crashes;
 #[cfg(test)]
+mod event_lines;
+#[cfg(test)]
 mod histories;
 #[cfg(test)]
 mod line_cuts;
@@ -30,6 +32,8 @@ mod refusals;
 mod runs;
 #[cfg(test)]
 mod seen;
+#[cfg(test)]
+mod session_lines;
 #[cfg(test)]
 mod sweeps;
 #[cfg(test)]

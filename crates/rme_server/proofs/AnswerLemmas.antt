@@ -2,7 +2,7 @@
 use Rattle.std.proofs.Common.{◌≡◌, ◌++◌, ℕ, List, Result, Ok, Err, OnOk, false, refl}
 use Rattle.rme_wire.specs.declared.command.Command.{Command}
 use Rattle.rme_program.specs.declared.note.Note.{Note}
-use Rattle.rme_wire.specs.Texts.{note_text, separated}
+use Rattle.rme_texts.specs.Texts.{note_text, separated}
 use Rattle.rme_server.specs.declared.tallied.TalliedWorld.{TalliedWorld}
 use Rattle.rme_server.specs.declared.walk.Walked.{Walked}
 use Rattle.rme_server.specs.declared.walk.Walked.TheVariants.{Ended, Refused}

@@ -1,12 +1,12 @@
--- An engine obeys the order of a line.
+-- An engine obeys the request of a line.
 use Rattle.std.proofs.Common.{◌≡◌, ◌++◌, ℕ, List, true, false, Option, Some, None, is_some, Result, Ok, Err, OnOk, refl, sym, ap, subst, ◌∙◌}
 use Rattle.rme_words.specs.declared.refusal.Refusal.{Refusal}
 use Rattle.rme_words.specs.declared.refusal.Refusal.TheVariants.{AlreadyOpen, NotOpen}
 use Rattle.rme_words.specs.declared.shape.Shape.{Shape}
-use Rattle.rme_wire.specs.declared.answer.Done.TheVariants as word
+use Rattle.rme_texts.specs.declared.answer.Done.TheVariants as word
 use Rattle.rme_wire.specs.declared.command.Command.{Command}
-use Rattle.rme_wire.specs.declared.line.Order.{Order}
-use Rattle.rme_wire.specs.declared.line.Order.TheVariants.{World}
+use Rattle.rme_wire.specs.declared.request.Request.{Request}
+use Rattle.rme_wire.specs.declared.request.Request.TheVariants.{World}
 use Rattle.rme_wire.specs.declared.opening.Opening.{Opening}
 use Rattle.rme_server.specs.declared.engine.Engine.{Engine}
 use Rattle.rme_server.specs.declared.tallied.TalliedWorld.{TalliedWorld}
@@ -14,12 +14,12 @@ use Rattle.rme_server.specs.States.{Reply, State, done, refused, text_of}
 use Rattle.rme_server.specs.Tallies.{tallied_opening}
 use Rattle.rme_server.specs.Commands.{Tells}
 use Rattle.rme_server.specs.Lines.{DoesIn, IsAsGiven, IsGood, MayRefuse, Obeys, OpensIn}
-use Rattle.rme_server.specs.Engines.{TellsOpening, TellsOrder, state_of}
+use Rattle.rme_server.specs.Engines.{TellsOpening, TellsRequest, state_of}
 
-pub obeyed : {A E : Type 0} (result : Result A E) (old : Engine) (order : Option Order) (new : Engine) (before after : List ℕ) (reply : Reply)
-    → OnOk result (after ≡ before ++ text_of old.names reply) → Obeys (state_of old) order reply (state_of new) → OnOk result (TellsOrder old order new before after)
-obeyed (Ok value) old order new before after reply e obeys = (reply, obeys, e)
-obeyed (Err error) old order new before after reply e obeys = tt
+pub obeyed : {A E : Type 0} (result : Result A E) (old : Engine) (request : Option Request) (new : Engine) (before after : List ℕ) (reply : Reply)
+    → OnOk result (after ≡ before ++ text_of old.names reply) → Obeys (state_of old) request reply (state_of new) → OnOk result (TellsRequest old request new before after)
+obeyed (Ok value) old request new before after reply e obeys = (reply, obeys, e)
+obeyed (Err error) old request new before after reply e obeys = tt
 
 pub opens : {A E : Type 0} (result : Result A E) (old : Engine) (given : Opening) (new : Engine) (before after : List ℕ) (reply : Reply)
     → OnOk result (after ≡ before ++ text_of old.names reply) → OpensIn old.world (state_of old) given reply (state_of new) → OnOk result (TellsOpening old given new before after)
@@ -34,7 +34,7 @@ not_open (Some world) old command e = absurd (let bad : Some world ≡ None = e 
 -- a command to the world that is open
 pub commanded : {A E : Type 0} (result : Result A E) (old new : Engine) (command : Command) (world later : TalliedWorld) (before after : List ℕ) → old.world ≡ Some world
     → state_of new ≡ record { names = old.names; world = Some later } → OnOk result (Tells old.names world command later before after)
-    → OnOk result (TellsOrder old (Some (World command)) new before after)
+    → OnOk result (TellsRequest old (Some (World command)) new before after)
 commanded (Ok value) old new command world later before after e f (reply, does, g) =
     let P : Option TalliedWorld → Type 0 = λ w. DoesIn w (state_of old) command reply (state_of new) in (reply, subst P (sym e) (later, does, f), g)
 commanded (Err error) old new command world later before after e f told = tt

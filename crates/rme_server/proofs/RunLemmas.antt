@@ -2,12 +2,12 @@
 use Rattle.std.proofs.Common.{◌≡◌, ℕ, List, [], ◌∷◌, ◌++◌, true, false, Option, Some, None, refl, sym, ap, subst, ◌∙◌, append_assoc, append-nil}
 use Rattle.std.specs.Io.KnownBytes.{Appends, Keeps}
 use Rattle.std.proofs.KnownBytes.{Appends-kept, Appends-nil, Appends-trans, Keeps-refl}
-use Rattle.rme_wire.specs.declared.cut.Cut.{Cut}
-use Rattle.rme_wire.specs.declared.cut.Cut.TheVariants.{Line, TooLong, End}
-use Rattle.rme_wire.specs.declared.fault.EngineFault.{EngineFault}
-use Rattle.rme_wire.specs.declared.fault.EngineFault.TheVariants.{ReadFailed, WriteFailed, NoMemory}
-use Rattle.rme_wire.specs.Cuts.{Cuts}
-use Rattle.rme_wire.specs.Pieces.{InputLine, lines_of}
+use Rattle.rme_lines.specs.declared.cut.Cut.{Cut}
+use Rattle.rme_lines.specs.declared.cut.Cut.TheVariants.{Line, TooLong, End}
+use Rattle.rme_lines.specs.declared.fault.EngineFault.{EngineFault}
+use Rattle.rme_lines.specs.declared.fault.EngineFault.TheVariants.{ReadFailed, WriteFailed, NoMemory}
+use Rattle.rme_lines.specs.Cuts.{Cuts}
+use Rattle.rme_lines.specs.Pieces.{InputLine, lines_of}
 use Rattle.rme_server.specs.Lines.{Answers}
 use Rattle.rme_server.specs.Runs.{AnswersAll, AnswersFirst, BeginsWith, CutsOff, HasNone, PutFails, Run, TurnFails, Turns, all_written, line_read, written}
 use Rattle.rme_server.specs.States.{State, nothing_open}

@@ -2,10 +2,10 @@
 use Rattle.std.proofs.Common.{◌≡◌, ℕ, zero, suc, ◌+◌, List, [], ◌++◌, Bool, false, Option, Some, None, Result, Ok, Err, refl, sym, ap, subst, ◌∙◌, append-nil, arith}
 use Rattle.rme_words.specs.declared.refusal.Refusal.{Refusal}
 use Rattle.rme_program.specs.declared.note.Note.{Note}
-use Rattle.rme_wire.specs.declared.answer.WalkEnd.{WalkEnd}
-use Rattle.rme_wire.specs.declared.answer.WalkEnd.TheVariants as end
+use Rattle.rme_texts.specs.declared.answer.WalkEnd.{WalkEnd}
+use Rattle.rme_texts.specs.declared.answer.WalkEnd.TheVariants as end
 use Rattle.rme_wire.specs.declared.command.Until.{Until}
-use Rattle.rme_wire.specs.Texts.{note_text, separated}
+use Rattle.rme_texts.specs.Texts.{note_text, separated}
 use Rattle.rme_server.specs.declared.tallied.TalliedWorld.{TalliedWorld}
 use Rattle.rme_server.specs.declared.walk.Walked.{Walked}
 use Rattle.rme_server.specs.declared.walk.Walked.TheVariants.{Ended, Refused}

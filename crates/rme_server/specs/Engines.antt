@@ -1,8 +1,8 @@
 -- What an engine has open, and the answers that it appends.
 use Rattle.std.specs.Prelude.{◌≡◌, ◌++◌, ℕ, List, Option}
-use Rattle.rme_wire.specs.declared.line.Order.{Order}
+use Rattle.rme_wire.specs.declared.request.Request.{Request}
 use Rattle.rme_wire.specs.declared.opening.Opening.{Opening}
-use Rattle.rme_wire.specs.Pieces.{text}
+use Rattle.rme_lines.specs.Pieces.{text}
 use Rattle.rme_server.specs.declared.engine.Engine.{Engine}
 use Rattle.rme_server.specs.States.{Reply, State, text_of}
 use Rattle.rme_server.specs.Lines.{Answers, Obeys, OpensIn}
@@ -10,9 +10,9 @@ use Rattle.rme_server.specs.Lines.{Answers, Obeys, OpensIn}
 abbrev pub state_of : Engine → State
 state_of engine = record { names = engine.names; world = engine.world }
 
--- an order was obeyed, if the line had one, and the text of its answer appended
-abbrev pub TellsOrder : Engine → Option Order → Engine → List ℕ → List ℕ → Type 0
-TellsOrder old order new before after = (reply : Reply) × Obeys (state_of old) order reply (state_of new) × (after ≡ before ++ text_of old.names reply)
+-- a request was obeyed, if the line had one, and the text of its answer appended
+abbrev pub TellsRequest : Engine → Option Request → Engine → List ℕ → List ℕ → Type 0
+TellsRequest old request new before after = (reply : Reply) × Obeys (state_of old) request reply (state_of new) × (after ≡ before ++ text_of old.names reply)
 
 -- the same of an opening
 abbrev pub TellsOpening : Engine → Opening → Engine → List ℕ → List ℕ → Type 0

@@ -4,14 +4,14 @@ use Rattle.rme_words.specs.declared.refusal.Refusal.{Refusal}
 use Rattle.rme_words.specs.declared.refusal.Refusal.TheVariants.{BadLine, LineTooLong, NotOpen, AlreadyOpen, BadShape, NoMemory}
 use Rattle.rme_words.specs.declared.shape.Shape.{Shape}
 use Rattle.rme_words.specs.Shapes.{IsWithinLimits}
-use Rattle.rme_wire.specs.declared.answer.Done.TheVariants as word
+use Rattle.rme_texts.specs.declared.answer.Done.TheVariants as word
 use Rattle.rme_wire.specs.declared.command.Command.{Command}
-use Rattle.rme_wire.specs.declared.line.Order.{Order}
-use Rattle.rme_wire.specs.declared.line.Order.TheVariants.{Open, World}
+use Rattle.rme_wire.specs.declared.request.Request.{Request}
+use Rattle.rme_wire.specs.declared.request.Request.TheVariants.{Open, World}
 use Rattle.rme_wire.specs.declared.opening.Opening.{Opening}
 use Rattle.rme_wire.specs.Openings.{are_names}
-use Rattle.rme_wire.specs.Orders.{order_of_line}
-use Rattle.rme_wire.specs.Pieces.{InputLine, text, too_long}
+use Rattle.rme_wire.specs.Requests.{request_of_line}
+use Rattle.rme_lines.specs.Pieces.{InputLine, text, too_long}
 use Rattle.rme_server.specs.declared.tallied.TalliedWorld.{TalliedWorld}
 use Rattle.rme_server.specs.States.{Reply, State, done, refused, text_of}
 use Rattle.rme_server.specs.Tallies.{tallied_opening}
@@ -46,7 +46,7 @@ abbrev pub DoesIn : Option TalliedWorld → State → Command → Reply → Stat
 DoesIn None old command reply new = (reply ≡ refused NotOpen) × (new ≡ old)
 DoesIn (Some world) old command reply new = (after : TalliedWorld) × Does world command reply after × (new ≡ record { names = old.names; world = Some after })
 
-abbrev pub Obeys : State → Option Order → Reply → State → Type 0
+abbrev pub Obeys : State → Option Request → Reply → State → Type 0
 Obeys old None reply new = (reply ≡ refused BadLine) × (new ≡ old)
 Obeys old (Some (Open given)) reply new = OpensIn old.world old given reply new
 Obeys old (Some (World command)) reply new = DoesIn old.world old command reply new
@@ -54,7 +54,7 @@ Obeys old (Some (World command)) reply new = DoesIn old.world old command reply 
 -- the reply to a line
 abbrev pub Replies : State → InputLine → Reply → State → Type 0
 Replies old too_long reply new = (reply ≡ refused LineTooLong) × (new ≡ old)
-Replies old (text bytes) reply new = Obeys old (order_of_line old.names bytes) reply new
+Replies old (text bytes) reply new = Obeys old (request_of_line old.names bytes) reply new
 
 -- the answer to a line: the text of its reply, without the newline
 abbrev pub Answers : State → InputLine → List ℕ → State → Type 0

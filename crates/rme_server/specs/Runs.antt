@@ -1,12 +1,12 @@
 -- What a run of lines writes: for the lines of the bytes read, the answer of each in order, and nothing else.
 use Rattle.std.specs.Prelude.{◌≡◌, ℕ, List, [], ◌∷◌, ◌++◌, Bool, true, false, Option, Some, None}
 use Rattle.std.specs.Io.KnownBytes.{Appends, Keeps}
-use Rattle.rme_wire.specs.declared.fault.EngineFault.{EngineFault}
-use Rattle.rme_wire.specs.declared.fault.EngineFault.TheVariants.{ReadFailed, WriteFailed, NoMemory}
-use Rattle.rme_wire.specs.Pieces.{InputLine, lines_of, text, too_long}
-use Rattle.rme_wire.specs.declared.cut.Cut.{Cut}
-use Rattle.rme_wire.specs.declared.cut.Cut.TheVariants.{Line, TooLong, End}
-use Rattle.rme_wire.specs.Puts.{AppendsFront}
+use Rattle.rme_lines.specs.declared.fault.EngineFault.{EngineFault}
+use Rattle.rme_lines.specs.declared.fault.EngineFault.TheVariants.{ReadFailed, WriteFailed, NoMemory}
+use Rattle.rme_lines.specs.Pieces.{InputLine, lines_of, text, too_long}
+use Rattle.rme_lines.specs.declared.cut.Cut.{Cut}
+use Rattle.rme_lines.specs.declared.cut.Cut.TheVariants.{Line, TooLong, End}
+use Rattle.rme_lines.specs.Puts.{AppendsFront}
 use Rattle.rme_server.specs.States.{State, nothing_open}
 use Rattle.rme_server.specs.Lines.{Answers}
 

@@ -5,11 +5,11 @@ use Rattle.rme_program.specs.declared.note.Entry.{Entry}
 use Rattle.rme_program.specs.declared.note.Note.{Note}
 use Rattle.rme_program.specs.declared.note.Receipt.{Receipt}
 use Rattle.rme_history.specs.declared.tally.Tally.{Tally}
-use Rattle.rme_wire.specs.declared.answer.Done.{Done}
-use Rattle.rme_wire.specs.declared.answer.Report.{Report}
-use Rattle.rme_wire.specs.declared.answer.WalkEnd.{WalkEnd}
-use Rattle.rme_wire.specs.Replies.{done_text, history_text, last_text, number_text, owner_text, refusal_text, report_text, row_text, stepped_text, walked_text}
-use Rattle.rme_wire.specs.Texts.{note_text, separated}
+use Rattle.rme_texts.specs.declared.answer.Done.{Done}
+use Rattle.rme_texts.specs.declared.answer.Report.{Report}
+use Rattle.rme_texts.specs.declared.answer.WalkEnd.{WalkEnd}
+use Rattle.rme_texts.specs.Replies.{done_text, history_text, last_text, number_text, owner_text, refusal_text, report_text, row_text, stepped_text, walked_text}
+use Rattle.rme_texts.specs.Texts.{note_text, separated}
 use Rattle.rme_server.specs.declared.tallied.TalliedWorld.{TalliedWorld}
 
 -- the world that the lines opened, if one did, with its tally, and the names of its locks

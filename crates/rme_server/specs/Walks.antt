@@ -3,8 +3,8 @@ use Rattle.std.specs.Prelude.{◌≡◌, ℕ, zero, suc, List, [], ◌∷◌, �
 use Rattle.rme_words.specs.declared.refusal.Refusal.{Refusal}
 use Rattle.rme_program.specs.declared.note.Note.{Note}
 use Rattle.rme_program.specs.declared.note.Note.TheVariants.{Quiet, Asked, Blocked, Entered, Reentered, Finished, Left, Ready, Withdrew}
-use Rattle.rme_wire.specs.declared.answer.WalkEnd.{WalkEnd}
-use Rattle.rme_wire.specs.declared.answer.WalkEnd.TheVariants as end
+use Rattle.rme_texts.specs.declared.answer.WalkEnd.{WalkEnd}
+use Rattle.rme_texts.specs.declared.answer.WalkEnd.TheVariants as end
 use Rattle.rme_wire.specs.declared.command.Until.{Until}
 use Rattle.rme_wire.specs.declared.command.Until.TheVariants as until
 use Rattle.rme_server.specs.declared.tallied.TalliedWorld.{TalliedWorld}

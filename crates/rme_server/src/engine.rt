@@ -3,7 +3,9 @@
 use crate::answers::answer_command;
 use crate::opened::open_world;
 use crate::tallied::TalliedWorld;
-use rme_wire::{Cut, Done, EngineFault, Names, Opening, Order, order_of, push_done, push_refusal};
+use rme_wire::{
+    Cut, Done, EngineFault, Names, Opening, Request, push_done, push_refusal, request_of,
+};
 use rme_words::{NoMemory, Refusal};
 use std::alloc::{AllocError, Global};
 
@@ -20,7 +22,7 @@ impl Engine {
     ghost use Rattle.rme_server.specs.States.{nothing_open};
     ghost use Rattle.rme_server.specs.Lines.{Answers};
     ghost use Rattle.rme_server.specs.Runs.{line_read};
-    ghost use Rattle.rme_server.specs.Engines.{TellsLine, TellsOpening, TellsOrder, state_of};
+    ghost use Rattle.rme_server.specs.Engines.{TellsLine, TellsOpening, TellsRequest, state_of};
 
     /// Nothing is open.
     pub fn new(alloc: Global) -> Result<Engine, NoMemory>
@@ -57,23 +59,23 @@ impl Engine {
         ensures told { OnOk result (TellsLine self.old line.now self.new (string_bytes out.old) (string_bytes out.new)) }
         ensures kind { IfErr result (λ fault. fault ≡ EngineFault.NoMemory) }
     {
-        let Ok(order) = order_of(self.alloc, &self.names, line) else {
+        let Ok(request) = request_of(self.alloc, &self.names, line) else {
             return Err(EngineFault::NoMemory);
         };
-        match self.obey(order, out) {
+        match self.obey(request, out) {
             Ok(()) => Ok(()),
             Err(_) => Err(EngineFault::NoMemory),
         }
     }
 
-    /// Obeys the order of a line, if it has one, and appends its answer.
-    fn obey(&mut self, order: Option<Order>, out: &mut String) -> Result<(), AllocError>
-        ensures { OnOk result (TellsOrder self.old order self.new (string_bytes out.old) (string_bytes out.new)) }
+    /// Obeys the request of a line, if it has one, and appends its answer.
+    fn obey(&mut self, request: Option<Request>, out: &mut String) -> Result<(), AllocError>
+        ensures { OnOk result (TellsRequest self.old request self.new (string_bytes out.old) (string_bytes out.new)) }
     {
-        match order {
+        match request {
             None => push_refusal(out, Refusal::BadLine),
-            Some(Order::Open(opening)) => self.open(&opening, out),
-            Some(Order::World(command)) => match &mut self.world {
+            Some(Request::Open(opening)) => self.open(&opening, out),
+            Some(Request::World(command)) => match &mut self.world {
                 None => push_refusal(out, Refusal::NotOpen),
                 Some(world) => answer_command(self.alloc, &self.names, world, command, out),
             },

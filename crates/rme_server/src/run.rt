@@ -2,7 +2,7 @@
 
 ghost use Rattle.std.specs.Prelude.{◌≡◌, IfOk, IfErr, OnOk, string_bytes};
 ghost use Rattle.std.specs.Io.KnownBytes.{Appends};
-ghost use Rattle.rme_wire.specs.Readers.{bytes_left};
+ghost use Rattle.rme_lines.specs.Readers.{bytes_left};
 ghost use Rattle.rme_server.specs.Engines.{state_of};
 ghost use Rattle.rme_server.specs.Runs.{AnswersAll, AnswersFirst, PutFails, TurnFails, Turns, written};
 

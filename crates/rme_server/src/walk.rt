@@ -3,7 +3,7 @@
 ghost use Rattle.std.specs.Prelude.{◌≡◌, ◌++◌, IfOk, List, Result, Bool, false, string_bytes};
 ghost use Rattle.rme_program.specs.declared.note.Note.{Note};
 ghost use Rattle.rme_words.specs.declared.refusal.Refusal.{Refusal};
-ghost use Rattle.rme_wire.specs.Texts.{note_text, separated};
+ghost use Rattle.rme_texts.specs.Texts.{note_text, separated};
 ghost use Rattle.rme_server.specs.Calls.{ShowsReady};
 ghost use Rattle.rme_server.specs.Walks as spec;
 

@@ -1,13 +1,17 @@
--- In reading order.
-pub mod Puts
-pub mod Pieces
-pub mod Cuts
-pub mod Readers
-pub mod Names
+-- In reading order, after those of the crates below that a line and its names are told by.
+pub use Rattle.rme_lines.specs.Pieces
+pub use Rattle.rme_lines.specs.Cuts
+pub use Rattle.rme_lines.specs.Puts
+pub use Rattle.rme_lines.specs.Readers
+pub use Rattle.rme_texts.specs.Names
+pub use Rattle.rme_texts.specs.Texts
+pub use Rattle.rme_texts.specs.Replies
+pub use Rattle.rme_texts.specs.Events
+pub use Rattle.rme_texts.specs.Sessions
 pub mod Values
 pub mod Operations
 pub mod Openings
 pub mod Commands
+pub mod Requests
+pub mod EventLines
 pub mod Orders
-pub mod Texts
-pub mod Replies

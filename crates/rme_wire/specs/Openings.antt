@@ -5,7 +5,7 @@ use Rattle.serde_json.specs.Data.{Data, Items, no_items, item}
 use Rattle.serde_json.specs.Find.{get, as_array, as_str}
 use Rattle.rme_wire.specs.declared.opening.Opening.{Opening}
 use Rattle.rme_wire.specs.declared.opening.Sizes.{Sizes}
-use Rattle.rme_wire.specs.Names.{is_name}
+use Rattle.rme_texts.specs.Names.{is_name}
 use Rattle.rme_wire.specs.Values.{small}
 
 -- whether each text is a name that isn't among the earlier ones

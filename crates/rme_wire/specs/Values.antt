@@ -1,7 +1,17 @@
--- Whole numbers of JSON values.
-use Rattle.std.specs.Prelude.{ℕ, ◌^◌, nat_lt, if◌then◌else◌, Option, Some, None, option_and_then}
+-- The JSON value of a line, and the words and whole numbers in it.
+use Rattle.std.specs.Prelude.{ℕ, ◌^◌, nat_lt, List, codes, if◌then◌else◌, Option, Some, None, option_and_then}
+use Rattle.std.specs.Str.{is_utf8}
 use Rattle.serde_json.specs.Data.{Data}
-use Rattle.serde_json.specs.Find.{as_number, as_u64}
+use Rattle.serde_json.specs.Find.{as_number, as_str, as_u64, get}
+use Rattle.serde_json.specs.Read.{read}
+
+-- the value of a line's bytes
+unfoldable pub value_of : List ℕ → Option Data
+value_of bytes = if is_utf8 bytes then read bytes else None
+
+-- the member `do`, a word
+unfoldable pub word_of : Data → Option (List ℕ)
+word_of d = option_and_then as_str (get (codes "do") d)
 
 -- a whole number below 2^64
 unfoldable pub whole : Data → Option ℕ

@@ -4,10 +4,10 @@ ghost use Rattle.std.specs.Prelude.{◌≡◌, option_map, option_and_then};
 ghost use Rattle.serde_json.specs.View.{view};
 ghost use Rattle.rme_wire.specs.Commands as spec;
 
-use crate::names::Names;
 use crate::operation::script_of;
 use crate::value::small;
 use rme_script::Job;
+use rme_texts::Names;
 use serde_json::Value;
 
 /// The most steps of a walk whose line doesn't say.
@@ -65,7 +65,7 @@ fn lock_number(names: &Names, text: &str) -> u32
 
 /// A member that is the name of a lock.
 #[tactic(auto, unfolding(crate::specs::Commands::lock_of))]
-fn lock_of(names: &Names, value: &Value) -> Option<u32>
+pub fn lock_of(names: &Names, value: &Value) -> Option<u32>
     ensures { result ≡ spec.lock_of names.now (view value.now) }
 {
     let name = value.get("lock")?.as_str()?;
@@ -74,7 +74,7 @@ fn lock_of(names: &Names, value: &Value) -> Option<u32>
 
 /// A member that is the number of a worker.
 #[tactic(auto, unfolding(crate::specs::Commands::worker_of))]
-fn worker_of(value: &Value) -> Option<u32>
+pub fn worker_of(value: &Value) -> Option<u32>
     ensures { result ≡ spec.worker_of (view value.now) }
 {
     small(value.get("worker")?)

@@ -1,34 +1,29 @@
-//! Lines in and lines out: how bytes are cut into lines, what order a line gives, and the text of each answer.
+//! Lines in and lines out: what a line of JSON asks for, and, from the crates below, how bytes are cut into
+//! lines and what texts are written.
 //!
-//! The crate stands on rme_program and rme_script, whose notes, entries and scripts the texts show, on
-//! rme_words for the refusals, and on serde_json, indexmap and memchr; it knows no world and obeys nothing.
-//! The one contract that the crates above use is that of `order_of`: the order of a line is the one that
-//! `specs/Orders.antt` reads off its value. Begin with `lines.rt`, then `line.rt`, then `answer.rt`.
+//! The crate stands on rme_lines and rme_texts, whose public names it passes on, on rme_program and
+//! rme_script, whose jobs the lines name, and on serde_json, which reads a line into a value. It knows no
+//! world and obeys nothing. The one contract that the crates above use is that of `request_of`: the request of
+//! a line is the one that `specs/Requests.antt` reads off its value. Begin with `request.rt`, then
+//! `command.rt`.
 #![tactic(auto)]
 
-mod answer;
 mod command;
-mod cut;
-mod fault;
-mod line;
-mod lines;
-mod names;
+mod event;
 mod opening;
 mod operation;
-mod put;
-mod texts;
+mod order;
+mod request;
 mod value;
 
-pub use answer::{
-    Done, Report, WalkEnd, push_done, push_history, push_last, push_number, push_owner,
-    push_refusal, push_report, push_row, push_stepped, push_walked,
-};
 pub use command::{Command, Until, Walk};
-pub use cut::Cut;
-pub use fault::EngineFault;
-pub use line::{Order, order_of};
-pub use lines::LineReader;
-pub use names::{Names, is_name};
+pub use event::event_of;
 pub use opening::{GivenNames, Opening};
-pub use put::put_all;
-pub use texts::{push_comma, push_note};
+pub use order::{Order, Submission, order_of};
+pub use request::{Request, request_of};
+pub use rme_lines::{Cut, EngineFault, LineReader, put_all};
+pub use rme_texts::{
+    Done, EventLine, Handed, Names, Outcome, Reply, Report, Standing, WalkEnd, is_name, push_comma,
+    push_done, push_event, push_history, push_last, push_note, push_number, push_opening,
+    push_owner, push_refusal, push_reply, push_report, push_row, push_stepped, push_walked,
+};

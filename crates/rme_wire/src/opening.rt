@@ -5,8 +5,8 @@ ghost use Rattle.std.specs.List.{list_any};
 ghost use Rattle.serde_json.specs.View.{items_view, view};
 ghost use Rattle.rme_wire.specs.Openings as spec;
 
-use crate::names::{Names, is_name};
 use crate::value::small;
+use rme_texts::{Names, is_name};
 use rme_words::NoMemory;
 use serde_json::Value;
 use std::alloc::{AllocError, Global};

@@ -1,6 +1,6 @@
 use Rattle.std.proofs.Common.{Ok, Err, refl, string_bytes}
 use Rattle.rme_wire.specs.declared.command.Command.TheVariants as command
-use Rattle.rme_wire.specs.declared.answer.Done.TheVariants as word
+use Rattle.rme_texts.specs.declared.answer.Done.TheVariants as word
 use Rattle.rme_server.specs.declared.tallied.TalliedWorld.{TalliedWorld}
 use Rattle.rme_server.specs.States.{done, refused}
 use Rattle.rme_server.proofs.AnswerLemmas.{told}

@@ -1,7 +1,7 @@
 use Rattle.std.proofs.Common.{Bool, subst}
 use Rattle.std.proofs.KnownBytes.{Keeps-refl}
-use Rattle.rme_wire.specs.declared.fault.EngineFault.TheVariants.{ReadFailed}
-use Rattle.rme_wire.specs.Readers.{bytes_left}
+use Rattle.rme_lines.specs.declared.fault.EngineFault.TheVariants.{ReadFailed}
+use Rattle.rme_lines.specs.Readers.{bytes_left}
 use Rattle.rme_server.specs.Engines.{state_of}
 use Rattle.rme_server.specs.Runs.{Turns}
 use Rattle.rme_server.proofs.RunLemmas.{failed, failed_first, so_far_first, so_far_more}

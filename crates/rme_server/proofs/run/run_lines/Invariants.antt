@@ -1,5 +1,5 @@
 -- The lines before were answered, and the others are left.
-use Rattle.rme_wire.specs.Readers.{bytes_left}
+use Rattle.rme_lines.specs.Readers.{bytes_left}
 use Rattle.rme_server.specs.Engines.{state_of}
 use Rattle.rme_server.proofs.RunLemmas.{SoFar}
 use Rattle.rme_server.proofs.run.run_lines.Given as goal

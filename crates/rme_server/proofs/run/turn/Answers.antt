@@ -1,6 +1,6 @@
 use Rattle.std.proofs.Common.{◌≢◌, string_bytes, rules}
-use Rattle.rme_wire.specs.declared.cut.Cut.TheVariants.{End}
-use Rattle.rme_wire.specs.Readers.{bytes_left}
+use Rattle.rme_lines.specs.declared.cut.Cut.TheVariants.{End}
+use Rattle.rme_lines.specs.Readers.{bytes_left}
 use Rattle.rme_server.specs.Engines.{state_of}
 use Rattle.rme_server.specs.Runs.{line_read}
 use Rattle.rme_server.proofs.RunLemmas.{cut_off, put_failed}

@@ -1,5 +1,5 @@
 use Rattle.std.proofs.Common.{◌≡◌, ◌+◌, ◌-◌, ◌++◌, [], string_bytes, arith, refl, ◌∙◌}
-use Rattle.rme_wire.specs.declared.answer.WalkEnd.TheVariants as end
+use Rattle.rme_texts.specs.declared.answer.WalkEnd.TheVariants as end
 use Rattle.rme_server.specs.declared.walk.Walked.TheVariants.{Ended, Refused}
 use Rattle.rme_server.specs.Walks.{shown}
 use Rattle.rme_server.proofs.WalkLemmas.{completes_all, completes_first, walk_ended, walk_goes, walk_over, walk_refused}

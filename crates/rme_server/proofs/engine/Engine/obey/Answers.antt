@@ -1,6 +1,6 @@
 use Rattle.std.proofs.Common.{None, Some, string_bytes, refl}
 use Rattle.rme_words.specs.declared.refusal.Refusal.TheVariants.{BadLine, NotOpen}
-use Rattle.rme_wire.specs.declared.line.Order.TheVariants.{World}
+use Rattle.rme_wire.specs.declared.request.Request.TheVariants.{World}
 use Rattle.rme_server.specs.declared.engine.Engine.{Engine}
 use Rattle.rme_server.specs.States.{refused}
 use Rattle.rme_server.specs.Engines.{state_of}

@@ -1,6 +1,6 @@
 use Rattle.std.proofs.Common.{Some, string_bytes, refl, sym}
 use Rattle.rme_words.specs.declared.refusal.Refusal.TheVariants.{AlreadyOpen}
-use Rattle.rme_wire.specs.declared.answer.Done.TheVariants as word
+use Rattle.rme_texts.specs.declared.answer.Done.TheVariants as word
 use Rattle.rme_server.specs.declared.engine.Engine.{Engine}
 use Rattle.rme_server.specs.States.{done, refused}
 use Rattle.rme_server.specs.Engines.{state_of}

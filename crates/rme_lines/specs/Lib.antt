@@ -1,0 +1,5 @@
+-- In reading order.
+pub mod Puts
+pub mod Pieces
+pub mod Cuts
+pub mod Readers

@@ -1,0 +1,133 @@
+//! The lines of a reader's bytes.
+
+ghost use Rattle.std.specs.Prelude.{◌≡◌, ◌+◌, ◌<◌, ◌≤◌, IfOk, vec_len};
+
+use crate::cut::{Cut, keep, last_cut, whole};
+use crate::fault::EngineFault;
+use memchr::memchr;
+use std::alloc::{AllocError, Global};
+use std::io::{ErrorKind, Read};
+
+/// The most reads of one reader.
+const READS: u32 = 1_000_000_000;
+
+/// How many bytes are asked of the reader at a time.
+const CHUNK: usize = 65_536;
+
+/// Cuts the bytes of a reader into lines.
+///
+/// A line is the bytes up to a newline; a last piece without one is a line if it isn't empty. Memory is
+/// bounded whatever the reader gives: an over-long line is read to its newline and not kept.
+#[derive(Drop)]
+pub struct LineReader<R> {
+    reader: R,
+    chunk: Vec<u8>,
+    start: usize,
+    end: usize,
+    reads: u32,
+    ghost within: { (start ≤ end) × (end ≤ vec_len chunk) × (0 < vec_len chunk) },
+}
+
+/// The buffer that reads fill.
+fn empty_chunk(alloc: Global) -> Result<Vec<u8>, AllocError>
+    ensures { IfOk result (λ chunk. 0 < vec_len chunk) }
+{
+    vec![in alloc; 0u8; CHUNK]
+}
+
+impl<R: Read + Drop> LineReader<R> {
+    ghost use Rattle.std.specs.Prelude.{◌≡◌, ◌≢◌, IfOk, IfErr, false};
+    ghost use Rattle.std.specs.Io.KnownBytes.{IsAtEnd, Keeps};
+    ghost use Rattle.rme_lines.specs.Pieces.{Takes};
+    ghost use Rattle.rme_lines.specs.Cuts.{Cuts};
+    ghost use Rattle.rme_lines.specs.Readers.{bytes_left};
+
+    /// A reader of lines, which makes no read yet.
+    pub fn new(alloc: Global, reader: R) -> Result<LineReader<R>, AllocError>
+        ensures { IfOk result (λ lines. Keeps (R.remaining reader) (bytes_left R.remaining lines)) }
+    {
+        let chunk = empty_chunk(alloc)?;
+        Ok(LineReader {
+            reader,
+            chunk,
+            start: 0,
+            end: 0,
+            reads: READS,
+        })
+    }
+
+    /// Makes a read where the chunk is used up, and says whether a byte is there or may still come.
+    fn fill(&mut self) -> Result<bool, EngineFault>
+        ensures kept { IfOk result (λ _. Keeps (bytes_left R.remaining self.old) (bytes_left R.remaining self.new)) }
+        ensures end { IfOk result (λ more. more ≡ false → IsAtEnd (bytes_left R.remaining self.new)) }
+        ensures kind { IfErr result (λ fault. fault ≡ EngineFault.ReadFailed) }
+    {
+        if self.start < self.end {
+            return Ok(true);
+        }
+        if self.reads == 0 {
+            return Err(EngineFault::ReadFailed);
+        }
+        self.reads -= 1;
+        match self.reader.read(&mut self.chunk[..]) {
+            Ok(count) => {
+                self.start = 0;
+                self.end = count;
+                Ok(count > 0)
+            }
+            Err(error) => {
+                if error.kind() == ErrorKind::Interrupted {
+                    return Ok(true);
+                }
+                Err(EngineFault::ReadFailed)
+            }
+        }
+    }
+
+    /// Moves the chunk's bytes up to its next newline into the line, which is kept to one byte more than the
+    /// limit, and says whether the newline was found.
+    fn take_piece(&mut self, line: &mut Vec<u8>) -> Result<bool, AllocError>
+        ensures { IfOk result (λ found. Takes (bytes_left R.remaining self.old) (bytes_left R.remaining self.new) found
+            line.old.items line.new.items) }
+    {
+        let bytes = &self.chunk[self.start..self.end];
+        match memchr(b'\n', bytes) {
+            Some(at) => {
+                keep(line, &bytes[..at])?;
+                self.start += at + 1;
+                Ok(true)
+            }
+            None => {
+                keep(line, bytes)?;
+                self.start = self.end;
+                Ok(false)
+            }
+        }
+    }
+
+    /// Cuts the next line and copies it into `line`, whose earlier content is dropped. Of an over-long line
+    /// only its front is copied.
+    ///
+    /// A read that was interrupted is made again. `ReadFailed` comes where the reader fails or all its reads
+    /// are used up, and `NoMemory` where the line's copy finds no room; the bytes of the line that was begun
+    /// are then lost.
+    pub fn next_line(&mut self, line: &mut Vec<u8>) -> Result<Cut, EngineFault>
+        ensures cut { IfOk result (λ cut. Cuts (bytes_left R.remaining self.old) (bytes_left R.remaining self.new) cut line.new.items) }
+        ensures kind { IfErr result (λ fault. fault ≢ EngineFault.WriteFailed) }
+    {
+        line.clear();
+        for _ in 0..=READS {
+            match self.fill() {
+                Ok(true) => {}
+                Ok(false) => return Ok(last_cut(line)),
+                Err(fault) => return Err(fault),
+            }
+            match self.take_piece(line) {
+                Ok(true) => return Ok(whole(line)),
+                Ok(false) => {}
+                Err(_) => return Err(EngineFault::NoMemory),
+            }
+        }
+        Err(EngineFault::ReadFailed)
+    }
+}

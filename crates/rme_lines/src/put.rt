@@ -1,0 +1,35 @@
+//! Writing all of some bytes.
+
+ghost use Rattle.std.specs.Prelude.{◌≡◌, OnOk, OnErr, IfErr};
+ghost use Rattle.std.specs.Io.KnownBytes.{Appends};
+ghost use Rattle.rme_lines.specs.Puts.{AppendsFront};
+
+use crate::fault::EngineFault;
+use std::io::{ErrorKind, Write};
+
+/// Writes all of the bytes.
+///
+/// A write that was interrupted is made again. `WriteFailed` comes where the writer fails or takes no byte;
+/// it then holds a front of the bytes, all of them at most.
+pub fn put_all<W: Write>(writer: &mut W, bytes: &[u8]) -> Result<(), EngineFault>
+    ensures whole { OnOk result (Appends (W.contents writer.old) (W.contents writer.new) bytes.now) }
+    ensures front { OnErr result (AppendsFront (W.contents writer.old) (W.contents writer.new) bytes.now) }
+    ensures kind { IfErr result (λ fault. fault ≡ EngineFault.WriteFailed) }
+{
+    let mut at = 0;
+    for _ in 0..u64::MAX {
+        if at == bytes.len() {
+            return Ok(());
+        }
+        match writer.write(&bytes[at..]) {
+            Ok(0) => return Err(EngineFault::WriteFailed),
+            Ok(count) => at += count,
+            Err(error) => {
+                if error.kind() != ErrorKind::Interrupted {
+                    return Err(EngineFault::WriteFailed);
+                }
+            }
+        }
+    }
+    Err(EngineFault::WriteFailed)
+}

@@ -1,0 +1,201 @@
+//! The lines of transcripts: what they tell, and that what was read is written back as it stood.
+
+use rme_program::{Answer, Event, Note, Receipt};
+use rme_script::{Job, Op, Script};
+use rme_wire::{EventLine, Handed, Names, Request, event_of, push_event, push_opening, request_of};
+use rme_words::Shape;
+use std::alloc::Global;
+use std::test::Fail;
+
+const OPENING: &str = r#"{"cells":1,"do":"open","jobs":10,"locks":["bank"],"workers":2}"#;
+
+/// Row `transcript`, after its opening.
+const TRANSCRIPT: &[&str] = &[
+    r#"{"do":"submit","lock":"bank","number":1,"script":[["add",0,5]],"worker":0}"#,
+    r#"{"do":"note","note":["asked",1],"worker":0}"#,
+    r#"{"do":"note","note":["entered","bank"],"worker":0}"#,
+    r#"{"do":"crash","worker":0}"#,
+    r#"{"do":"submit","lock":"bank","number":1,"script":[["add",0,1]],"worker":1}"#,
+    r#"{"do":"note","note":["asked",1],"worker":1}"#,
+    r#"{"do":"note","note":["blocked"],"worker":1}"#,
+    r#"{"do":"restart","worker":0}"#,
+    r#"{"do":"note","note":["reentered","bank"],"worker":0}"#,
+    r#"{"do":"note","note":["finished","bank",1,0,5],"worker":0}"#,
+    r#"{"do":"note","note":["left","bank"],"worker":0}"#,
+    r#"{"do":"note","note":["entered","bank"],"worker":1}"#,
+    r#"{"do":"note","note":["finished","bank",1,1,6],"worker":1}"#,
+    r#"{"do":"note","note":["left","bank"],"worker":1}"#,
+];
+
+/// Event lines of which the row has none: a withdrawal, the other notes, and what no machine would take.
+const FURTHER: &[&str] = &[
+    r#"{"do":"withdraw","worker":0}"#,
+    r#"{"do":"note","note":["withdrew",1],"worker":0}"#,
+    r#"{"do":"note","note":["ready"],"worker":0}"#,
+    r#"{"do":"note","note":["quiet"],"worker":0}"#,
+    r#"{"do":"crash","worker":4294967295}"#,
+    r#"{"do":"note","note":["asked",0],"worker":2}"#,
+    r#"{"do":"note","note":["asked",4294967295],"worker":0}"#,
+    r#"{"do":"note","note":["finished","bank",0,4294967295,18446744073709551615],"worker":0}"#,
+    r#"{"do":"submit","lock":"bank","number":0,"script":[["get",1],["set",9,18446744073709551615],["copy",3,7],["swap",4294967295,0]],"worker":9}"#,
+];
+
+/// Lines that are no event lines, though some of them are commands.
+const BAD: &[&str] = &[
+    "",
+    "\r",
+    "[]",
+    OPENING,
+    r#"{"do":"step","worker":0}"#,
+    r#"{"do":"walk","worker":0}"#,
+    r#"{"do":"last","worker":0}"#,
+    r#"{"do":"owner","lock":"bank"}"#,
+    r#"{"do":"history"}"#,
+    r#"{"do":"crash"}"#,
+    r#"{"do":"crash","number":1,"worker":0}"#,
+    r#"{"do":"crash","worker":4294967296}"#,
+    r#"{"do":"submit","lock":"bank","script":[],"worker":0}"#,
+    r#"{"do":"submit","lock":"shop","number":1,"script":[],"worker":0}"#,
+    r#"{"do":"submit","lock":"bank","number":4294967296,"script":[],"worker":0}"#,
+    r#"{"do":"submit","lock":"bank","number":1,"script":[["add",0]],"worker":0}"#,
+    r#"{"do":"note","note":"ready","worker":0}"#,
+    r#"{"do":"note","note":[],"worker":0}"#,
+    r#"{"do":"note","note":["ready",1],"worker":0}"#,
+    r#"{"do":"note","note":["asked"],"worker":0}"#,
+    r#"{"do":"note","note":["asked",4294967296],"worker":0}"#,
+    r#"{"do":"note","note":["withdrew",4294967296],"worker":0}"#,
+    r#"{"do":"note","note":["asked","1"],"worker":0}"#,
+    r#"{"do":"note","note":["entered",0],"worker":0}"#,
+    r#"{"do":"note","note":["entered","shop"],"worker":0}"#,
+    r#"{"do":"note","note":["left","shop"],"worker":0}"#,
+    r#"{"do":"note","note":["finished","bank",1,0],"worker":0}"#,
+    r#"{"do":"note","note":["finished","shop",1,0,5],"worker":0}"#,
+    r#"{"do":"note","note":["finished","bank",4294967296,0,5],"worker":0}"#,
+    r#"{"do":"note","note":["finished","bank",1,4294967296,5],"worker":0}"#,
+    r#"{"do":"note","note":["finished","bank",1,0,18446744073709551616],"worker":0}"#,
+    r#"{"do":"note","note":["finished","bank",1,0,5,0],"worker":0}"#,
+    r#"{"do":"note","note":["begun"],"worker":0}"#,
+    r#"{"do":"note","note":["ready"]}"#,
+];
+
+/// The names of locks, numbered in order.
+pub fn names_of(alloc: Global, texts: &[&str]) -> Result<Names, Fail> {
+    let mut names = Names::new(alloc)?;
+    for text in texts {
+        names.add(text)?;
+    }
+    Ok(names)
+}
+
+/// Each line is read as an event, whose text is the line again.
+#[test]
+fn written_back(rt: HostRuntime) -> Result<(), Fail> {
+    let names = names_of(rt.alloc(), &["bank"])?;
+    for line in TRANSCRIPT.iter().chain(FURTHER) {
+        let mut text = String::new(rt.alloc());
+        if let Some(event) = event_of(rt.alloc(), &names, line.as_bytes())? {
+            push_event(&mut text, &names, event)?;
+        }
+        assert_eq!(rt; text.as_str(), *line);
+    }
+    Ok(())
+}
+
+/// The first line of a transcript is a command line, and the text of what it opens is the line again.
+#[test]
+fn opening_written_back(rt: HostRuntime) -> Result<(), Fail> {
+    let alloc = rt.alloc();
+    for line in [
+        OPENING,
+        r#"{"cells":16,"do":"open","jobs":1000000,"locks":["bank","shop","a-b_9"],"workers":256}"#,
+    ] {
+        let mut text = String::new(alloc);
+        if let Some(Request::Open(opening)) = request_of(
+            alloc,
+            &Names::new(alloc)?,
+            line.as_bytes(),
+        )? {
+            assert!(rt; opening.locks.are_names());
+            let names = opening.locks.names(alloc)?;
+            let shape = Shape::new(opening.workers, names.len(), opening.cells, opening.jobs)?;
+            push_opening(&mut text, &names, shape)?;
+        }
+        assert_eq!(rt; text.as_str(), line);
+    }
+    Ok(())
+}
+
+/// What a line tells is an event and the answer to it.
+#[test]
+fn events_and_answers(rt: HostRuntime) -> Result<(), Fail> {
+    let names = names_of(rt.alloc(), &["shop", "bank"])?;
+    let job = Job {
+        lock: 1,
+        script: Script::of(&[Op::Add(0, 5)]),
+    };
+    let handed = Handed {
+        worker: 0,
+        job,
+        number: 1,
+    };
+    let finished = Note::Finished(Receipt {
+        worker: 1,
+        lock: 1,
+        number: 1,
+        place: 1,
+        reply: 6,
+    });
+    for (line, wanted, event, answer) in [
+        (
+            TRANSCRIPT[0],
+            EventLine::Submit(handed),
+            Event::Submit(0, job),
+            Answer::Handed(1),
+        ),
+        (
+            TRANSCRIPT[3],
+            EventLine::Crash(0),
+            Event::Crash(0),
+            Answer::Crashed,
+        ),
+        (
+            TRANSCRIPT[7],
+            EventLine::Restart(0),
+            Event::Restart(0),
+            Answer::Restarted,
+        ),
+        (
+            TRANSCRIPT[12],
+            EventLine::Note(1, finished),
+            Event::Step(1),
+            Answer::Stepped(finished),
+        ),
+        (
+            FURTHER[0],
+            EventLine::Withdraw(0),
+            Event::Withdraw(0),
+            Answer::Withdrawing,
+        ),
+    ] {
+        assert_eq!(rt;
+            event_of(rt.alloc(), &names, line.as_bytes())?,
+            Some(wanted),
+            "{line}"
+        );
+        assert_eq!(rt; wanted.event(), event, "{line}");
+        assert_eq!(rt; wanted.answer(), answer, "{line}");
+    }
+    Ok(())
+}
+
+#[test]
+fn no_event_lines(rt: HostRuntime) -> Result<(), Fail> {
+    let names = names_of(rt.alloc(), &["bank"])?;
+    for line in BAD {
+        assert!(rt;
+            event_of(rt.alloc(), &names, line.as_bytes())?.is_none(),
+            "{line}"
+        );
+    }
+    Ok(())
+}

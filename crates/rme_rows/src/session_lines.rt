@@ -1,0 +1,204 @@
+//! The lines of sessions: what they order, and the texts of what they are answered.
+
+use crate::event_lines::names_of;
+use rme_program::Receipt;
+use rme_script::{Job, Op, Script};
+use rme_wire::{Order, Outcome, Reply, Standing, Submission, order_of, push_reply};
+use rme_words::Refusal;
+use std::test::Fail;
+
+const RECEIPT: Receipt = Receipt {
+    worker: 0,
+    lock: 0,
+    number: 1,
+    place: 0,
+    reply: 5,
+};
+
+/// The texts of rows `session` and `withdrawal in a session`, and of the answers that these don't have.
+const REPLIES: &[(Reply, &str)] = &[
+    (
+        Reply::Attached(0, Standing::Ready),
+        r#"{"number":0,"ok":"attach","stance":"ready"}"#,
+    ),
+    (
+        Reply::Attached(2, Standing::Held),
+        r#"{"number":2,"ok":"attach","stance":"held"}"#,
+    ),
+    (
+        Reply::Attached(1, Standing::Climb),
+        r#"{"number":1,"ok":"attach","stance":"climb"}"#,
+    ),
+    (
+        Reply::Submitted(Outcome::Receipt(RECEIPT)),
+        r#"{"ok":"submit","receipt":{"lock":"a","number":1,"place":0,"reply":5,"worker":0}}"#,
+    ),
+    (
+        Reply::Submitted(Outcome::Withdrawn),
+        r#"{"ok":"submit","withdrawn":true}"#,
+    ),
+    (
+        Reply::Submitted(Outcome::Waiting),
+        r#"{"ok":"submit","waiting":true}"#,
+    ),
+    (
+        Reply::Submitted(Outcome::Fell),
+        r#"{"fell":true,"ok":"submit"}"#,
+    ),
+    (
+        Reply::Resumed(Outcome::Receipt(RECEIPT)),
+        r#"{"ok":"resume","receipt":{"lock":"a","number":1,"place":0,"reply":5,"worker":0}}"#,
+    ),
+    (
+        Reply::Resumed(Outcome::Fell),
+        r#"{"fell":true,"ok":"resume"}"#,
+    ),
+    (Reply::Withdrew(1), r#"{"number":1,"ok":"withdraw"}"#),
+    (Reply::WithdrawFell, r#"{"fell":true,"ok":"withdraw"}"#),
+    (Reply::Last(None), r#"{"last":null,"ok":"last"}"#),
+    (
+        Reply::Last(Some(RECEIPT)),
+        r#"{"last":{"lock":"a","number":1,"place":0,"reply":5,"worker":0},"ok":"last"}"#,
+    ),
+    (Reply::CrashPlanned, r#"{"ok":"crash_after"}"#),
+    (Reply::Detached, r#"{"ok":"detach"}"#),
+    (
+        Reply::Refused(Refusal::Differs),
+        r#"{"code":17,"error":"Differs"}"#,
+    ),
+    (
+        Reply::Refused(Refusal::WrongNumber(2)),
+        r#"{"code":16,"error":"WrongNumber","expected":2}"#,
+    ),
+    (
+        Reply::Refused(Refusal::Taken),
+        r#"{"code":18,"error":"Taken"}"#,
+    ),
+    (
+        Reply::Refused(Refusal::NotAttached),
+        r#"{"code":19,"error":"NotAttached"}"#,
+    ),
+];
+
+/// Lines that are no orders of a session, though some are commands of a world.
+const BAD: &[&str] = &[
+    "",
+    r#"{"do":"attach"}"#,
+    r#"{"do":"attach","worker":4294967296}"#,
+    r#"{"do":"attach","tries":1,"worker":0}"#,
+    r#"{"do":"submit","lock":"a","script":[]}"#,
+    r#"{"do":"submit","lock":"a","script":[],"worker":0}"#,
+    r#"{"do":"submit","lock":"a","number":4294967296,"script":[]}"#,
+    r#"{"do":"submit","lock":"a","number":1,"script":[["get"]]}"#,
+    r#"{"do":"submit","lock":0,"number":1,"script":[]}"#,
+    r#"{"do":"submit","lock":"a","number":1,"script":[],"tries":0}"#,
+    r#"{"do":"submit","lock":"a","number":1,"script":[],"tries":1000001}"#,
+    r#"{"do":"submit","lock":"a","number":1,"script":[],"tries":null}"#,
+    r#"{"do":"submit","lock":"a","number":1,"script":[],"worker":0,"tries":1}"#,
+    r#"{"do":"resume","tries":0}"#,
+    r#"{"do":"resume","tries":1000001}"#,
+    r#"{"do":"resume","worker":0}"#,
+    r#"{"do":"withdraw","worker":0}"#,
+    r#"{"do":"last","worker":0}"#,
+    r#"{"do":"crash_after"}"#,
+    r#"{"do":"crash_after","steps":1000001}"#,
+    r#"{"do":"crash_after","steps":-1}"#,
+    r#"{"do":"detach","worker":0}"#,
+    r#"{"do":"crash","worker":0}"#,
+    r#"{"do":"report"}"#,
+];
+
+/// The lines that order without a script.
+#[test]
+fn orders(rt: HostRuntime) -> Result<(), Fail> {
+    let names = names_of(rt.alloc(), &["a"])?;
+    for (line, order) in [
+        (r#"{"do":"attach","worker":0}"#, Order::Attach(0)),
+        (r#"{"worker":9,"do":"attach"}"#, Order::Attach(9)),
+        (r#"{"do":"resume"}"#, Order::Resume(1_000)),
+        (r#"{"do":"resume","tries":1}"#, Order::Resume(1)),
+        (
+            r#"{"do":"resume","tries":1000000}"#,
+            Order::Resume(1_000_000),
+        ),
+        (r#"{"do":"withdraw"}"#, Order::Withdraw),
+        (r#"{"do":"last"}"#, Order::Last),
+        (r#"{"do":"crash_after","steps":0}"#, Order::CrashAfter(0)),
+        (
+            r#"{"do":"crash_after","steps":1000000}"#,
+            Order::CrashAfter(1_000_000),
+        ),
+        (r#"{"do":"detach"}"#, Order::Detach),
+    ] {
+        assert_eq!(rt;
+            order_of(rt.alloc(), &names, line.as_bytes())?,
+            Some(order),
+            "{line}"
+        );
+    }
+    Ok(())
+}
+
+/// A lock that the service doesn't have is the number of its locks, and a line that doesn't say how often to
+/// try asks for 1,000 tries.
+#[test]
+fn submissions(rt: HostRuntime) -> Result<(), Fail> {
+    let alloc = rt.alloc();
+    let names = names_of(alloc, &["a", "b"])?;
+    for (line, number, lock, tries) in [
+        (
+            r#"{"do":"submit","lock":"a","number":1,"script":[["add",0,5]]}"#,
+            1,
+            0,
+            1_000,
+        ),
+        (
+            r#"{"do":"submit","lock":"b","number":0,"script":[["add",0,5]],"tries":1}"#,
+            0,
+            1,
+            1,
+        ),
+        (
+            r#"{"do":"submit","lock":"c","number":4294967295,"script":[["add",0,5]],"tries":1000000}"#,
+            4_294_967_295,
+            2,
+            1_000_000,
+        ),
+    ] {
+        let script = Script::of(&[Op::Add(0, 5)]);
+        let wanted = Order::Submit(Submission {
+            number,
+            job: Job { lock, script },
+            tries,
+        });
+        assert_eq!(rt;
+            order_of(alloc, &names, line.as_bytes())?,
+            Some(wanted),
+            "{line}"
+        );
+    }
+    Ok(())
+}
+
+#[test]
+fn no_orders(rt: HostRuntime) -> Result<(), Fail> {
+    let names = names_of(rt.alloc(), &["a"])?;
+    for line in BAD {
+        assert!(rt;
+            order_of(rt.alloc(), &names, line.as_bytes())?.is_none(),
+            "{line}"
+        );
+    }
+    Ok(())
+}
+
+#[test]
+fn replies(rt: HostRuntime) -> Result<(), Fail> {
+    let names = names_of(rt.alloc(), &["a"])?;
+    for (reply, wanted) in REPLIES {
+        let mut text = String::new(rt.alloc());
+        push_reply(&mut text, &names, *reply)?;
+        assert_eq!(rt; text.as_str(), *wanted);
+    }
+    Ok(())
+}

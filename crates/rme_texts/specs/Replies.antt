@@ -1,0 +1,73 @@
+-- The texts of whole answers, without their newline.
+use Rattle.std.specs.Prelude.{ℕ, List, ◌++◌, Bool, true, false, codes, decimal, Option, Some, None}
+use Rattle.rme_program.specs.declared.note.Entry.{Entry}
+use Rattle.rme_program.specs.declared.note.Note.{Note}
+use Rattle.rme_program.specs.declared.note.Receipt.{Receipt}
+use Rattle.rme_words.specs.declared.refusal.Refusal.{Refusal}
+use Rattle.rme_words.specs.declared.refusal.Refusal.TheVariants.{WrongNumber}
+use Rattle.rme_words.specs.Refusals.{code_of, name_of}
+use Rattle.rme_texts.specs.declared.answer.Done.{Done}
+use Rattle.rme_texts.specs.declared.answer.Done.TheVariants.{Open, Crash, Restart, Withdraw}
+use Rattle.rme_texts.specs.declared.answer.Report.{Report}
+use Rattle.rme_texts.specs.declared.answer.WalkEnd.{WalkEnd}
+use Rattle.rme_texts.specs.declared.answer.WalkEnd.TheVariants.{Until, Ready, Blocked, Max}
+use Rattle.rme_texts.specs.Texts.{cells_text, entries_text, note_text, receipt_text}
+
+abbrev pub done_text : Done → List ℕ
+done_text Open = codes "{\"ok\":\"open\"}"
+done_text Crash = codes "{\"ok\":\"crash\"}"
+done_text Restart = codes "{\"ok\":\"restart\"}"
+done_text Withdraw = codes "{\"ok\":\"withdraw\"}"
+
+abbrev pub number_text : ℕ → List ℕ
+number_text number = codes "{\"number\":" ++ (decimal number ++ codes ",\"ok\":\"submit\"}")
+
+abbrev pub stepped_text : List (List ℕ) → Note → List ℕ
+stepped_text names note = codes "{\"note\":" ++ (note_text names note ++ codes ",\"ok\":\"step\"}")
+
+abbrev pub end_word : WalkEnd → List ℕ
+end_word Until = codes "until"
+end_word Ready = codes "ready"
+end_word Blocked = codes "blocked"
+end_word Max = codes "max"
+
+-- a walk whose end has this word, and whose notes this text
+abbrev pub walk_text : List ℕ → List ℕ → List ℕ
+walk_text end notes = codes "{\"end\":\"" ++ (end ++ (codes "\",\"notes\":[" ++ (notes ++ codes "],\"ok\":\"walk\"}")))
+
+abbrev pub walked_text : WalkEnd → List ℕ → List ℕ
+walked_text end notes = walk_text (end_word end) notes
+
+abbrev pub owner_text : Option ℕ → List ℕ
+owner_text None = codes "{\"ok\":\"owner\",\"owner\":null}"
+owner_text (Some worker) = codes "{\"ok\":\"owner\",\"owner\":" ++ (decimal worker ++ codes "}")
+
+abbrev pub settled_text : Bool → List ℕ
+settled_text true = codes "],\"ok\":\"cells\",\"settled\":true}"
+settled_text false = codes "],\"ok\":\"cells\",\"settled\":false}"
+
+abbrev pub row_text : List ℕ → Bool → List ℕ
+row_text row settled = codes "{\"cells\":[" ++ (cells_text row ++ settled_text settled)
+
+abbrev pub last_receipt_text : List (List ℕ) → Receipt → List ℕ
+last_receipt_text names receipt = codes "{\"last\":" ++ (receipt_text names receipt ++ codes ",\"ok\":\"last\"}")
+
+abbrev pub last_text : List (List ℕ) → Option Receipt → List ℕ
+last_text names None = codes "{\"last\":null,\"ok\":\"last\"}"
+last_text names (Some receipt) = last_receipt_text names receipt
+
+abbrev pub history_text : List (List ℕ) → List Entry → List ℕ
+history_text names entries = codes "{\"entries\":[" ++ (entries_text names entries ++ codes "],\"ok\":\"history\"}")
+
+abbrev pub report_text : Report → List ℕ
+report_text r =
+    codes "{\"enter\":" ++ (decimal r.enter ++ (codes ",\"exit\":" ++ (decimal r.exit ++ (codes ",\"ok\":\"report\",\"post\":" ++ (decimal r.post
+    ++ (codes ",\"recover\":" ++ (decimal r.recover ++ (codes ",\"section\":" ++ (decimal r.section ++ codes "}")))))))))
+
+abbrev pub plain_refusal_text : ℕ → List ℕ → List ℕ
+plain_refusal_text code name = codes "{\"code\":" ++ (decimal code ++ (codes ",\"error\":\"" ++ (name ++ codes "\"}")))
+
+-- a refusal, of which that of a wrong number says which was expected
+abbrev pub refusal_text : Refusal → List ℕ
+refusal_text (WrongNumber expected) = codes "{\"code\":16,\"error\":\"WrongNumber\",\"expected\":" ++ (decimal expected ++ codes "}")
+refusal_text other = plain_refusal_text (code_of other) (name_of other)

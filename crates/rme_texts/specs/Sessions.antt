@@ -1,0 +1,49 @@
+-- The texts of the answers of a session, without their newline.
+use Rattle.std.specs.Prelude.{ℕ, List, ◌++◌, codes, decimal}
+use Rattle.rme_program.specs.declared.note.Receipt.{Receipt}
+use Rattle.rme_texts.specs.declared.reply.Outcome.{Outcome}
+use Rattle.rme_texts.specs.declared.reply.Outcome.TheVariants as outcome
+use Rattle.rme_texts.specs.declared.reply.Reply.{Reply}
+use Rattle.rme_texts.specs.declared.reply.Reply.TheVariants.{Attached, Submitted, Resumed, Withdrew, WithdrawFell, Last, CrashPlanned, Detached, Refused}
+use Rattle.rme_texts.specs.declared.reply.Standing.{Standing}
+use Rattle.rme_texts.specs.declared.reply.Standing.TheVariants.{Ready, Climb, Held}
+use Rattle.rme_texts.specs.Texts.{receipt_text}
+use Rattle.rme_texts.specs.Replies.{last_text, refusal_text}
+
+abbrev pub standing_word : Standing → List ℕ
+standing_word Ready = codes "ready"
+standing_word Climb = codes "climb"
+standing_word Held = codes "held"
+
+-- `{"number":..,"ok":"attach","stance":..}`
+abbrev pub attached_text : ℕ → List ℕ → List ℕ
+attached_text number standing = codes "{\"number\":" ++ (decimal number ++ (codes ",\"ok\":\"attach\",\"stance\":\"" ++ (standing ++ codes "\"}")))
+
+-- `{"fell":true,"ok":WORD}`
+abbrev pub fell_text : List ℕ → List ℕ
+fell_text word = codes "{\"fell\":true,\"ok\":\"" ++ (word ++ codes "\"}")
+
+-- `{"ok":WORD,"receipt":{..}}`
+abbrev pub receipt_front : List ℕ → List ℕ
+receipt_front word = codes "{\"ok\":\"" ++ (word ++ codes "\",\"receipt\":")
+
+abbrev pub receipt_outcome_text : List (List ℕ) → List ℕ → Receipt → List ℕ
+receipt_outcome_text names word receipt = receipt_front word ++ (receipt_text names receipt ++ codes "}")
+
+-- what became of a job, with the word of the line that asked
+abbrev pub outcome_text : List (List ℕ) → List ℕ → Outcome → List ℕ
+outcome_text names word (outcome.Receipt receipt) = receipt_outcome_text names word receipt
+outcome_text names word outcome.Withdrawn = codes "{\"ok\":\"" ++ (word ++ codes "\",\"withdrawn\":true}")
+outcome_text names word outcome.Waiting = codes "{\"ok\":\"" ++ (word ++ codes "\",\"waiting\":true}")
+outcome_text names word outcome.Fell = fell_text word
+
+abbrev pub reply_text : List (List ℕ) → Reply → List ℕ
+reply_text names (Attached number standing) = attached_text number (standing_word standing)
+reply_text names (Submitted became) = outcome_text names (codes "submit") became
+reply_text names (Resumed became) = outcome_text names (codes "resume") became
+reply_text names (Withdrew number) = codes "{\"number\":" ++ (decimal number ++ codes ",\"ok\":\"withdraw\"}")
+reply_text names WithdrawFell = fell_text (codes "withdraw")
+reply_text names (Last last) = last_text names last
+reply_text names CrashPlanned = codes "{\"ok\":\"crash_after\"}"
+reply_text names Detached = codes "{\"ok\":\"detach\"}"
+reply_text names (Refused refusal) = refusal_text refusal

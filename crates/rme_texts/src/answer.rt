@@ -1,0 +1,196 @@
+//! The texts of whole answers, without their newline.
+
+ghost use Rattle.std.specs.Prelude.{◌≡◌, ◌++◌, OnOk, string_bytes, slice_index};
+ghost use Rattle.rme_texts.specs.Texts as text;
+ghost use Rattle.rme_texts.specs.Replies as spec;
+
+use crate::names::Names;
+use crate::texts::{push_cells, push_entries, push_note, push_receipt};
+use rme_program::{Entry, Note, Receipt};
+use rme_script::Row;
+use rme_words::Refusal;
+use std::alloc::AllocError;
+
+/// Why a walk ended.
+#[derive(Clone, Copy, Debug, PartialEq, Eq)]
+pub enum WalkEnd {
+    /// The note has the wanted kind.
+    Until,
+    /// The worker is ready.
+    Ready,
+    /// The step was blocked.
+    Blocked,
+    /// As many steps were made as were asked for.
+    Max,
+}
+
+impl WalkEnd {
+    fn word(self) -> &'static str
+        ensures { result.now ≡ spec.end_word self }
+    {
+        match self {
+            WalkEnd::Until => "until",
+            WalkEnd::Ready => "ready",
+            WalkEnd::Blocked => "blocked",
+            WalkEnd::Max => "max",
+        }
+    }
+}
+
+/// An order that is answered by its own word alone.
+#[derive(Clone, Copy, Debug, PartialEq, Eq)]
+pub enum Done {
+    Open,
+    Crash,
+    Restart,
+    Withdraw,
+}
+
+/// Appends the answer of an order that is answered by its word, as `{"ok":"crash"}`.
+pub fn push_done(out: &mut String, done: Done) -> Result<(), AllocError>
+    ensures { OnOk result (string_bytes out.new ≡ string_bytes out.old ++ spec.done_text done) }
+{
+    match done {
+        Done::Open => out.push_str("{\"ok\":\"open\"}"),
+        Done::Crash => out.push_str("{\"ok\":\"crash\"}"),
+        Done::Restart => out.push_str("{\"ok\":\"restart\"}"),
+        Done::Withdraw => out.push_str("{\"ok\":\"withdraw\"}"),
+    }
+}
+
+/// Appends the answer of `submit`.
+pub fn push_number(out: &mut String, number: u32) -> Result<(), AllocError>
+    ensures { OnOk result (string_bytes out.new ≡ string_bytes out.old ++ spec.number_text number) }
+{
+    write!(out, "{{\"number\":{number},\"ok\":\"submit\"}}")
+}
+
+/// Appends the answer of `step`.
+pub fn push_stepped(out: &mut String, names: &Names, note: Note) -> Result<(), AllocError>
+    ensures { OnOk result (string_bytes out.new ≡ string_bytes out.old ++ spec.stepped_text names.now note) }
+{
+    out.push_str("{\"note\":")?;
+    push_note(out, names, note)?;
+    out.push_str(",\"ok\":\"step\"}")?;
+    Ok(())
+}
+
+/// Appends the answer of `walk`, whose notes have this text.
+pub fn push_walked(out: &mut String, end: WalkEnd, notes: &str) -> Result<(), AllocError>
+    ensures { OnOk result (string_bytes out.new ≡ string_bytes out.old ++ spec.walked_text end notes.now) }
+{
+    push_walk_ended(out, end.word(), notes)
+}
+
+fn push_walk_ended(out: &mut String, end: &str, notes: &str) -> Result<(), AllocError>
+    ensures { OnOk result (string_bytes out.new ≡ string_bytes out.old ++ spec.walk_text end.now notes.now) }
+{
+    write!(
+        out,
+        "{{\"end\":\"{end}\",\"notes\":[{notes}],\"ok\":\"walk\"}}"
+    )
+}
+
+/// Appends the answer of `owner`.
+pub fn push_owner(out: &mut String, owner: Option<u32>) -> Result<(), AllocError>
+    ensures { OnOk result (string_bytes out.new ≡ string_bytes out.old ++ spec.owner_text owner) }
+{
+    match owner {
+        Some(worker) => write!(out, "{{\"ok\":\"owner\",\"owner\":{worker}}}"),
+        None => out.push_str("{\"ok\":\"owner\",\"owner\":null}"),
+    }
+}
+
+/// Appends the answer of `cells`.
+pub fn push_row(out: &mut String, row: &Row, settled: bool) -> Result<(), AllocError>
+    ensures { OnOk result (string_bytes out.new ≡ string_bytes out.old ++ spec.row_text row.now settled) }
+{
+    out.push_str("{\"cells\":[")?;
+    push_cells(out, row)?;
+    push_settled(out, settled)?;
+    Ok(())
+}
+
+fn push_settled(out: &mut String, settled: bool) -> Result<(), AllocError>
+    ensures { OnOk result (string_bytes out.new ≡ string_bytes out.old ++ spec.settled_text settled) }
+{
+    if settled {
+        return out.push_str("],\"ok\":\"cells\",\"settled\":true}");
+    }
+    out.push_str("],\"ok\":\"cells\",\"settled\":false}")
+}
+
+/// Appends the answer of `last`.
+pub fn push_last(out: &mut String, names: &Names, last: Option<Receipt>) -> Result<(), AllocError>
+    ensures { OnOk result (string_bytes out.new ≡ string_bytes out.old ++ spec.last_text names.now last) }
+{
+    match last {
+        Some(receipt) => push_last_receipt(out, names, receipt),
+        None => out.push_str("{\"last\":null,\"ok\":\"last\"}"),
+    }
+}
+
+fn push_last_receipt(out: &mut String, names: &Names, receipt: Receipt) -> Result<(), AllocError>
+    ensures { OnOk result (string_bytes out.new ≡ string_bytes out.old ++ spec.last_receipt_text names.now receipt) }
+{
+    out.push_str("{\"last\":")?;
+    push_receipt(out, names, receipt)?;
+    out.push_str(",\"ok\":\"last\"}")?;
+    Ok(())
+}
+
+/// Appends the answer of `history`.
+pub fn push_history(out: &mut String, names: &Names, entries: &[Entry]) -> Result<(), AllocError>
+    ensures { OnOk result (string_bytes out.new ≡ string_bytes out.old ++ spec.history_text names.now entries.now) }
+{
+    out.push_str("{\"entries\":[")?;
+    push_entries(out, names, entries)?;
+    out.push_str("],\"ok\":\"history\"}")?;
+    Ok(())
+}
+
+/// For each phase that has steps, the most own steps of one stay in it.
+#[derive(Clone, Copy, Debug, PartialEq, Eq)]
+pub struct Report {
+    pub recover: u32,
+    pub post: u32,
+    pub enter: u32,
+    pub section: u32,
+    pub exit: u32,
+}
+
+/// Appends the answer of `report`.
+pub fn push_report(out: &mut String, report: Report) -> Result<(), AllocError>
+    ensures { OnOk result (string_bytes out.new ≡ string_bytes out.old ++ spec.report_text report) }
+{
+    let Report {
+        recover,
+        post,
+        enter,
+        section,
+        exit,
+    } = report;
+    write!(
+        out,
+        "{{\"enter\":{enter},\"exit\":{exit},\"ok\":\"report\",\"post\":{post},\"recover\":{recover},\"section\":{section}}}"
+    )
+}
+
+/// Appends the answer of a refused line.
+pub fn push_refusal(out: &mut String, refusal: Refusal) -> Result<(), AllocError>
+    ensures { OnOk result (string_bytes out.new ≡ string_bytes out.old ++ spec.refusal_text refusal) }
+{
+    match refusal {
+        Refusal::WrongNumber(expected) => write!(
+            out,
+            "{{\"code\":16,\"error\":\"WrongNumber\",\"expected\":{expected}}}"
+        ),
+        other => push_plain_refusal(out, other.code(), other.name()),
+    }
+}
+
+fn push_plain_refusal(out: &mut String, code: u32, name: &str) -> Result<(), AllocError>
+    ensures { OnOk result (string_bytes out.new ≡ string_bytes out.old ++ spec.plain_refusal_text code name.now) }
+{
+    write!(out, "{{\"code\":{code},\"error\":\"{name}\"}}")
+}

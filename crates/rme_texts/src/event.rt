@@ -1,0 +1,133 @@
+//! The lines of a transcript: what they tell, and their texts.
+
+ghost use Rattle.std.specs.Prelude.{◌≡◌, ◌++◌, OnOk, string_bytes};
+ghost use Rattle.rme_texts.specs.Events as spec;
+
+use crate::names::Names;
+use crate::texts::{name_of, push_names, push_note, push_ops, push_script_end};
+use rme_program::{Answer, Event, Note};
+use rme_script::Job;
+use rme_words::Shape;
+use std::alloc::AllocError;
+
+/// A job that a worker was handed, and the number that it will have.
+#[derive(Clone, Copy, Debug, PartialEq, Eq)]
+pub struct Handed {
+    pub worker: u32,
+    pub job: Job,
+    pub number: u32,
+}
+
+/// What a line of a transcript tells: an event that a world took, and its answer.
+#[derive(Clone, Copy, Debug, PartialEq, Eq)]
+pub enum EventLine {
+    Submit(Handed),
+    Crash(u32),
+    Restart(u32),
+    Withdraw(u32),
+    /// The worker made one own step, and this is its note.
+    Note(u32, Note),
+}
+
+impl EventLine {
+    /// What was asked of the worker.
+    pub fn event(self) -> Event
+        ensures { result ≡ spec.event_of self }
+    {
+        match self {
+            EventLine::Submit(handed) => Event::Submit(handed.worker, handed.job),
+            EventLine::Crash(worker) => Event::Crash(worker),
+            EventLine::Restart(worker) => Event::Restart(worker),
+            EventLine::Withdraw(worker) => Event::Withdraw(worker),
+            EventLine::Note(worker, _) => Event::Step(worker),
+        }
+    }
+
+    /// What it was answered.
+    pub fn answer(self) -> Answer
+        ensures { result ≡ spec.answer_of self }
+    {
+        match self {
+            EventLine::Submit(handed) => Answer::Handed(handed.number),
+            EventLine::Crash(_) => Answer::Crashed,
+            EventLine::Restart(_) => Answer::Restarted,
+            EventLine::Withdraw(_) => Answer::Withdrawing,
+            EventLine::Note(_, note) => Answer::Stepped(note),
+        }
+    }
+}
+
+/// Appends the line of an event, as `{"do":"note","note":["asked",1],"worker":0}`.
+pub fn push_event(out: &mut String, names: &Names, line: EventLine) -> Result<(), AllocError>
+    ensures { OnOk result (string_bytes out.new ≡ string_bytes out.old ++ spec.event_text names.now line) }
+{
+    match line {
+        EventLine::Submit(handed) => push_handed(out, names, handed),
+        EventLine::Crash(worker) => write!(out, "{{\"do\":\"crash\",\"worker\":{worker}}}"),
+        EventLine::Restart(worker) => write!(out, "{{\"do\":\"restart\",\"worker\":{worker}}}"),
+        EventLine::Withdraw(worker) => write!(out, "{{\"do\":\"withdraw\",\"worker\":{worker}}}"),
+        EventLine::Note(worker, note) => push_noted(out, names, worker, note),
+    }
+}
+
+fn push_handed(out: &mut String, names: &Names, handed: Handed) -> Result<(), AllocError>
+    ensures { OnOk result (string_bytes out.new ≡ string_bytes out.old ++ spec.handed_text names.now handed) }
+{
+    push_handed_front(out, name_of(names, handed.job.lock), handed.number)?;
+    push_ops(out, &handed.job.script)?;
+    push_script_end(out, handed.worker)?;
+    Ok(())
+}
+
+/// Appends what stands of a submission before its script's operations.
+fn push_handed_front(out: &mut String, name: &str, number: u32) -> Result<(), AllocError>
+    ensures { OnOk result (string_bytes out.new ≡ string_bytes out.old ++ spec.handed_front name.now number) }
+{
+    write!(
+        out,
+        "{{\"do\":\"submit\",\"lock\":\"{name}\",\"number\":{number},\"script\":["
+    )
+}
+
+fn push_noted(out: &mut String, names: &Names, worker: u32, note: Note) -> Result<(), AllocError>
+    ensures { OnOk result (string_bytes out.new ≡ string_bytes out.old ++ spec.noted_text names.now worker note) }
+{
+    out.push_str("{\"do\":\"note\",\"note\":")?;
+    push_note(out, names, note)?;
+    push_worker_end(out, worker)?;
+    Ok(())
+}
+
+/// Appends what stands of a note's line after the note.
+fn push_worker_end(out: &mut String, worker: u32) -> Result<(), AllocError>
+    ensures { OnOk result (string_bytes out.new ≡ string_bytes out.old ++ spec.worker_end worker) }
+{
+    write!(out, ",\"worker\":{worker}}}")
+}
+
+/// Appends the line that opens a world of this shape, whose locks have these names.
+pub fn push_opening(out: &mut String, names: &Names, shape: Shape) -> Result<(), AllocError>
+    ensures { OnOk result (string_bytes out.new ≡ string_bytes out.old ++ spec.opening_text names.now shape) }
+{
+    push_opening_front(out, shape.cells, shape.jobs)?;
+    push_names(out, names)?;
+    push_opening_end(out, shape.workers)?;
+    Ok(())
+}
+
+/// Appends what stands of an opening before its names.
+fn push_opening_front(out: &mut String, cells: u32, jobs: u32) -> Result<(), AllocError>
+    ensures { OnOk result (string_bytes out.new ≡ string_bytes out.old ++ spec.opening_front cells jobs) }
+{
+    write!(
+        out,
+        "{{\"cells\":{cells},\"do\":\"open\",\"jobs\":{jobs},\"locks\":["
+    )
+}
+
+/// Appends what stands of an opening after its names.
+fn push_opening_end(out: &mut String, workers: u32) -> Result<(), AllocError>
+    ensures { OnOk result (string_bytes out.new ≡ string_bytes out.old ++ spec.opening_end workers) }
+{
+    write!(out, "],\"workers\":{workers}}}")
+}

@@ -1,4 +1,0 @@
-use Rattle.rme_wire.proofs.answer.push_walked.Goals as goal
-
-pub returns : goal.returns
-returns c = rw (← c.word.ensures) c.push_walk_ended.ensures

@@ -1,8 +1,0 @@
--- What was written, and the text of the rest, is the text of all.
-use Rattle.std.proofs.Common.{string_bytes, drop}
-use Rattle.rme_wire.specs.Texts.{entry_text}
-use Rattle.rme_wire.proofs.TextLemmas.{Separates}
-use Rattle.rme_wire.proofs.texts.push_entries.Given as goal
-
-abbrev pub invariant-loop-entry : goal.invariant-loop-entry
-invariant-loop-entry l = Separates (entry_text l.names) (string_bytes l.fn.out) l.entries (string_bytes l.out) l.later (drop l.entry-index l.entries)

@@ -1,0 +1,74 @@
+//! What a line asks of a world.
+
+ghost use Rattle.std.specs.Prelude.{◌≡◌, IfOk, option_map};
+ghost use Rattle.serde_json.specs.View.{view};
+ghost use Rattle.rme_wire.specs.Requests as spec;
+
+use crate::command::{Command, command_named};
+use crate::opening::{Opening, opening_of};
+use crate::value::{key_count, read_value, word_of};
+use rme_texts::Names;
+use rme_words::NoMemory;
+use serde_json::Value;
+use std::alloc::{AllocError, Global};
+
+/// What a command line asks for.
+#[derive(Drop)]
+pub enum Request {
+    /// To open a world.
+    Open(Opening),
+    /// To do something to the world that is open.
+    World(Command),
+}
+
+/// The request of a command line, or `None` where the line is no command.
+///
+/// The names are those of the open world, and none where no world is open. `NoMemory` says that there was no
+/// room for the line's value or for a copy of the names in it.
+pub fn request_of(alloc: Global, names: &Names, line: &[u8]) -> Result<Option<Request>, NoMemory>
+    ensures { IfOk result (λ request. request ≡ spec.request_of_line names.now line.now) }
+{
+    match read_value(alloc, line)? {
+        None => Ok(None),
+        Some(value) => match request_of_value(alloc, names, &value) {
+            Ok(request) => Ok(request),
+            Err(_) => Err(NoMemory),
+        },
+    }
+}
+
+#[tactic(auto, unfolding(crate::specs::Requests::request_of))]
+fn request_of_value(
+    alloc: Global,
+    names: &Names,
+    value: &Value,
+) -> Result<Option<Request>, AllocError>
+    ensures { IfOk result (λ request. request ≡ spec.request_of names.now (view value.now)) }
+{
+    let Some(count) = key_count(value) else {
+        return Ok(None);
+    };
+    let Some(word) = word_of(value) else {
+        return Ok(None);
+    };
+    if word == "open" {
+        return open_request(alloc, count, value);
+    }
+    Ok(world_request(names, word, count, value))
+}
+
+fn open_request(alloc: Global, count: usize, value: &Value) -> Result<Option<Request>, AllocError>
+    ensures { IfOk result (λ request. request ≡ spec.open_request count (view value.now)) }
+{
+    let Some(opening) = opening_of(alloc, count, value)? else {
+        return Ok(None);
+    };
+    Ok(Some(Request::Open(opening)))
+}
+
+fn world_request(names: &Names, word: &str, count: usize, value: &Value) -> Option<Request>
+    ensures { result ≡ spec.world_request names.now word.now count (view value.now) }
+{
+    let command = command_named(names, word, count, value)?;
+    Some(Request::World(command))
+}
