@@ -3,8 +3,8 @@
 //! A row is a list of calls and what each of them answers, worked out by hand from the model and never taken
 //! from a run. The crate has nothing but tests: it shows that the contracts of the crates below say what was
 //! meant, that a call with room succeeds, and that a job takes as many own steps as the algorithm is written
-//! to take. It stands on `rme_world`, `rme_server` and `rme_history`, whose calls the rows make, and on the
-//! crates that name a job, a note and a shape. Begin with `plays.rt`, which has the words that the rows are
+//! to take. It stands on `rme_world`, `rme_server`, `rme_history` and `rme_wire`, whose calls the rows make, and
+//! on the crates that name a job, a note and a shape. Begin with `plays.rt`, which has the words that the rows are
 //! written in, and then `one_at_a_time.rt`.
 #![tactic(auto)]
 

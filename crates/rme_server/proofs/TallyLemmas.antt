@@ -1,6 +1,5 @@
 -- What a tally sees of one step.
-use Rattle.std.proofs.Common.{◌≡◌, ℕ, ◌<◌, List, [], ◌∷◌, length, max, ap, subst, sym, ◌∙◌, refl, arith}
-use Rattle.std.proofs.lemmas.List.FromFn.{length-map-range_with_len}
+use Rattle.std.proofs.Common.{◌≡◌, ℕ, ◌<◌, List, [], ◌∷◌, max, ap, subst, sym, ◌∙◌, refl, arith}
 use Rattle.std.proofs.lemmas.Option.{same_Some, slice_get_within}
 use Rattle.rme_program.specs.declared.event.Answer.TheVariants as answer
 use Rattle.rme_program.specs.declared.event.Event.TheVariants as event
@@ -10,11 +9,12 @@ use Rattle.rme_program.specs.declared.note.Note.{Note}
 use Rattle.rme_machine.specs.declared.label.Label.{Label}
 use Rattle.rme_machine.specs.declared.label.Label.TheVariants.{Of}
 use Rattle.rme_machine.specs.Machine.{Does, Run, Step}
-use Rattle.rme_machine.specs.Shown.{act_of, shown_worker}
+use Rattle.rme_machine.specs.Shown.{act_of}
 use Rattle.rme_history.specs.declared.tally.Tally.{Tally}
 use Rattle.rme_history.specs.Tallies.{Sees, most_of}
 use Rattle.rme_world.specs.Running.{AreLabels, IsRunOfOne}
-use Rattle.rme_world.specs.Seen.{Seen, memory_seen, privates_seen, shown_by}
+use Rattle.rme_world.proofs.Happening.{shown_long}
+use Rattle.rme_world.specs.Seen.{Seen, shown_by}
 use Rattle.rme_server.specs.Tallies.{nothing_seen}
 
 tally_of : ℕ → ℕ → ℕ → ℕ → ℕ → Tally
@@ -40,9 +40,6 @@ module _ (n : Phase → ℕ) (t0 t1 t2 t3 t4 t5 : Tally) (recover : Sees t0 t1 R
   seen_five Ready = rw none refl
 
 -- ---- the worker of a step is there, since the machine's step names a worker that there is
-
-shown_long : (seen : Seen) → length (shown_by seen).workers ≡ seen.shape.workers
-shown_long seen = length-map-range_with_len (λ (worker : ℕ). shown_worker seen.shape (memory_seen seen) (privates_seen seen) seen.history worker) 0 seen.shape.workers
 
 told_there : (old new : Seen) (worker : ℕ) (note : Note) (told : List Label) → AreLabels (event.Step worker ∷ []) (answer.Stepped note ∷ []) told → Run old.shape (shown_by old) told (shown_by new)
     → worker < old.shape.workers

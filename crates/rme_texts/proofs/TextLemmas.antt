@@ -1,6 +1,6 @@
 -- Texts of lists, written one item after another.
-use Rattle.std.proofs.Common.{◌≡◌, ℕ, ◌+◌, drop, slice_get, Some, List, [], ◌∷◌, ◌++◌, Bool, true, false, refl, ap, ◌∙◌, sym, ◌∙◌, append_assoc, append-nil, add-one, drop-cons, get_or, length, ◌<◌}
-use Rattle.std.proofs.lemmas.Option.{get_or_from_slice_get, slice_get_within, slice_get_read}
+use Rattle.std.proofs.Common.{◌≡◌, ℕ, ◌+◌, drop, List, [], ◌∷◌, ◌++◌, Bool, true, false, ap, ◌∙◌, sym, ◌∙◌, append_assoc, append-nil, get_or, length, ◌<◌}
+use Rattle.std.proofs.lemmas.List.{drop_more}
 use Rattle.rme_texts.specs.Texts.{comma, separated}
 
 -- what was written, and the text of the rest, is the text of all
@@ -20,14 +20,10 @@ pub separates_all : {A : Type 0} (text : A → List ℕ) (start : List ℕ) (all
     → out ≡ start ++ separated text false all
 separates_all text start all out later so_far = sym (append-nil out) ∙ so_far
 
-pub drop_at : {A : Type 0} (xs : List A) (i : ℕ) (x : A) → slice_get xs i ≡ Some x → drop i xs ≡ x ∷ drop (i + 1) xs
-drop_at xs i x e =
-    let here : get_or xs i x ≡ x = get_or_from_slice_get xs i x x e in rw (drop-cons xs i x (slice_get_within xs i x e), add-one, here) refl
-
 -- three texts, one after another
 pub append_three : (out first second third : List ℕ) (a b c : List ℕ) → first ≡ out ++ a → second ≡ first ++ b → third ≡ second ++ c → third ≡ out ++ (a ++ (b ++ c))
 append_three out first second third a b c e f g =
     g ∙ ap (λ l. l ++ c) (f ∙ ap (λ l. l ++ b) e) ∙ append_assoc (out ++ a) b c ∙ append_assoc out a (b ++ c)
 
 pub drop_read : {A : Type 0} (xs : List A) (i : ℕ) (x : A) → i < length xs → x ≡ get_or xs i x → drop i xs ≡ x ∷ drop (i + 1) xs
-drop_read xs i x within e = drop_at xs i x (slice_get_read xs (length xs) i x refl within e)
+drop_read {A = A} xs i x within e = drop_more xs i x within ∙ ap (λ (y : A). y ∷ drop (i + 1) xs) (sym e)

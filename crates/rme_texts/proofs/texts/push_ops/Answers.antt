@@ -1,6 +1,7 @@
 use Rattle.std.proofs.Common.{string_bytes}
 use Rattle.rme_texts.specs.Texts.{op_text}
-use Rattle.rme_texts.proofs.TextLemmas.{drop_at, separates_next}
+use Rattle.rme_script.proofs.Lists.{drop_at}
+use Rattle.rme_texts.proofs.TextLemmas.{separates_next}
 use Rattle.rme_texts.proofs.texts.push_ops.Goals as goal
 
 pub loop-index-preserved : goal.loop-index-preserved
