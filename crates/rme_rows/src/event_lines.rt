@@ -5,6 +5,7 @@ use rme_script::{Job, Op, Script};
 use rme_wire::{EventLine, Handed, Names, Request, event_of, push_event, push_opening, request_of};
 use rme_words::Shape;
 use std::alloc::Global;
+use std::process::Abort;
 use std::test::Fail;
 
 const OPENING: &str = r#"{"cells":1,"do":"open","jobs":10,"locks":["bank"],"workers":2}"#;
@@ -125,67 +126,77 @@ fn opening_written_back(rt: HostRuntime) -> Result<(), Fail> {
     Ok(())
 }
 
-/// What a line tells is an event and the answer to it.
-#[test]
-fn events_and_answers(rt: HostRuntime) -> Result<(), Fail> {
-    let names = names_of(rt.alloc(), &["shop", "bank"])?;
-    let job = Job {
+/// A line tells this event and the answer to it.
+fn check_told(
+    rt: &impl Abort,
+    alloc: Global,
+    line: &str,
+    told: (EventLine, Event, Answer),
+) -> Result<(), Fail> {
+    let names = names_of(alloc, &["shop", "bank"])?;
+    let (wanted, event, answer) = told;
+    assert_eq!(rt;
+        event_of(alloc, &names, line.as_bytes())?,
+        Some(wanted),
+        "{line}"
+    );
+    assert_eq!(rt;
+        (wanted.event(), wanted.answer()),
+        (event, answer),
+        "{line}"
+    );
+    Ok(())
+}
+
+/// The job of the transcript's first submission, where `bank` is the second lock.
+fn first_job() -> Job {
+    Job {
         lock: 1,
         script: Script::of(&[Op::Add(0, 5)]),
-    };
-    let handed = Handed {
-        worker: 0,
-        job,
-        number: 1,
-    };
-    let finished = Note::Finished(Receipt {
+    }
+}
+
+/// The note of the transcript's second finish, where `bank` is the second lock.
+fn second_finish() -> Note {
+    Note::Finished(Receipt {
         worker: 1,
         lock: 1,
         number: 1,
         place: 1,
         reply: 6,
-    });
-    for (line, wanted, event, answer) in [
-        (
-            TRANSCRIPT[0],
-            EventLine::Submit(handed),
-            Event::Submit(0, job),
-            Answer::Handed(1),
-        ),
-        (
-            TRANSCRIPT[3],
-            EventLine::Crash(0),
-            Event::Crash(0),
-            Answer::Crashed,
-        ),
-        (
-            TRANSCRIPT[7],
-            EventLine::Restart(0),
-            Event::Restart(0),
-            Answer::Restarted,
-        ),
-        (
-            TRANSCRIPT[12],
-            EventLine::Note(1, finished),
-            Event::Step(1),
-            Answer::Stepped(finished),
-        ),
-        (
-            FURTHER[0],
-            EventLine::Withdraw(0),
-            Event::Withdraw(0),
-            Answer::Withdrawing,
-        ),
-    ] {
-        assert_eq!(rt;
-            event_of(rt.alloc(), &names, line.as_bytes())?,
-            Some(wanted),
-            "{line}"
-        );
-        assert_eq!(rt; wanted.event(), event, "{line}");
-        assert_eq!(rt; wanted.answer(), answer, "{line}");
-    }
-    Ok(())
+    })
+}
+
+/// What a line tells is an event and the answer to it.
+#[test]
+fn events_and_answers(rt: HostRuntime) -> Result<(), Fail> {
+    let handed = Handed {
+        worker: 0,
+        job: first_job(),
+        number: 1,
+    };
+    let submit = (
+        EventLine::Submit(handed),
+        Event::Submit(0, first_job()),
+        Answer::Handed(1),
+    );
+    let crash = (EventLine::Crash(0), Event::Crash(0), Answer::Crashed);
+    let restart = (EventLine::Restart(0), Event::Restart(0), Answer::Restarted);
+    let step = (
+        EventLine::Note(1, second_finish()),
+        Event::Step(1),
+        Answer::Stepped(second_finish()),
+    );
+    let withdraw = (
+        EventLine::Withdraw(0),
+        Event::Withdraw(0),
+        Answer::Withdrawing,
+    );
+    check_told(&rt, rt.alloc(), TRANSCRIPT[0], submit)?;
+    check_told(&rt, rt.alloc(), TRANSCRIPT[3], crash)?;
+    check_told(&rt, rt.alloc(), TRANSCRIPT[7], restart)?;
+    check_told(&rt, rt.alloc(), TRANSCRIPT[12], step)?;
+    check_told(&rt, rt.alloc(), FURTHER[0], withdraw)
 }
 
 #[test]
