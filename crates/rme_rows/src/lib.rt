@@ -23,6 +23,8 @@ mod line_refusals;
 #[cfg(test)]
 mod lines;
 #[cfg(test)]
+mod names;
+#[cfg(test)]
 mod one_at_a_time;
 #[cfg(test)]
 mod plays;

@@ -1,0 +1,58 @@
+//! The names of locks, by calls.
+
+use rme_wire::{Names, is_name};
+use rme_words::Refusal;
+use std::test::Fail;
+
+/// Row `small calls`: a name is added once, and numbered in order.
+#[test]
+fn added_once(rt: HostRuntime) -> Result<(), Fail> {
+    let mut names = Names::new(rt.alloc())?;
+    assert_eq!(rt; names.add("a"), Ok(0));
+    assert_eq!(rt; names.add("a"), Err(Refusal::BadShape));
+    assert_eq!(rt; names.add("shop_2-b"), Ok(1));
+    assert_eq!(rt; names.len(), 2);
+    assert_eq!(rt; names.number("a"), Some(0));
+    assert_eq!(rt; names.number("shop_2-b"), Some(1));
+    assert_eq!(rt; names.number("b"), None);
+    assert_eq!(rt; names.name(1), "shop_2-b");
+    Ok(())
+}
+
+/// A name has 1 to 32 bytes of `a` to `z`, `0` to `9`, `_` and `-`.
+#[test]
+fn texts_that_are_names(rt: HostRuntime) -> Result<(), Fail> {
+    let mut names = Names::new(rt.alloc())?;
+    let longest = "abcdefghijklmnopqrstuvwxyz012345";
+    assert!(rt; is_name(longest));
+    assert_eq!(rt; names.add(longest), Ok(0));
+    for text in [
+        "",
+        "A",
+        "a b",
+        "a.b",
+        "\u{e9}",
+        "abcdefghijklmnopqrstuvwxyz0123456",
+    ] {
+        assert!(rt; !is_name(text), "{text}");
+        assert_eq!(rt; names.add(text), Err(Refusal::BadShape), "{text}");
+    }
+    assert_eq!(rt; names.len(), 1);
+    Ok(())
+}
+
+const SIXTEEN: [&str; 16] = [
+    "a", "b", "c", "d", "e", "f", "g", "h", "i", "j", "k", "l", "m", "n", "o", "p",
+];
+
+/// There are at most sixteen names.
+#[test]
+fn at_most_sixteen(rt: HostRuntime) -> Result<(), Fail> {
+    let mut names = Names::new(rt.alloc())?;
+    for (number, text) in SIXTEEN.iter().enumerate() {
+        assert_eq!(rt; names.add(text), Ok(number as u32));
+    }
+    assert_eq!(rt; names.add("q"), Err(Refusal::BadShape));
+    assert_eq!(rt; names.len(), 16);
+    Ok(())
+}
