@@ -21,6 +21,8 @@ mod line_readings;
 #[cfg(test)]
 mod line_refusals;
 #[cfg(test)]
+mod line_rows;
+#[cfg(test)]
 mod lines;
 #[cfg(test)]
 mod names;
