@@ -1,5 +1,9 @@
 //! What ends the program early.
 
+ghost use Rattle.std.specs.Prelude.{◌≡◌};
+ghost use Rattle.rme_cli.specs.Statuses.{fault_of, status_of};
+ghost use Rattle.rme_cli.specs.declared.fault.Fault.TheVariants.{NoMemory};
+
 use rme_wire::EngineFault;
 use std::alloc::AllocError;
 use thiserror::Error;
@@ -20,7 +24,9 @@ pub enum Fault {
 
 impl Fault {
     /// The status of the program.
-    pub fn status(self) -> u8 {
+    pub fn status(self) -> u8
+        ensures { result ≡ status_of self }
+    {
         match self {
             Fault::BadArguments => 2,
             Fault::ReadFailed => 3,
@@ -31,6 +37,8 @@ impl Fault {
 }
 
 impl From<EngineFault> for Fault {
+    ghost from_gives = { λ engine fault. fault ≡ fault_of engine };
+
     fn from(fault: EngineFault) -> Fault {
         match fault {
             EngineFault::ReadFailed => Fault::ReadFailed,
@@ -41,6 +49,8 @@ impl From<EngineFault> for Fault {
 }
 
 impl From<AllocError> for Fault {
+    ghost from_gives = { λ _ fault. fault ≡ NoMemory };
+
     fn from(_refused: AllocError) -> Fault {
         Fault::NoMemory
     }
