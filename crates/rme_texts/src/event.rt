@@ -21,11 +21,15 @@ pub struct Handed {
 /// What a line of a transcript tells: an event that a world took, and its answer.
 #[derive(Clone, Copy, Debug, PartialEq, Eq)]
 pub enum EventLine {
+    /// A worker was handed a job.
     Submit(Handed),
+    /// This worker went down.
     Crash(u32),
+    /// This worker came up, and recovers.
     Restart(u32),
+    /// This worker, which waited, began to give up its job.
     Withdraw(u32),
-    /// The worker made one own step, and this is its note.
+    /// This worker made one own step, with this note.
     Note(u32, Note),
 }
 
@@ -57,7 +61,10 @@ impl EventLine {
     }
 }
 
-/// Appends the line of an event, as `{"do":"note","note":["asked",1],"worker":0}`.
+/// Appends the line of an event, as `{"do":"note","note":["asked",1],"worker":0}`, without its newline.
+///
+/// Locks are shown by their names, a number that is no lock's by the empty text. An error is want of memory,
+/// and leaves a text that is of no use.
 pub fn push_event(out: &mut String, names: &Names, line: EventLine) -> Result<(), AllocError>
     ensures { OnOk result (string_bytes out.new ≡ string_bytes out.old ++ spec.event_text names.now line) }
 {
@@ -105,7 +112,10 @@ fn push_worker_end(out: &mut String, worker: u32) -> Result<(), AllocError>
     write!(out, ",\"worker\":{worker}}}")
 }
 
-/// Appends the line that opens a world of this shape, whose locks have these names.
+/// Appends the line that opens a world of this shape, whose locks have these names, without its newline.
+///
+/// There is to be a name for each lock of the shape. An error is want of memory, and leaves a text that is of
+/// no use.
 pub fn push_opening(out: &mut String, names: &Names, shape: Shape) -> Result<(), AllocError>
     ensures { OnOk result (string_bytes out.new ≡ string_bytes out.old ++ spec.opening_text names.now shape) }
 {

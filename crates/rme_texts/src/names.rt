@@ -5,12 +5,12 @@ ghost use Rattle.rme_texts.specs.Names.{Adds, is_name, is_name_byte, number_of, 
 ghost use Rattle.std.specs.List.{list_all};
 
 use indexmap::IndexSet;
-use rme_words::{NoMemory, Refusal};
+use rme_words::{MOST_LOCKS, NoMemory, Refusal};
 use std::alloc::Global;
 use std::marker::Model;
 
 /// The most names, one for each lock.
-const MOST_NAMES: usize = 16;
+const MOST_NAMES: usize = MOST_LOCKS as usize;
 
 /// The most bytes of a name.
 const NAME_LIMIT: usize = 32;

@@ -63,7 +63,9 @@ pub enum Reply {
     Refused(Refusal),
 }
 
-/// Appends an answer of a session.
+/// Appends an answer of a session, without its newline.
+///
+/// An error is want of memory, and leaves a text that is of no use.
 pub fn push_reply(out: &mut String, names: &Names, reply: Reply) -> Result<(), AllocError>
     ensures { OnOk result (string_bytes out.new ≡ string_bytes out.old ++ spec.reply_text names.now reply) }
 {

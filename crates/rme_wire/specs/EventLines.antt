@@ -2,7 +2,7 @@
 use Rattle.std.specs.Prelude.{ℕ, ◌==◌, ◌&&◌, List, bytes_eq, codes, if◌then◌else◌, Option, Some, None, option_map, option_and_then}
 use Rattle.serde_json.specs.Data.{Data}
 use Rattle.serde_json.specs.Events.{items_len, members_len}
-use Rattle.serde_json.specs.Find.{as_array, as_number, as_object, as_str, as_u64, at, get}
+use Rattle.serde_json.specs.Find.{as_array, as_object, as_str, at, get}
 use Rattle.rme_program.specs.declared.note.Note.{Note}
 use Rattle.rme_program.specs.declared.note.Note.TheVariants.{Quiet, Asked, Blocked, Entered, Reentered, Finished, Left, Ready, Withdrew}
 use Rattle.rme_texts.specs.declared.event.EventLine.{EventLine}
@@ -10,7 +10,7 @@ use Rattle.rme_texts.specs.declared.event.EventLine.TheVariants as line
 use Rattle.rme_texts.specs.Names.{number_of}
 use Rattle.rme_wire.specs.Commands.{worker_of}
 use Rattle.rme_wire.specs.Operations.{script_of}
-use Rattle.rme_wire.specs.Values.{small, value_of, word_of}
+use Rattle.rme_wire.specs.Values.{small, value_of, whole, word_of}
 
 -- a text that is the name of a lock
 abbrev pub opened_lock : List (List ℕ) → Data → Option ℕ
@@ -55,7 +55,7 @@ telling_note names word d =
 unfoldable pub finished_of : List (List ℕ) → ℕ → Data → Option Note
 finished_of names worker d =
     option_and_then (λ lock. option_and_then (λ number. option_and_then (λ place. option_map (λ reply. Finished record { worker = worker; lock = lock; number = number; place = place; reply = reply })
-    (option_and_then as_u64 (option_and_then as_number (at 4 d)))) (option_and_then small (at 3 d))) (option_and_then small (at 2 d))) (option_and_then (opened_lock names) (at 1 d))
+    (option_and_then whole (at 4 d))) (option_and_then small (at 3 d))) (option_and_then small (at 2 d))) (option_and_then (opened_lock names) (at 1 d))
 
 -- a note with its name read, of a list of so many items
 abbrev pub note_named : List (List ℕ) → ℕ → ℕ → List ℕ → Data → Option Note

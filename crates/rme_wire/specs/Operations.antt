@@ -2,17 +2,17 @@
 use Rattle.std.specs.Prelude.{ℕ, ◌==◌, List, [], ◌∷◌, length, take, min, bytes_eq, codes, if◌then◌else◌, Option, Some, None, option_map, option_and_then}
 use Rattle.serde_json.specs.Data.{Data, Items, no_items, item}
 use Rattle.serde_json.specs.Events.{items_len}
-use Rattle.serde_json.specs.Find.{at, as_array, as_number, as_str, as_u64}
+use Rattle.serde_json.specs.Find.{at, as_array, as_str}
 use Rattle.rme_script.specs.declared.op.Op.{Op}
 use Rattle.rme_script.specs.declared.op.Op.TheVariants.{Get, Set, Add, Copy, Swap}
 use Rattle.rme_script.specs.Programs.{Program}
-use Rattle.rme_wire.specs.Values.{small}
+use Rattle.rme_wire.specs.Values.{small, whole}
 
 -- an operation of two numbers, the first of which is read
 abbrev pub op_of_two : List ℕ → ℕ → Data → Option Op
 op_of_two word first second =
-    if bytes_eq word (codes "set") then option_map (λ v. Set first v) (option_and_then as_u64 (as_number second))
-    else (if bytes_eq word (codes "add") then option_map (λ v. Add first v) (option_and_then as_u64 (as_number second))
+    if bytes_eq word (codes "set") then option_map (λ v. Set first v) (whole second)
+    else (if bytes_eq word (codes "add") then option_map (λ v. Add first v) (whole second)
     else (if bytes_eq word (codes "copy") then option_map (λ b. Copy first b) (small second)
     else (if bytes_eq word (codes "swap") then option_map (λ b. Swap first b) (small second)
     else None)))

@@ -14,9 +14,9 @@ unfoldable pub word_of : Data → Option (List ℕ)
 word_of d = option_and_then as_str (get (codes "do") d)
 
 -- a whole number below 2^64
-unfoldable pub whole : Data → Option ℕ
+abbrev pub whole : Data → Option ℕ
 whole d = option_and_then as_u64 (as_number d)
 
 -- a whole number below 2^32
 unfoldable pub small : Data → Option ℕ
-small d = option_and_then (λ n. if nat_lt n (2 ^ 32) then Some n else None) (option_and_then as_u64 (as_number d))
+small d = option_and_then (λ n. if nat_lt n (2 ^ 32) then Some n else None) (whole d)

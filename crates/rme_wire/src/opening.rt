@@ -7,13 +7,10 @@ ghost use Rattle.rme_wire.specs.Openings as spec;
 
 use crate::value::small;
 use rme_texts::{Names, is_name};
-use rme_words::NoMemory;
+use rme_words::{MOST_LOCKS, NoMemory};
 use serde_json::Value;
 use std::alloc::{AllocError, Global};
 use std::marker::Model;
-
-/// The most names, one for each lock.
-const MOST_NAMES: usize = 16;
 
 /// The names of locks as a line gives them: any texts at all, in order.
 #[derive(Drop)]
@@ -139,7 +136,7 @@ fn are_names(texts: &[String]) -> bool
     if texts.is_empty() {
         return false;
     }
-    if texts.len() > MOST_NAMES {
+    if texts.len() > MOST_LOCKS as usize {
         return false;
     }
     are_new_names(texts)

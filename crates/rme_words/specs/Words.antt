@@ -4,10 +4,7 @@ use Rattle.rme_words.specs.declared.shape.Shape.{Shape}
 use Rattle.rme_words.specs.declared.address.Address.{Address}
 use Rattle.rme_words.specs.declared.address.Address.TheVariants.{Begun, Done, Reply, Place, At, SlateLock, SlateLen, SlateWord, Node, Turn, Cell, Shadow, ShadowReply, Mask}
 
--- How many words one worker has, and how many one lock has.
-abbrev pub worker_block : ℕ
-worker_block = 31
-
+-- How many words one lock has; one worker has 31.
 abbrev pub lock_block : Shape → ℕ
 lock_block shape = shape.leaves + 2 + 2 * shape.cells
 
