@@ -30,3 +30,5 @@ pub mod Withdrawing
 pub mod Sections
 pub mod Clauses
 pub mod Further
+pub mod Theorems
+pub mod Reached

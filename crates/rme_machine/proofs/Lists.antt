@@ -1,5 +1,5 @@
--- Lists made of a function over 0 .. n - 1.
-use Rattle.std.proofs.Common.{◌≡◌, ◌≢◌, ℕ, zero, suc, ◌+◌, ◌<◌, List, ◌∷◌, length, get_or, refl, sym, ◌∙◌, ap, ap₂, inl, inr, arith}
+-- Lists made of a function over 0 .. n - 1, and lists with one item changed.
+use Rattle.std.proofs.Common.{◌≡◌, ◌≢◌, ℕ, zero, suc, ◌+◌, ◌<◌, List, [], ◌∷◌, length, get_or, refl, sym, ◌∙◌, ap, ap₂, inl, inr, arith}
 use Rattle.std.specs.Prelude.{Some, map, replicate, slice_get, slice_set}
 use Rattle.std.specs.List.{range_with_len}
 use Rattle.std.proofs.lemmas.Bool.{cases_eq}
@@ -47,3 +47,17 @@ pub made_of_one : {A : Type 0} (f : ℕ → A) (x : A) (from n : ℕ) → ((i : 
 made_of_one {A = A} f x from zero same = refl
 made_of_one {A = A} f x from (suc n) same =
     ap₂ (λ (head : A) (rest : List A). head ∷ rest) (same from (omega arith)) (made_of_one f x (from + 1) n (λ i below. same i (omega (arith, below))))
+
+-- ---- a list with one item changed
+
+pub get_set : {A : Type 0} (xs : List A) (i : ℕ) (x : A) → i < length xs → slice_get (slice_set xs i x) i ≡ Some x
+get_set [] i x within = absurd (omega (arith, within))
+get_set (y ∷ ys) zero x within = refl
+get_set (y ∷ ys) (suc i) x within = get_set ys i x (omega (arith, within))
+
+pub get_set_other : {A : Type 0} (xs : List A) (i u : ℕ) (x : A) → u ≢ i → slice_get (slice_set xs i x) u ≡ slice_get xs u
+get_set_other [] i u x apart = refl
+get_set_other (y ∷ ys) zero zero x apart = absurd (apart refl)
+get_set_other (y ∷ ys) zero (suc u) x apart = refl
+get_set_other (y ∷ ys) (suc i) zero x apart = refl
+get_set_other (y ∷ ys) (suc i) (suc u) x apart = get_set_other ys i u x (λ (e : u ≡ i). apart (ap suc e))

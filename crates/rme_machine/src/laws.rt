@@ -1,8 +1,10 @@
-//! The laws of a step.
+//! The laws of a step, and the machine's own theorems.
 //!
-//! Each function here does nothing: its contract is a law of `specs/Laws.antt`, proved by the lemma of
-//! `proofs/` that the docstring names. The crates above cite the lemmas.
+//! Each function here does nothing: its contract is a law of `specs/Laws.antt` or a theorem of
+//! `specs/Theorems.antt`, proved by the lemma of `proofs/` that the docstring names. The crates above cite
+//! the lemmas.
 
+ghost use Rattle.rme_machine.specs.Theorems.{ExclusionLaw, ReentryLaw, OnceLaw};
 ghost use Rattle.rme_machine.specs.Laws.{StepLaw, TakesLaw, SubmitLaw, CrashLaw, RestartLaw, WithdrawLaw, OpeningLaw, FitLaw, BlockedLaw, StaleLaw, IdleLaw, ClausesLaw};
 
 /// Each own step of a worker, of every kind and whatever it finds, keeps the fact and is the machine's step
@@ -66,4 +68,22 @@ pub fn idling()
 /// all workers down no more than those (lemma `clauses`).
 pub fn clauses()
     ensures { ClausesLaw }
+{}
+
+/// Mutual exclusion: in every state that a run of the machine reaches, the workers in the section of a lock
+/// are its owner, so at most one (lemma `exclusion`).
+pub fn exclusion()
+    ensures { ExclusionLaw }
+{}
+
+/// Critical-section re-entry: from a worker's take of a lock to its leave no other worker takes, re-enters,
+/// finishes in or leaves that lock, whatever crashes and restarts lie between (lemma `reentry`).
+pub fn reentry()
+    ensures { ReentryLaw }
+{}
+
+/// Each job counts once: each number that a worker asked under is that of one entry, or of none and withdrawn,
+/// or the one that it waits or is inside with; and the history is legal (lemma `once`).
+pub fn once()
+    ensures { OnceLaw }
 {}

@@ -27,7 +27,7 @@ use Rattle.rme_world.specs.Counting.{IsStay, count_of, begun_stay, most_steps, n
 use Rattle.rme_world.specs.Seen.{Seen, IsKept, memory_seen, privates_seen, counts_of, shown_by}
 use Rattle.rme_world.specs.Refused.{of_up, of_down, is_ready, is_climbing, job_refusal}
 use Rattle.rme_world.specs.Events.{Submits, Crashes, Restarts, Withdraws, with_worker}
-use Rattle.rme_world.proofs.Lists.{get_set}
+use Rattle.rme_machine.proofs.Lists.{get_set}
 use Rattle.rme_world.proofs.Owing.{owed_step, owed_few}
 use Rattle.rme_world.proofs.Stays.{within_limits, stay_begins}
 use Rattle.rme_world.proofs.Worlds.{IsSound, GoesAs, kept_sound, is_worker, up_at, became, goes_as, changed, changed_kept}

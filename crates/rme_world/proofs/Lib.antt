@@ -1,6 +1,5 @@
 pub mod Notes
 pub mod Stays
-pub mod Lists
 pub mod Owing
 pub mod Worlds
 pub mod Refusing

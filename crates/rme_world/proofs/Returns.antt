@@ -32,7 +32,7 @@ use Rattle.rme_world.specs.Counting.{count_of}
 use Rattle.rme_world.specs.Seen.{Seen, IsKept, counts_of, memory_seen}
 use Rattle.rme_world.specs.Events.{Steps}
 use Rattle.rme_world.specs.Looks.{ComesBack, IsGivenUp, IsIn, words_seen}
-use Rattle.rme_world.proofs.Lists.{get_set}
+use Rattle.rme_machine.proofs.Lists.{get_set}
 use Rattle.rme_world.proofs.Telling.{taken_in_recovery, within, up, its, tells, stay}
 use Rattle.rme_world.proofs.Worlds.{step_kept}
 

@@ -42,7 +42,7 @@ use Rattle.rme_world.specs.Counting.{CountsAfter, IsStay, count_of, counted, no_
 use Rattle.rme_world.specs.Seen.{Seen, IsKept, counts_of, memory_seen, privates_seen}
 use Rattle.rme_world.specs.Events.{Steps}
 use Rattle.rme_world.specs.Looks.{IsStopped, IsWholeSection, ComesOn}
-use Rattle.rme_world.proofs.Lists.{get_set}
+use Rattle.rme_machine.proofs.Lists.{get_set}
 use Rattle.rme_world.proofs.Notes.{Tells, told}
 use Rattle.rme_world.proofs.Stays.{cases_phase, busy_phase, count_here, count_there}
 use Rattle.rme_world.proofs.Worlds.{busy_at, is_worker, up_at}

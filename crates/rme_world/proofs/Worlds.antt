@@ -29,7 +29,7 @@ use Rattle.rme_world.specs.Counting.{IsStay, count_of, most_steps, no_counts}
 use Rattle.rme_world.specs.Seen.{Seen, IsKept, if_up, memory_seen, privates_seen, counts_of, owed, shown_by}
 use Rattle.rme_world.specs.Refused.{is_ready}
 use Rattle.rme_world.specs.Events.{Steps}
-use Rattle.rme_world.proofs.Lists.{get_set, get_set_other}
+use Rattle.rme_machine.proofs.Lists.{get_set, get_set_other}
 use Rattle.rme_world.proofs.Owing.{finished_by, owed_step, none_handed, history_longer}
 use Rattle.rme_world.proofs.Stays.{GoOn, go_on}
 

@@ -1,0 +1,105 @@
+-- THE MACHINE'S OWN THEOREMS, in the words of the field: mutual exclusion, critical-section re-entry, and that each
+-- job counts once. They are of every state that a run of the machine reaches.
+use Rattle.std.specs.Prelude.{◌≡◌, ◌≢◌, ◌⊎◌, ℕ, ◌+◌, ◌<◌, ◌≤◌, ◌==◌, if◌then◌else◌, List, [], ◌∷◌, Some, slice_get}
+use Rattle.rme_words.specs.declared.shape.Shape.{Shape}
+use Rattle.rme_words.specs.declared.address.Address.{Address}
+use Rattle.rme_program.specs.declared.note.Entry.{Entry}
+use Rattle.rme_machine.specs.declared.stance.Stance.{Stance}
+use Rattle.rme_machine.specs.declared.stance.Stance.TheVariants.{Idle, Handed, Waiting, Inside, Finished}
+use Rattle.rme_machine.specs.declared.label.Act.{Act}
+use Rattle.rme_machine.specs.declared.label.Act.TheVariants.{Take, Finish, Leave, Reenter}
+use Rattle.rme_machine.specs.declared.label.Label.{Label}
+use Rattle.rme_machine.specs.declared.label.Label.TheVariants.{Of}
+use Rattle.rme_machine.specs.Histories.{IsLegal, numbers_by}
+use Rattle.rme_machine.specs.Machine.{State, WorkerState, StaysOn, Step, Run, opening_state}
+use Rattle.rme_machine.specs.Shown.{Privates, shown}
+use Rattle.rme_machine.specs.Fact.{Fact}
+
+-- Where a run may begin: at the opening, or at a state that words, private states and a history show for which the
+-- one fact holds.
+abbrev pub Begins : Shape → State → Type 0
+Begins shape state =
+    (state ≡ opening_state shape)
+    ⊎ ((memory : Address → ℕ) × (privates : Privates) × (history : List Entry) × Fact shape memory privates history × (state ≡ shown shape memory privates history))
+
+-- A state that a run reaches.
+pub record IsReached (shape : Shape) (state : State) : Type 0 where
+  pub start : State
+  pub begins : Begins shape start
+  pub labels : List Label
+  pub run : Run shape start labels state
+
+-- MUTUAL EXCLUSION. A worker that is inside a lock, or has finished there, is the lock's owner; the owner of a lock is
+-- inside it, or has finished there. So at most one worker is in the section of a lock.
+pub record Excludes (state : State) : Type 0 where
+  pub inside : (lock worker : ℕ) (me : WorkerState) → slice_get state.workers worker ≡ Some me → StaysOn me.stance lock
+      → slice_get state.owners lock ≡ Some (Some worker)
+  pub owner : (lock worker : ℕ) → slice_get state.owners lock ≡ Some (Some worker)
+      → (me : WorkerState) × (slice_get state.workers worker ≡ Some me) × StaysOn me.stance lock
+  pub one : (lock worker other : ℕ) (me you : WorkerState) → slice_get state.workers worker ≡ Some me → slice_get state.workers other ≡ Some you
+      → StaysOn me.stance lock → StaysOn you.stance lock → other ≡ worker
+
+abbrev pub ExclusionLaw : Type 0
+ExclusionLaw = (shape : Shape) (state : State) → IsReached shape state → Excludes state
+
+-- CRITICAL-SECTION RE-ENTRY
+
+-- The acts by which a worker is in the section of a lock, comes back to it, or leaves it.
+abbrev pub IsAt : Act → ℕ → Type 0
+IsAt (Take here) lock = here ≡ lock
+IsAt (Reenter here) lock = here ≡ lock
+IsAt (Finish receipt) lock = receipt.lock ≡ lock
+IsAt (Leave here) lock = here ≡ lock
+IsAt _ lock = ⊥
+
+-- None of these labels is the worker's leave of the lock.
+abbrev pub HasNoLeave : ℕ → ℕ → List Label → Type 0
+HasNoLeave worker lock [] = Unit {0}
+HasNoLeave worker lock (label ∷ labels) = (label ≢ Of worker (Leave lock)) × HasNoLeave worker lock labels
+
+-- The worker alone is at the lock.
+abbrev pub IsAloneAt : ℕ → ℕ → List Label → Type 0
+IsAloneAt worker lock [] = Unit {0}
+IsAloneAt worker lock (label ∷ labels) = ((other : ℕ) (act : Act) → label ≡ Of other act → IsAt act lock → other ≡ worker) × IsAloneAt worker lock labels
+
+-- From a worker's take of a lock to its leave no other worker takes, re-enters, finishes in or leaves that lock, whatever
+-- crashes and restarts lie between: nobody enters before the fallen owner has come back. The same holds from any state
+-- in which the worker owns the lock.
+pub record ReentryLaw : Type 0 where
+  pub taken : (shape : Shape) (before after later : State) (worker lock : ℕ) (labels : List Label)
+      → IsReached shape before → Step shape (Of worker (Take lock)) before after → Run shape after labels later → HasNoLeave worker lock labels
+      → IsAloneAt worker lock labels × (slice_get later.owners lock ≡ Some (Some worker))
+  pub owned : (shape : Shape) (before later : State) (worker lock : ℕ) (labels : List Label)
+      → IsReached shape before → slice_get before.owners lock ≡ Some (Some worker) → Run shape before labels later → HasNoLeave worker lock labels
+      → IsAloneAt worker lock labels × (slice_get later.owners lock ≡ Some (Some worker))
+
+-- EACH JOB COUNTS ONCE
+
+-- How often a number stands in a list.
+unfoldable pub times : ℕ → List ℕ → ℕ
+times k [] = 0
+times k (n ∷ ns) = if n == k then 1 + times k ns else times k ns
+
+-- Whether a worker waits or is inside under a number: 1 or 0.
+abbrev pub under : Stance → ℕ → ℕ
+under (Waiting n job) k = if n == k then 1 else 0
+under (Inside n job) k = if n == k then 1 else 0
+under Idle k = 0
+under (Handed job) k = 0
+under (Finished n job) k = 0
+
+-- The places of a worker's number, counted: its entries, its withdrawn numbers, and where it waits or is inside.
+abbrev pub places_of : List Entry → ℕ → WorkerState → ℕ → ℕ
+places_of history worker me k = times k (numbers_by history worker) + times k me.withdrawn + under me.stance k
+
+-- Each number from 1 to the last one asked for has one place, and no other number has any. A worker has at most one entry
+-- of a number. The history is legal: each entry has the place and the reply that follow from the earlier ones.
+pub record CountsOnce (shape : Shape) (state : State) : Type 0 where
+  pub each : (worker : ℕ) (me : WorkerState) → slice_get state.workers worker ≡ Some me → (k : ℕ) → 1 ≤ k → k ≤ me.asked → places_of state.history worker me k ≡ 1
+  pub zero : (worker : ℕ) (me : WorkerState) → slice_get state.workers worker ≡ Some me → places_of state.history worker me 0 ≡ 0
+  pub beyond : (worker : ℕ) (me : WorkerState) → slice_get state.workers worker ≡ Some me → (k : ℕ) → me.asked < k → places_of state.history worker me k ≡ 0
+  pub pairs : (worker k : ℕ) → times k (numbers_by state.history worker) ≤ 1
+  pub legal : IsLegal shape state.history
+
+abbrev pub OnceLaw : Type 0
+OnceLaw = (shape : Shape) (state : State) → IsReached shape state → CountsOnce shape state
