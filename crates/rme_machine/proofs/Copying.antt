@@ -49,7 +49,7 @@ record Knowing (s : Shape) (mem : Address → ℕ) (w b : ℕ) (redo : Redo) : T
   shaped : IsRedo s redo
   knows : KnowsRedo s (worker_words mem w) (lock_words s mem (redo_lock redo)) redo
 
-redo_lock_less : (s : Shape) (redo : Redo) → IsRedo s redo → redo_lock redo < s.locks
+pub redo_lock_less : (s : Shape) (redo : Redo) → IsRedo s redo → redo_lock redo < s.locks
 redo_lock_less s (LoadMask visit) shaped = shaped
 redo_lock_less s (LoadShadow visit mask cell) shaped = shaped.0
 redo_lock_less s (StoreCell visit mask cell value) shaped = shaped.0

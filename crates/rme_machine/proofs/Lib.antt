@@ -32,3 +32,5 @@ pub mod Clauses
 pub mod Further
 pub mod Theorems
 pub mod Reached
+pub mod Rowed
+pub mod Tables

@@ -102,7 +102,7 @@ module _ (s : Shape) (own : WorkerWords) (held : ℕ → ℕ) (locks : ℕ → L
   goes_turn l turn owner is at = elim (cases_eq (turn % 2) 0) [
     | inl even ↦ rw (eq-eqb (turn % 2) 0 even) (logs s own held locks w b (LoadLen l turn) lock owner owner.lock is (at, even))
     | inr odd ↦ rw (ne_eqb (turn % 2) 0 odd)
-        (copies s own held locks w b (LoadMask record { lock = l; turn = turn; parity = Odd }) lock owner owner.lock is (omega (arith, at, odd), tt))
+        (copies s own held locks w b (LoadMask record { lock = l; turn = turn; parity = Odd }) lock owner owner.lock is (omega (arith, at, odd), omega (arith, odd)))
   ]
 
 -- A settled lock whose shadow words are whole is logged once its turn is odd.
@@ -127,7 +127,7 @@ record Knowing (s : Shape) (mem : Address → ℕ) (w b : ℕ) (log : Log) : Typ
   shaped : IsLog s log
   knows : KnowsLog s (worker_words mem w) (lock_words s mem (log_lock log)) log
 
-log_lock_less : (s : Shape) (log : Log) → IsLog s log → log_lock log < s.locks
+pub log_lock_less : (s : Shape) (log : Log) → IsLog s log → log_lock log < s.locks
 log_lock_less s (LoadTurn lock) shaped = shaped
 log_lock_less s (LoadLen lock turn) shaped = shaped
 log_lock_less s (LoadSlate lock turn operations words loaded) shaped = shaped.0
@@ -202,7 +202,7 @@ module _ (s : Shape) (mem mem' : Address → ℕ) (privs privs' : Privates) (es 
       logged_now s lock visit.turn (rows s es visit.lock) (place_of es visit.lock) run.script settled odd.1 shaped run.mask known.knows.1 known.knows.2 in
       store (StoreTurn visit) (Copying (LoadMask visit)) new fact known was (turn_move s mem mem' visit.lock (visit.turn + 1) wrote) became
       (λ locks at. copies s own (held_in s mem w) locks w b (LoadMask visit) new known.owner known.owner.lock at
-      (odd.0, subst (λ (parity : Parity). KnowsParity own new parity) (sym run.parity) (run.script, run.slate, refl, run.mask, refl)))
+      (odd.0, subst (λ (parity : Parity). KnowsParity own new visit.turn parity) (sym run.parity) (run.script, run.slate, refl, run.mask, refl, run.even.1)))
       (inr (subst (λ (some : Program). IsLogged s new (rows s es visit.lock) (place_of es visit.lock) some) (sym job) logged))
 
 pub logging : (s : Shape) (mem mem' : Address → ℕ) (privs privs' : Privates) (es : List Entry) (w b : ℕ) (log : Log) (found : ℕ) → Fact s mem privs es

@@ -68,16 +68,16 @@ KnowsLog shape own lock (StoreMask visit named) =
 KnowsLog shape own lock (StoreTurn visit) =
     (run : HasRun own lock visit lock.mask) × HasShadows shape lock lock.mask run.script × (lock.shadow_reply ≡ (left_by lock run.script).reply)
 
--- On the even way the mask is the set of the cells that the script names. On the odd way nothing is known of
--- the mask but its value.
-abbrev pub KnowsParity : WorkerWords → LockWords → Parity → Type 0
-KnowsParity own lock Odd = Unit {0}
-KnowsParity own lock (Even operations cells) =
-    (script : Program) × (slate_script own ≡ Some script) × (operations ≡ script.n) × (cells ≡ mask_of script.ops) × (cells ≡ lock.mask)
+-- How the section was begun: at an even turn, and then the mask is the set of the cells that the script names; or at an
+-- odd one, and then nothing is known of the mask but its value.
+abbrev pub KnowsParity : WorkerWords → LockWords → ℕ → Parity → Type 0
+KnowsParity own lock turn Odd = turn % 2 ≡ 1
+KnowsParity own lock turn (Even operations cells) =
+    (script : Program) × (slate_script own ≡ Some script) × (operations ≡ script.n) × (cells ≡ mask_of script.ops) × (cells ≡ lock.mask) × (turn % 2 ≡ 0)
 
 -- The turn is odd, in the section of the turn that was loaded.
 abbrev pub IsOddTurn : WorkerWords → LockWords → Visit → Type 0
-IsOddTurn own lock visit = (lock.turn ≡ 2 * (visit.turn / 2) + 1) × KnowsParity own lock visit.parity
+IsOddTurn own lock visit = (lock.turn ≡ 2 * (visit.turn / 2) + 1) × KnowsParity own lock visit.turn visit.parity
 
 -- What an owner knows of its section from the odd turn on.
 abbrev pub KnowsRedo : Shape → WorkerWords → LockWords → Redo → Type 0

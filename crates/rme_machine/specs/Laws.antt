@@ -1,26 +1,30 @@
 -- The laws of a step. Each stands on the contract of a function of the module `laws`.
-use Rattle.std.specs.Prelude.{suc, Bool, true, false, ◌≡◌, ◌≢◌, ℕ, ◌+◌, ◌<◌, List, [], Some, None}
+use Rattle.std.specs.Prelude.{suc, Bool, true, false, not, ◌≡◌, ◌≢◌, ℕ, ◌+◌, ◌<◌, ◌==◌, if◌then◌else◌, List, [], Option, Some, None}
 use Rattle.rme_words.specs.declared.shape.Shape.{Shape}
 use Rattle.rme_words.specs.declared.address.Address.{Address}
 use Rattle.rme_words.specs.declared.address.Address.TheVariants.{Node}
 use Rattle.rme_tree.specs.Paths.{node}
-use Rattle.rme_tree.specs.Nodes.{nodes_of, held_in}
+use Rattle.rme_tree.specs.Nodes.{nodes_of, held_in, owner_in}
 use Rattle.rme_tree.specs.Rooted.{IsBlocked}
 use Rattle.rme_script.specs.declared.job.Job.{Job}
 use Rattle.rme_program.specs.declared.note.Entry.{Entry}
 use Rattle.rme_program.specs.declared.private.Private.{Private}
 use Rattle.rme_program.specs.declared.stage.Stage.{Stage}
 use Rattle.rme_program.specs.declared.stage.Stage.TheVariants.{Resting, Recovering, Posting, Climbing, Logging, Copying, Leaving}
+use Rattle.rme_program.specs.declared.stage.Departure.TheVariants.{LoadExitTurn, StoreExitTurn, Clear}
 use Rattle.rme_program.specs.declared.stage.Ascent.{Ascent}
 use Rattle.rme_program.specs.Did.{Did}
 use Rattle.rme_program.specs.Steps.{action_of, private_after, note_after, ready_private, restarted_private, submitted_private, withdrawing_private}
 use Rattle.rme_program.specs.Conditions.{IsJob, IsPrivate, Takes}
+use Rattle.rme_program.specs.Progress.{IsOnTrack}
+use Rattle.rme_program.specs.Stays.{StandsInRow}
 use Rattle.rme_machine.specs.declared.label.Act.{Act}
 use Rattle.rme_machine.specs.declared.label.Act.TheVariants.{Hand, Crash, Restart, Wait}
 use Rattle.rme_machine.specs.Machine.{Does, opening_state}
 use Rattle.rme_machine.specs.Shown.{Privates, shown, act_of}
-use Rattle.rme_machine.specs.Views.{worker_words, lock_words}
-use Rattle.rme_machine.specs.Fits.{Fits}
+use Rattle.rme_machine.specs.ShownCells.{ShowsTables, is_settled}
+use Rattle.rme_machine.specs.Views.{worker_words, lock_words, is_pending}
+use Rattle.rme_machine.specs.Fits.{Fits, log_lock, redo_lock}
 use Rattle.rme_machine.specs.Fact.{Fact}
 use Rattle.rme_machine.specs.Clauses.{IsGood}
 use Rattle.rme_machine.specs.Changes.{Became, history_after}
@@ -77,6 +81,38 @@ abbrev pub FitLaw : Type 0
 FitLaw = (shape : Shape) (memory : Address → ℕ) (privates : Privates) (history : List Entry) (worker : ℕ) (private : Private)
     → Fact shape memory privates history → worker < shape.workers → privates worker ≡ Some private
     → (private.worker ≡ worker) × IsPrivate shape private
+
+-- The owner table and the cells are those of the state shown. A lock is settled where it has no owner, or its owner's job is
+-- not pending.
+pub record TablesLaw : Type 0 where
+  pub tables : (shape : Shape) (memory : Address → ℕ) (privates : Privates) (history : List Entry)
+      → Fact shape memory privates history → ShowsTables shape memory (shown shape memory privates history)
+  pub free : (shape : Shape) (memory : Address → ℕ) (privates : Privates) (history : List Entry) (lock : ℕ)
+      → Fact shape memory privates history → lock < shape.locks → owner_in shape memory lock ≡ None
+      → is_settled (shown shape memory privates history) lock ≡ true
+  pub owned : (shape : Shape) (memory : Address → ℕ) (privates : Privates) (history : List Entry) (lock worker : ℕ)
+      → Fact shape memory privates history → lock < shape.locks → owner_in shape memory lock ≡ Some worker
+      → is_settled (shown shape memory privates history) lock ≡ not (is_pending (worker_words memory worker))
+
+-- A worker in Section owns its lock, and so does one in Exit that still holds the root.
+abbrev pub owned_by : Shape → Stage → Option ℕ
+owned_by shape (Logging log) = Some (log_lock log)
+owned_by shape (Copying redo) = Some (redo_lock redo)
+owned_by shape (Leaving (LoadExitTurn lock)) = Some lock
+owned_by shape (Leaving (StoreExitTurn lock turn)) = Some lock
+owned_by shape (Leaving (Clear lock level)) = if level == shape.height then Some lock else None
+owned_by shape _ = None
+
+abbrev pub OwnsLaw : Type 0
+OwnsLaw = (shape : Shape) (memory : Address → ℕ) (privates : Privates) (history : List Entry) (worker lock : ℕ) (private : Private)
+    → Fact shape memory privates history → worker < shape.workers → privates worker ≡ Some private → owned_by shape private.stage ≡ Some lock
+    → (lock < shape.locks) × (owner_in shape memory lock ≡ Some worker)
+
+-- Each worker that is up and not ready stands at a place of a row of the step table, and is on track there.
+abbrev pub RowLaw : Type 0
+RowLaw = (shape : Shape) (memory : Address → ℕ) (privates : Privates) (history : List Entry) (worker : ℕ) (private : Private)
+    → Fact shape memory privates history → worker < shape.workers → privates worker ≡ Some private
+    → IsOnTrack private.stage × (private.stage ≢ Resting → StandsInRow shape private)
 
 -- Where a climbing worker's node is not free, another worker holds it, from the other side.
 abbrev pub BlockedLaw : Type 0

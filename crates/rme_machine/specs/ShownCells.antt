@@ -1,12 +1,15 @@
 -- `shown cells`: the cells of a lock that a state of the machine shows.
 use Rattle.std.specs.Prelude.{◌≡◌, ℕ, ◌<◌, ◌⊎◌, Bool, true, false, List, length, slice_get, slice_index, Option, Some, None}
 use Rattle.rme_words.specs.declared.shape.Shape.{Shape}
+use Rattle.rme_words.specs.declared.address.Address.{Address}
+use Rattle.rme_tree.specs.Nodes.{owner_in}
 use Rattle.rme_script.specs.Eval.{eval_of}
 use Rattle.rme_program.specs.declared.note.Entry.{Entry}
 use Rattle.rme_machine.specs.declared.stance.Stance.{Stance}
 use Rattle.rme_machine.specs.declared.stance.Stance.TheVariants.{Idle, Handed, Waiting, Inside, Finished}
 use Rattle.rme_machine.specs.Machine.{State, WorkerState}
 use Rattle.rme_machine.specs.Histories.{rows}
+use Rattle.rme_machine.specs.Views.{lock_words}
 
 -- The owner of a lock, if there is the lock and it is not free.
 abbrev pub owner_by : Option (Option ℕ) → Option ℕ
@@ -56,3 +59,8 @@ settled_by (Some (Finished k job)) = true
 
 abbrev pub is_settled : State → ℕ → Bool
 is_settled state lock = settled_by (owners_stance state lock)
+
+-- The owner table and the cells of a memory are those of a state.
+pub record ShowsTables (shape : Shape) (memory : Address → ℕ) (state : State) : Type 0 where
+  pub owners : (lock : ℕ) → lock < shape.locks → owner_in shape memory lock ≡ owner_at state lock
+  pub cells : (lock : ℕ) → lock < shape.locks → ShownCells shape state lock (lock_words shape memory lock).cells

@@ -5,7 +5,7 @@
 //! the lemmas.
 
 ghost use Rattle.rme_machine.specs.Theorems.{ExclusionLaw, ReentryLaw, OnceLaw};
-ghost use Rattle.rme_machine.specs.Laws.{StepLaw, TakesLaw, SubmitLaw, CrashLaw, RestartLaw, WithdrawLaw, OpeningLaw, FitLaw, BlockedLaw, StaleLaw, IdleLaw, ClausesLaw};
+ghost use Rattle.rme_machine.specs.Laws.{StepLaw, TakesLaw, SubmitLaw, CrashLaw, RestartLaw, WithdrawLaw, OpeningLaw, FitLaw, TablesLaw, OwnsLaw, RowLaw, BlockedLaw, StaleLaw, IdleLaw, ClausesLaw};
 
 /// Each own step of a worker, of every kind and whatever it finds, keeps the fact and is the machine's step
 /// of its note (lemma `own_step`).
@@ -46,6 +46,23 @@ pub fn opening()
 /// What an up worker knows is its own and of the shape, so that `next` may be asked (lemma `fitting`).
 pub fn fitting()
     ensures { FitLaw }
+{}
+
+/// The owner table and the cells of words for which the fact holds are those of the state shown, and a lock is
+/// settled where it has no owner, or its owner's job is not pending (lemma `tables`).
+pub fn tabling()
+    ensures { TablesLaw }
+{}
+
+/// A worker in Section owns its lock, and so does one in Exit that still holds the root (lemma `owning`).
+pub fn owning()
+    ensures { OwnsLaw }
+{}
+
+/// Each worker that is up and not ready stands at a place of a row of the step table, where its next action is
+/// the row's, and is on track (lemma `rowed`).
+pub fn standing()
+    ensures { RowLaw }
 {}
 
 /// A blocked step names another holder: where a climbing worker's node is not free, another worker holds it,

@@ -291,3 +291,10 @@ pub record IsTurn (shape : Shape) (old : Private) (stay : Stay) (value : ℕ) (n
 abbrev pub FollowsRow : Shape → Private → ℕ → Private → Note → Type 0
 FollowsRow shape old value new note =
     (stay : Stay) → Fits shape old.begun stay old.stage → Finds stay (action_of shape old) value → IsTurn shape old stay value new note
+
+-- A worker stands at a place of a row: it is in a stay, of which it knows what it found, and its next action is the row's
+-- at its place.
+pub record StandsInRow (shape : Shape) (private : Private) : Type 0 where
+  pub stay : Stay
+  pub fits : Fits shape private.begun stay private.stage
+  pub here : slice_get (row_of shape private.worker private.begun stay) (place_of shape stay private.stage) ≡ Some (action_of shape private)
