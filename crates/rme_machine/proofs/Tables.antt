@@ -30,12 +30,13 @@ use Rattle.rme_machine.proofs.Lists.{made_get}
 use Rattle.rme_machine.proofs.Logging.{log_lock_less}
 use Rattle.rme_machine.proofs.Shows.{owned_at}
 
-module _ (s : Shape) (mem : Address → ℕ) (privs : Privates) (es : List Entry) (fact : Fact s mem privs es) (lock : ℕ) (below : lock < s.locks) where
-  pub owner_shown : owner_in s mem lock ≡ owner_at (shown s mem privs es) lock
-  owner_shown = sym (ap owner_by (made_get (λ (l : ℕ). owner_in s mem l) s.locks lock below))
+-- The owner of a lock by the words is that of the state shown.
+pub shown_owner : (s : Shape) (mem : Address → ℕ) (privs : Privates) (es : List Entry) (lock : ℕ) → lock < s.locks → owner_in s mem lock ≡ owner_at (shown s mem privs es) lock
+shown_owner s mem privs es lock below = sym (ap owner_by (made_get (λ (l : ℕ). owner_in s mem l) s.locks lock below))
 
+module _ (s : Shape) (mem : Address → ℕ) (privs : Privates) (es : List Entry) (fact : Fact s mem privs es) (lock : ℕ) (below : lock < s.locks) where
   stance_is : (owner : Option ℕ) → owner_in s mem lock ≡ owner → owners_stance (shown s mem privs es) lock ≡ stance_of_owner (shown s mem privs es) owner
-  stance_is owner is = ap (stance_of_owner (shown s mem privs es)) (sym owner_shown ∙ is)
+  stance_is owner is = ap (stance_of_owner (shown s mem privs es)) (sym (shown_owner s mem privs es lock below) ∙ is)
 
   -- The stance of a lock's owner.
   owner_stance : (w : ℕ) → owner_in s mem lock ≡ Some w → (last : Job)
@@ -87,7 +88,7 @@ module _ (s : Shape) (mem : Address → ℕ) (privs : Privates) (es : List Entry
 
 pub tables : TablesLaw
 tables = record {
-  tables = λ s mem privs es fact. record { owners = λ lock below. owner_shown s mem privs es fact lock below; cells = λ lock below. shown_cells s mem privs es fact lock below };
+  tables = λ s mem privs es fact. record { owners = λ lock below. shown_owner s mem privs es lock below; cells = λ lock below. shown_cells s mem privs es fact lock below };
   free = λ s mem privs es lock fact below. free_settled s mem privs es fact lock below;
   owned = λ s mem privs es lock w fact below. owned_settled s mem privs es fact lock below w;
 }

@@ -1,5 +1,5 @@
 -- The events beside a step are steps of the machine, and keep what every world keeps.
-use Rattle.std.proofs.Common.{◌≡◌, ℕ, ◌+◌, ◌<◌, ◌≤◌, length, refl, sym, ◌∙◌, ap, subst, inl, inr, arith}
+use Rattle.std.proofs.Common.{◌≡◌, ℕ, ◌+◌, ◌<◌, ◌≤◌, length, refl, sym, ap, subst, inl, inr, arith}
 use Rattle.std.specs.Prelude.{true, Option, Some, None, slice_get, if◌then◌else◌}
 use Rattle.std.proofs.lemmas.Bool.{cases_Bool, cases_lt, lt-ltb, le-ltb}
 use Rattle.std.proofs.lemmas.Option.{none-some, same_Some}
@@ -16,7 +16,7 @@ use Rattle.rme_program.specs.declared.stage.Ascent.{Ascent}
 use Rattle.rme_program.specs.declared.stage.Stage.{Stage}
 use Rattle.rme_program.specs.declared.stage.Stage.TheVariants.{Resting, Recovering, Posting, Climbing, Logging, Copying, Leaving}
 use Rattle.rme_program.specs.Conditions.{IsPrivate, IsJob}
-use Rattle.rme_program.specs.Phases.{phase_of, left_of}
+use Rattle.rme_program.specs.Phases.{phase_of}
 use Rattle.rme_program.specs.declared.stage.Departure.TheVariants.{WithdrawPlace}
 use Rattle.rme_program.specs.Steps.{restarted_private, submitted_private, withdrawing_private, withdrawing_stage}
 use Rattle.rme_machine.specs.declared.label.Act.TheVariants.{Hand, Crash, Restart, Wait}
@@ -27,7 +27,6 @@ use Rattle.rme_world.specs.Counting.{IsStay, count_of, begun_stay, most_steps, n
 use Rattle.rme_world.specs.Seen.{Seen, IsKept, memory_seen, privates_seen, counts_of, shown_by}
 use Rattle.rme_world.specs.Refused.{of_up, of_down, is_ready, is_climbing, job_refusal}
 use Rattle.rme_world.specs.Events.{Submits, Crashes, Restarts, Withdraws, with_worker}
-use Rattle.rme_machine.proofs.Lists.{get_set}
 use Rattle.rme_world.proofs.Owing.{owed_step, owed_few}
 use Rattle.rme_world.proofs.Stays.{within_limits, stay_begins}
 use Rattle.rme_world.proofs.Worlds.{IsSound, GoesAs, kept_sound, is_worker, up_at, became, goes_as, changed, changed_kept}
@@ -223,17 +222,3 @@ module _ (old : Seen) (worker : ℕ) (kept : IsKept old) where
       (omega (arith, kept.room, owed_step old.shape Wait (shown_by old) worker _ goes.does))
       (λ p e. begins_stay old.shape (begun_stay (counts_of old worker) phase.Exit) (withdrawing_private private) p stay e)
       (begins_short old worker phase.Exit kept within)
-
-  -- A withdrawal has at most h + 3 steps left.
-  pub withdraw_bound : (private : Private) (ascent : Ascent) → slice_get old.privates worker ≡ Some (Some private) → private.stage ≡ Climbing ascent
-      → (q : Private) → slice_get (with_worker old worker (Some (withdrawing_private private)) (begun_stay (counts_of old worker) phase.Exit)).privates worker ≡ Some (Some q)
-      → left_of old.shape q.stage ≤ old.shape.height + 3
-  withdraw_bound private ascent found climbing q at =
-      let within : worker < old.shape.workers = is_worker old worker (Some private) kept.all_privates found in
-      let up : privates_seen old worker ≡ Some private = up_at old worker (Some private) found in
-      let is : IsPrivate old.shape private = (fitting old.shape (memory_seen old) (privates_seen old) old.history worker private kept.fact within up).1 in
-      let stage = rw climbing at is.stage in
-      let put : Some (withdrawing_private private) ≡ Some q = same_Some _ _ (sym (get_set old.privates worker (Some (withdrawing_private private)) (omega (arith, kept.all_privates, within))) ∙ at) in
-      let P : Stage → Type 0 = λ (s : Stage). left_of old.shape (withdrawing_stage s) ≤ old.shape.height + 3 in
-      let R : Private → Type 0 = λ (p : Private). left_of old.shape p.stage ≤ old.shape.height + 3 in
-      subst R (same_Some _ _ put) (subst P (sym climbing) (omega (arith, stage.1)))

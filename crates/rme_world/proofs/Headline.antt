@@ -8,75 +8,93 @@ use Rattle.rme_script.proofs.Lists.{take_next}
 use Rattle.rme_program.specs.declared.event.Event.{Event}
 use Rattle.rme_program.specs.declared.event.Event.TheVariants.{Submit, Step, Crash, Restart, Withdraw}
 use Rattle.rme_program.specs.declared.event.Answer.{Answer}
-use Rattle.rme_program.specs.declared.event.Answer.TheVariants.{Handed, Stepped, Crashed, Restarted, Withdrawing, Refused}
+use Rattle.rme_program.specs.declared.event.Answer.TheVariants.{Refused}
 use Rattle.rme_machine.specs.declared.label.Act.{Act}
 use Rattle.rme_machine.specs.declared.label.Label.{Label}
 use Rattle.rme_machine.specs.declared.label.Label.TheVariants.{Nothing, Of}
 use Rattle.rme_machine.specs.Machine as machine
 use Rattle.rme_machine.specs.Labels.{labels}
-use Rattle.rme_world.specs.Seen.{Seen, shown_by}
-use Rattle.rme_world.specs.Running.{IsRun, IsRunOfOne, Happens, AllHappen}
-use Rattle.rme_world.proofs.Worlds.{IsSound, GoesAs, step_goes}
-use Rattle.rme_world.proofs.Happening.{submits_goes, crashes_goes, restarts_goes, withdraws_goes}
+use Rattle.rme_machine.proofs.Tables.{tables}
+use Rattle.rme_world.specs.Seen.{Seen, memory_seen, privates_seen, shown_by}
+use Rattle.rme_world.specs.Running.{AreLabels, IsShown, IsRun, IsRunOfOne}
+use Rattle.rme_world.specs.EventLists.{IsCall, Happens, AllHappen}
+use Rattle.rme_world.proofs.Worlds.{IsSound, GoesAs}
 
--- One event is one labelled step of the machine.
-pub record IsStep (old new : Seen) (event : Event) (answer : Answer) : Type 0 where
-  pub label : Label
-  pub is_label : labels event answer ≡ Some label
-  pub goes : machine.Step old.shape label (shown_by old) (shown_by new)
-  pub sound : IsSound new
-  pub shape : new.shape ≡ old.shape
+-- What is shown of a sound world.
+pub tables_of : (seen : Seen) → IsSound seen → IsShown seen
+tables_of seen sound = tables.tables seen.shape (memory_seen seen) (privates_seen seen) seen.history sound.fact
 
-act_step : (old new : Seen) (event : Event) (answer : Answer) (worker : ℕ) (act : Act) → labels event answer ≡ Some (Of worker act) → GoesAs old new worker act → IsStep old new event answer
-act_step old new event answer worker act is goes = record { label = Of worker act; is_label = is; goes = goes.does; sound = goes.sound; shape = goes.shape }
+-- One event is a run of one step.
+pub act_run : (old new : Seen) (event : Event) (answer : Answer) (worker : ℕ) (act : Act) → labels event answer ≡ Some (Of worker act) → IsSound old → GoesAs old new worker act → IsRunOfOne old event answer new
+act_run old new event answer worker act is sound goes = record {
+  told = Of worker act ∷ [];
+  are_labels = (is, tt);
+  run = (shown_by new, goes.does, refl);
+  shape = goes.shape;
+  before = tables_of old sound;
+  after = tables_of new goes.sound;
+}
 
-pub refused_step : (old new : Seen) (event : Event) (refusal : Refusal) → labels event (Refused refusal) ≡ Some Nothing → IsSound old → new ≡ old → IsStep old new event (Refused refusal)
-refused_step old new event refusal is sound same =
-    let P : Seen → Type 0 = λ (s : Seen). IsStep old s event (Refused refusal) in
-    subst P (sym same) record { label = Nothing; is_label = is; goes = refl; sound = sound; shape = refl }
-
-pub refused_label : (event : Event) (refusal : Refusal) → labels event (Refused refusal) ≡ Some Nothing
+refused_label : (event : Event) (refusal : Refusal) → labels event (Refused refusal) ≡ Some Nothing
 refused_label (Submit worker job) refusal = refl
 refused_label (Step worker) refusal = refl
 refused_label (Crash worker) refusal = refl
 refused_label (Restart worker) refusal = refl
 refused_label (Withdraw worker) refusal = refl
 
-refused_same : (old new : Seen) (event : Event) (refusal : Refusal) → Happens old event (Refused refusal) new → new ≡ old
-refused_same old new (Submit worker job) refusal happens = happens.1
-refused_same old new (Step worker) refusal happens = happens.1
-refused_same old new (Crash worker) refusal happens = happens.1
-refused_same old new (Restart worker) refusal happens = happens.1
-refused_same old new (Withdraw worker) refusal happens = happens.1
+-- A refused event is a run in which nothing happens.
+pub nothing_run : (seen : Seen) (event : Event) (refusal : Refusal) → IsSound seen → IsRunOfOne seen event (Refused refusal) seen
+nothing_run seen event refusal sound = record {
+  told = Nothing ∷ [];
+  are_labels = (refused_label event refusal, tt);
+  run = (shown_by seen, refl, refl);
+  shape = refl;
+  before = tables_of seen sound;
+  after = tables_of seen sound;
+}
 
-pub happens_step : (old new : Seen) (event : Event) (answer : Answer) → IsSound old → Happens old event answer new → IsStep old new event answer
-happens_step old new event (Refused refusal) sound happens = refused_step old new event refusal (refused_label event refusal) sound (refused_same old new event refusal happens)
-happens_step old new (Submit worker job) (Handed number) sound happens = act_step old new _ _ worker _ refl (submits_goes old new worker job number sound happens)
-happens_step old new (Step worker) (Stepped note) sound happens = act_step old new _ _ worker _ refl (step_goes old new worker note happens sound)
-happens_step old new (Crash worker) Crashed sound happens = act_step old new _ _ worker _ refl (crashes_goes old new worker sound happens)
-happens_step old new (Restart worker) Restarted sound happens = act_step old new _ _ worker _ refl (restarts_goes old new worker sound happens)
-happens_step old new (Withdraw worker) Withdrawing sound happens = act_step old new _ _ worker _ refl (withdraws_goes old new worker sound happens)
-happens_step old new _ _ sound happens = absurd happens
+-- ---- a list of events is a run
 
--- One event is a run of one step.
-pub one_run : (old new : Seen) (event : Event) (answer : Answer) → IsStep old new event answer → IsRunOfOne old event answer new
-one_run old new event answer step = record { told = step.label ∷ []; are_labels = (step.is_label, tt); run = (shown_by new, step.goes, refl); shape = step.shape }
+run_of : (old new : Seen) (event : Event) (answer : Answer) → IsCall old event answer new → IsRunOfOne old event answer new
+run_of old new (Submit worker job) answer (result, is, call) = subst (λ (a : Answer). IsRunOfOne old (Submit worker job) a new) (sym is) call.headline
+run_of old new (Step worker) answer (result, is, call) = subst (λ (a : Answer). IsRunOfOne old (Step worker) a new) (sym is) call.headline
+run_of old new (Crash worker) answer (result, is, call) = subst (λ (a : Answer). IsRunOfOne old (Crash worker) a new) (sym is) call.headline
+run_of old new (Restart worker) answer (result, is, call) = subst (λ (a : Answer). IsRunOfOne old (Restart worker) a new) (sym is) call.headline
+run_of old new (Withdraw worker) answer (result, is, call) = subst (λ (a : Answer). IsRunOfOne old (Withdraw worker) a new) (sym is) call.headline
 
--- A list of events is a run.
-pub all_run : (old new : Seen) (events : List Event) (answers : List Answer) → IsSound old → AllHappen old events answers new → IsRun old events answers new
-all_run old new [] [] sound happen = record { told = []; are_labels = tt; run = ap shown_by happen; shape = ap (λ (s : Seen). s.shape) happen }
-all_run old new (event ∷ events) (answer ∷ answers) sound (mid, first, rest) =
-    let step : IsStep old mid event answer = happens_step old mid event answer sound first in
-    let later : IsRun mid events answers new = all_run mid new events answers step.sound rest in
-    let R : Shape → Type 0 = λ (s : Shape). machine.Run s (shown_by mid) later.told (shown_by new) in
-    record {
-      told = step.label ∷ later.told;
-      are_labels = (step.is_label, later.are_labels);
-      run = (shown_by mid, step.goes, subst R step.shape later.run);
-      shape = later.shape ∙ step.shape;
-    }
-all_run old new [] (answer ∷ answers) sound happen = absurd happen
-all_run old new (event ∷ events) [] sound happen = absurd happen
+join_runs : (old mid new : Seen) (event : Event) (answer : Answer) (events : List Event) (answers : List Answer) → IsRunOfOne old event answer mid → IsRun mid events answers new
+    → IsRun old (event ∷ events) (answer ∷ answers) new
+join_runs old mid new event answer events answers one later = by_told one.told one.are_labels one.run
+  where
+    by_told : (told : List Label) → AreLabels (event ∷ []) (answer ∷ []) told → machine.Run old.shape (shown_by old) told (shown_by mid) → IsRun old (event ∷ events) (answer ∷ answers) new
+    by_told [] labelled run = absurd labelled
+    by_told (label ∷ []) labelled (state, step, same) =
+        let R : Shape → Type 0 = λ (s : Shape). machine.Run s (shown_by mid) later.told (shown_by new) in
+        let first : machine.Step old.shape label (shown_by old) (shown_by mid) = subst (λ (s : machine.State). machine.Step old.shape label (shown_by old) s) (sym same) step in
+        record {
+          told = label ∷ later.told;
+          are_labels = (labelled.0, later.are_labels);
+          run = (shown_by mid, first, subst R one.shape later.run);
+          shape = later.shape ∙ one.shape;
+          before = one.before;
+          after = later.after;
+        }
+    by_told (label ∷ other ∷ labels_) labelled run = absurd labelled.1
+
+pub all_run : (old new : Seen) (events : List Event) (answers : List Answer) → IsShown old → AllHappen old events answers new → IsRun old events answers new
+all_run old new [] [] shows happen = record {
+  told = [];
+  are_labels = tt;
+  run = ap shown_by happen;
+  shape = ap (λ (s : Seen). s.shape) happen;
+  before = shows;
+  after = subst (λ (s : Seen). IsShown s) (sym happen) shows;
+}
+all_run old new (event ∷ events) (answer ∷ answers) shows (mid, first, rest) =
+    let one : IsRunOfOne old event answer mid = run_of old mid event answer first.call in
+    join_runs old mid new event answer events answers one (all_run mid new events answers one.after rest)
+all_run old new [] (answer ∷ answers) shows happen = absurd happen
+all_run old new (event ∷ events) [] shows happen = absurd happen
 
 -- ---- one event after others
 
@@ -91,8 +109,8 @@ all_snoc old mid new (e ∷ events) [] event answer happen last = absurd happen
 pub roomy_run : (old roomy new : Seen) (events : List Event) (answers : List Answer) → roomy ≡ record old { room = roomy.room } → IsSound roomy → AllHappen roomy events answers new → IsRun old events answers new
 roomy_run old roomy new events answers same sound happen =
     let P : Seen → Type 0 = λ (s : Seen). IsRun s events answers new → IsRun record old { room = roomy.room } events answers new in
-    let run : IsRun record old { room = roomy.room } events answers new = subst P (sym same) (λ (r : IsRun record old { room = roomy.room } events answers new). r) (all_run roomy new events answers sound happen) in
-    record { told = run.told; are_labels = run.are_labels; run = run.run; shape = run.shape }
+    let run : IsRun record old { room = roomy.room } events answers new = subst P (sym same) (λ (r : IsRun record old { room = roomy.room } events answers new). r) (all_run roomy new events answers (tables_of roomy sound) happen) in
+    record { told = run.told; are_labels = run.are_labels; run = run.run; shape = run.shape; before = run.before; after = run.after }
 
 pub roomy_happen : (old roomy new : Seen) (events : List Event) (answers : List Answer) → roomy ≡ record old { room = roomy.room } → AllHappen roomy events answers new
     → (room : ℕ) × AllHappen record old { room = room } events answers new

@@ -1,31 +1,25 @@
 -- What the look-ups show.
-use Rattle.std.proofs.Common.{◌≡◌, ℕ, suc, ◌+◌, ◌*◌, ◌^◌, ◌<◌, ◌≤◌, Bool, true, false, not, List, ◌∷◌, length, take, refl, sym, ◌∙◌, ap, subst, inl, inr, arith, length-append}
-use Rattle.std.specs.Prelude.{Option, Some, None, slice_get, slice_set, slice_index, ◌==◌}
+use Rattle.std.proofs.Common.{◌≡◌, ℕ, suc, ◌+◌, ◌*◌, ◌^◌, ◌<◌, ◌≤◌, Bool, true, not, List, ◌∷◌, length, take, refl, sym, ◌∙◌, ap, subst, arith, length-append}
+use Rattle.std.specs.Prelude.{◌↔◌, IsTrue, Some, None, slice_get, slice_set, ◌==◌}
 use Rattle.std.proofs.lemmas.Bool.{le-ltb, eqb-true}
-use Rattle.std.proofs.lemmas.List.FromFn.{length-map-range_with_len}
 use Rattle.std.proofs.Math.Nat.{mul-le-mul}
 use Rattle.rme_words.specs.declared.address.Address.TheVariants.{Cell}
 use Rattle.rme_world.proofs.Filling.{filled_next, filled_whole}
 use Rattle.std.proofs.lemmas.List.{length-set}
+use Rattle.std.proofs.lemmas.Option.{same_Some}
+use Rattle.rme_program.specs.declared.stage.Stage.TheVariants.{Resting}
 use Rattle.rme_tree.specs.Nodes.{held_in, owner_in}
-use Rattle.rme_script.specs.declared.job.Job.{Job}
 use Rattle.rme_program.specs.declared.note.Entry.{Entry}
 use Rattle.rme_program.specs.declared.note.Receipt.{Receipt}
 use Rattle.rme_program.specs.declared.private.Private.{Private}
-use Rattle.rme_machine.specs.declared.stance.Stance.{Stance}
-use Rattle.rme_machine.specs.Histories.{last_by, IsDue}
-use Rattle.rme_machine.specs.Shown.{lock_owned, shown_worker, job_of}
-use Rattle.rme_machine.specs.Shown as shown
-use Rattle.rme_machine.specs.ShownCells.{ShownCells, AreCells, owner_by, owner_at, stance_of_owner, owners_stance, is_settled, settled_by}
-use Rattle.rme_machine.specs.ShownCells as cells
-use Rattle.rme_machine.specs.Views.{WorkerWords, worker_words, lock_words, is_pending, slate_job}
-use Rattle.rme_machine.specs.Fact.{Account, IsReceipt, StandsOwned, Stands}
+use Rattle.rme_machine.specs.Histories.{IsDue}
+use Rattle.rme_machine.specs.ShownCells.{ShownCells, owner_at, is_settled}
+use Rattle.rme_machine.specs.Views.{worker_words, lock_words, is_pending}
+use Rattle.rme_machine.specs.Fact.{Account, IsReceipt}
 use Rattle.rme_machine.proofs.Further.{idling}
 use Rattle.rme_machine.proofs.Historical.{entries_few, place_few}
-use Rattle.rme_machine.proofs.Kept.{owner_holds_in}
 use Rattle.rme_machine.proofs.Lasts.{IsLast, last_stands, last_due}
-use Rattle.rme_machine.proofs.Lists.{made_get}
-use Rattle.rme_machine.proofs.Shows.{owned_at}
+use Rattle.rme_machine.proofs.Tables.{shown_owner, tables}
 use Rattle.rme_program.specs.declared.kinds.Phase.{Phase}
 use Rattle.rme_program.specs.Phases.{phase_of}
 use Rattle.rme_world.specs.declared.counts.Counts.{Counts}
@@ -34,72 +28,20 @@ use Rattle.rme_world.specs.Seen.{Seen, IsKept, counts_of, memory_seen, privates_
 use Rattle.rme_world.specs.Looks.{HasReceipt, IsLastReceipt, IsReady, HoldsNone, words_seen}
 use Rattle.rme_world.proofs.Worlds.{is_worker, up_at}
 
--- ---- owners
+-- ---- what the laws of the machine say of a world
 
 pub owner_shown : (seen : Seen) (lock : ℕ) → lock < seen.shape.locks → owner_in seen.shape (memory_seen seen) lock ≡ owner_at (shown_by seen) lock
-owner_shown seen lock below = sym (ap owner_by (made_get (λ (l : ℕ). owner_in seen.shape (memory_seen seen) l) seen.shape.locks lock below))
+owner_shown seen lock below = shown_owner seen.shape (memory_seen seen) (privates_seen seen) seen.history lock below
 
-module _ (seen : Seen) (lock : ℕ) (kept : IsKept seen) (below : lock < seen.shape.locks) where
-  stance_is : (owner : Option ℕ) → owner_in seen.shape (memory_seen seen) lock ≡ owner → owners_stance (shown_by seen) lock ≡ stance_of_owner (shown_by seen) owner
-  stance_is owner is = ap (stance_of_owner (shown_by seen)) (sym (owner_shown seen lock below) ∙ is)
+pub shown_cells : (seen : Seen) (lock : ℕ) → IsKept seen → lock < seen.shape.locks → ShownCells seen.shape (shown_by seen) lock (lock_words seen.shape (memory_seen seen) lock).cells
+shown_cells seen lock kept below = (tables.tables seen.shape (memory_seen seen) (privates_seen seen) seen.history kept.fact).cells lock below
 
-  own : ℕ → WorkerWords
-  own w = worker_words (memory_seen seen) w
+pub free_settled : (seen : Seen) (lock : ℕ) → IsKept seen → lock < seen.shape.locks → owner_in seen.shape (memory_seen seen) lock ≡ None → is_settled (shown_by seen) lock ≡ true
+free_settled seen lock kept below is = tables.free seen.shape (memory_seen seen) (privates_seen seen) seen.history lock kept.fact below is
 
-  -- The stance of a lock's owner.
-  owner_stance : (w : ℕ) → owner_in seen.shape (memory_seen seen) lock ≡ Some w → (last : Job)
-      × (owners_stance (shown_by seen) lock ≡ Some (shown.stance_by (Some lock) (is_pending (worker_words (memory_seen seen) w)) (worker_words (memory_seen seen) w).begun (slate_job (worker_words (memory_seen seen) w)) last (privates_seen seen w)))
-  owner_stance w is =
-      let holds : (w < seen.shape.workers) × (held_in seen.shape (memory_seen seen) w lock ≡ seen.shape.height) = owner_holds_in seen.shape (memory_seen seen) lock w is in
-      let there : slice_get (shown_by seen).workers w ≡ Some (shown_worker seen.shape (memory_seen seen) (privates_seen seen) seen.history w)
-      = made_get (λ (u : ℕ). shown_worker seen.shape (memory_seen seen) (privates_seen seen) seen.history u) seen.shape.workers w holds.0 in
-      let owned : lock_owned seen.shape (memory_seen seen) w ≡ Some lock = owned_at seen.shape (memory_seen seen) (privates_seen seen) seen.history w lock kept.fact holds.0 below holds.1 in (
-        job_of (last_by seen.history w),
-        stance_is (Some w) is ∙ ap cells.stance_by there
-            ∙ ap (λ (o : Option ℕ). Some (shown.stance_by o (is_pending (worker_words (memory_seen seen) w)) (worker_words (memory_seen seen) w).begun (slate_job (worker_words (memory_seen seen) w)) (job_of (last_by seen.history w)) (privates_seen seen w))) owned,
-      )
-
-  abbrev Shows : Option Stance → Type 0
-  Shows stance = AreCells seen.shape seen.history lock stance (lock_words seen.shape (memory_seen seen) lock).cells
-
-  long : length (lock_words seen.shape (memory_seen seen) lock).cells ≡ seen.shape.cells
-  long = length-map-range_with_len _ 0 seen.shape.cells
-
-  owned_cells : (w : ℕ) (pending : Bool) (last : Job) → StandsOwned seen.shape (lock_words seen.shape (memory_seen seen) lock) seen.history lock w (worker_words (memory_seen seen) w) pending
-      → Shows (Some (shown.stance_by (Some lock) pending (worker_words (memory_seen seen) w).begun (slate_job (worker_words (memory_seen seen) w)) last (privates_seen seen w)))
-  owned_cells w true last stands = elim stands [
-    | inl settled ↦ (long, λ c within. inl (ap (λ (xs : List ℕ). slice_index xs c) settled.cells))
-    | inr logged ↦ (long, λ c within. logged.cells c within)
-  ]
-  owned_cells w false last (entry, its, stands) = elim stands [
-    | inl settled ↦ settled.cells
-    | inr over ↦ over.cells
-  ]
-
-  cells_by : (owner : Option ℕ) → owner_in seen.shape (memory_seen seen) lock ≡ owner
-      → Stands seen.shape (lock_words seen.shape (memory_seen seen) lock) seen.history lock owner (worker_words (memory_seen seen)) → Shows (owners_stance (shown_by seen) lock)
-  cells_by None is stands = subst (λ (s : Option Stance). Shows s) (sym (stance_is None is)) stands.cells
-  cells_by (Some w) is stands =
-      let its = owner_stance w is in
-      subst (λ (s : Option Stance). Shows s) (sym its.1) (owned_cells w (is_pending (worker_words (memory_seen seen) w)) its.0 stands)
-
-  -- The cells of a lock are those that are shown.
-  pub shown_cells : ShownCells seen.shape (shown_by seen) lock (lock_words seen.shape (memory_seen seen) lock).cells
-  shown_cells = cells_by (owner_in seen.shape (memory_seen seen) lock) refl (kept.fact.stands lock below)
-
-  -- A free lock is settled, and one whose owner's job is not pending.
-  pub free_settled : owner_in seen.shape (memory_seen seen) lock ≡ None → true ≡ is_settled (shown_by seen) lock
-  free_settled is = sym (ap settled_by (stance_is None is))
-
-  settled_when : (w : ℕ) (pending : Bool) (last : Job)
-      → settled_by (Some (shown.stance_by (Some lock) pending (worker_words (memory_seen seen) w).begun (slate_job (worker_words (memory_seen seen) w)) last (privates_seen seen w))) ≡ not pending
-  settled_when w true last = refl
-  settled_when w false last = refl
-
-  pub owned_settled : (w : ℕ) → owner_in seen.shape (memory_seen seen) lock ≡ Some w → not (is_pending (worker_words (memory_seen seen) w)) ≡ is_settled (shown_by seen) lock
-  owned_settled w is =
-      let its = owner_stance w is in
-      sym (ap settled_by its.1 ∙ settled_when w (is_pending (worker_words (memory_seen seen) w)) its.0)
+pub owned_settled : (seen : Seen) (lock worker : ℕ) → IsKept seen → lock < seen.shape.locks → owner_in seen.shape (memory_seen seen) lock ≡ Some worker
+    → is_settled (shown_by seen) lock ≡ not (is_pending (worker_words (memory_seen seen) worker))
+owned_settled seen lock worker kept below is = tables.owned seen.shape (memory_seen seen) (privates_seen seen) seen.history lock worker kept.fact below is
 
 -- ---- the cells, one after the other
 
@@ -120,6 +62,13 @@ row_whole seen lock cell cells row all long low high same =
     filled_whole (λ (c : ℕ). memory_seen seen (Cell lock c)) seen.shape.cells row (long ∙ all) (subst P here same)
 
 -- ---- a ready worker
+
+pub ready_is : (seen : Seen) (worker : ℕ) (private : Private) (answer : Bool) → slice_get seen.privates worker ≡ Some (Some private) → (IsTrue answer ↔ (private.stage ≡ Resting))
+    → IsTrue answer ↔ IsReady seen worker
+ready_is seen worker private answer found is = (
+  λ yes_. (private, found, is.0 yes_),
+  λ ready. (let same : ready.0 ≡ private = same_Some _ _ (same_Some _ _ (sym ready.1 ∙ found)) in is.1 (ap (λ (p : Private). p.stage) (sym same) ∙ ready.2)),
+)
 
 pub ready_holds : (seen : Seen) (worker : ℕ) → IsKept seen → IsReady seen worker → HoldsNone seen worker
 ready_holds seen worker kept (private, found, resting) lock below =

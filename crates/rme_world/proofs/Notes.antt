@@ -11,6 +11,7 @@ use Rattle.rme_program.specs.declared.stage.Stage.TheVariants.{Resting, Recoveri
 use Rattle.rme_program.specs.declared.stage.Recovery.{Recovery}
 use Rattle.rme_program.specs.declared.stage.Recovery.TheVariants.{LoadBegun, LoadDone, LoadLock, LoadPath}
 use Rattle.rme_program.specs.declared.stage.Ascent.{Ascent}
+use Rattle.rme_program.specs.declared.stage.Slate.{Slate}
 use Rattle.rme_program.specs.declared.stage.Redo.{Redo}
 use Rattle.rme_program.specs.declared.stage.Redo.TheVariants.{LoadMask, LoadShadow, StoreCell, LoadReply, StoreReply, StorePlace, StoreAt, StoreDone}
 use Rattle.rme_program.specs.declared.stage.Departure.{Departure}
@@ -18,14 +19,15 @@ use Rattle.rme_program.specs.declared.stage.Departure.TheVariants.{LoadExitTurn,
 use Rattle.rme_program.specs.declared.stage.Visit.{Visit}
 use Rattle.rme_program.specs.Steps.{after_recovery, after_other, after_ascent, after_redo, after_departure, cleared_note, after_at}
 
--- A blocked step is of a climbing worker that found its node taken and stays where it is; a re-entry is the load of
+-- A job is asked for by the store that follows its whole slate; a blocked step is of a climbing worker that found its node
+-- taken and stays where it is; a re-entry is the load of
 -- the last node of the path; a section is finished by the store of Done alone.
 abbrev pub Tells : Shape → Stage → ℕ → Stage → Note → Type 0
 Tells shape stage value new Blocked = (ascent : Ascent) × (stage ≡ Climbing ascent) × (value ≢ 0) × (new ≡ stage)
 Tells shape stage value new (Reentered lock) = (pending : Bool) × (held : ℕ) × (stage ≡ Recovering (LoadPath pending lock held)) × (held + 1 ≡ shape.height)
 Tells shape stage value new (Finished receipt) = (visit : Visit) × (mask reply : ℕ) × (stage ≡ Copying (StoreDone visit mask reply))
 Tells shape stage value new Quiet = Unit {0}
-Tells shape stage value new (Asked k) = Unit {0}
+Tells shape stage value new (Asked k) = (slate : Slate) × (stage ≡ Posting slate) × (slate.stored ≡ 2 + 3 * slate.job.script.n)
 Tells shape stage value new (Entered lock) = Unit {0}
 Tells shape stage value new (Left lock) = Unit {0}
 Tells shape stage value new Ready = Unit {0}
@@ -91,7 +93,7 @@ departure_told shape begun value (WithdrawDone lock held) = (lock, held, refl)
 pub told : (shape : Shape) (worker begun value : ℕ) (stage : Stage) → Tells shape stage value (after_at shape worker begun stage value).0 (after_at shape worker begun stage value).1
 told shape worker begun value Resting = tt
 told shape worker begun value (Recovering recovery) = recovery_told shape worker begun value recovery
-told shape worker begun value (Posting slate) = pick shape (Posting slate) value (slate.stored == 2 + 3 * slate.job.script.n) _ _ (λ e. tt) (λ e. tt)
+told shape worker begun value (Posting slate) = pick shape (Posting slate) value (slate.stored == 2 + 3 * slate.job.script.n) _ _ (λ whole. (slate, refl, eqb-true _ _ whole)) (λ e. tt)
 told shape worker begun value (Climbing ascent) = ascent_told shape value ascent
 told shape worker begun value (Logging log) = tt
 told shape worker begun value (Copying redo) = redo_told shape worker begun value redo

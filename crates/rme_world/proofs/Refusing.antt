@@ -1,16 +1,18 @@
 -- Why a job is refused, from what a call found.
-use Rattle.std.proofs.Common.{◌≡◌, ℕ, ◌<◌, ◌≤◌, refl}
-use Rattle.std.specs.Prelude.{Some, None, Ok, Err, slice_get}
-use Rattle.std.proofs.lemmas.Bool.{lt-ltb, le-ltb}
+use Rattle.std.proofs.Common.{◌≡◌, ◌≢◌, ℕ, ◌<◌, ◌≤◌, refl, ◌∙◌, inl, inr}
+use Rattle.std.specs.Prelude.{Bool, Option, Some, None, Ok, Err, nat_lt, slice_get, if◌then◌else◌}
+use Rattle.std.specs.List.{list_all}
+use Rattle.std.proofs.lemmas.Bool.{cases_Bool, lt-ltb, le-ltb}
 use Rattle.rme_words.specs.declared.refusal.Refusal.{Refusal}
-use Rattle.rme_words.specs.declared.refusal.Refusal.TheVariants.{TooManyJobs}
+use Rattle.rme_words.specs.declared.refusal.Refusal.TheVariants.{NoWorker, Down, Up, Busy, Idle, NoLock, BadScript, NoCell, TooManyJobs, NotWaiting, NoMemory}
 use Rattle.rme_words.specs.declared.shape.Shape.{Shape}
 use Rattle.rme_script.specs.declared.job.Job.{Job}
-use Rattle.rme_script.specs.Scripts.{check_of}
+use Rattle.rme_script.specs.Programs.{Program}
+use Rattle.rme_script.specs.Scripts.{check_of, fits}
 use Rattle.rme_program.specs.declared.private.Private.{Private}
 use Rattle.rme_program.specs.declared.stage.Stage.TheVariants.{Resting}
 use Rattle.rme_world.specs.Seen.{Seen}
-use Rattle.rme_world.specs.Refused.{submit_refusal}
+use Rattle.rme_world.specs.Refused.{of_up, of_down, is_ready, is_climbing, unless_checked, job_refusal, step_refusal, submit_refusal, crash_refusal, restart_refusal, withdraw_refusal, IsRefused}
 
 module _ (seen : Seen) (worker : ℕ) (job : Job) (private : Private) (shape : Shape) (same : shape ≡ seen.shape)
     (found : slice_get seen.privates worker ≡ Some (Some private)) (ready : private.stage ≡ Resting) (lock : job.lock < shape.locks) where
@@ -22,3 +24,84 @@ module _ (seen : Seen) (worker : ℕ) (job : Job) (private : Private) (shape : S
 
   pub taken : Ok tt ≡ check_of shape.cells job.script → private.begun < shape.jobs → submit_refusal seen worker job ≡ None
   taken checked few = rw (found, ready, ← same, lt-ltb _ _ lock, ← checked, lt-ltb _ _ few) refl
+
+-- A ready worker has no step to make.
+pub idle : (seen : Seen) (worker : ℕ) (private : Private) → slice_get seen.privates worker ≡ Some (Some private) → private.stage ≡ Resting → step_refusal seen worker ≡ Some Idle
+idle seen worker private found ready = rw (found, ready) refl
+
+pub submit_refused : (seen : Seen) (worker : ℕ) (job : Job) (refusal : Refusal) → submit_refusal seen worker job ≡ Some refusal → IsRefused (submit_refusal seen worker job) refusal
+submit_refused seen worker job refusal is = rw is refl
+
+-- ---- none of them is want of memory
+
+up_memory : (found : Option (Option Private)) (own : Private → Option Refusal) → ((private : Private) → own private ≢ Some NoMemory) → of_up found own ≢ Some NoMemory
+up_memory None own other is = (let f : Some NoWorker ≡ Some NoMemory = is in cc)
+up_memory (Some None) own other is = (let f : Some Down ≡ Some NoMemory = is in cc)
+up_memory (Some (Some private)) own other is = other private is
+
+down_memory : (found : Option (Option Private)) → of_down found ≢ Some NoMemory
+down_memory None is = (let f : Some NoWorker ≡ Some NoMemory = is in cc)
+down_memory (Some None) is = (let f : None ≡ Some NoMemory = is in cc)
+down_memory (Some (Some private)) is = (let f : Some Up ≡ Some NoMemory = is in cc)
+
+check_memory : (cells : ℕ) (script : Program) (rest : Option Refusal) → rest ≢ Some NoMemory → unless_checked (check_of cells script) rest ≢ Some NoMemory
+check_memory cells script rest other is = elim (cases_Bool (nat_lt 8 script.n)) [
+  | inl many ↦ (let f : Some BadScript ≡ Some NoMemory = rw many at is in cc)
+  | inr few ↦ elim (cases_Bool (list_all (fits cells) script.ops)) [
+    | inl within ↦ (let f : rest ≡ Some NoMemory = rw (few, within) at is in other f)
+    | inr beyond ↦ (let f : Some NoCell ≡ Some NoMemory = rw (few, beyond) at is in cc)
+  ]
+]
+
+number_memory : (few : Bool) → (if few then None else Some TooManyJobs) ≢ Some NoMemory
+number_memory few is = elim (cases_Bool few) [
+  | inl t ↦ (let f : None ≡ Some NoMemory = rw t at is in cc)
+  | inr t ↦ (let f : Some TooManyJobs ≡ Some NoMemory = rw t at is in cc)
+]
+
+job_memory : (seen : Seen) (job : Job) (private : Private) → job_refusal seen job private ≢ Some NoMemory
+job_memory seen job private is = elim (cases_Bool (is_ready private.stage)) [
+  | inl ready ↦ elim (cases_Bool (nat_lt job.lock seen.shape.locks)) [
+    | inl below ↦
+        (let f : unless_checked (check_of seen.shape.cells job.script) (if nat_lt private.begun seen.shape.jobs then None else Some TooManyJobs) ≡ Some NoMemory = rw (ready, below) at is in
+        check_memory seen.shape.cells job.script _ (number_memory (nat_lt private.begun seen.shape.jobs)) f)
+    | inr beyond ↦ (let f : Some NoLock ≡ Some NoMemory = rw (ready, beyond) at is in cc)
+  ]
+  | inr busy ↦ (let f : Some Busy ≡ Some NoMemory = rw busy at is in cc)
+]
+
+same_refusal : (found : Option Refusal) (refusal : Refusal) → found ≡ Some refusal → found ≢ Some NoMemory → refusal ≢ NoMemory
+same_refusal found refusal is other e = other (is ∙ some_same refusal e)
+  where
+    some_same : (r : Refusal) → r ≡ NoMemory → Some r ≡ Some NoMemory
+    some_same r e = rw e refl
+
+pub submit_memory : (seen : Seen) (worker : ℕ) (job : Job) (refusal : Refusal) → submit_refusal seen worker job ≡ Some refusal → refusal ≢ NoMemory
+submit_memory seen worker job refusal is = same_refusal _ refusal is (up_memory (slice_get seen.privates worker) (job_refusal seen job) (job_memory seen job))
+
+pub step_memory : (seen : Seen) (worker : ℕ) (refusal : Refusal) → step_refusal seen worker ≡ Some refusal → refusal ≢ NoMemory
+step_memory seen worker refusal is = same_refusal _ refusal is (up_memory (slice_get seen.privates worker) _ (λ private. by_stage (is_ready private.stage)))
+  where
+    by_stage : (ready : Bool) → (if ready then Some Idle else None) ≢ Some NoMemory
+    by_stage ready e = elim (cases_Bool ready) [
+      | inl t ↦ (let f : Some Idle ≡ Some NoMemory = rw t at e in cc)
+      | inr t ↦ (let f : None ≡ Some NoMemory = rw t at e in cc)
+    ]
+
+pub crash_memory : (seen : Seen) (worker : ℕ) (refusal : Refusal) → crash_refusal seen worker ≡ Some refusal → refusal ≢ NoMemory
+crash_memory seen worker refusal is = same_refusal _ refusal is (up_memory (slice_get seen.privates worker) _ (λ private e. none e))
+  where
+    none : None ≡ Some NoMemory → ⊥
+    none e = cc
+
+pub restart_memory : (seen : Seen) (worker : ℕ) (refusal : Refusal) → restart_refusal seen worker ≡ Some refusal → refusal ≢ NoMemory
+restart_memory seen worker refusal is = same_refusal _ refusal is (down_memory (slice_get seen.privates worker))
+
+pub withdraw_memory : (seen : Seen) (worker : ℕ) (refusal : Refusal) → withdraw_refusal seen worker ≡ Some refusal → refusal ≢ NoMemory
+withdraw_memory seen worker refusal is = same_refusal _ refusal is (up_memory (slice_get seen.privates worker) _ (λ private. by_stage (is_climbing private.stage)))
+  where
+    by_stage : (climbs : Bool) → (if climbs then None else Some NotWaiting) ≢ Some NoMemory
+    by_stage climbs e = elim (cases_Bool climbs) [
+      | inl t ↦ (let f : None ≡ Some NoMemory = rw t at e in cc)
+      | inr t ↦ (let f : Some NotWaiting ≡ Some NoMemory = rw t at e in cc)
+    ]

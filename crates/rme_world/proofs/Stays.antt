@@ -227,7 +227,6 @@ first_left shape b (Leaving (WithdrawDone lock held)) is taken = absurd taken
 -- A stay begins.
 pub stay_begins : (shape : Shape) (private : Private) → IsPrivate shape private → IsOnTrack private.stage → Taken shape private.stage private.stage 0 → IsStay shape private.stage 0
 stay_begins shape private is on taken = record {
-  track = on;
   first = private.stage;
   taken = taken;
   within = within_most shape private is on private.stage 0 taken;
@@ -249,11 +248,11 @@ pub record GoOn (shape : Shape) (stage : Stage) (counts : Counts) : Type 0 where
   pub stays : IsStay shape stage (count_of counts (phase_of stage))
   pub short : (phase : Phase) → count_of counts phase ≤ most_steps shape phase
 
-module _ (shape : Shape) (private : Private) (value : ℕ) (old new : Counts) (is : IsPrivate shape private) (busy : private.stage ≢ Resting)
+module _ (shape : Shape) (private : Private) (value : ℕ) (old new : Counts) (is : IsPrivate shape private) (on : IsOnTrack private.stage) (busy : private.stage ≢ Resting)
     (takes : Takes shape private.stage value) (next : IsPrivate shape (private_after shape private value))
     (stay : IsStay shape private.stage (count_of old (phase_of private.stage))) (short : (phase : Phase) → count_of old phase ≤ most_steps shape phase) where
   steps : Steps shape private.stage (after_at shape private.worker private.begun private.stage value)
-  steps = steps_on shape private.worker private.begun private.stage value busy is.stage takes stay.track
+  steps = steps_on shape private.worker private.begun private.stage value busy is.stage takes on
 
   -- The count of this step is not beyond the steps of its phase.
   more : count_of old (phase_of private.stage) + 1 ≤ most_steps shape (phase_of private.stage)
@@ -283,7 +282,6 @@ module _ (shape : Shape) (private : Private) (value : ℕ) (old new : Counts) (i
       on_stay : IsStay shape (private_after shape private value).stage (count_of (counted old (phase_of private.stage)) (phase_of (private_after shape private value).stage))
       on_stay = let S : ℕ → Type 0 = λ (n : ℕ). IsStay shape (private_after shape private value).stage n in
           subst S (sym here) record {
-            track = steps.track;
             first = stay.first;
             taken = taken;
             within = within_most shape (private_after shape private value) next steps.track stay.first _ taken;

@@ -1,5 +1,5 @@
 -- What the note of a step tells of a world.
-use Rattle.std.proofs.Common.{◌≡◌, ◌≢◌, ℕ, suc, ◌+◌, ◌*◌, ◌<◌, length, refl, sym, ◌∙◌, ap, subst, inl, inr, arith}
+use Rattle.std.proofs.Common.{◌≡◌, ◌≢◌, ℕ, suc, ◌+◌, ◌*◌, ◌<◌, ◌≤◌, length, refl, sym, ◌∙◌, ap, subst, inl, inr, arith}
 use Rattle.std.specs.Prelude.{Option, Some, slice_get, unwrap_or}
 use Rattle.std.proofs.lemmas.Option.{same_Some}
 use Rattle.rme_words.specs.declared.shape.Shape.{Shape}
@@ -11,7 +11,8 @@ use Rattle.rme_script.proofs.Rising.{cells_named_mask}
 use Rattle.rme_program.specs.declared.kinds.Phase.{Phase}
 use Rattle.rme_program.specs.declared.kinds.Phase.TheVariants as phase
 use Rattle.rme_program.specs.declared.note.Note.{Note}
-use Rattle.rme_program.specs.declared.note.Note.TheVariants.{Blocked, Reentered, Finished}
+use Rattle.rme_program.specs.declared.note.Note.TheVariants.{Quiet, Asked, Blocked, Entered, Reentered, Finished, Left, Withdrew}
+use Rattle.rme_program.specs.declared.note.Note.TheVariants as notes
 use Rattle.rme_program.specs.declared.note.Receipt.{Receipt}
 use Rattle.rme_program.specs.declared.private.Private.{Private}
 use Rattle.rme_program.specs.declared.stage.Ascent.{Ascent}
@@ -21,31 +22,35 @@ use Rattle.rme_program.specs.declared.stage.Recovery.{Recovery}
 use Rattle.rme_program.specs.declared.stage.Recovery.TheVariants.{LoadPath}
 use Rattle.rme_program.specs.declared.stage.Redo.{Redo}
 use Rattle.rme_program.specs.declared.stage.Redo.TheVariants.{StoreDone}
+use Rattle.rme_program.specs.declared.stage.Slate.{Slate}
 use Rattle.rme_program.specs.declared.stage.Visit.{Visit}
 use Rattle.rme_program.specs.declared.stage.Stage.{Stage}
 use Rattle.rme_program.specs.declared.stage.Stage.TheVariants.{Resting, Recovering, Posting, Climbing, Logging, Copying, Leaving}
 use Rattle.rme_program.specs.Conditions.{IsPrivate, Takes}
 use Rattle.rme_program.specs.Did.{Did}
 use Rattle.rme_program.specs.Masks.{mask_of}
-use Rattle.rme_program.specs.Phases.{phase_of, cells_below}
+use Rattle.rme_program.specs.Phases.{phase_of, left_of, cells_below}
 use Rattle.rme_program.specs.Places.{place_of_recovery, place_of_redo}
-use Rattle.rme_program.specs.Progress.{Taken, Falls}
+use Rattle.rme_program.specs.Progress.{IsOnTrack, Taken, Falls, rank}
+use Rattle.rme_program.specs.Stays.{StandsInRow}
 use Rattle.rme_program.specs.Steps.{action_of, private_after}
+use Rattle.rme_program.proofs.Columns.{within_most}
 use Rattle.rme_program.proofs.Falls.{steps_on}
 use Rattle.rme_program.proofs.MaskLemmas.{mask_of-is_mask}
 use Rattle.rme_machine.specs.Fits.{KnowsParity}
 use Rattle.rme_machine.specs.Views.{WorkerWords, LockWords, worker_words, lock_words, slate_job, no_script}
 use Rattle.rme_machine.proofs.Further.{fitting, blocking}
+use Rattle.rme_machine.proofs.Rowed.{rowed}
 use Rattle.rme_machine.proofs.Taking.{taking}
 use Rattle.rme_world.specs.declared.counts.Counts.{Counts}
-use Rattle.rme_world.specs.Counting.{CountsAfter, IsStay, count_of, counted, no_counts, section_steps}
+use Rattle.rme_world.specs.Counting.{CountsAfter, IsStay, budget, count_of, counted, no_counts, row_steps, section_steps}
 use Rattle.rme_world.specs.Seen.{Seen, IsKept, counts_of, memory_seen, privates_seen}
 use Rattle.rme_world.specs.Events.{Steps}
-use Rattle.rme_world.specs.Looks.{IsStopped, IsWholeSection, ComesOn}
+use Rattle.rme_world.specs.Looks.{BeginsStay, IsStopped, IsWholePost, IsWholeSection, ComesOn, KeepsBound, StandsAt}
 use Rattle.rme_machine.proofs.Lists.{get_set}
 use Rattle.rme_world.proofs.Notes.{Tells, told}
-use Rattle.rme_world.proofs.Stays.{cases_phase, busy_phase, count_here, count_there}
-use Rattle.rme_world.proofs.Worlds.{busy_at, is_worker, up_at}
+use Rattle.rme_world.proofs.Stays.{cases_phase, busy_phase, begun_here, count_here, count_there}
+use Rattle.rme_world.proofs.Worlds.{busy_at, is_worker, step_kept, up_at}
 
 pub taken_in_recovery : (shape : Shape) (first : Stage) (recovery : Recovery) (count : ℕ) → Taken shape first (Recovering recovery) count → count ≡ place_of_recovery recovery
 taken_in_recovery shape (Recovering first) recovery count taken = taken.1
@@ -55,6 +60,15 @@ taken_in_recovery shape (Climbing ascent) recovery count taken = absurd taken
 taken_in_recovery shape (Logging log) recovery count taken = absurd taken
 taken_in_recovery shape (Copying redo) recovery count taken = absurd taken
 taken_in_recovery shape (Leaving departure) recovery count taken = absurd taken
+
+taken_in_post : (shape : Shape) (first : Stage) (slate : Slate) (count : ℕ) → Taken shape first (Posting slate) count → count ≡ slate.stored
+taken_in_post shape (Posting first) slate count taken = taken.2
+taken_in_post shape Resting slate count taken = absurd taken
+taken_in_post shape (Recovering recovery) slate count taken = absurd taken
+taken_in_post shape (Climbing ascent) slate count taken = absurd taken
+taken_in_post shape (Logging log) slate count taken = absurd taken
+taken_in_post shape (Copying redo) slate count taken = absurd taken
+taken_in_post shape (Leaving departure) slate count taken = absurd taken
 
 taken_in_section : (shape : Shape) (first : Stage) (redo : Redo) (count : ℕ) → Taken shape first (Copying redo) count → count ≡ place_of_redo shape redo
 taken_in_section shape (Logging first) redo count taken = taken.1
@@ -73,7 +87,7 @@ counted_one old new before after note some open_way counts = elim (cases_phase a
 ]
 
 -- On the even way the mask is the script's own, and all is counted.
-whole_steps : (shape : Shape) (own : WorkerWords) (lock : LockWords) (visit : Visit) (mask reply count : ℕ) → KnowsParity own lock visit.parity → mask ≡ lock.mask
+whole_steps : (shape : Shape) (own : WorkerWords) (lock : LockWords) (visit : Visit) (mask reply count : ℕ) → KnowsParity own lock visit.turn visit.parity → mask ≡ lock.mask
     → count ≡ place_of_redo shape (StoreDone visit mask reply) + 1 → count ≡ section_steps shape (slate_job own).script mask visit.parity
 whole_steps shape own lock visit mask reply count knows is all = by_parity visit.parity refl
   where
@@ -83,7 +97,7 @@ whole_steps shape own lock visit mask reply count knows is all = by_parity visit
         = ap (λ (p : Parity). place_of_redo shape (StoreDone record { lock = visit.lock; turn = visit.turn; parity = p } mask reply)) e in
         omega (arith, all, here)
     by_parity (Even operations cells) e =
-        let knows_even : KnowsParity own lock (Even operations cells) = subst (λ (p : Parity). KnowsParity own lock p) e knows in
+        let knows_even : KnowsParity own lock visit.turn (Even operations cells) = subst (λ (p : Parity). KnowsParity own lock visit.turn p) e knows in
         let script : Program = knows_even.0 in
         let named : cells_named mask shape.cells ≡ cells_of script.ops shape.cells =
         ap (λ (m : ℕ). cells_named m shape.cells) (is ∙ sym knows_even.4 ∙ knows_even.3) ∙ cells_named_mask (mask_of script.ops) script.ops (mask_of-is_mask script.ops) shape.cells in
@@ -144,16 +158,30 @@ module _ (old new : Seen) (worker : ℕ) (note : Note) (kept : IsKept old) (step
       ap (λ (c : Counts). count_of c (phase_of steps.private.stage)) new_counts
       ∙ counted_one (counts_of old worker) steps.counts (phase_of steps.private.stage) _ note (busy_phase steps.private.stage busy) open_way steps.counted
 
+  in_row : IsOnTrack steps.private.stage × (steps.private.stage ≢ Resting → StandsInRow old.shape steps.private)
+  in_row = rowed old.shape (memory_seen old) (privates_seen old) old.history worker steps.private kept.fact within up
+
+  on : IsOnTrack steps.private.stage
+  on = in_row.0
+
+  pub stands : StandsAt old worker
+  stands = record { private = steps.private; found = steps.found; row = in_row.1 busy }
+
+  -- The worker after the step.
+  pub after_step : slice_get new.privates worker ≡ Some (Some (private_after old.shape steps.private steps.value))
+  after_step = ap (λ (s : Seen). slice_get s.privates worker) steps.goes ∙ get_set old.privates worker (Some (private_after old.shape steps.private steps.value)) (omega (arith, kept.all_privates, within))
+
+  new_shape : new.shape ≡ old.shape
+  new_shape = ap (λ (s : Seen). s.shape) steps.goes
+
   pub comes_on : note ≢ Blocked → ComesOn old new worker
   comes_on open_way before after was is =
       let takes : Takes old.shape steps.private.stage steps.value
       = taking old.shape (memory_seen old) (memory_seen new) (privates_seen old) old.history worker steps.private steps.value kept.fact within up busy steps.did in
       let falls : Falls old.shape steps.private.stage (private_after old.shape steps.private steps.value).stage
-      = (steps_on old.shape steps.private.worker steps.private.begun steps.private.stage steps.value busy its.1.stage takes stay.track).falls (λ e. open_way (steps.says ∙ e)) in
+      = (steps_on old.shape steps.private.worker steps.private.begun steps.private.stage steps.value busy its.1.stage takes on).falls (λ e. open_way (steps.says ∙ e)) in
       let same_before : steps.private ≡ before = same_Some _ _ (same_Some _ _ (sym steps.found ∙ was)) in
-      let there : slice_get new.privates worker ≡ Some (Some (private_after old.shape steps.private steps.value))
-      = ap (λ (s : Seen). slice_get s.privates worker) steps.goes ∙ get_set old.privates worker (Some (private_after old.shape steps.private steps.value)) (omega (arith, kept.all_privates, within)) in
-      let same_after : private_after old.shape steps.private steps.value ≡ after = same_Some _ _ (same_Some _ _ (sym there ∙ is)) in
+      let same_after : private_after old.shape steps.private steps.value ≡ after = same_Some _ _ (same_Some _ _ (sym after_step ∙ is)) in
       subst (λ (p : Private). Falls old.shape p.stage after.stage) same_before (subst (λ (q : Private). Falls old.shape steps.private.stage q.stage) same_after falls)
 
   pub reenters : (lock : ℕ) → note ≡ Reentered lock → count_of (counts_of new worker) phase.Recover ≡ old.shape.height + 3
@@ -183,3 +211,84 @@ module _ (old new : Seen) (worker : ℕ) (note : Note) (kept : IsKept old) (step
         last = tale.3;
         steps = whole_steps old.shape (worker_words (memory_seen old) worker) (lock_words old.shape (memory_seen old) tale.0.lock) tale.0 tale.1 tale.2 _ knows.1.0.1 knows.1.1 (omega (arith, more, place));
       }
+
+  pub posts : (number : ℕ) → note ≡ Asked number → IsWholePost old worker (count_of (counts_of new worker) phase.Post)
+  posts number asked =
+      let tale = tells (Asked number) asked in
+      let slate : Slate = tale.0 in
+      let P : Stage → Type 0 = λ (s : Stage). count_of (counts_of new worker) (phase_of s) ≡ count_of (counts_of old worker) (phase_of s) + 1 in
+      let more : count_of (counts_of new worker) phase.Post ≡ count_of (counts_of old worker) phase.Post + 1 = subst P tale.1 (one_more (not_blocked (Asked number) asked (λ e. cc))) in
+      let Q : Stage → Type 0 = λ (s : Stage). Taken old.shape stay.first s (count_of (counts_of old worker) (phase_of s)) in
+      let place = taken_in_post old.shape stay.first slate _ (subst Q tale.1 stay.taken) in
+      record { private = steps.private; found = steps.found; slate = slate; last = tale.1; steps = omega (arith, more, place, tale.2) }
+
+  -- What the step leaves of the stay's bound, for the private states that it was made from and leaves.
+  bound_lasts : phase_of (private_after old.shape steps.private steps.value).stage ≡ phase_of steps.private.stage
+      → budget old.shape (counts_of new worker) (private_after old.shape steps.private steps.value).stage ≤ budget old.shape (counts_of old worker) steps.private.stage
+  bound_lasts same = by_note note refl
+    where
+      open_case : note ≢ Blocked → budget old.shape (counts_of new worker) (private_after old.shape steps.private steps.value).stage ≤ budget old.shape (counts_of old worker) steps.private.stage
+      open_case open_way =
+          let more : count_of (counts_of new worker) (phase_of (private_after old.shape steps.private steps.value).stage) ≡ count_of (counts_of old worker) (phase_of steps.private.stage) + 1
+          = ap (count_of (counts_of new worker)) same ∙ one_more open_way in
+          elim (comes_on open_way steps.private (private_after old.shape steps.private steps.value) steps.found after_step) [
+            | inl falls ↦ omega (arith, more, falls.1)
+            | inr later ↦ (let none : rank (phase_of (private_after old.shape steps.private steps.value).stage) ≡ rank (phase_of steps.private.stage) = ap rank same in absurd (omega (arith, later, none)))
+          ]
+
+      by_note : (n : Note) → note ≡ n → budget old.shape (counts_of new worker) (private_after old.shape steps.private steps.value).stage ≤ budget old.shape (counts_of old worker) steps.private.stage
+      by_note Blocked e =
+          let tale = tells Blocked e in
+          let same_counts : counts_of new worker ≡ counts_of old worker = new_counts ∙ steps.counted.blocked e in
+          let all : budget old.shape (counts_of new worker) (private_after old.shape steps.private steps.value).stage ≡ budget old.shape (counts_of old worker) steps.private.stage
+          = ap (λ (s : Stage). budget old.shape (counts_of new worker) s) tale.3 ∙ ap (λ (c : Counts). budget old.shape c steps.private.stage) same_counts in
+          omega (arith, all)
+      by_note Quiet e = open_case (not_blocked Quiet e (λ q. cc))
+      by_note (Asked k) e = open_case (not_blocked (Asked k) e (λ q. cc))
+      by_note (Entered l) e = open_case (not_blocked (Entered l) e (λ q. cc))
+      by_note (Reentered l) e = open_case (not_blocked (Reentered l) e (λ q. cc))
+      by_note (Finished r) e = open_case (not_blocked (Finished r) e (λ q. cc))
+      by_note (Left l) e = open_case (not_blocked (Left l) e (λ q. cc))
+      by_note notes.Ready e = open_case (not_blocked notes.Ready e (λ q. cc))
+      by_note (Withdrew k) e = open_case (not_blocked (Withdrew k) e (λ q. cc))
+
+  bound_begins : phase_of (private_after old.shape steps.private steps.value).stage ≢ phase_of steps.private.stage → BeginsStay new worker (private_after old.shape steps.private steps.value)
+  bound_begins apart =
+      let open_way : note ≢ Blocked = λ e. apart (ap phase_of (tells Blocked e).3) in
+      let takes : Takes old.shape steps.private.stage steps.value
+      = taking old.shape (memory_seen old) (memory_seen new) (privates_seen old) old.history worker steps.private steps.value kept.fact within up busy steps.did in
+      let on_now = steps_on old.shape steps.private.worker steps.private.begun steps.private.stage steps.value busy its.1.stage takes on in
+      let after = step_kept old new worker note steps kept in
+      let is_next : IsPrivate new.shape (private_after old.shape steps.private steps.value)
+      = (fitting new.shape (memory_seen new) (privates_seen new) new.history worker (private_after old.shape steps.private steps.value) after.fact (omega (arith, within, ap (λ (s : Shape). s.workers) new_shape))
+      (up_at new worker (Some (private_after old.shape steps.private steps.value)) after_step)).1 in
+      let counts_are : steps.counts ≡ _ = steps.counted.ends open_way apart in
+      begun new.shape new_shape is_next
+      (ap (λ (c : Counts). count_of c (phase_of (private_after old.shape steps.private steps.value).stage)) (new_counts ∙ counts_are) ∙ begun_here (counted (counts_of old worker) (phase_of steps.private.stage)) (phase_of (private_after old.shape steps.private steps.value).stage))
+      on_now.track (on_now.counts.begins apart)
+    where
+      begun : (shape : Shape) → shape ≡ old.shape → IsPrivate shape (private_after old.shape steps.private steps.value)
+          → count_of (counts_of new worker) (phase_of (private_after old.shape steps.private steps.value).stage) ≡ 0
+          → IsOnTrack (private_after old.shape steps.private steps.value).stage
+          → Taken old.shape (private_after old.shape steps.private steps.value).stage (private_after old.shape steps.private steps.value).stage 0
+          → BeginsStay new worker (private_after old.shape steps.private steps.value)
+      begun shape same is_next none on_next taken =
+          let T : Shape → Type 0 = λ (s : Shape). Taken s (private_after old.shape steps.private steps.value).stage (private_after old.shape steps.private steps.value).stage 0 in
+          let S : Shape → Type 0 = λ (s : Shape). left_of s (private_after old.shape steps.private steps.value).stage ≤ row_steps s (private_after old.shape steps.private steps.value).stage in
+          let less : left_of shape (private_after old.shape steps.private steps.value).stage ≤ row_steps shape (private_after old.shape steps.private steps.value).stage
+          = omega (arith, within_most shape (private_after old.shape steps.private steps.value) is_next on_next (private_after old.shape steps.private steps.value).stage 0 (subst T (sym same) taken)) in
+          record { none = none; left = subst S (same ∙ sym new_shape) less }
+
+  pub keeps_bound : KeepsBound old new worker
+  keeps_bound = record {
+    lasts = λ before after was is same.
+        (let same_before : steps.private ≡ before = same_Some _ _ (same_Some _ _ (sym steps.found ∙ was)) in
+        let same_after : private_after old.shape steps.private steps.value ≡ after = same_Some _ _ (same_Some _ _ (sym after_step ∙ is)) in
+        let B : Private → Private → Shape → Type 0 = λ (p q : Private) (s : Shape). phase_of q.stage ≡ phase_of p.stage → budget s (counts_of new worker) q.stage ≤ budget old.shape (counts_of old worker) p.stage in
+        subst (λ (p : Private). B p after new.shape) same_before (subst (λ (q : Private). B steps.private q new.shape) same_after (subst (λ (s : Shape). B steps.private (private_after old.shape steps.private steps.value) s) (sym new_shape) bound_lasts)) same);
+    begins = λ before after was is apart.
+        (let same_before : steps.private ≡ before = same_Some _ _ (same_Some _ _ (sym steps.found ∙ was)) in
+        let same_after : private_after old.shape steps.private steps.value ≡ after = same_Some _ _ (same_Some _ _ (sym after_step ∙ is)) in
+        let B : Private → Private → Type 0 = λ (p q : Private). phase_of q.stage ≢ phase_of p.stage → BeginsStay new worker q in
+        subst (λ (p : Private). B p after) same_before (subst (λ (q : Private). B steps.private q) same_after bound_begins) apart);
+  }

@@ -14,6 +14,7 @@ use Rattle.rme_program.specs.declared.stage.Stage.TheVariants.{Resting}
 use Rattle.rme_program.specs.Conditions.{IsPrivate, Takes}
 use Rattle.rme_program.specs.Did.{Did}
 use Rattle.rme_program.specs.Phases.{phase_of}
+use Rattle.rme_program.specs.Progress.{IsOnTrack}
 use Rattle.rme_program.specs.Steps.{action_of, private_after}
 use Rattle.rme_machine.specs.declared.label.Act.{Act}
 use Rattle.rme_machine.specs.Machine.{Does}
@@ -23,6 +24,7 @@ use Rattle.rme_machine.specs.Changes.{Became, history_after}
 use Rattle.rme_machine.specs.Laws.{Goes}
 use Rattle.rme_machine.proofs.Further.{fitting}
 use Rattle.rme_machine.proofs.Own_step.{own_step}
+use Rattle.rme_machine.proofs.Rowed.{rowed}
 use Rattle.rme_machine.proofs.Taking.{taking}
 use Rattle.rme_world.specs.declared.counts.Counts.{Counts}
 use Rattle.rme_world.specs.Counting.{IsStay, count_of, most_steps, no_counts}
@@ -173,6 +175,7 @@ module _ (old new : Seen) (worker : ℕ) (note : Note) (steps : Steps old worker
       let within : worker < old.shape.workers = is_worker old worker (Some steps.private) sound.all_privates steps.found in
       let up : privates_seen old worker ≡ Some steps.private = up_at old worker (Some steps.private) steps.found in
       let is : IsPrivate old.shape steps.private = (fitting old.shape (memory_seen old) (privates_seen old) old.history worker steps.private kept.fact within up).1 in
+      let on : IsOnTrack steps.private.stage = (rowed old.shape (memory_seen old) (privates_seen old) old.history worker steps.private kept.fact within up).0 in
       let takes : Takes old.shape steps.private.stage steps.value = taking old.shape (memory_seen old) (memory_seen after) (privates_seen old) old.history worker steps.private steps.value kept.fact within up busy_at did in
       let goes : GoesAs old after worker (act_of note) = goes_as old worker (Some (private_after old.shape steps.private steps.value)) steps.counts new.words (history_after old.history (memory_seen old) worker note) new.room (act_of note) sound (went sound) in
       let there : privates_seen after worker ≡ Some (private_after old.shape steps.private steps.value)
@@ -180,7 +183,7 @@ module _ (old new : Seen) (worker : ℕ) (note : Note) (steps : Steps old worker
       let next : IsPrivate old.shape (private_after old.shape steps.private steps.value)
       = (fitting old.shape (memory_seen after) (privates_seen after) after.history worker (private_after old.shape steps.private steps.value) goes.sound.fact within there).1 in
       let on : GoOn old.shape (private_after old.shape steps.private steps.value).stage steps.counts
-      = go_on old.shape steps.private steps.value (counts_of old worker) steps.counts is busy_at takes next (kept.stays worker steps.private within up) (λ phase. kept.short worker phase within) (rw steps.says at steps.counted) in
+      = go_on old.shape steps.private steps.value (counts_of old worker) steps.counts is on busy_at takes next (kept.stays worker steps.private within up) (λ phase. kept.short worker phase within) (rw steps.says at steps.counted) in
       let owes : owed (shown_by after).workers ≤ after.room
       = subst (λ (s : Seen). owed (shown_by s).workers ≤ s.room) steps.goes (omega (arith, step_room sound, kept.room)) in
       subst (λ (s : Seen). IsKept s) (sym steps.goes)

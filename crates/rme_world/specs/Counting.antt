@@ -11,7 +11,7 @@ use Rattle.rme_program.specs.declared.stage.Stage.{Stage}
 use Rattle.rme_program.specs.declared.stage.Parity.{Parity}
 use Rattle.rme_program.specs.declared.stage.Parity.TheVariants.{Even, Odd}
 use Rattle.rme_program.specs.Phases.{phase_of, left_of, cells_below}
-use Rattle.rme_program.specs.Progress.{IsOnTrack, Taken, most_of}
+use Rattle.rme_program.specs.Progress.{Taken, most_of}
 use Rattle.rme_world.specs.declared.counts.Counts.{Counts}
 
 -- The steps of one phase.
@@ -67,10 +67,18 @@ abbrev pub section_steps : Shape → Program → ℕ → Parity → ℕ
 section_steps shape script mask (Even operations cells) = 11 + 3 * script.n + 4 * length (cells_of script.ops shape.cells)
 section_steps shape script mask Odd = 7 + 2 * cells_below mask shape.cells
 
+-- The steps of the row of a stay that begins at this stage, at most: h + 3 of Recover, 3 + 3n of Post, h - j of Enter,
+-- 35 + 4C of a section, h + 2 of Exit, j of its partial and 4 + j of its withdrawing form, where j levels are held.
+abbrev pub row_steps : Shape → Stage → ℕ
+row_steps shape stage = most_of shape stage stage
+
+-- The steps made in a worker's stay, and those that are left of it at most.
+abbrev pub budget : Shape → Counts → Stage → ℕ
+budget shape counts stage = count_of counts (phase_of stage) + left_of shape stage
+
 -- So many steps were made in the stay that a worker at this stage is in: the stay began at `first`, and with the
 -- steps that are left these are at most the steps of the whole stay.
 pub record IsStay (shape : Shape) (stage : Stage) (count : ℕ) : Type 0 where
-  pub track : IsOnTrack stage
   pub first : Stage
   pub taken : Taken shape first stage count
   pub within : count + left_of shape stage ≤ most_of shape first stage

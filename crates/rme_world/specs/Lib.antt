@@ -1,5 +1,5 @@
 -- In reading order: the counts of steps, what contracts see of a world, the world at opening, when each event is
--- refused, what each changes, and the headline.
+-- refused, what each changes, what steps and look-ups show, the headline, what each call promises, and a list of events.
 pub mod Counting
 pub mod Seen
 pub mod Opening
@@ -7,3 +7,5 @@ pub mod Refused
 pub mod Events
 pub mod Looks
 pub mod Running
+pub mod Calls
+pub mod EventLists

@@ -1,5 +1,5 @@
 -- What the look-ups show.
-use Rattle.std.specs.Prelude.{◌≡◌, ◌≢◌, ℕ, ◌+◌, ◌<◌, ◌≤◌, false, Some, slice_get}
+use Rattle.std.specs.Prelude.{◌≡◌, ◌≢◌, ℕ, ◌+◌, ◌*◌, ◌<◌, ◌≤◌, false, Some, slice_get}
 use Rattle.rme_tree.specs.Nodes.{nodes_of, held_in}
 use Rattle.rme_tree.specs.Rooted.{IsBlocked}
 use Rattle.rme_program.specs.declared.kinds.Phase.{Phase}
@@ -7,18 +7,20 @@ use Rattle.rme_program.specs.declared.kinds.Phase.TheVariants.{Recover}
 use Rattle.rme_program.specs.declared.note.Entry.{Entry}
 use Rattle.rme_program.specs.declared.note.Note.{Note}
 use Rattle.rme_program.specs.declared.note.Note.TheVariants.{Quiet, Reentered}
-use Rattle.rme_program.specs.Phases.{phase_of}
+use Rattle.rme_program.specs.Phases.{phase_of, left_of}
 use Rattle.rme_program.specs.declared.note.Receipt.{Receipt}
 use Rattle.rme_program.specs.declared.private.Private.{Private}
 use Rattle.rme_program.specs.declared.stage.Ascent.{Ascent}
 use Rattle.rme_program.specs.declared.stage.Redo.TheVariants.{StoreDone}
 use Rattle.rme_program.specs.declared.stage.Visit.{Visit}
-use Rattle.rme_program.specs.declared.stage.Stage.TheVariants.{Resting, Climbing, Copying}
+use Rattle.rme_program.specs.declared.stage.Slate.{Slate}
+use Rattle.rme_program.specs.declared.stage.Stage.TheVariants.{Resting, Posting, Climbing, Copying}
 use Rattle.rme_program.specs.Progress.{Falls}
+use Rattle.rme_program.specs.Stays.{StandsInRow}
 use Rattle.rme_program.specs.Steps.{withdrawn_place}
 use Rattle.rme_machine.specs.Histories.{last_by, has_entry}
 use Rattle.rme_machine.specs.Views.{WorkerWords, worker_words, slate_job}
-use Rattle.rme_world.specs.Counting.{count_of, section_steps}
+use Rattle.rme_world.specs.Counting.{count_of, row_steps, budget, section_steps}
 use Rattle.rme_world.specs.Seen.{Seen, counts_of, memory_seen}
 
 -- The words of a worker have a receipt: its last job is done, and its number was not withdrawn.
@@ -53,6 +55,46 @@ abbrev pub ComesOn : Seen → Seen → ℕ → Type 0
 ComesOn old new worker =
     (before after : Private) → slice_get old.privates worker ≡ Some (Some before) → slice_get new.privates worker ≡ Some (Some after)
     → Falls old.shape before.stage after.stage
+
+-- A stay of a worker begins: none of its steps is made, and at most those of its row are left.
+pub record BeginsStay (seen : Seen) (worker : ℕ) (private : Private) : Type 0 where
+  pub none : count_of (counts_of seen worker) (phase_of private.stage) ≡ 0
+  pub left : left_of seen.shape private.stage ≤ row_steps seen.shape private.stage
+
+-- A worker that is up begins a stay.
+abbrev pub HasBegun : Seen → ℕ → Type 0
+HasBegun seen worker = (private : Private) → slice_get seen.privates worker ≡ Some (Some private) → BeginsStay seen worker private
+
+-- THE BOUND OF A STAY. While a stay lasts, the steps made in it and those that are left at most do not grow together; a
+-- step that leads to another phase begins a stay there. So a stay has at most the steps of the row that it began.
+pub record KeepsBound (old new : Seen) (worker : ℕ) : Type 0 where
+  pub lasts : (before after : Private) → slice_get old.privates worker ≡ Some (Some before) → slice_get new.privates worker ≡ Some (Some after)
+      → phase_of after.stage ≡ phase_of before.stage
+      → budget new.shape (counts_of new worker) after.stage ≤ budget old.shape (counts_of old worker) before.stage
+  pub begins : (before after : Private) → slice_get old.privates worker ≡ Some (Some before) → slice_get new.privates worker ≡ Some (Some after)
+      → phase_of after.stage ≢ phase_of before.stage → BeginsStay new worker after
+
+-- A worker that is up stands at a place of a row of the step table, and its next action is the row's there.
+pub record StandsAt (seen : Seen) (worker : ℕ) : Type 0 where
+  pub private : Private
+  pub found : slice_get seen.privates worker ≡ Some (Some private)
+  pub row : StandsInRow seen.shape private
+
+-- A worker has written its job down: the stay took all the steps of Post, three words and three for each operation.
+pub record IsWholePost (seen : Seen) (worker count : ℕ) : Type 0 where
+  pub private : Private
+  pub found : slice_get seen.privates worker ≡ Some (Some private)
+  pub slate : Slate
+  pub last : private.stage ≡ Posting slate
+  pub steps : count ≡ 3 + 3 * slate.job.script.n
+
+-- A worker that begins to give its job up has 4 + j steps left, where it holds j levels, fewer than all, of the lock that it
+-- waits for.
+pub record IsGivingUp (seen : Seen) (worker : ℕ) (private : Private) : Type 0 where
+  pub lock : ℕ
+  pub waits : (words_seen seen worker).slate_lock ≡ lock
+  pub left : left_of seen.shape private.stage ≡ 4 + held_in seen.shape (memory_seen seen) worker lock
+  pub below : held_in seen.shape (memory_seen seen) worker lock < seen.shape.height
 
 -- A worker has finished its section: the stay took all the steps that a section begun so takes, for the script of the
 -- worker's slate and the cells of the mask.

@@ -13,16 +13,13 @@ impl World {
     ghost use Rattle.rme_program.specs.declared.private.Private.{Private};
     ghost use Rattle.rme_program.specs.declared.stage.Stage.{Stage};
     ghost use Rattle.rme_program.specs.declared.kinds.Phase.TheVariants.{Post};
-    ghost use Rattle.rme_program.specs.declared.event.Event.{Event};
-    ghost use Rattle.rme_program.specs.declared.event.Answer.{Answer};
     ghost use Rattle.rme_program.specs.Conditions.{IsPrivate, IsJob};
-    ghost use Rattle.rme_program.specs.Phases.{left_of};
     ghost use Rattle.rme_program.specs.Steps.{submitted_private};
     ghost use Rattle.rme_world.specs.Counting.{begun_stay};
-    ghost use Rattle.rme_world.specs.Seen.{Seen, IsKept, counts_of, owed, shown_by};
-    ghost use Rattle.rme_world.specs.Refused.{of_up, submit_refusal, crash_refusal, restart_refusal, withdraw_refusal, IsRefused};
-    ghost use Rattle.rme_world.specs.Events.{Submits, Crashes, Restarts, Withdraws, with_worker};
-    ghost use Rattle.rme_world.specs.Running.{IsRunOfOne, answer_of};
+    ghost use Rattle.rme_world.specs.Seen.{IsKept, counts_of};
+    ghost use Rattle.rme_world.specs.Refused.{of_up, submit_refusal, restart_refusal};
+    ghost use Rattle.rme_world.specs.Events.{with_worker};
+    ghost use Rattle.rme_world.specs.Calls.{Submitted, Crashed, Restarted, Withdrawn};
 
     /// Hands a job to a worker that is ready, and answers the number that the job will have: one more than
     /// the worker has begun.
@@ -31,11 +28,7 @@ impl World {
     /// Refused, in this order, by `NoWorker`, `Down`, `Busy` (not ready), `NoLock`, `BadScript`, `NoCell`,
     /// `TooManyJobs` and `NoMemory`; a refusal changes nothing.
     pub fn submit(&mut self, worker: u32, job: Job) -> Result<u32, Refusal>
-        ensures accepted { IfOk result (λ number. Submits self.old worker job number self.new) }
-        ensures headline { IsRunOfOne self.old (Event.Submit worker job) (answer_of Answer.Handed result) self.new }
-        ensures room { owed (shown_by self.new).workers ≤ self.new.room }
-        ensures refused { IfErr result (λ refusal. IsRefused (submit_refusal self.old worker job) refusal) }
-        ensures unchanged { OnErr result (self.new ≡ self.old) }
+        ensures { Submitted self.old worker job result self.new }
     {
         let private = match self.may_submit(worker, &job) {
             Ok(private) => private,
@@ -51,10 +44,7 @@ impl World {
     ///
     /// Refused by `NoWorker`, then by `Down`; a refusal changes nothing.
     pub fn crash(&mut self, worker: u32) -> Result<(), Refusal>
-        ensures accepted { IfOk result (λ _. Crashes self.old worker self.new) }
-        ensures headline { IsRunOfOne self.old (Event.Crash worker) (answer_of (λ _. Answer.Crashed) result) self.new }
-        ensures refused { IfErr result (λ refusal. crash_refusal self.old worker ≡ Some refusal) }
-        ensures unchanged { OnErr result (self.new ≡ self.old) }
+        ensures { Crashed self.old worker result self.new }
     {
         if let Err(refusal) = self.up(worker) {
             return Err(refusal);
@@ -67,10 +57,7 @@ impl World {
     ///
     /// Refused by `NoWorker`, then by `Up`; a refusal changes nothing.
     pub fn restart(&mut self, worker: u32) -> Result<(), Refusal>
-        ensures accepted { IfOk result (λ _. Restarts self.old worker self.new) }
-        ensures headline { IsRunOfOne self.old (Event.Restart worker) (answer_of (λ _. Answer.Restarted) result) self.new }
-        ensures refused { IfErr result (λ refusal. restart_refusal self.old worker ≡ Some refusal) }
-        ensures unchanged { OnErr result (self.new ≡ self.old) }
+        ensures { Restarted self.old worker result self.new }
     {
         if let Err(refusal) = self.down(worker) {
             return Err(refusal);
@@ -85,11 +72,7 @@ impl World {
     /// Refused by `NoWorker`, then by `Down`, then by `NotWaiting` (not in phase Enter); a refusal changes
     /// nothing.
     pub fn withdraw(&mut self, worker: u32) -> Result<(), Refusal>
-        ensures accepted { IfOk result (λ _. Withdraws self.old worker self.new) }
-        ensures headline { IsRunOfOne self.old (Event.Withdraw worker) (answer_of (λ _. Answer.Withdrawing) result) self.new }
-        ensures bound { OnOk result ((private : Private) → slice_get self.new.privates worker ≡ Some (Some private) → left_of self.new.shape private.stage ≤ self.new.shape.height + 3) }
-        ensures refused { IfErr result (λ refusal. withdraw_refusal self.old worker ≡ Some refusal) }
-        ensures unchanged { OnErr result (self.new ≡ self.old) }
+        ensures { Withdrawn self.old worker result self.new }
     {
         let private = match self.up(worker) {
             Ok(private) => private,

@@ -10,23 +10,16 @@ use rme_tree::owner;
 use rme_words::{Address, Refusal};
 
 impl World {
-    ghost use Rattle.std.specs.Prelude.{◌≡◌, ◌↔◌, ◌<◌, ◌≤◌, ◌+◌, Some, IsTrue, IsSome, IfSome, IfOk, IfErr, IsOk, slice_get};
-    ghost use Rattle.rme_words.specs.declared.refusal.Refusal.{Refusal};
-    ghost use Rattle.rme_tree.specs.Nodes.{owner_in};
-    ghost use Rattle.rme_program.specs.declared.private.Private.{Private};
-    ghost use Rattle.rme_program.specs.Phases.{phase_of};
-    ghost use Rattle.rme_machine.specs.ShownCells.{ShownCells, owner_at, is_settled};
+    ghost use Rattle.std.specs.Prelude.{◌≡◌, ◌<◌, slice_get};
+    ghost use Rattle.rme_machine.specs.ShownCells.{ShownCells, is_settled};
     ghost use Rattle.rme_machine.specs.Views.{lock_words, is_pending};
-    ghost use Rattle.rme_world.specs.Counting.{IsStay, count_of, most_steps};
-    ghost use Rattle.rme_world.specs.Seen.{IsKept, counts_of, memory_seen, shown_by};
-    ghost use Rattle.rme_world.specs.Looks.{HasReceipt, IsLastReceipt, IsReady, HoldsNone, words_seen};
+    ghost use Rattle.rme_world.specs.Seen.{IsKept, memory_seen, shown_by};
+    ghost use Rattle.rme_world.specs.Looks.{words_seen};
+    ghost use Rattle.rme_world.specs.Calls.{Owned, ShowsCells, ShowsReady, ShowsLast, ShowsSteps};
 
     /// The worker that owns a lock, if one does. `NoLock` where there is no such lock.
     pub fn owner(&self, lock: u32) -> Result<Option<u32>, Refusal>
-        ensures accepted { IsOk result ↔ (lock < self.now.shape.locks) }
-        ensures owner { IfOk result (λ o. o ≡ owner_in self.now.shape (memory_seen self.now) lock) }
-        ensures shown { IfOk result (λ o. o ≡ owner_at (shown_by self.now) lock) }
-        ensures refused { IfErr result (λ refusal. refusal ≡ Refusal.NoLock) }
+        ensures { Owned self.now lock result }
     {
         if lock >= self.shape().locks {
             return Err(Refusal::NoLock);
@@ -37,11 +30,7 @@ impl World {
     /// The cells of a lock, and whether they are settled: they are not while the lock has an owner whose
     /// section is not finished. `NoLock` where there is no such lock.
     pub fn cells(&self, lock: u32) -> Result<(Row, bool), Refusal>
-        ensures accepted { IsOk result ↔ (lock < self.now.shape.locks) }
-        ensures cells { IfOk result (λ out. out.0 ≡ (lock_words self.now.shape (memory_seen self.now) lock).cells) }
-        ensures shown { IfOk result (λ out. ShownCells self.now.shape (shown_by self.now) lock out.0) }
-        ensures settled { IfOk result (λ out. out.1 ≡ is_settled (shown_by self.now) lock) }
-        ensures refused { IfErr result (λ refusal. refusal ≡ Refusal.NoLock) }
+        ensures { ShowsCells self.now lock result }
     {
         if lock >= self.shape().locks {
             return Err(Refusal::NoLock);
@@ -92,10 +81,7 @@ impl World {
     /// Whether a worker is up and ready for a job; it holds no node then. `NoWorker` where there is no such
     /// worker.
     pub fn ready(&self, worker: u32) -> Result<bool, Refusal>
-        ensures accepted { IsOk result ↔ (worker < self.now.shape.workers) }
-        ensures ready { IfOk result (λ b. IsTrue b ↔ IsReady self.now worker) }
-        ensures holds_none { IfOk result (λ b. IsTrue b → HoldsNone self.now worker) }
-        ensures refused { IfErr result (λ refusal. refusal ≡ Refusal.NoWorker) }
+        ensures { ShowsReady self.now worker result }
     {
         match self.private_of(worker) {
             None => Err(Refusal::NoWorker),
@@ -116,10 +102,7 @@ impl World {
     /// too: none before the first job, while a job is pending, and after a withdrawal. `NoWorker` where there
     /// is no such worker.
     pub fn last(&self, worker: u32) -> Result<Option<Receipt>, Refusal>
-        ensures accepted { IsOk result ↔ (worker < self.now.shape.workers) }
-        ensures some { IfOk result (λ receipt. IsSome receipt ↔ HasReceipt (words_seen self.now worker)) }
-        ensures receipt { IfOk result (λ last. IfSome last (λ receipt. IsLastReceipt self.now worker receipt)) }
-        ensures refused { IfErr result (λ refusal. refusal ≡ Refusal.NoWorker) }
+        ensures { ShowsLast self.now worker result }
     {
         if worker >= self.shape().workers {
             return Err(Refusal::NoWorker);
@@ -142,11 +125,7 @@ impl World {
     /// aside; 0 if there was none. The step that ends a stay counts for the stay that it ends. `NoWorker`
     /// where there is no such worker.
     pub fn steps(&self, worker: u32, phase: Phase) -> Result<u32, Refusal>
-        ensures accepted { IsOk result ↔ (worker < self.now.shape.workers) }
-        ensures steps { IfOk result (λ n. n ≡ count_of (counts_of self.now worker) phase) }
-        ensures most { IfOk result (λ n. n ≤ most_steps self.now.shape phase) }
-        ensures stay { IfOk result (λ n. (private : Private) → slice_get self.now.privates worker ≡ Some (Some private) → phase_of private.stage ≡ phase → IsStay self.now.shape private.stage n) }
-        ensures refused { IfErr result (λ refusal. refusal ≡ Refusal.NoWorker) }
+        ensures { ShowsSteps self.now worker phase result }
     {
         if worker >= self.shape().workers {
             return Err(Refusal::NoWorker);

@@ -6,10 +6,11 @@ use rme_script::Job;
 use rme_words::{NoMemory, Refusal};
 
 impl World {
-    ghost use Rattle.std.specs.Prelude.{◌≡◌, ◌<◌, ◌≤◌, ◌+◌, ℕ, IfOk, IfErr, OnOk, OnErr, None, Some, length, vec_len};
-    ghost use Rattle.rme_world.specs.Refused.{submit_refusal};
-    ghost use Rattle.rme_world.specs.Events.{Submits};
-    ghost use Rattle.rme_world.specs.Running.{IsRun, Happens, AllHappen};
+    ghost use Rattle.std.specs.Prelude.{◌≡◌, ◌≢◌, ◌≤◌, ◌+◌, ℕ, IfOk, IfErr, OnErr, length};
+    ghost use Rattle.rme_words.specs.declared.refusal.Refusal.{Refusal};
+    ghost use Rattle.rme_world.specs.Calls.{Submitted};
+    ghost use Rattle.rme_world.specs.Running.{IsRun};
+    ghost use Rattle.rme_world.specs.EventLists.{Happens, AllHappen};
 
     /// Does the events of a list, one after the other, and gives one answer for each: what the single calls
     /// would answer.
@@ -73,10 +74,9 @@ impl World {
     /// Hands a job over, with room in the history made before.
     fn hand_over(&mut self, worker: u32, job: Job) -> Result<u32, Refusal>
         requires { self.old.shape.workers ≤ self.old.room }
-        ensures accepted { IfOk result (λ number. Submits self.old worker job number self.new) }
+        ensures call { Submitted self.old worker job result self.new }
         ensures room { self.new.room ≡ self.old.room }
-        ensures refused { IfErr result (λ refusal. submit_refusal self.old worker job ≡ Some refusal) }
-        ensures unchanged { OnErr result (self.new ≡ self.old) }
+        ensures memory { IfErr result (λ refusal. refusal ≢ Refusal.NoMemory) }
     {
         match self.may_submit(worker, &job) {
             Ok(private) => Ok(self.hand(worker, private, job)),

@@ -14,36 +14,17 @@ use rme_script::{Script, from_slate};
 use rme_words::{Address, Bank, Refusal};
 
 impl World {
-    ghost use Rattle.std.specs.Prelude.{◌≡◌, ◌≢◌, ◌<◌, ◌+◌, ℕ, Some, OnErr, IfOk, IfErr, slice_get};
-    ghost use Rattle.rme_program.specs.declared.note.Note.{Note};
-    ghost use Rattle.rme_program.specs.declared.note.Receipt.{Receipt};
-    ghost use Rattle.rme_program.specs.declared.kinds.Phase.TheVariants.{Recover, Section};
-    ghost use Rattle.rme_tree.specs.Nodes.{owner_in};
-    ghost use Rattle.rme_world.specs.Counting.{count_of};
-    ghost use Rattle.rme_world.specs.Seen.{counts_of, memory_seen};
-    ghost use Rattle.rme_world.specs.Looks.{IsStopped, IsWholeSection, IsGivenUp, IsIn, ComesBack, ComesOn};
+    ghost use Rattle.std.specs.Prelude.{◌≡◌, ◌≢◌, ◌<◌, Some, slice_get};
     ghost use Rattle.rme_program.specs.declared.stage.Stage.{Stage};
-    ghost use Rattle.rme_program.specs.declared.event.Event.{Event};
-    ghost use Rattle.rme_program.specs.declared.event.Answer.{Answer};
-    ghost use Rattle.rme_world.specs.Refused.{step_refusal};
     ghost use Rattle.rme_world.specs.Events.{Steps};
-    ghost use Rattle.rme_world.specs.Running.{IsRunOfOne, answer_of};
+    ghost use Rattle.rme_world.specs.Calls.{Stepped};
 
     /// Lets a worker make its next own step, one operation on one word, and answers what it brought about.
     ///
     /// Refused by `NoWorker`, then by `Down`, then by `Idle` (the worker is ready and has no job); a refusal
     /// changes nothing.
     pub fn step(&mut self, worker: u32) -> Result<Note, Refusal>
-        ensures accepted { IfOk result (λ note. Steps self.old worker note self.new) }
-        ensures headline { IsRunOfOne self.old (Event.Step worker) (answer_of Answer.Stepped result) self.new }
-        ensures blocked { IfOk result (λ note. note ≡ Note.Blocked → IsStopped self.old worker) }
-        ensures comes_on { IfOk result (λ note. note ≢ Note.Blocked → ComesOn self.old self.new worker) }
-        ensures reentry { IfOk result (λ note. (lock : ℕ) → note ≡ Note.Reentered lock → count_of (counts_of self.new worker) Recover ≡ self.old.shape.height + 3) }
-        ensures comes_back { IfOk result (λ note. (lock : ℕ) → lock < self.old.shape.locks → owner_in self.old.shape (memory_seen self.old) lock ≡ Some worker → IsIn self.old worker Recover → ComesBack self.old self.new worker lock note) }
-        ensures section { IfOk result (λ note. (receipt : Receipt) → note ≡ Note.Finished receipt → IsWholeSection self.old worker (count_of (counts_of self.new worker) Section)) }
-        ensures withdrew { IfOk result (λ note. (number : ℕ) → note ≡ Note.Withdrew number → IsGivenUp self.new worker number) }
-        ensures refused { IfErr result (λ refusal. step_refusal self.old worker ≡ Some refusal) }
-        ensures unchanged { OnErr result (self.new ≡ self.old) }
+        ensures { Stepped self.old worker result self.new }
     {
         let private = match self.up(worker) {
             Ok(private) => private,

@@ -2,7 +2,7 @@ use Rattle.std.proofs.Common.{◌≡◌, ◌+◌, ◌++◌, ◌∷◌, [], sym, 
 use Rattle.rme_program.specs.declared.event.Answer.{Answer}
 use Rattle.rme_program.specs.declared.event.Event.{Event}
 use Rattle.std.specs.Prelude.{List}
-use Rattle.rme_world.specs.Running.{AllHappen}
+use Rattle.rme_world.specs.EventLists.{AllHappen}
 use Rattle.rme_world.proofs.Worlds.{kept_sound}
 use Rattle.rme_world.proofs.Headline.{roomy_run, next_happens}
 use Rattle.std.proofs.lemmas.List.{take_all}

@@ -1,6 +1,6 @@
 use Rattle.std.proofs.Common.{◌≡◌, ◌+◌, ◌-◌, ◌≤◌, length, take, vec_len}
 use Rattle.std.specs.Prelude.{vec_capacity}
-use Rattle.rme_world.specs.Running.{AllHappen}
+use Rattle.rme_world.specs.EventLists.{AllHappen}
 use Rattle.rme_world.proofs.world.World.run.Given as goal
 
 abbrev pub invariant-loop-event : goal.invariant-loop-event

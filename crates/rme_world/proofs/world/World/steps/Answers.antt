@@ -1,8 +1,16 @@
+use Rattle.std.proofs.Common.{refl, ◌∙◌, ap}
+use Rattle.rme_world.specs.declared.counts.Counts.{Counts}
+use Rattle.rme_world.specs.Counting.{count_of}
 use Rattle.rme_world.proofs.Looking.{steps_most, steps_stay}
 use Rattle.rme_world.proofs.world.World.steps.Goals as goal
 
-pub returns-clause-most : goal.returns-clause-most
-returns-clause-most c = steps_most _ c.args.worker c.args.phase _ _ c.counts_at.ensures.kept (rw c.shape.ensures at c.if-worker-shape.false) c.of.ensures c.counts_at.ensures.counts
-
-pub returns-clause-stay : goal.returns-clause-stay
-returns-clause-stay c = steps_stay _ c.args.worker c.args.phase _ _ c.counts_at.ensures.kept (rw c.shape.ensures at c.if-worker-shape.false) c.of.ensures c.counts_at.ensures.counts
+pub returns : goal.returns
+returns c =
+    let within = rw c.shape.ensures at c.if-worker-shape.false in
+    record {
+      accepted = ((λ _. within), (λ _. refl));
+      steps = c.of.ensures ∙ ap (λ (k : Counts). count_of k c.args.phase) c.counts_at.ensures.counts;
+      most = steps_most _ c.args.worker c.args.phase _ _ c.counts_at.ensures.kept within c.of.ensures c.counts_at.ensures.counts;
+      stay = steps_stay _ c.args.worker c.args.phase _ _ c.counts_at.ensures.kept within c.of.ensures c.counts_at.ensures.counts;
+      refused = tt;
+    }
