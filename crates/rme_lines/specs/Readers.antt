@@ -1,8 +1,37 @@
 -- What a reader of lines has left.
-use Rattle.std.specs.Prelude.{ℕ, List, slice_range, Option}
+use Rattle.std.specs.Prelude.{◌≡◌, ℕ, ◌+◌, ◌-◌, ◌*◌, ◌<◌, ◌≤◌, List, [], slice_range, Bool, true, false, Option, Some, None}
 use Rattle.std.specs.Io.KnownBytes.{prepend_known}
 use Rattle.rme_lines.specs.declared.lines.LineReader.{LineReader}
 
--- the bytes that were read and not cut yet, and then those that the reader has left, where it tells them
+-- what will be read of the bytes that a reader has left, where it tells them: none once a read gave no byte
+abbrev pub unread : Bool → Option (List ℕ) → Option (List ℕ)
+unread false known = known
+unread true None = None
+unread true (Some bytes) = Some []
+
+-- the bytes that were read and not cut yet, and then those that will be read, where the reader tells them
 abbrev pub bytes_left : {R : Type 0} → (R → Option (List ℕ)) → LineReader R → Option (List ℕ)
-bytes_left remaining lines = prepend_known (slice_range lines.chunk.items lines.start lines.end) (remaining lines.reader)
+bytes_left remaining lines = prepend_known (slice_range lines.chunk.items lines.start lines.end) (unread lines.ended (remaining lines.reader))
+
+-- nothing is read, now or later
+pub record ReadsNoMore {R : Type 0} (old new : LineReader R) : Type 0 where
+  pub reader : new.reader ≡ old.reader
+  pub reads : new.reads ≡ old.reads
+  pub ended : new.ended ≡ true
+
+-- a failure to read: no read had given no byte, and one was made now, or none was left to make
+pub record FailsToRead {R : Type 0} (old new : LineReader R) : Type 0 where
+  pub going : old.ended ≡ false
+  pub made : 0 < new.reads → new.reads < old.reads
+
+-- at most so many lines will be cut: each takes a byte that was read, or a read, which gives 65,536 bytes at most
+abbrev pub most_lines : {R : Type 0} → LineReader R → ℕ
+most_lines lines = 65537 * lines.reads + (lines.end - lines.start)
+
+-- bytes of the chunk are taken, and nothing is read
+pub record TakesOn {R : Type 0} (old new : LineReader R) : Type 0 where
+  pub reader : new.reader ≡ old.reader
+  pub reads : new.reads ≡ old.reads
+  pub ended : new.ended ≡ old.ended
+  pub end : new.end ≡ old.end
+  pub start : old.start ≤ new.start

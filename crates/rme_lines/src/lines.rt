@@ -17,34 +17,39 @@ const CHUNK: usize = 65_536;
 /// Cuts the bytes of a reader into lines.
 ///
 /// A line is the bytes up to a newline; a last piece without one is a line if it isn't empty. Memory is
-/// bounded whatever the reader gives: an over-long line is read to its newline and not kept.
+/// bounded whatever the reader gives: an over-long line is read to its newline and not kept. Nothing is read
+/// after a read that gave no byte: a terminal or a socket might give more then, or fail.
 #[derive(Drop)]
 pub struct LineReader<R> {
     reader: R,
     chunk: Vec<u8>,
     start: usize,
     end: usize,
+    /// How many reads may still be made.
     reads: u32,
-    ghost within: { (start ≤ end) × (end ≤ vec_len chunk) × (0 < vec_len chunk) },
+    /// Whether a read gave no byte.
+    ended: bool,
+    ghost within: { (start ≤ end) × (end ≤ vec_len chunk) × (vec_len chunk ≡ 65536) },
 }
 
 /// The buffer that reads fill.
 fn empty_chunk(alloc: Global) -> Result<Vec<u8>, AllocError>
-    ensures { IfOk result (λ chunk. 0 < vec_len chunk) }
+    ensures { IfOk result (λ chunk. vec_len chunk ≡ 65536) }
 {
     vec![in alloc; 0u8; CHUNK]
 }
 
 impl<R: Read + Drop> LineReader<R> {
-    ghost use Rattle.std.specs.Prelude.{◌≡◌, ◌≢◌, IfOk, IfErr, false};
+    ghost use Rattle.std.specs.Prelude.{◌≡◌, ◌≢◌, ◌<◌, ◌≤◌, IfOk, IfErr, true, false};
     ghost use Rattle.std.specs.Io.KnownBytes.{IsAtEnd, Keeps};
     ghost use Rattle.rme_lines.specs.Pieces.{Takes};
     ghost use Rattle.rme_lines.specs.Cuts.{Cuts};
-    ghost use Rattle.rme_lines.specs.Readers.{bytes_left};
+    ghost use Rattle.rme_lines.specs.Readers.{FailsToRead, ReadsNoMore, TakesOn, bytes_left, most_lines};
 
-    /// A reader of lines, which makes no read yet.
+    /// A reader of lines, which makes no read yet and 1,000,000,000 at most.
     pub fn new(alloc: Global, reader: R) -> Result<LineReader<R>, AllocError>
-        ensures { IfOk result (λ lines. Keeps (R.remaining reader) (bytes_left R.remaining lines)) }
+        ensures bytes { IfOk result (λ lines. Keeps (R.remaining reader) (bytes_left R.remaining lines)) }
+        ensures reads { IfOk result (λ lines. lines.reads ≡ 1000000000) }
     {
         let chunk = empty_chunk(alloc)?;
         Ok(LineReader {
@@ -53,17 +58,26 @@ impl<R: Read + Drop> LineReader<R> {
             start: 0,
             end: 0,
             reads: READS,
+            ended: false,
         })
     }
 
     /// Makes a read where the chunk is used up, and says whether a byte is there or may still come.
     fn fill(&mut self) -> Result<bool, EngineFault>
         ensures kept { IfOk result (λ _. Keeps (bytes_left R.remaining self.old) (bytes_left R.remaining self.new)) }
-        ensures end { IfOk result (λ more. more ≡ false → IsAtEnd (bytes_left R.remaining self.new)) }
+        ensures end { IfOk result (λ more. more ≡ false → IsAtEnd (bytes_left R.remaining self.new) × (self.new.ended ≡ true)) }
+        ensures ended { self.old.ended ≡ true → ReadsNoMore self.old self.new }
+        ensures reads { self.new.reads ≤ self.old.reads }
+        ensures most { most_lines self.new ≤ most_lines self.old }
+        ensures fewer { IfOk result (λ more. more ≡ true → self.new.end ≤ self.new.start → most_lines self.new < most_lines self.old) }
         ensures kind { IfErr result (λ fault. fault ≡ EngineFault.ReadFailed) }
+        ensures failed { IfErr result (λ _. FailsToRead self.old self.new) }
     {
         if self.start < self.end {
             return Ok(true);
+        }
+        if self.ended {
+            return Ok(false);
         }
         if self.reads == 0 {
             return Err(EngineFault::ReadFailed);
@@ -73,6 +87,7 @@ impl<R: Read + Drop> LineReader<R> {
             Ok(count) => {
                 self.start = 0;
                 self.end = count;
+                self.ended = count == 0;
                 Ok(count > 0)
             }
             Err(error) => {
@@ -87,8 +102,10 @@ impl<R: Read + Drop> LineReader<R> {
     /// Moves the chunk's bytes up to its next newline into the line, which is kept to one byte more than the
     /// limit, and says whether the newline was found.
     fn take_piece(&mut self, line: &mut Vec<u8>) -> Result<bool, AllocError>
-        ensures { IfOk result (λ found. Takes (bytes_left R.remaining self.old) (bytes_left R.remaining self.new) found
+        ensures takes { IfOk result (λ found. Takes (bytes_left R.remaining self.old) (bytes_left R.remaining self.new) found
             line.old.items line.new.items) }
+        ensures on { TakesOn self.old self.new }
+        ensures used { IfOk result (λ _. self.old.start < self.old.end → self.old.start < self.new.start) }
     {
         let bytes = &self.chunk[self.start..self.end];
         match memchr(b'\n', bytes) {
@@ -110,13 +127,18 @@ impl<R: Read + Drop> LineReader<R> {
     ///
     /// A read that was interrupted is made again. `ReadFailed` comes where the reader fails or all its reads
     /// are used up, and `NoMemory` where the line's copy finds no room; the bytes of the line that was begun
-    /// are then lost.
+    /// are then lost. After a read that gave no byte the reader is not read again, however often this is called.
     pub fn next_line(&mut self, line: &mut Vec<u8>) -> Result<Cut, EngineFault>
         ensures cut { IfOk result (λ cut. Cuts (bytes_left R.remaining self.old) (bytes_left R.remaining self.new) cut line.new.items) }
+        ensures end { IfOk result (λ cut. cut ≡ Cut.End → self.new.ended ≡ true) }
+        ensures ended { self.old.ended ≡ true → ReadsNoMore self.old self.new }
+        ensures reads { self.new.reads ≤ self.old.reads }
+        ensures fewer { IfOk result (λ cut. cut ≢ Cut.End → most_lines self.new < most_lines self.old) }
         ensures kind { IfErr result (λ fault. fault ≢ EngineFault.WriteFailed) }
+        ensures failed { IfErr result (λ fault. fault ≡ EngineFault.ReadFailed → FailsToRead self.old self.new) }
     {
         line.clear();
-        for _ in 0..=READS {
+        loop {
             match self.fill() {
                 Ok(true) => {}
                 Ok(false) => return Ok(last_cut(line)),
@@ -128,6 +150,5 @@ impl<R: Read + Drop> LineReader<R> {
                 Err(_) => return Err(EngineFault::NoMemory),
             }
         }
-        Err(EngineFault::ReadFailed)
     }
 }

@@ -1,22 +1,34 @@
-use Rattle.rme_lines.proofs.PieceLemmas.{saw_same, saw_taken, cuts_taken, cuts_end}
+use Rattle.rme_lines.proofs.PieceLemmas.{saw_first, saw_same, saw_taken, cuts_taken, cuts_end}
+use Rattle.rme_lines.proofs.ReaderLemmas.{came_first, came_more}
 use Rattle.rme_lines.specs.Readers.{bytes_left}
 use Rattle.rme_lines.proofs.lines.LineReader.next_line.Goals as goal
 
 pub returns-in-Ok-false-clause-cut : goal.returns-in-Ok-false-clause-cut
 returns-in-Ok-false-clause-cut g c =
     let left = bytes_left g.R.Read.remaining in
-    let saw = saw_same 65537 (left c.args.self.now) _ (left c.fill.new.self) _ c.loop.invariant c.in-Ok-false.ensures.kept in
-    rw c.last_cut.ensures (cuts_end _ _ _ saw (c.in-Ok-false.ensures.end c.in-Ok-false.field-0-test))
+    let saw = saw_same 65537 (left c.args.self.now) _ (left c.fill.new.self) _ c.loop-line.invariant.saw c.in-Ok-false.ensures.kept in
+    rw c.last_cut.ensures (cuts_end _ _ _ saw (c.in-Ok-false.ensures.end c.in-Ok-false.field-0-test).0)
 
 pub returns-in-Ok-true-take_piece-clause-cut : goal.returns-in-Ok-true-take_piece-clause-cut
 returns-in-Ok-true-take_piece-clause-cut g c =
     let left = bytes_left g.R.Read.remaining in
-    let saw = saw_same 65537 (left c.args.self.now) _ (left c.fill.new.self) _ c.loop.invariant c.in-Ok-true.ensures.kept in
-    rw c.whole.ensures (cuts_taken _ _ (left c.take_piece.new.self) c.loop.line.items _ _ saw c.in-Ok-true-take_piece.ensures c.in-Ok-true-take_piece.field-0-test)
+    let saw = saw_same 65537 (left c.args.self.now) _ (left c.fill.new.self) _ c.loop-line.invariant.saw c.in-Ok-true.ensures.kept in
+    rw c.whole.ensures (cuts_taken _ _ (left c.take_piece.new.self) c.loop-line.line.items _ _ saw c.in-Ok-true-take_piece.ensures.takes c.in-Ok-true-take_piece.field-0-test)
 
-pub loop-preserved : goal.loop-preserved
-loop-preserved g c =
+pub loop-line-init : goal.loop-line-init
+loop-line-init g c =
+    record {
+      saw = rw c.clear.ensures.items (saw_first 65537 (bytes_left g.R.Read.remaining c.args.self.now));
+      came_on = came_first c.args.self.now c.clear.new.self.items c.clear.ensures.items;
+    }
+
+pub loop-line-preserved : goal.loop-line-preserved
+loop-line-preserved g c =
     let left = bytes_left g.R.Read.remaining in
-    let saw = saw_same 65537 (left c.args.self.now) _ (left c.fill.new.self) _ c.loop.invariant c.in-Ok-true.ensures.kept in
-    saw_taken (left c.args.self.now) (left c.fill.new.self) (left c.take_piece.new.self) c.loop.line.items c.take_piece.new.line.items _ saw c.in-Ok-false-take_piece.ensures
-    c.in-Ok-false-take_piece.field-0-test
+    let saw = saw_same 65537 (left c.args.self.now) _ (left c.fill.new.self) _ c.loop-line.invariant.saw c.in-Ok-true.ensures.kept in
+    let more = c.in-Ok-true.ensures.fewer c.in-Ok-true.field-0-test in record {
+      saw = saw_taken (left c.args.self.now) (left c.fill.new.self) (left c.take_piece.new.self) c.loop-line.line.items c.take_piece.new.line.items _ saw
+          c.in-Ok-false-take_piece.ensures.takes c.in-Ok-false-take_piece.field-0-test;
+      came_on = came_more c.args.self.now c.loop-line.self c.fill.new.self c.take_piece.new.self c.loop-line.line.items c.take_piece.new.line.items c.loop-line.invariant.came_on
+          c.in-Ok-true.ensures.ended c.in-Ok-true.ensures.reads c.in-Ok-true.ensures.most more c.in-Ok-false-take_piece.ensures.on c.in-Ok-false-take_piece.ensures.used;
+    }

@@ -2,8 +2,8 @@ use Rattle.std.proofs.Common.{take, arith, slice_range}
 use Rattle.rme_lines.proofs.PieceLemmas.{IsPiece-front, moved, chunk_newline, chunk_end, IsPiece-all}
 use Rattle.rme_lines.proofs.lines.LineReader.take_piece.Goals as goal
 
-pub returns-in_ok-keep-in-Some : goal.returns-in_ok-keep-in-Some
-returns-in_ok-keep-in-Some g c =
+pub returns-in_ok-keep-in-Some-clause-takes : goal.returns-in_ok-keep-in-Some-clause-takes
+returns-in_ok-keep-in-Some-clause-takes g c =
     let self = c.args.self.now in
     let first = rw c.deref.ensures.value at c.in-Some.ensures in
     let line = rw c.deref.ensures.value at c.in_ok-keep-in-Some.ensures in
@@ -14,8 +14,8 @@ returns-in_ok-keep-in-Some g c =
       line,
     )
 
-pub returns-in_ok-keep-in-None : goal.returns-in_ok-keep-in-None
-returns-in_ok-keep-in-None g c =
+pub returns-in_ok-keep-in-None-clause-takes : goal.returns-in_ok-keep-in-None-clause-takes
+returns-in_ok-keep-in-None-clause-takes g c =
     let self = c.args.self.now in
     let none = rw c.deref.ensures.value at c.in-None.ensures in
     let line = rw c.deref.ensures.value at c.in_ok-keep-in-None.ensures in
