@@ -8,8 +8,9 @@ use Rattle.rme_lines.specs.declared.fault.EngineFault.{EngineFault}
 use Rattle.rme_lines.specs.declared.fault.EngineFault.TheVariants.{ReadFailed, WriteFailed, NoMemory}
 use Rattle.rme_lines.specs.Cuts.{Cuts}
 use Rattle.rme_lines.specs.Pieces.{InputLine, lines_of}
+use Rattle.rme_lines.specs.Puts.{AppendsFront}
 use Rattle.rme_server.specs.Lines.{Answers}
-use Rattle.rme_server.specs.Runs.{AnswersAll, AnswersFirst, BeginsWith, CutsOff, HasNone, PutFails, Run, TurnFails, Turns, all_written, line_read, written}
+use Rattle.rme_server.specs.Runs.{AnswersAll, AnswersFirst, BeginsWith, CutsOff, HasNone, Run, TurnFails, Turns, all_written, line_read, written}
 use Rattle.rme_server.specs.States.{State, nothing_open}
 
 pub run_more : (old mid new : State) (lines : List InputLine) (answers : List (List ℕ)) (line : InputLine) (answer : List ℕ) → Run old lines answers mid → Answers mid line answer new
@@ -114,8 +115,6 @@ begins_off None later line c = tt
 begins_off (Some before) None line c = absurd c
 begins_off (Some before) (Some after) line c = (lines_of after, c)
 
-pub put_failed : (fault : EngineFault) (left later held longer : Option (List ℕ)) (old new : State) (line : InputLine) (answer : List ℕ) → CutsOff left later line
-    → Answers old line answer new → PutFails fault held longer answer → TurnFails fault left old held longer
-put_failed ReadFailed left later held longer old new line answer c answered fails = absurd fails
-put_failed NoMemory left later held longer old new line answer c answered fails = fails
-put_failed WriteFailed left later held longer old new line answer c answered fails = (line, answer, new, begins_off left later line c, answered, fails)
+pub put_failed : (left later held longer : Option (List ℕ)) (old new : State) (line : InputLine) (answer : List ℕ) → CutsOff left later line → Answers old line answer new
+    → AppendsFront held longer (written answer) → TurnFails WriteFailed left old held longer
+put_failed left later held longer old new line answer c answered fails = (line, answer, new, begins_off left later line c, answered, fails)

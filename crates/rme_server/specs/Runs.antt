@@ -78,12 +78,6 @@ TurnFails NoMemory left old held longer = Keeps held longer
 TurnFails WriteFailed left old held longer =
     (line : InputLine) × (answer : List ℕ) × (new : State) × BeginsWith left (line ∷ []) × Answers old line answer new × AppendsFront held longer (written answer)
 
--- an answer that was not written whole
-abbrev pub PutFails : EngineFault → Option (List ℕ) → Option (List ℕ) → List ℕ → Type 0
-PutFails ReadFailed held longer answer = ⊥
-PutFails NoMemory held longer answer = Keeps held longer
-PutFails WriteFailed held longer answer = AppendsFront held longer (written answer)
-
 -- the line that was read
 abbrev pub line_read : Cut → List ℕ → InputLine
 line_read Line bytes = text bytes

@@ -20,9 +20,9 @@ pub struct Engine {
 impl Engine {
     ghost use Rattle.std.specs.Prelude.{◌≡◌, ◌++◌, IfOk, IfErr, OnOk, string_bytes};
     ghost use Rattle.rme_server.specs.States.{nothing_open};
-    ghost use Rattle.rme_server.specs.Lines.{Answers};
+    ghost use Rattle.rme_lines.specs.Pieces.{text};
     ghost use Rattle.rme_server.specs.Runs.{line_read};
-    ghost use Rattle.rme_server.specs.Engines.{TellsLine, TellsOpening, TellsRequest, state_of};
+    ghost use Rattle.rme_server.specs.Engines.{RepliesTo, TellsLine, TellsOpening, TellsRequest, state_of};
 
     /// Nothing is open.
     pub fn new(alloc: Global) -> Result<Engine, NoMemory>
@@ -36,14 +36,30 @@ impl Engine {
         })
     }
 
-    /// Obeys the line that was cut, and puts its answer in the place of what `out` held.
+    /// Obeys the line that was cut, and puts its answer and a newline in the place of what `out` held.
     ///
-    /// `NoMemory` says that there was no room for the line's value or for the text of the answer.
+    /// `NoMemory` says that there was no room for the line's value or for the text of the answer; writing the
+    /// text then takes none.
     pub fn reply(&mut self, cut: Cut, line: &[u8], out: &mut String) -> Result<(), EngineFault>
-        ensures told { OnOk result (Answers (state_of self.old) (line_read cut line.now) (string_bytes out.new) (state_of self.new)) }
+        ensures told { OnOk result (RepliesTo self.old (line_read cut line.now) self.new (string_bytes out.new)) }
         ensures kind { IfErr result (λ fault. fault ≡ EngineFault.NoMemory) }
     {
         out.clear();
+        match self.answer_cut(cut, line, out) {
+            Ok(()) => {}
+            Err(fault) => return Err(fault),
+        }
+        match out.push_str("\n") {
+            Ok(()) => Ok(()),
+            Err(_) => Err(EngineFault::NoMemory),
+        }
+    }
+
+    /// Obeys the line that was cut, and appends its answer.
+    fn answer_cut(&mut self, cut: Cut, line: &[u8], out: &mut String) -> Result<(), EngineFault>
+        ensures told { OnOk result (TellsLine self.old (line_read cut line.now) self.new (string_bytes out.old) (string_bytes out.new)) }
+        ensures kind { IfErr result (λ fault. fault ≡ EngineFault.NoMemory) }
+    {
         let told = match cut {
             Cut::TooLong => push_refusal(out, Refusal::LineTooLong),
             Cut::Line | Cut::End => return self.answer(line, out),
@@ -56,7 +72,7 @@ impl Engine {
 
     /// Obeys a line, and appends its answer.
     fn answer(&mut self, line: &[u8], out: &mut String) -> Result<(), EngineFault>
-        ensures told { OnOk result (TellsLine self.old line.now self.new (string_bytes out.old) (string_bytes out.new)) }
+        ensures told { OnOk result (TellsLine self.old (text line.now) self.new (string_bytes out.old) (string_bytes out.new)) }
         ensures kind { IfErr result (λ fault. fault ≡ EngineFault.NoMemory) }
     {
         let Ok(request) = request_of(self.alloc, &self.names, line) else {

@@ -1,10 +1,9 @@
 //! Answering lines until none is left.
 
-ghost use Rattle.std.specs.Prelude.{◌≡◌, IfOk, IfErr, OnOk, string_bytes};
-ghost use Rattle.std.specs.Io.KnownBytes.{Appends};
-ghost use Rattle.rme_lines.specs.Readers.{bytes_left};
+ghost use Rattle.std.specs.Prelude.{◌≡◌, ◌<◌, IfOk, IfErr, OnOk, true};
+ghost use Rattle.rme_lines.specs.Readers.{FailsToRead, bytes_left, most_lines};
 ghost use Rattle.rme_server.specs.Engines.{state_of};
-ghost use Rattle.rme_server.specs.Runs.{AnswersAll, AnswersFirst, PutFails, TurnFails, Turns, written};
+ghost use Rattle.rme_server.specs.Runs.{AnswersAll, AnswersFirst, TurnFails, Turns};
 
 use crate::engine::Engine;
 use rme_wire::{Cut, EngineFault, LineReader, put_all};
@@ -36,14 +35,13 @@ pub fn run_lines<R: Read + Drop, W: Write>(
         return Err(EngineFault::NoMemory);
     };
     let mut line = Vec::new(alloc);
-    for _ in 0..u64::MAX {
+    loop {
         match turn(&mut lines, &mut engine, &mut line, &mut answer, writer) {
             Ok(true) => {}
             Ok(false) => return Ok(()),
             Err(fault) => return Err(fault),
         }
     }
-    Err(EngineFault::ReadFailed)
 }
 
 /// Reads the next line, answers it and writes the answer, and says whether there was one.
@@ -58,6 +56,8 @@ fn turn<R: Read + Drop, W: Write>(
         (state_of engine.old) (state_of engine.new) (W.contents writer.old) (W.contents writer.new) more) }
     ensures err { IfErr result (λ fault. TurnFails fault (bytes_left R.remaining lines.old) (state_of engine.old)
         (W.contents writer.old) (W.contents writer.new)) }
+    ensures fewer { IfOk result (λ more. more ≡ true → most_lines lines.new < most_lines lines.old) }
+    ensures failed { IfErr result (λ fault. fault ≡ EngineFault.ReadFailed → FailsToRead lines.old lines.new) }
 {
     let cut = match lines.next_line(line) {
         Ok(cut) => cut,
@@ -70,22 +70,8 @@ fn turn<R: Read + Drop, W: Write>(
         Ok(()) => {}
         Err(fault) => return Err(fault),
     }
-    match put_answer(writer, answer) {
+    match put_all(writer, answer.as_bytes()) {
         Ok(()) => Ok(true),
         Err(fault) => Err(fault),
-    }
-}
-
-/// Writes an answer and a newline.
-fn put_answer<W: Write>(writer: &mut W, answer: &mut String) -> Result<(), EngineFault>
-    ensures ok { OnOk result (Appends (W.contents writer.old) (W.contents writer.new) (written (string_bytes answer.old))) }
-    ensures err { IfErr result (λ fault. PutFails fault (W.contents writer.old) (W.contents writer.new) (string_bytes answer.old)) }
-{
-    if answer.push_str("\n").is_err() {
-        return Err(EngineFault::NoMemory);
-    }
-    match put_all(writer, answer.as_bytes()) {
-        Ok(()) => Ok(()),
-        Err(_) => Err(EngineFault::WriteFailed),
     }
 }
