@@ -9,6 +9,7 @@
 
 mod answers;
 mod engine;
+pub mod laws;
 mod opened;
 mod run;
 mod tallied;

@@ -2,7 +2,7 @@
 
 ghost use Rattle.std.specs.Prelude.{◌≡◌, ◌<◌};
 ghost use Rattle.rme_history.specs.Tallies.{Sees};
-ghost use Rattle.rme_server.specs.Tallies.{SeesPhases, steps_of};
+ghost use Rattle.rme_server.specs.Tallies.{steps_of};
 
 use rme_history::Tally;
 use rme_program::{Note, Phase};
@@ -30,33 +30,27 @@ impl TalliedWorld {
         }
     }
 
-    /// Lets a worker make its next own step, after which the tally sees the steps of its phases.
+    /// Lets a worker make its next own step, after which the tally sees the steps of the phase in which it was
+    /// made; of the worker's counts it alone can have grown.
     ///
     /// Refused as the world's own step is; a refusal changes nothing.
     pub fn step(&mut self, worker: u32) -> Result<Note, Refusal>
         ensures { StepsTallied self.old worker result self.new }
     {
+        let phase = self.world.phase(worker);
         let note = match self.world.step(worker) {
             Ok(note) => note,
             Err(refusal) => return Err(refusal),
         };
-        see_phases(&mut self.tally, &self.world, worker);
+        let Some(phase) = phase else {
+            unreachable!();
+        };
+        see_phase(&mut self.tally, &self.world, worker, phase);
         Ok(note)
     }
 }
 
-/// Lets the tally see the steps of each phase of a worker.
-fn see_phases(tally: &mut Tally, world: &World, worker: u32)
-    requires { worker < world.now.shape.workers }
-    ensures { SeesPhases tally.old world.now worker tally.new }
-{
-    see_phase(tally, world, worker, Phase::Recover);
-    see_phase(tally, world, worker, Phase::Post);
-    see_phase(tally, world, worker, Phase::Enter);
-    see_phase(tally, world, worker, Phase::Section);
-    see_phase(tally, world, worker, Phase::Exit);
-}
-
+/// Lets the tally see the steps of a phase of a worker.
 fn see_phase(tally: &mut Tally, world: &World, worker: u32, phase: Phase)
     requires { worker < world.now.shape.workers }
     ensures { Sees tally.old tally.new phase (steps_of world.now worker phase) }

@@ -1,5 +1,6 @@
 -- What the look-ups show.
-use Rattle.std.specs.Prelude.{◌≡◌, ◌≢◌, ℕ, ◌+◌, ◌*◌, ◌<◌, ◌≤◌, false, Some, slice_get}
+use Rattle.std.specs.Prelude.{◌≡◌, ◌≢◌, ℕ, ◌+◌, ◌*◌, ◌<◌, ◌≤◌, false, Option, Some, slice_get}
+use Rattle.std.specs.Option.{option_map}
 use Rattle.rme_tree.specs.Nodes.{nodes_of, held_in}
 use Rattle.rme_tree.specs.Rooted.{IsBlocked}
 use Rattle.rme_program.specs.declared.kinds.Phase.{Phase}
@@ -21,7 +22,7 @@ use Rattle.rme_program.specs.Steps.{withdrawn_place}
 use Rattle.rme_machine.specs.Histories.{last_by, has_entry}
 use Rattle.rme_machine.specs.Views.{WorkerWords, worker_words, slate_job}
 use Rattle.rme_world.specs.Counting.{count_of, row_steps, budget, section_steps}
-use Rattle.rme_world.specs.Seen.{Seen, counts_of, memory_seen}
+use Rattle.rme_world.specs.Seen.{Seen, counts_of, memory_seen, privates_seen}
 
 -- The words of a worker have a receipt: its last job is done, and its number was not withdrawn.
 pub record HasReceipt (own : WorkerWords) : Type 0 where
@@ -41,6 +42,10 @@ pub record IsLastReceipt (seen : Seen) (worker : ℕ) (receipt : Receipt) : Type
 -- A worker is up, and in a phase.
 abbrev pub IsIn : Seen → ℕ → Phase → Type 0
 IsIn seen worker phase = (private : Private) × (slice_get seen.privates worker ≡ Some (Some private)) × (phase_of private.stage ≡ phase)
+
+-- The phase that a worker is in, if it is up.
+abbrev pub phase_seen : Seen → ℕ → Option Phase
+phase_seen seen worker = option_map (λ (private : Private). phase_of private.stage) (privates_seen seen worker)
 
 -- A worker is up, and in phase Ready.
 abbrev pub IsReady : Seen → ℕ → Type 0

@@ -13,6 +13,7 @@ mod counts;
 mod events;
 mod looks;
 mod perform;
+mod phases;
 mod run;
 mod step;
 mod world;
