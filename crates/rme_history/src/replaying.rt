@@ -1,7 +1,8 @@
 //! Whether entries are a history that could have been, and the cells that it leaves.
 
-ghost use Rattle.std.specs.Prelude.{◌≡◌, OnOk, IfOk, IfErr};
-ghost use Rattle.rme_history.specs.Legal.{AreLegal, IsFault, rows_of_locks};
+ghost use Rattle.std.specs.Prelude.{◌≡◌, [], OnOk, IfOk, IfErr, IsOk};
+ghost use Rattle.rme_history.specs.Folds.{IsFold};
+ghost use Rattle.rme_history.specs.Legal.{AreLegal, IsFault, IsFirstBroken, rows_of_locks};
 
 use crate::fault::ReplayFault;
 use crate::fold::Fold;
@@ -22,11 +23,29 @@ pub fn replay(alloc: Global, shape: Shape, entries: &[Entry]) -> Result<Vec<Row>
     ensures broken { IfErr result (λ fault. IsFault shape entries.now fault) }
     ensures accepted { AreLegal shape entries.now → IfErr result (λ fault. fault ≡ ReplayFault.NoMemory) }
 {
-    let mut fold = Fold::new(alloc, shape)?;
+    let mut fold = match Fold::new(alloc, shape) {
+        Ok(fold) => fold,
+        Err(fault) => return Err(fault),
+    };
+    match follow_all(&mut fold, shape, entries) {
+        Ok(()) => Ok(fold.rows),
+        Err(i) => Err(ReplayFault::Broken(i)),
+    }
+}
+
+/// Goes on by all entries, in order, from what there is before any; the error is the place of the first that
+/// does not follow. Takes no memory, so that it cannot give up for want of it.
+fn follow_all(fold: &mut Fold, shape: Shape, entries: &[Entry]) -> Result<(), usize>
+    requires { IsFold shape [] fold.old.rows.items fold.old.counts.items }
+    ensures legal { OnOk result (AreLegal shape entries.now) }
+    ensures rows { OnOk result (fold.new.rows.items ≡ rows_of_locks shape entries.now) }
+    ensures broken { IfErr result (λ i. IsFirstBroken shape entries.now i) }
+    ensures accepted { AreLegal shape entries.now → IsOk result }
+{
     for i in 0..entries.len() {
         if !fold.follow(shape, entries, i) {
-            return Err(ReplayFault::Broken(i));
+            return Err(i);
         }
     }
-    Ok(fold.rows)
+    Ok(())
 }

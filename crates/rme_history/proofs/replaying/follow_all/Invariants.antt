@@ -1,7 +1,7 @@
 use Rattle.std.proofs.Common.{take}
 use Rattle.rme_history.specs.Legal.{AreLegal}
 use Rattle.rme_history.specs.Folds.{IsFold}
-use Rattle.rme_history.proofs.replaying.replay.Given as goal
+use Rattle.rme_history.proofs.replaying.follow_all.Given as goal
 
 abbrev pub invariant-loop-i : goal.invariant-loop-i
 invariant-loop-i l = record {

@@ -1,5 +1,5 @@
 use Rattle.rme_history.proofs.Following.{first_broken, goes_on_legal, never_broken}
-use Rattle.rme_history.proofs.replaying.replay.Goals as goal
+use Rattle.rme_history.proofs.replaying.follow_all.Goals as goal
 
 pub returns-then-not-follow-clause-broken : goal.returns-then-not-follow-clause-broken
 returns-then-not-follow-clause-broken c = first_broken _ _ _ c.loop-i-test.true c.loop-i.invariant.legal c.if-not-follow.ensures.follows
