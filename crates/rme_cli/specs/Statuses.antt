@@ -1,5 +1,9 @@
--- The status with which the program ends where something went wrong.
-use Rattle.std.specs.Prelude.{ℕ}
+-- The status with which the program ends, and the fault that it tells of.
+use Rattle.std.specs.Prelude.{ℕ, Bool, true, false, Result, Ok, Err}
+use Rattle.std.specs.declared.io.ErrorKind.{ErrorKind}
+use Rattle.std.specs.declared.io.ErrorKind.TheVariants as reason
+use Rattle.clap.specs.declared.error.kind.ErrorKind as clap
+use Rattle.clap.specs.declared.error.kind.ErrorKind.TheVariants as words
 use Rattle.rme_lines.specs.declared.fault.EngineFault.{EngineFault}
 use Rattle.rme_lines.specs.declared.fault.EngineFault.TheVariants as engine
 use Rattle.rme_cli.specs.declared.fault.Fault.{Fault}
@@ -16,3 +20,20 @@ abbrev pub fault_of : EngineFault → Fault
 fault_of engine.ReadFailed = ReadFailed
 fault_of engine.WriteFailed = WriteFailed
 fault_of engine.NoMemory = NoMemory
+
+-- the fault where the words of the command line cannot be had as text, by the kind of the reason
+abbrev pub fault_of_words : ErrorKind → Fault
+fault_of_words reason.OutOfMemory = NoMemory
+fault_of_words _ = BadArguments
+
+-- what was asked for, and whether it was printed
+abbrev pub shown : Bool → Result ℕ Fault
+shown true = Ok 0
+shown false = Err WriteFailed
+
+-- the end after words that give no task, by their kind and by whether their text was printed
+abbrev pub told : clap.ErrorKind → Bool → Result ℕ Fault
+told words.OutOfMemory _ = Err NoMemory
+told words.DisplayHelp is_printed = shown is_printed
+told words.DisplayVersion is_printed = shown is_printed
+told _ _ = Ok 2

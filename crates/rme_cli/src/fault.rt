@@ -1,11 +1,12 @@
 //! What ends the program early.
 
 ghost use Rattle.std.specs.Prelude.{◌≡◌};
-ghost use Rattle.rme_cli.specs.Statuses.{fault_of, status_of};
+ghost use Rattle.rme_cli.specs.Statuses.{fault_of, fault_of_words, status_of};
 ghost use Rattle.rme_cli.specs.declared.fault.Fault.TheVariants.{NoMemory};
 
 use rme_wire::EngineFault;
 use std::alloc::AllocError;
+use std::io::ErrorKind;
 use thiserror::Error;
 
 /// What ended the program early. Its text goes to the standard error.
@@ -32,6 +33,16 @@ impl Fault {
             Fault::ReadFailed => 3,
             Fault::WriteFailed => 4,
             Fault::NoMemory => 5,
+        }
+    }
+
+    /// The fault where the words of the command line can't be had, for a reason of this kind.
+    pub fn of_words(kind: ErrorKind) -> Fault
+        ensures { result ≡ fault_of_words kind }
+    {
+        match kind {
+            ErrorKind::OutOfMemory => Fault::NoMemory,
+            _ => Fault::BadArguments,
         }
     }
 }

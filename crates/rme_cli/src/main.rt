@@ -1,13 +1,20 @@
 //! The program `rme`: a recoverable mutual exclusion lock service over lines.
 //!
 //! It stands on rme_server, whose engine it runs on its standard streams. The words of the command line are
-//! read in `words.rt`; what went wrong has its text and its status in `fault.rt`. Begin with `main`.
+//! read in `words.rt`, and `told.rt` says what becomes of those that give no task; what went wrong has its
+//! text and its status in `fault.rt`. Begin with `main`.
 #![tactic(auto)]
 
+ghost use Rattle.std.specs.Prelude.{◌≡◌, Bool};
+ghost use Rattle.clap.specs.Values.{kind_of};
+ghost use Rattle.rme_cli.specs.Statuses.{told};
+
 mod fault;
+mod told;
 mod words;
 
 use crate::fault::Fault;
+use crate::told::answer_of;
 use crate::words::{Task, task_of};
 use clap::error::ErrorKind;
 use rme_server::run_lines;
@@ -16,7 +23,7 @@ use std::{env, io};
 
 fn main(rt: HostRuntime) -> ExitCode {
     match perform(&rt) {
-        Ok(status) => status,
+        Ok(status) => ExitCode::from(status),
         Err(fault) => {
             let _ = eprintln!(rt; "fault: {fault}");
             ExitCode::from(fault.status())
@@ -25,12 +32,12 @@ fn main(rt: HostRuntime) -> ExitCode {
 }
 
 /// Does what the words of the command line ask for, and answers the status.
-fn perform(rt: &HostRuntime) -> Result<ExitCode, Fault> {
+fn perform(rt: &HostRuntime) -> Result<u8, Fault> {
     let words = given_words(rt)?;
     match task_of(rt.alloc(), words.as_slice()) {
         Ok(Task::Run) => {
             run_lines(rt.alloc(), rt.stdin(), &mut io::writer(rt))?;
-            Ok(ExitCode::SUCCESS)
+            Ok(0)
         }
         Err(error) => explain(rt, &error),
     }
@@ -40,24 +47,15 @@ fn perform(rt: &HostRuntime) -> Result<ExitCode, Fault> {
 fn given_words(rt: &HostRuntime) -> Result<Vec<String>, Fault> {
     match env::args(rt) {
         Ok(args) => Ok(args.collect(rt.alloc())?),
-        Err(error) => match error.kind() {
-            io::ErrorKind::OutOfMemory => Err(Fault::NoMemory),
-            _ => Err(Fault::BadArguments),
-        },
+        Err(error) => Err(Fault::of_words(error.kind())),
     }
 }
 
-/// Prints help, the version or what is wrong with the words.
-fn explain(rt: &HostRuntime, error: &clap::Error) -> Result<ExitCode, Fault> {
-    if error.kind() == ErrorKind::OutOfMemory {
-        return Err(Fault::NoMemory);
-    }
-    if error.print(rt).is_err() {
-        return Err(Fault::WriteFailed);
-    }
-    Ok(if error.use_stderr() {
-        ExitCode::from(2)
-    } else {
-        ExitCode::SUCCESS
-    })
+/// Prints help, the version or what is wrong with the words, and answers the status.
+fn explain(rt: &HostRuntime, error: &clap::Error) -> Result<u8, Fault>
+    ensures { (is_printed : Bool) × (result ≡ told (kind_of error.now) is_printed) }
+{
+    let kind = error.kind();
+    let is_printed = kind != ErrorKind::OutOfMemory && error.print(rt).is_ok();
+    answer_of(kind, is_printed)
 }
