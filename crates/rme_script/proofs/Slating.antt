@@ -1,5 +1,6 @@
 -- The loop of `slate_words`: the words of one operation more.
-use Rattle.std.proofs.Common.{◌≡◌, ℕ, ◌+◌, ◌-◌, ◌*◌, ◌^◌, ◌<◌, ◌≤◌, zero, suc, get_or, Some, List, [], ◌∷◌, ◌++◌, length, take, drop, replicate, slice_get, refl, sym, ap, ◌∙◌, subst, arith}
+use Rattle.std.proofs.Common.{◌≡◌, ℕ, ◌+◌, ◌-◌, ◌*◌, ◌/◌, ◌%◌, ◌^◌, ◌<◌, ◌≤◌, zero, suc, get_or, Some, List, [], ◌∷◌, ◌++◌, length, take, drop, replicate, slice_get, refl, sym, ap, ◌∙◌, subst, arith}
+use Rattle.std.specs.Prelude.{slice_index}
 use Rattle.std.specs.List.{All}
 use Rattle.std.proofs.lemmas.List.{append_assoc, append-nil, length-append, length-take-le, length_push, take_at, take_all, drop-replicate, get_or_append_left, get_or-append-add}
 use Rattle.std.proofs.lemmas.List.{drop_at as drop_front}
@@ -77,6 +78,16 @@ words_at (p ∷ ps) zero o k here l =
 words_at (p ∷ ps) (suc i) o k here l =
     let on : 3 * suc i + k ≡ length (op_words p) + (3 * i + k) = omega (arith, op_words_length p) in
     rw on (get_or-append-add (op_words p) (words_of ps) (3 * i + k) 0 ∙ words_at ps i o k here l)
+
+-- One word of a slate is one of the three of its operation.
+pub slate_at : (ops : List Op) (at : ℕ) (o : Op) (words : List ℕ) (part : ℕ) → at < 3 * length ops → slice_get ops (at / 3) ≡ Some o → words ≡ op_words o → at % 3 ≡ part
+    → slice_index words part ≡ slice_index (slate_of ops) at
+slate_at ops at o words part inside here is rest =
+    let split : 3 * (at / 3) + part ≡ at = omega (arith, rest) in
+    ap (λ (ws : List ℕ). get_or ws part 0) is
+    ∙ sym (words_at ops (at / 3) o part here (omega (arith, rest)))
+    ∙ ap (λ (k : ℕ). get_or (words_of ops) k 0) split
+    ∙ sym (get_or_append_left (words_of ops) (replicate (24 - 3 * length ops) 0) 0 at (omega (arith, inside, words_length ops)))
 
 -- Words that begin with those of a script are its slate.
 pub words_slate : (p : Program) (words : List ℕ) → IsScript (2 ^ 32) p → take (3 * p.n) words ≡ words_of p.ops → IsSlate p.n words p

@@ -1,6 +1,6 @@
 //! The words of a script: three for each operation.
 
-ghost use Rattle.std.specs.Prelude.{◌≡◌, ◌^◌, ◌≤◌, ◌↔◌};
+ghost use Rattle.std.specs.Prelude.{◌≡◌, ◌*◌, ◌^◌, ◌<◌, ◌≤◌, ◌↔◌, length, slice_index};
 ghost use Rattle.rme_script.specs.Programs.{Program};
 ghost use Rattle.rme_script.specs.Scripts.{IsWithin};
 ghost use Rattle.rme_script.specs.Slates.{IsSlate, op_words, op_of, slate_of, script_of};
@@ -9,8 +9,8 @@ use crate::limits::{MOST_OPERATIONS, OPERATION_WORDS, SLATE_WORDS};
 use crate::op::Op;
 use crate::script::Script;
 
-/// The three words of an operation.
-fn op_words(op: Op) -> [u64; OPERATION_WORDS]
+/// The three words of an operation: its kind, and its first and second word.
+pub fn op_words(op: Op) -> [u64; OPERATION_WORDS]
     ensures words { result ≡ op_words op }
     ensures within { IsWithin (2 ^ 32) op }
 {
@@ -23,8 +23,9 @@ fn op_words(op: Op) -> [u64; OPERATION_WORDS]
     }
 }
 
-/// The operation of three words, or `None` where they are none.
-fn op_of(kind: u64, first: u64, second: u64) -> Option<Op>
+/// The operation of three words, or `None` where they are none: a kind above 4, a get whose second word is not
+/// 0, or a cell number of 2^32 or more.
+pub fn op_of(kind: u64, first: u64, second: u64) -> Option<Op>
     ensures { result ≡ op_of kind first second }
 {
     let c = u32::try_from(first).ok()?;
@@ -36,6 +37,22 @@ fn op_of(kind: u64, first: u64, second: u64) -> Option<Op>
         4 => Some(Op::Swap(c, u32::try_from(second).ok()?)),
         _ => None,
     }
+}
+
+/// One word of a script's slate, which is one of an operation of the script: what `slate_words` has at `at`.
+pub fn slate_word(script: &Script, at: u32) -> u64
+    requires { at < 3 * length script.now.ops }
+    ensures { result ≡ slice_index (slate_of script.now.ops) at }
+{
+    let [kind, first, second] = op_words(script.op(at / 3));
+    let part = at % 3;
+    if part == 0 {
+        return kind;
+    }
+    if part == 1 {
+        return first;
+    }
+    second
 }
 
 /// The words of a script of at most eight operations: kind, first and second word of each operation, and 0 in

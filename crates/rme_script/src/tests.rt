@@ -1,6 +1,9 @@
 //! Values worked out by hand.
 
-use crate::{Job, Op, Row, Script, cell_count, eval, from_slate, named, next_cell, slate_words};
+use crate::{
+    Job, Op, Row, Script, cell_count, eval, from_slate, named, next_cell, op_of, op_words,
+    slate_word, slate_words,
+};
 use rme_words::{Refusal, Shape};
 use std::test::Fail;
 
@@ -119,6 +122,16 @@ fn writes_and_reads_slates(rt: HostRuntime) -> Result<(), Fail> {
     assert_eq!(rt; from_slate(8, &[0; 24]), Some(Script::of(&[Op::Get(0); 8])));
     assert_eq!(rt; from_slate(9, &[0; 24]), None);
     Ok(())
+}
+
+#[test]
+fn writes_and_reads_one_operation(rt: HostRuntime) {
+    let script = Script::of(&FIVE);
+    assert_eq!(rt; slate_word(&script, 5), u64::MAX);
+    assert_eq!(rt; slate_word(&script, 12), 3);
+    assert_eq!(rt; op_words(Op::Set(0, u64::MAX)), [1, 0, u64::MAX]);
+    assert_eq!(rt; op_of(1, 0, u64::MAX), Some(Op::Set(0, u64::MAX)));
+    assert_eq!(rt; op_of(0, 0, 1), None);
 }
 
 #[test]
