@@ -33,6 +33,10 @@ use Rattle.rme_program.specs.declared.stage.Parity.TheVariants.{Even, Odd}
 abbrev pub withdrawn_place : ℕ
 withdrawn_place = 18446744073709551615
 
+-- A stage that a step leads to with nothing else brought about.
+abbrev pub quietly : Stage → Stage × Note
+quietly stage = (stage, Quiet)
+
 -- RECOVER
 
 abbrev pub recovery_action : Shape → ℕ → Recovery → Action
@@ -136,6 +140,11 @@ abbrev pub turn_stage : ℕ → ℕ → Stage
 turn_stage lock turn =
     if turn % 2 == 0 then Logging (LoadLen lock turn) else Copying (LoadMask record { lock = lock; turn = turn; parity = Odd })
 
+-- The writing down goes on, or all is written down and the copying begins.
+abbrev pub logged : Log → Option Visit → Stage
+logged log None = Logging log
+logged log (Some visit) = Copying (LoadMask visit)
+
 abbrev pub after_log : Shape → Log → ℕ → Stage
 after_log shape (LoadTurn lock) value = turn_stage lock value
 after_log shape (LoadLen lock turn) value = slate_stage shape lock turn value (replicate 24 0) 0
@@ -164,6 +173,11 @@ abbrev pub copies_from : Visit → ℕ → Option ℕ → Stage
 copies_from visit mask (Some cell) = Copying (LoadShadow visit mask cell)
 copies_from visit mask None = Copying (LoadReply visit mask)
 
+-- The job is done.
+abbrev pub finished : ℕ → ℕ → Visit → ℕ → Stage × Note
+finished worker begun visit reply =
+    (Leaving (LoadExitTurn visit.lock), Finished record { worker = worker; lock = visit.lock; number = begun; place = visit.turn / 2; reply = reply })
+
 abbrev pub after_redo : Shape → ℕ → ℕ → Redo → ℕ → Stage × Note
 after_redo shape worker begun (LoadMask visit) value = (copies_from visit value (first_cell value 0 shape.cells), Quiet)
 after_redo shape worker begun (LoadShadow visit mask cell) value = (Copying (StoreCell visit mask cell value), Quiet)
@@ -172,8 +186,7 @@ after_redo shape worker begun (LoadReply visit mask) value = (Copying (StoreRepl
 after_redo shape worker begun (StoreReply visit mask reply) value = (Copying (StorePlace visit mask reply), Quiet)
 after_redo shape worker begun (StorePlace visit mask reply) value = (Copying (StoreAt visit mask reply), Quiet)
 after_redo shape worker begun (StoreAt visit mask reply) value = (Copying (StoreDone visit mask reply), Quiet)
-after_redo shape worker begun (StoreDone visit mask reply) value =
-    (Leaving (LoadExitTurn visit.lock), Finished record { worker = worker; lock = visit.lock; number = begun; place = visit.turn / 2; reply = reply })
+after_redo shape worker begun (StoreDone visit mask reply) value = finished worker begun visit reply
 
 -- EXIT
 

@@ -12,7 +12,7 @@ use crate::action::Action;
 use crate::note::Note;
 use crate::phases::{climbing, copying, leaving, logging, posting, recovering};
 use crate::private::Private;
-use crate::stage::{Recovery, Stage};
+use crate::stage::{Ascent, Recovery, Redo, Stage};
 use rme_words::Shape;
 
 /// The next own step of a worker: one operation on one word of the shape.
@@ -29,7 +29,7 @@ pub fn next(shape: Shape, private: &Private) -> Action
 {
     let worker = private.worker;
     let begun = private.begun;
-    match private.stage {
+    match &private.stage {
         Stage::Resting => unreachable!(),
         Stage::Recovering(recovery) => recovering::action(shape, worker, recovery),
         Stage::Posting(slate) => posting::action(shape, worker, begun, slate),
@@ -40,55 +40,80 @@ pub fn next(shape: Shape, private: &Private) -> Action
     }
 }
 
-/// What a worker knows after its step, and what the step brought about.
+/// Has a worker know what it knows after its step, and answers what the step brought about.
 ///
 /// `value` is what the step loaded, or what its swap found; for a store it may be any number. A loaded
 /// `begun` and `done` are at most the shape's jobs, a loaded lock is one of the shape's, a loaded number of
 /// operations is at most 8, a whole slate is a script of the shape, and a turn is below 2^32. A loaded mask
 /// may be anything.
-pub fn after(shape: Shape, private: Private, value: u64) -> (Private, Note)
-    requires private { IsPrivate shape private }
-    requires value { Takes shape private.stage value }
-    ensures after { result ≡ (private_after shape private value, note_after shape private value) }
-    ensures private { IsPrivate shape result.0 }
+pub fn after(shape: Shape, private: &mut Private, value: u64) -> Note
+    requires private { IsPrivate shape private.old }
+    requires value { Takes shape private.old.stage value }
+    ensures after { private.new ≡ private_after shape private.old value }
+    ensures note { result ≡ note_after shape private.old value }
+    ensures private { IsPrivate shape private.new }
 
     // The row of the step table goes on at its next place, or the phase is over as the table says.
-    ensures row { FollowsRow shape private value result.0 result.1 }
+    ensures row { FollowsRow shape private.old value private.new result }
 
     // What the values found do not matter for.
-    ensures track { IsOnTrack private.stage → IsOnTrack result.0.stage }
-    ensures falls { IsOnTrack private.stage → private.stage ≢ Stage.Resting → result.1 ≢ Note.Blocked → Falls shape private.stage result.0.stage }
-    ensures counts { IsOnTrack private.stage → private.stage ≢ Stage.Resting → CountsOn shape private.stage result.0.stage result.1 }
+    ensures track { IsOnTrack private.old.stage → IsOnTrack private.new.stage }
+    ensures falls { IsOnTrack private.old.stage → private.old.stage ≢ Stage.Resting → result ≢ Note.Blocked → Falls shape private.old.stage private.new.stage }
+    ensures counts { IsOnTrack private.old.stage → private.old.stage ≢ Stage.Resting → CountsOn shape private.old.stage private.new.stage result }
 {
-    let begun = begun_after(shape, &private, value);
-    let (stage, note) = stage_after(shape, &private, value);
-    (
-        Private {
-            worker: private.worker,
-            begun,
-            stage,
-        },
-        note,
-    )
+    let begun = begun_after(shape, private, value);
+    let note = stage_after(
+        shape,
+        private.worker,
+        private.begun,
+        &mut private.stage,
+        value,
+    );
+    private.begun = begun;
+    note
 }
 
-/// Where the worker is after its step, and what the step brought about.
-fn stage_after(shape: Shape, private: &Private, value: u64) -> (Stage, Note)
-    requires private { IsPrivate shape private.now }
-    requires value { Takes shape private.now.stage value }
-    ensures after { result ≡ after_at shape private.now.worker private.now.begun private.now.stage value }
-    ensures stage { IsStage shape private.now.begun result.0 }
+/// Has the worker be where it is after its step, and answers what the step brought about.
+fn stage_after(shape: Shape, worker: u32, begun: u32, stage: &mut Stage, value: u64) -> Note
+    requires worker { worker < shape.workers }
+    requires stage { IsStage shape begun stage.old }
+    requires value { Takes shape stage.old value }
+    ensures after { (stage.new, result) ≡ after_at shape worker begun stage.old value }
+    ensures stage { IsStage shape begun stage.new }
 {
-    let worker = private.worker;
-    let begun = private.begun;
-    match private.stage {
-        Stage::Resting => (Stage::Resting, Note::Quiet),
-        Stage::Recovering(recovery) => recovering::after(shape, worker, begun, recovery, value),
-        Stage::Posting(slate) => posting::after(shape, begun, slate),
-        Stage::Climbing(ascent) => climbing::after(shape, begun, ascent, value),
-        Stage::Logging(log) => (logging::after(shape, begun, log, value), Note::Quiet),
-        Stage::Copying(redo) => copying::after(shape, worker, begun, redo, value),
-        Stage::Leaving(departure) => leaving::after(shape, begun, departure, value),
+    match stage {
+        Stage::Resting => Note::Quiet,
+        Stage::Recovering(recovery) => {
+            let recovery = *recovery;
+            recovering::after(shape, worker, begun, recovery, stage, value)
+        }
+        Stage::Posting(slate) => {
+            if !posting::is_last(slate) {
+                slate.stored += 1;
+                return Note::Quiet;
+            }
+            let lock = slate.job.lock;
+            *stage = Stage::Climbing(Ascent { lock, held: 0 });
+            Note::Asked(begun + 1)
+        }
+        Stage::Climbing(ascent) => {
+            let ascent = *ascent;
+            climbing::after(shape, ascent, stage, value)
+        }
+        Stage::Logging(log) => {
+            if let Some(visit) = logging::after(shape, log, value) {
+                *stage = Stage::Copying(Redo::LoadMask { visit });
+            }
+            Note::Quiet
+        }
+        Stage::Copying(redo) => {
+            let redo = *redo;
+            copying::after(shape, worker, begun, redo, stage, value)
+        }
+        Stage::Leaving(departure) => {
+            let departure = *departure;
+            leaving::after(shape, begun, departure, stage, value)
+        }
     }
 }
 

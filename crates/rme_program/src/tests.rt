@@ -143,22 +143,21 @@ fn perform(bank: &mut Bank, action: Action) -> u64
 }
 
 /// Makes one step, which has to be this one.
-fn make(rt: &impl Abort, bank: &mut Bank, private: Private, step: Step) -> Private
-    requires { IsPrivate bank.old.shape private }
+fn make(rt: &impl Abort, bank: &mut Bank, private: &mut Private, step: Step)
+    requires { IsPrivate bank.old.shape private.old }
     ensures shape { bank.new.shape ≡ bank.old.shape }
-    ensures private { IsPrivate bank.new.shape result }
+    ensures private { IsPrivate bank.new.shape private.new }
 {
     let shape = bank.shape();
     if let Stage::Resting = private.stage {
         panic!(rt; "no step is left");
     }
-    let most = left(shape, &private);
-    let action = next(shape, &private);
+    let most = left(shape, private);
+    let action = next(shape, private);
     let value = perform(bank, action);
-    assert!(rt; may_be(shape, &private, value));
-    let (now, note) = after(shape, private, value);
+    assert!(rt; may_be(shape, private, value));
+    let note = after(shape, private, value);
     assert_eq!(rt; (most, action, note), step);
-    now
 }
 
 /// Makes these steps in turn.
@@ -169,7 +168,7 @@ fn walk(rt: &impl Abort, bank: &mut Bank, first: Private, steps: &[Step]) -> Pri
 {
     let mut private = first;
     for step in steps {
-        private = make(rt, bank, private, *step);
+        make(rt, bank, &mut private, *step);
     }
     private
 }

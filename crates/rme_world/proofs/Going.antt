@@ -1,6 +1,7 @@
 -- One own step of a worker, as the code makes it: what it may rely on, and what it has done.
 use Rattle.std.proofs.Common.{◌≡◌, ◌≢◌, ℕ, ◌+◌, ◌/◌, ◌%◌, ◌<◌, ◌≤◌, List, [], ◌∷◌, ◌++◌, false, length, refl, sym, ◌∙◌, ap, subst, arith}
-use Rattle.std.specs.Prelude.{Option, Some, slice_get, slice_set}
+use Rattle.std.specs.Prelude.{Option, Some, slice_get, slice_set, slice_index_or, unwrap_or}
+use Rattle.std.proofs.lemmas.Option.{same_Some, slice_get_read}
 use Rattle.rme_words.specs.declared.shape.Shape.{Shape}
 use Rattle.rme_words.specs.declared.address.Address.{Address}
 use Rattle.rme_words.specs.declared.address.Address.TheVariants.{Done, SlateLock, SlateLen, SlateWord}
@@ -30,6 +31,7 @@ use Rattle.rme_world.specs.declared.counts.Counts.{Counts}
 use Rattle.rme_world.specs.Counting.{CountsAfter, count_of, most_steps, no_counts}
 use Rattle.rme_world.specs.Seen.{Seen, IsKept, counts_of, memory_seen, privates_seen, shown_by}
 use Rattle.rme_world.specs.Refused.{is_ready}
+use Rattle.rme_world.specs.Looks.{IsBusy}
 use Rattle.rme_world.specs.Events.{Steps}
 use Rattle.rme_world.proofs.Notes.{Tells, told}
 use Rattle.rme_world.proofs.Owing.{owed_step}
@@ -78,6 +80,23 @@ not_idle (Climbing ascent) busy = refl
 not_idle (Logging log) busy = refl
 not_idle (Copying redo) busy = refl
 not_idle (Leaving departure) busy = refl
+
+-- What lies in the place of a busy worker is the private state that it is busy with.
+pub lies : (old : Seen) (worker : ℕ) (private : Private) (place : Option Private) → IsKept old → IsBusy old worker → place ≡ slice_index_or old.privates worker place → place ≡ Some private
+    → (slice_get old.privates worker ≡ Some (Some private)) × (private.stage ≢ Resting)
+lies old worker private place kept (its, found, busy) value is =
+    let within : worker < old.shape.workers = is_worker old worker (Some its) kept.all_privates found in
+    let here : slice_get old.privates worker ≡ Some (Some private) = slice_get_read old.privates old.shape.workers worker place (sym kept.all_privates) within value ∙ ap (λ (p : Option Private). Some p) is in
+    let same : its ≡ private = same_Some its private (same_Some (Some its) (Some private) (sym found ∙ here)) in
+    (here, λ rests. busy (ap (λ (p : Private). p.stage) same ∙ rests))
+
+-- There is a place for each busy worker, and its counts lie in it.
+pub busy_within : (old : Seen) (worker : ℕ) → IsKept old → IsBusy old worker → worker < old.shape.workers
+busy_within old worker kept (its, found, busy) = is_worker old worker (Some its) kept.all_privates found
+
+pub counts_lie : (old : Seen) (worker : ℕ) (place : Counts) → IsKept old → worker < old.shape.workers → place ≡ slice_index_or old.counts worker place → place ≡ counts_of old worker
+counts_lie old worker place kept within value =
+    sym (ap (λ (c : Option Counts). unwrap_or c no_counts) (slice_get_read old.counts old.shape.workers worker place (sym kept.all_counts) within value))
 
 module _ (old : Seen) (worker : ℕ) (private : Private) (kept : IsKept old) (found : slice_get old.privates worker ≡ Some (Some private)) (busy : private.stage ≢ Resting) where
   within : worker < old.shape.workers

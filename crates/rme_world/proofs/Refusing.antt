@@ -25,10 +25,6 @@ module _ (seen : Seen) (worker : ℕ) (job : Job) (private : Private) (shape : S
   pub taken : Ok tt ≡ check_of shape.cells job.script → private.begun < shape.jobs → submit_refusal seen worker job ≡ None
   taken checked few = rw (found, ready, ← same, lt-ltb _ _ lock, ← checked, lt-ltb _ _ few) refl
 
--- A ready worker has no step to make.
-pub idle : (seen : Seen) (worker : ℕ) (private : Private) → slice_get seen.privates worker ≡ Some (Some private) → private.stage ≡ Resting → step_refusal seen worker ≡ Some Idle
-idle seen worker private found ready = rw (found, ready) refl
-
 pub submit_refused : (seen : Seen) (worker : ℕ) (job : Job) (refusal : Refusal) → submit_refusal seen worker job ≡ Some refusal → IsRefused (submit_refusal seen worker job) refusal
 submit_refused seen worker job refusal is = rw is refl
 

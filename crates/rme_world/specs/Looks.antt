@@ -39,6 +39,10 @@ pub record IsLastReceipt (seen : Seen) (worker : ℕ) (receipt : Receipt) : Type
   pub last : last_by seen.history worker ≡ Some entry
   pub same : receipt ≡ entry.receipt
 
+-- A worker is up, and has a step to make.
+abbrev pub IsBusy : Seen → ℕ → Type 0
+IsBusy seen worker = (private : Private) × (slice_get seen.privates worker ≡ Some (Some private)) × (private.stage ≢ Resting)
+
 -- A worker is up, and in a phase.
 abbrev pub IsIn : Seen → ℕ → Phase → Type 0
 IsIn seen worker phase = (private : Private) × (slice_get seen.privates worker ≡ Some (Some private)) × (phase_of private.stage ≡ phase)

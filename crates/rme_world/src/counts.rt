@@ -42,32 +42,17 @@ impl Counts {
     }
 
     /// One more step in a phase.
-    fn count(self, phase: Phase) -> Counts
-        requires { count_of self phase < 4294967295 }
-        ensures { result ≡ counted self phase }
+    fn count(&mut self, phase: Phase)
+        requires { count_of self.old phase < 4294967295 }
+        ensures { self.new ≡ counted self.old phase }
     {
         match phase {
-            Phase::Recover => Counts {
-                recover: self.recover + 1,
-                ..self
-            },
-            Phase::Post => Counts {
-                post: self.post + 1,
-                ..self
-            },
-            Phase::Enter => Counts {
-                enter: self.enter + 1,
-                ..self
-            },
-            Phase::Section => Counts {
-                section: self.section + 1,
-                ..self
-            },
-            Phase::Exit => Counts {
-                exit: self.exit + 1,
-                ..self
-            },
-            Phase::Ready => self,
+            Phase::Recover => self.recover += 1,
+            Phase::Post => self.post += 1,
+            Phase::Enter => self.enter += 1,
+            Phase::Section => self.section += 1,
+            Phase::Exit => self.exit += 1,
+            Phase::Ready => {}
         }
     }
 
@@ -85,19 +70,19 @@ impl Counts {
         }
     }
 
-    /// The counts after a step that was made in phase `before` and left the worker in phase `after`.
-    pub(crate) fn after_step(self, before: Phase, after: Phase, note: Note) -> Counts
-        requires { count_of self before < 4294967295 }
-        ensures { CountsAfter self before after note result }
+    /// Counts a step that was made in phase `before` and left the worker in phase `after`.
+    pub(crate) fn after_step(&mut self, before: Phase, after: Phase, note: Note)
+        requires { count_of self.old before < 4294967295 }
+        ensures { CountsAfter self.old before after note self.new }
     {
         if is_blocked(note) {
-            return self;
+            return;
         }
-        let counts = self.count(before);
+        self.count(before);
         if after == before {
-            return counts;
+            return;
         }
-        counts.begin(after)
+        *self = self.begin(after);
     }
 }
 

@@ -9,14 +9,17 @@ ghost use Rattle.rme_machine.specs.Views.{worker_words, slate_at, slate_job};
 
 use crate::perform::perform;
 use crate::world::World;
-use rme_program::{Entry, Note, Private, Stage, after, next, phase};
+use rme_program::{Entry, Note, Stage, after, next, phase};
 use rme_script::{Script, from_slate};
 use rme_words::{Address, Bank, Refusal};
 
 impl World {
-    ghost use Rattle.std.specs.Prelude.{◌≡◌, ◌≢◌, ◌<◌, Some, slice_get};
+    ghost use Rattle.std.specs.Prelude.{◌≡◌, Some, OnOk, IfErr};
     ghost use Rattle.rme_program.specs.declared.stage.Stage.{Stage};
+    ghost use Rattle.rme_world.specs.Seen.{IsKept};
+    ghost use Rattle.rme_world.specs.Refused.{step_refusal};
     ghost use Rattle.rme_world.specs.Events.{Steps};
+    ghost use Rattle.rme_world.specs.Looks.{IsBusy};
     ghost use Rattle.rme_world.specs.Calls.{Stepped};
 
     /// Lets a worker make its next own step, one operation on one word, and answers what it brought about.
@@ -26,31 +29,46 @@ impl World {
     pub fn step(&mut self, worker: u32) -> Result<Note, Refusal>
         ensures { Stepped self.old worker result self.new }
     {
-        let private = match self.up(worker) {
-            Ok(private) => private,
-            Err(refusal) => return Err(refusal),
-        };
-        if let Stage::Resting = private.stage {
-            return Err(Refusal::Idle);
+        if let Err(refusal) = self.may_step(worker) {
+            return Err(refusal);
         }
-        Ok(self.go(worker, private))
+        Ok(self.go(worker))
+    }
+
+    /// Whether a worker is up and not ready, or why it may not step.
+    fn may_step(&self, worker: u32) -> Result<(), Refusal>
+        ensures kept { IsKept self.now }
+        ensures busy { OnOk result (IsBusy self.now worker) }
+        ensures refused { IfErr result (λ refusal. step_refusal self.now worker ≡ Some refusal) }
+    {
+        match self.privates.get(worker as usize) {
+            None => Err(Refusal::NoWorker),
+            Some(None) => Err(Refusal::Down),
+            Some(Some(private)) => {
+                if let Stage::Resting = private.stage {
+                    return Err(Refusal::Idle);
+                }
+                Ok(())
+            }
+        }
     }
 
     /// The step of a worker that is up and not ready.
-    fn go(&mut self, worker: u32, private: Private) -> Note
-        requires worker { worker < self.old.shape.workers }
-        requires found { slice_get self.old.privates worker ≡ Some (Some private) }
-        requires busy { private.stage ≢ Stage.Resting }
+    fn go(&mut self, worker: u32) -> Note
+        requires busy { IsBusy self.old worker }
         ensures { Steps self.old worker result self.new }
     {
         let shape = self.bank.shape();
-        let before = phase(&private);
-        let counts = self.counts_at(worker);
-        let found = perform(&mut self.bank, next(shape, &private));
-        let (private, note) = after(shape, private, found);
+        let Some(private) = &mut self.privates[worker as usize] else {
+            unreachable!();
+        };
+        let before = phase(private);
+        let found = perform(&mut self.bank, next(shape, private));
+        let note = after(shape, private, found);
+        let now = phase(private);
         record(&mut self.history, &self.bank, worker, note);
-        self.counts[worker as usize] = counts.after_step(before, phase(&private), note);
-        self.privates[worker as usize] = Some(private);
+        let counts = &mut self.counts[worker as usize];
+        counts.after_step(before, now, note);
         note
     }
 }

@@ -2,7 +2,7 @@
 
 ghost use Rattle.std.specs.Prelude.{◌≡◌, ◌<◌, ◌≤◌, ◌+◌, ℕ};
 ghost use Rattle.rme_words.specs.Words.{IsOfShape};
-ghost use Rattle.rme_program.specs.Steps.{ascent_action, after_ascent, after_taken};
+ghost use Rattle.rme_program.specs.Steps.{quietly, ascent_action, after_ascent, after_taken};
 ghost use Rattle.rme_program.specs.Conditions.{IsStage};
 ghost use Rattle.rme_program.specs.Did.{address_of};
 
@@ -12,11 +12,11 @@ use crate::stage::{Ascent, Log, Stage};
 use rme_tree::{node, side};
 use rme_words::{Address, Shape};
 
-pub fn action(shape: Shape, worker: u32, ascent: Ascent) -> Action
+pub fn action(shape: Shape, worker: u32, ascent: &Ascent) -> Action
     requires worker { worker < shape.workers }
-    requires lock { ascent.lock < shape.locks }
-    requires held { ascent.held < shape.height }
-    ensures action { result ≡ ascent_action shape worker ascent }
+    requires lock { ascent.now.lock < shape.locks }
+    requires held { ascent.now.held < shape.height }
+    ensures action { result ≡ ascent_action shape worker ascent.now }
     ensures within { IsOfShape shape (address_of result) }
 {
     let level = ascent.held + 1;
@@ -27,27 +27,40 @@ pub fn action(shape: Shape, worker: u32, ascent: Ascent) -> Action
     )
 }
 
-pub fn after(shape: Shape, begun: u32, ascent: Ascent, value: u64) -> (Stage, Note)
+pub fn after(shape: Shape, ascent: Ascent, stage: &mut Stage, value: u64) -> Note
+    requires here { stage.old ≡ Stage.Climbing ascent }
     requires lock { ascent.lock < shape.locks }
     requires held { ascent.held < shape.height }
-    ensures after { result ≡ after_ascent shape ascent value }
-    ensures stage { IsStage shape begun result.0 }
+    ensures after { (stage.new, result) ≡ after_ascent shape ascent value }
+    ensures stage { (begun : ℕ) → IsStage shape begun stage.new }
 {
     if value == 0 {
-        return after_taken(shape, ascent.lock, ascent.held + 1);
+        return after_taken(shape, ascent.lock, ascent.held + 1, stage);
     }
-    (Stage::Climbing(ascent), Note::Blocked)
+    Note::Blocked
 }
 
 /// One more node is the worker's: the root gives it the lock.
-fn after_taken(shape: Shape, lock: u32, held: u32) -> (Stage, Note)
+fn after_taken(shape: Shape, lock: u32, held: u32, stage: &mut Stage) -> Note
     requires lock { lock < shape.locks }
     requires held { held ≤ shape.height }
-    ensures after { result ≡ after_taken shape lock held }
-    ensures stage { (begun : ℕ) → IsStage shape begun result.0 }
+    ensures after { (stage.new, result) ≡ after_taken shape lock held }
+    ensures stage { (begun : ℕ) → IsStage shape begun stage.new }
 {
     if held == shape.height {
-        return (Stage::Logging(Log::LoadTurn { lock }), Note::Entered(lock));
+        *stage = Stage::Logging(Log::LoadTurn { lock });
+        return Note::Entered(lock);
     }
-    (Stage::Climbing(Ascent { lock, held }), Note::Quiet)
+    go_on(stage, Ascent { lock, held })
+}
+
+/// The worker wants its next node, and the step brought nothing else about.
+fn go_on(stage: &mut Stage, ascent: Ascent) -> Note
+    ensures { (stage.new, result) ≡ quietly (Stage.Climbing ascent) }
+{
+    match stage {
+        Stage::Climbing(now) => *now = ascent,
+        _ => *stage = Stage::Climbing(ascent),
+    }
+    Note::Quiet
 }

@@ -1,9 +1,9 @@
 //! Phase Section from the odd turn on: the worker copies what was written down, and then counts its job as
 //! done.
 
-ghost use Rattle.std.specs.Prelude.{◌≡◌, ◌<◌, ◌≤◌, ◌+◌, ◌/◌, ℕ};
+ghost use Rattle.std.specs.Prelude.{◌≡◌, ◌<◌, ◌≤◌, ◌+◌, ℕ};
 ghost use Rattle.rme_words.specs.Words.{IsOfShape};
-ghost use Rattle.rme_program.specs.Steps.{redo_action, after_redo, copies_from};
+ghost use Rattle.rme_program.specs.Steps.{quietly, redo_action, after_redo, copies_from, finished};
 ghost use Rattle.rme_program.specs.Conditions.{IsRedo, IsStage};
 ghost use Rattle.rme_program.specs.Masks.{first_cell};
 ghost use Rattle.rme_program.specs.Did.{address_of};
@@ -14,23 +14,23 @@ use crate::note::{Note, Receipt};
 use crate::stage::{Departure, Redo, Stage, Visit};
 use rme_words::{Address, Shape};
 
-pub fn action(shape: Shape, worker: u32, begun: u32, redo: Redo) -> Action
+pub fn action(shape: Shape, worker: u32, begun: u32, redo: &Redo) -> Action
     requires worker { worker < shape.workers }
-    requires stage { IsRedo shape redo }
-    ensures action { result ≡ redo_action worker begun redo }
+    requires stage { IsRedo shape redo.now }
+    ensures action { result ≡ redo_action worker begun redo.now }
     ensures within { IsOfShape shape (address_of result) }
 {
     match redo {
         Redo::LoadMask { visit } => Action::Load(Address::Mask(visit.lock)),
-        Redo::LoadShadow { visit, cell, .. } => Action::Load(Address::Shadow(visit.lock, cell)),
+        Redo::LoadShadow { visit, cell, .. } => Action::Load(Address::Shadow(visit.lock, *cell)),
         Redo::StoreCell {
             visit,
             cell,
             value,
             ..
-        } => Action::Store(Address::Cell(visit.lock, cell), value),
+        } => Action::Store(Address::Cell(visit.lock, *cell), *value),
         Redo::LoadReply { visit, .. } => Action::Load(Address::ShadowReply(visit.lock)),
-        Redo::StoreReply { reply, .. } => Action::Store(Address::Reply(worker), reply),
+        Redo::StoreReply { reply, .. } => Action::Store(Address::Reply(worker), *reply),
         Redo::StorePlace { visit, .. } => Action::Store(
             Address::Place(worker),
             u64::from(visit.turn / 2),
@@ -40,69 +40,85 @@ pub fn action(shape: Shape, worker: u32, begun: u32, redo: Redo) -> Action
     }
 }
 
-pub fn after(shape: Shape, worker: u32, begun: u32, redo: Redo, value: u64) -> (Stage, Note)
+pub fn after(
+    shape: Shape,
+    worker: u32,
+    begun: u32,
+    redo: Redo,
+    stage: &mut Stage,
+    value: u64,
+) -> Note
     requires { IsRedo shape redo }
-    ensures after { result ≡ after_redo shape worker begun redo value }
-    ensures stage { IsStage shape begun result.0 }
+    ensures after { (stage.new, result) ≡ after_redo shape worker begun redo value }
+    ensures stage { IsStage shape begun stage.new }
 {
     match redo {
-        Redo::LoadMask { visit } => copies_from(shape, visit, value, 0),
-        Redo::LoadShadow { visit, mask, cell } => go_on(Redo::StoreCell {
-            visit,
-            mask,
-            cell,
-            value,
-        }),
+        Redo::LoadMask { visit } => copies_from(shape, visit, value, 0, stage),
+        Redo::LoadShadow { visit, mask, cell } => {
+            let stored = Redo::StoreCell {
+                visit,
+                mask,
+                cell,
+                value,
+            };
+            go_on(stage, stored)
+        }
         Redo::StoreCell {
             visit,
             mask,
             cell,
             ..
-        } => copies_from(shape, visit, mask, cell + 1),
-        Redo::LoadReply { visit, mask } => go_on(Redo::StoreReply {
-            visit,
-            mask,
-            reply: value,
-        }),
-        Redo::StoreReply { visit, mask, reply } => go_on(Redo::StorePlace { visit, mask, reply }),
-        Redo::StorePlace { visit, mask, reply } => go_on(Redo::StoreAt { visit, mask, reply }),
-        Redo::StoreAt { visit, mask, reply } => go_on(Redo::StoreDone { visit, mask, reply }),
-        Redo::StoreDone { visit, reply, .. } => finished(worker, begun, visit, reply),
+        } => copies_from(shape, visit, mask, cell + 1, stage),
+        Redo::LoadReply { visit, mask } => {
+            let reply = value;
+            go_on(stage, Redo::StoreReply { visit, mask, reply })
+        }
+        Redo::StoreReply { visit, mask, reply } => {
+            go_on(stage, Redo::StorePlace { visit, mask, reply })
+        }
+        Redo::StorePlace { visit, mask, reply } => {
+            go_on(stage, Redo::StoreAt { visit, mask, reply })
+        }
+        Redo::StoreAt { visit, mask, reply } => {
+            go_on(stage, Redo::StoreDone { visit, mask, reply })
+        }
+        Redo::StoreDone { visit, reply, .. } => finished(worker, begun, visit, reply, stage),
     }
 }
 
 /// The section goes on at this place, and the step brought nothing else about.
-fn go_on(redo: Redo) -> (Stage, Note)
-    ensures { result ≡ (Stage.Copying redo, Note.Quiet) }
+fn go_on(stage: &mut Stage, redo: Redo) -> Note
+    ensures { (stage.new, result) ≡ quietly (Stage.Copying redo) }
 {
-    (Stage::Copying(redo), Note::Quiet)
+    match stage {
+        Stage::Copying(now) => *now = redo,
+        _ => *stage = Stage::Copying(redo),
+    }
+    Note::Quiet
 }
 
 /// The mask's cells before `from` are copied.
-fn copies_from(shape: Shape, visit: Visit, mask: u64, from: u32) -> (Stage, Note)
+fn copies_from(shape: Shape, visit: Visit, mask: u64, from: u32, stage: &mut Stage) -> Note
     requires lock { visit.lock < shape.locks }
-    ensures after { result ≡ (copies_from visit mask (first_cell mask from shape.cells), Note.Quiet) }
-    ensures stage { (begun : ℕ) → IsStage shape begun result.0 }
+    ensures after { (stage.new, result) ≡ quietly (copies_from visit mask (first_cell mask from shape.cells)) }
+    ensures stage { (begun : ℕ) → IsStage shape begun stage.new }
 {
     match first_cell(mask, from, shape.cells) {
-        Some(cell) => go_on(Redo::LoadShadow { visit, mask, cell }),
-        None => go_on(Redo::LoadReply { visit, mask }),
+        Some(cell) => go_on(stage, Redo::LoadShadow { visit, mask, cell }),
+        None => go_on(stage, Redo::LoadReply { visit, mask }),
     }
 }
 
 /// The job is done.
-fn finished(worker: u32, begun: u32, visit: Visit, reply: u64) -> (Stage, Note)
-    ensures { result ≡ (Stage.Leaving (Departure.LoadExitTurn visit.lock), Note.Finished record { worker = worker; lock = visit.lock; number = begun; place = visit.turn / 2; reply = reply }) }
+fn finished(worker: u32, begun: u32, visit: Visit, reply: u64, stage: &mut Stage) -> Note
+    ensures { (stage.new, result) ≡ finished worker begun visit reply }
 {
-    let receipt = Receipt {
+    *stage = Stage::Leaving(Departure::LoadExitTurn { lock: visit.lock });
+    Note::Finished(Receipt {
         worker,
         lock: visit.lock,
         number: begun,
         place: visit.turn / 2,
         reply,
-    };
-    (
-        Stage::Leaving(Departure::LoadExitTurn { lock: visit.lock }),
-        Note::Finished(receipt),
-    )
+    })
 }

@@ -2,7 +2,7 @@
 
 ghost use Rattle.std.specs.Prelude.{◌≡◌, ◌<◌, ◌≤◌, ◌+◌, ◌-◌, ℕ};
 ghost use Rattle.rme_words.specs.Words.{IsOfShape};
-ghost use Rattle.rme_program.specs.Steps.{departure_action, after_departure, clear_stage, cleared_note, exit_stage};
+ghost use Rattle.rme_program.specs.Steps.{quietly, departure_action, after_departure, clear_stage, cleared_note, exit_stage};
 ghost use Rattle.rme_program.specs.Conditions.{IsDeparture, IsStage, Takes};
 ghost use Rattle.rme_program.specs.Did.{address_of};
 
@@ -15,69 +15,81 @@ use rme_words::{Address, Shape};
 /// The place that says that a number was withdrawn, and has no receipt.
 const WITHDRAWN: u64 = u64::MAX;
 
-pub fn action(shape: Shape, worker: u32, begun: u32, departure: Departure) -> Action
+pub fn action(shape: Shape, worker: u32, begun: u32, departure: &Departure) -> Action
     requires worker { worker < shape.workers }
-    requires stage { IsDeparture shape departure }
-    ensures action { result ≡ departure_action shape worker begun departure }
+    requires stage { IsDeparture shape departure.now }
+    ensures action { result ≡ departure_action shape worker begun departure.now }
     ensures within { IsOfShape shape (address_of result) }
 {
     match departure {
-        Departure::LoadExitTurn { lock } => Action::Load(Address::Turn(lock)),
+        Departure::LoadExitTurn { lock } => Action::Load(Address::Turn(*lock)),
         Departure::StoreExitTurn { lock, turn } => Action::Store(
-            Address::Turn(lock),
-            u64::from(turn) + 1,
+            Address::Turn(*lock),
+            u64::from(*turn) + 1,
         ),
         Departure::Clear { lock, level } => Action::Store(
-            Address::Node(lock, node(shape, worker, level)),
+            Address::Node(*lock, node(shape, worker, *level)),
             0,
         ),
         Departure::WithdrawPlace { .. } => Action::Store(Address::Place(worker), WITHDRAWN),
-        Departure::WithdrawAt { lock, .. } => Action::Store(Address::At(worker), u64::from(lock)),
+        Departure::WithdrawAt { lock, .. } => Action::Store(Address::At(worker), u64::from(*lock)),
         Departure::WithdrawReply { .. } => Action::Store(Address::Reply(worker), 0),
         Departure::WithdrawDone { .. } => Action::Store(Address::Done(worker), u64::from(begun)),
     }
 }
 
-pub fn after(shape: Shape, begun: u32, departure: Departure, value: u64) -> (Stage, Note)
+pub fn after(shape: Shape, begun: u32, departure: Departure, stage: &mut Stage, value: u64) -> Note
     requires stage { IsDeparture shape departure }
     requires value { Takes shape (Stage.Leaving departure) value }
-    ensures after { result ≡ after_departure shape begun departure value }
-    ensures stage { IsStage shape begun result.0 }
+    ensures after { (stage.new, result) ≡ after_departure shape begun departure value }
+    ensures stage { IsStage shape begun stage.new }
 {
     match departure {
-        Departure::LoadExitTurn { lock } => (exit_stage(shape, lock, value as u32), Note::Quiet),
-        Departure::StoreExitTurn { lock, .. } => go_on(Departure::Clear {
-            lock,
-            level: shape.height,
-        }),
-        Departure::Clear { lock, level } => {
-            (
-                clear_stage(lock, level - 1),
-                cleared_note(shape, lock, level),
-            )
+        Departure::LoadExitTurn { lock } => after_turn(shape, lock, value as u32, stage),
+        Departure::StoreExitTurn { lock, .. } => {
+            let level = shape.height;
+            go_on(stage, Departure::Clear { lock, level })
         }
-        Departure::WithdrawPlace { lock, held } => go_on(Departure::WithdrawAt { lock, held }),
-        Departure::WithdrawAt { lock, held } => go_on(Departure::WithdrawReply { lock, held }),
-        Departure::WithdrawReply { lock, held } => go_on(Departure::WithdrawDone { lock, held }),
-        Departure::WithdrawDone { lock, held } => (clear_stage(lock, held), Note::Withdrew(begun)),
+        Departure::Clear { lock, level } => {
+            clear_from(lock, level - 1, stage);
+            cleared_note(shape, lock, level)
+        }
+        Departure::WithdrawPlace { lock, held } => {
+            go_on(stage, Departure::WithdrawAt { lock, held })
+        }
+        Departure::WithdrawAt { lock, held } => {
+            go_on(stage, Departure::WithdrawReply { lock, held })
+        }
+        Departure::WithdrawReply { lock, held } => {
+            go_on(stage, Departure::WithdrawDone { lock, held })
+        }
+        Departure::WithdrawDone { lock, held } => {
+            clear_from(lock, held, stage);
+            Note::Withdrew(begun)
+        }
     }
 }
 
 /// The exit goes on at this place, and the step brought nothing else about.
-fn go_on(departure: Departure) -> (Stage, Note)
-    ensures { result ≡ (Stage.Leaving departure, Note.Quiet) }
+fn go_on(stage: &mut Stage, departure: Departure) -> Note
+    ensures { (stage.new, result) ≡ quietly (Stage.Leaving departure) }
 {
-    (Stage::Leaving(departure), Note::Quiet)
+    match stage {
+        Stage::Leaving(now) => *now = departure,
+        _ => *stage = Stage::Leaving(departure),
+    }
+    Note::Quiet
 }
 
 /// So many levels are still to be cleared.
-fn clear_stage(lock: u32, level: u32) -> Stage
-    ensures { result ≡ clear_stage lock level }
+fn clear_from(lock: u32, level: u32, stage: &mut Stage)
+    ensures { stage.new ≡ clear_stage lock level }
 {
     if level == 0 {
-        return Stage::Resting;
+        *stage = Stage::Resting;
+        return;
     }
-    Stage::Leaving(Departure::Clear { lock, level })
+    let _ = go_on(stage, Departure::Clear { lock, level });
 }
 
 /// The node of a level was cleared: the root's frees the lock, and the lowest makes the worker ready.
@@ -94,14 +106,12 @@ fn cleared_note(shape: Shape, lock: u32, level: u32) -> Note
 }
 
 /// The turn of a finished section is known: an odd one is counted up first.
-fn exit_stage(shape: Shape, lock: u32, turn: u32) -> Stage
-    ensures { result ≡ exit_stage shape lock turn }
+fn after_turn(shape: Shape, lock: u32, turn: u32, stage: &mut Stage) -> Note
+    ensures { (stage.new, result) ≡ quietly (exit_stage shape lock turn) }
 {
     if turn % 2 == 0 {
-        return Stage::Leaving(Departure::Clear {
-            lock,
-            level: shape.height,
-        });
+        let level = shape.height;
+        return go_on(stage, Departure::Clear { lock, level });
     }
-    Stage::Leaving(Departure::StoreExitTurn { lock, turn })
+    go_on(stage, Departure::StoreExitTurn { lock, turn })
 }

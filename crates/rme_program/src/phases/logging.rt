@@ -1,47 +1,47 @@
 //! Phase Section until the turn is odd: the worker runs its script and writes down what it leaves.
 
-ghost use Rattle.std.specs.Prelude.{◌≡◌, ◌<◌, ◌≤◌, ◌+◌, ◌*◌, ◌^◌, ℕ, Some, length, replicate, slice_set};
+ghost use Rattle.std.specs.Prelude.{◌≡◌, ◌<◌, ◌≤◌, ◌+◌, ◌*◌, ◌^◌, ℕ, List, Some, length, replicate};
 ghost use Rattle.rme_words.specs.Words.{IsOfShape};
 ghost use Rattle.rme_script.specs.Programs.{Program};
 ghost use Rattle.rme_script.specs.Scripts.{IsScript};
 ghost use Rattle.rme_script.specs.Slates.{script_of};
-ghost use Rattle.rme_program.specs.Steps.{log_action, after_log, turn_stage, slate_stage, script_stage, cells_from_here, run_stage, shadows_from};
+ghost use Rattle.rme_program.specs.declared.stage.Stage.{Stage};
+ghost use Rattle.rme_program.specs.declared.stage.Log.{Log};
+ghost use Rattle.rme_program.specs.declared.stage.Visit.{Visit};
+ghost use Rattle.rme_program.specs.Steps.{log_action, after_log, logged, turn_stage, slate_stage, script_stage, run_stage};
 ghost use Rattle.rme_program.specs.Conditions.{IsLog, IsStage, Takes};
-ghost use Rattle.rme_program.specs.Masks.{first_cell};
 ghost use Rattle.rme_program.specs.Did.{address_of};
 
 use crate::action::Action;
 use crate::masks::{first_cell, mask_of};
-use crate::stage::{Log, Parity, Redo, Stage, Visit};
+use crate::stage::{Log, Parity, Visit};
 use rme_script::{Row, Script, eval, from_slate};
 use rme_words::{Address, Shape};
 
-pub fn action(shape: Shape, worker: u32, log: Log) -> Action
+pub fn action(shape: Shape, worker: u32, log: &Log) -> Action
     requires worker { worker < shape.workers }
-    requires stage { IsLog shape log }
-    ensures action { result ≡ log_action worker log }
+    requires stage { IsLog shape log.now }
+    ensures action { result ≡ log_action worker log.now }
     ensures within { IsOfShape shape (address_of result) }
 {
     match log {
-        Log::LoadTurn { lock } => Action::Load(Address::Turn(lock)),
+        Log::LoadTurn { lock } => Action::Load(Address::Turn(*lock)),
         Log::LoadLen { .. } => Action::Load(Address::SlateLen(worker)),
-        Log::LoadSlate { loaded, .. } => Action::Load(Address::SlateWord(
-            worker,
-            loaded / 3,
-            loaded % 3,
-        )),
-        Log::LoadCells { lock, cell, .. } => Action::Load(Address::Cell(lock, cell)),
+        Log::LoadSlate { loaded, .. } => {
+            Action::Load(Address::SlateWord(worker, *loaded / 3, *loaded % 3))
+        }
+        Log::LoadCells { lock, cell, .. } => Action::Load(Address::Cell(*lock, *cell)),
         Log::StoreShadows {
             visit,
             row,
             cell,
             ..
-        } => { Action::Store(Address::Shadow(visit.lock, cell), row.get(cell)) }
+        } => Action::Store(Address::Shadow(visit.lock, *cell), row.get(*cell)),
         Log::StoreShadowReply { visit, reply, .. } => Action::Store(
             Address::ShadowReply(visit.lock),
-            reply,
+            *reply,
         ),
-        Log::StoreMask { visit, named } => Action::Store(Address::Mask(visit.lock), named),
+        Log::StoreMask { visit, named } => Action::Store(Address::Mask(visit.lock), *named),
         Log::StoreTurn { visit } => Action::Store(
             Address::Turn(visit.lock),
             u64::from(visit.turn) + 1,
@@ -49,196 +49,231 @@ pub fn action(shape: Shape, worker: u32, log: Log) -> Action
     }
 }
 
-pub fn after(shape: Shape, begun: u32, log: Log, value: u64) -> Stage
-    requires stage { IsLog shape log }
-    requires value { Takes shape (Stage.Logging log) value }
-    ensures after { result ≡ after_log shape log value }
-    ensures stage { IsStage shape begun result }
+/// Goes on, and answers the visit where all is written down, so that the copying comes next.
+pub fn after(shape: Shape, log: &mut Log, value: u64) -> Option<Visit>
+    requires stage { IsLog shape log.old }
+    requires value { Takes shape (Stage.Logging log.old) value }
+    ensures after { logged log.new result ≡ after_log shape log.old value }
+    ensures stage { (begun : ℕ) → IsStage shape begun (logged log.new result) }
 {
-    match log {
-        Log::LoadTurn { lock } => turn_stage(lock, value as u32),
-        Log::LoadLen { lock, turn } => slate_stage(shape, lock, turn, value as u32, [0; 24], 0),
-        Log::LoadSlate {
+    match *log {
+        Log::LoadTurn { lock } => return after_turn(lock, value as u32, log),
+        Log::LoadLen { lock, turn } => after_len(shape, lock, turn, value as u32, log),
+        Log::LoadSlate { .. } => after_word(shape, log, value),
+        Log::LoadCells { .. } => after_cell(shape, log, value),
+        Log::StoreShadows { .. } => after_shadow(shape, log),
+        Log::StoreShadowReply { visit, named, .. } => *log = Log::StoreMask { visit, named },
+        Log::StoreMask { visit, .. } => *log = Log::StoreTurn { visit },
+        Log::StoreTurn { visit } => return Some(visit),
+    }
+    None
+}
+
+/// The turn is known: at an odd one all is written down already.
+fn after_turn(lock: u32, turn: u32, log: &mut Log) -> Option<Visit>
+    ensures { logged log.new result ≡ turn_stage lock turn }
+{
+    if turn % 2 == 0 {
+        *log = Log::LoadLen { lock, turn };
+        return None;
+    }
+    Some(Visit {
+        lock,
+        turn,
+        parity: Parity::Odd,
+    })
+}
+
+/// The number of operations is known, and no word of them.
+fn after_len(shape: Shape, lock: u32, turn: u32, operations: u32, log: &mut Log)
+    requires lock { lock < shape.locks }
+    requires few { operations ≤ 8 }
+    ensures after { Stage.Logging log.new ≡ slate_stage shape lock turn operations (replicate 24 0) 0 }
+    ensures stage { IsLog shape log.new }
+{
+    if operations == 0 {
+        *log = script_log(shape, lock, turn, Script::of(&[]));
+        return;
+    }
+    *log = Log::LoadSlate {
+        lock,
+        turn,
+        operations,
+        words: [0; 24],
+        loaded: 0,
+    };
+}
+
+/// One more word of the slate is known.
+fn after_word(shape: Shape, log: &mut Log, value: u64)
+    requires here { (lock : ℕ) × (turn : ℕ) × (operations : ℕ) × (words : List ℕ) × (loaded : ℕ) × (log.old ≡ Log.LoadSlate lock turn operations words loaded) }
+    requires stage { IsLog shape log.old }
+    requires value { Takes shape (Stage.Logging log.old) value }
+    ensures after { Stage.Logging log.new ≡ after_log shape log.old value }
+    ensures stage { IsLog shape log.new }
+{
+    let Log::LoadSlate {
+        lock,
+        turn,
+        operations,
+        loaded,
+        ..
+    } = *log
+    else {
+        unreachable!();
+    };
+    let Log::LoadSlate { words, .. } = log else {
+        unreachable!();
+    };
+    words[loaded as usize] = value;
+    if loaded + 1 == 3 * operations {
+        *log = slate_log(shape, lock, turn, operations, words);
+        return;
+    }
+    let Log::LoadSlate { loaded, .. } = log else {
+        unreachable!();
+    };
+    *loaded += 1;
+}
+
+/// The whole slate is known.
+fn slate_log(shape: Shape, lock: u32, turn: u32, operations: u32, words: &[u64; 24]) -> Log
+    requires lock { lock < shape.locks }
+    requires few { operations ≤ 8 }
+    requires script { (script : Program) × (script_of operations words.now ≡ Some script) × IsScript shape.cells script }
+    ensures after { Stage.Logging result ≡ script_stage shape lock turn (script_of operations words.now) }
+    ensures stage { IsLog shape result }
+{
+    let Some(script) = from_slate(u64::from(operations), words) else {
+        unreachable!();
+    };
+    script_log(shape, lock, turn, script)
+}
+
+/// The script is known, and none of the cells that it names.
+fn script_log(shape: Shape, lock: u32, turn: u32, script: Script) -> Log
+    requires lock { lock < shape.locks }
+    requires script { IsScript shape.cells script }
+    ensures after { Stage.Logging result ≡ script_stage shape lock turn (Some script) }
+    ensures stage { IsLog shape result }
+{
+    let named = mask_of(&script);
+    let row = Row::zeros(shape);
+    match first_cell(named, 0, shape.cells) {
+        Some(cell) => Log::LoadCells {
             lock,
             turn,
-            operations,
-            words,
-            loaded,
-        } => word_stage(shape, lock, turn, operations, words, loaded, value),
+            script,
+            named,
+            row,
+            cell,
+        },
+        None => run_log(shape, lock, turn, &script, named, row),
+    }
+}
+
+/// One more cell is known; where no further one is named, the script is run.
+fn after_cell(shape: Shape, log: &mut Log, value: u64)
+    requires here { (lock : ℕ) × (turn : ℕ) × (script : Program) × (named : ℕ) × (row : List ℕ) × (cell : ℕ) × (log.old ≡ Log.LoadCells lock turn script named row cell) }
+    requires stage { IsLog shape log.old }
+    ensures after { Stage.Logging log.new ≡ after_log shape log.old value }
+    ensures stage { IsLog shape log.new }
+{
+    let Log::LoadCells { named, cell, .. } = *log else {
+        unreachable!();
+    };
+    let Log::LoadCells { row, .. } = log else {
+        unreachable!();
+    };
+    row.set(cell, value);
+    match first_cell(named, cell + 1, shape.cells) {
+        Some(next) => {
+            let Log::LoadCells { cell, .. } = log else {
+                unreachable!();
+            };
+            *cell = next;
+        }
+        None => *log = run_script(shape, log),
+    }
+}
+
+/// All named cells are known.
+fn run_script(shape: Shape, log: &Log) -> Log
+    requires here { (lock : ℕ) × (turn : ℕ) × (script : Program) × (named : ℕ) × (row : List ℕ) × (cell : ℕ) × (log.now ≡ Log.LoadCells lock turn script named row cell) }
+    requires stage { IsLog shape log.now }
+    ensures after { (lock : ℕ) (turn : ℕ) (script : Program) (named : ℕ) (row : List ℕ) (cell : ℕ) → log.now ≡ Log.LoadCells lock turn script named row cell → Stage.Logging result ≡ run_stage shape lock turn script named row }
+    ensures stage { IsLog shape result }
+{
+    match log {
         Log::LoadCells {
             lock,
             turn,
             script,
             named,
-            mut row,
-            cell,
-        } => {
-            row.set(cell, value);
-            cells_from_here(shape, lock, turn, script, named, row, cell + 1)
-        }
-        Log::StoreShadows {
-            visit,
-            named,
             row,
-            reply,
-            cell,
-        } => shadows_from(shape, visit, named, row, reply, cell + 1),
-        Log::StoreShadowReply { visit, named, .. } => go_on(Log::StoreMask { visit, named }),
-        Log::StoreMask { visit, .. } => go_on(Log::StoreTurn { visit }),
-        Log::StoreTurn { visit } => Stage::Copying(Redo::LoadMask { visit }),
+            ..
+        } => run_log(shape, *lock, *turn, script, *named, *row),
+        _ => unreachable!(),
     }
 }
 
-/// The section goes on at this place.
-fn go_on(log: Log) -> Stage
-    ensures { result ≡ Stage.Logging log }
-{
-    Stage::Logging(log)
-}
-
-/// The turn is known: at an odd one all is written down already.
-fn turn_stage(lock: u32, turn: u32) -> Stage
-    ensures { result ≡ turn_stage lock turn }
-{
-    if turn % 2 == 0 {
-        return go_on(Log::LoadLen { lock, turn });
-    }
-    Stage::Copying(Redo::LoadMask {
-        visit: Visit {
-            lock,
-            turn,
-            parity: Parity::Odd,
-        },
-    })
-}
-
-/// One more word of the slate is known.
-fn word_stage(
-    shape: Shape,
-    lock: u32,
-    turn: u32,
-    operations: u32,
-    mut words: [u64; 24],
-    loaded: u32,
-    value: u64,
-) -> Stage
-    requires stage { IsLog shape (Log.LoadSlate lock turn operations words loaded) }
-    requires value { Takes shape (Stage.Logging (Log.LoadSlate lock turn operations words loaded)) value }
-    ensures after { result ≡ slate_stage shape lock turn operations (slice_set words loaded value) (loaded + 1) }
-    ensures stage { (begun : ℕ) → IsStage shape begun result }
-{
-    words[loaded as usize] = value;
-    slate_stage(shape, lock, turn, operations, words, loaded + 1)
-}
-
-/// So many words of the slate are known.
-fn slate_stage(
-    shape: Shape,
-    lock: u32,
-    turn: u32,
-    operations: u32,
-    words: [u64; 24],
-    loaded: u32,
-) -> Stage
+/// The script is run on the named cells.
+fn run_log(shape: Shape, lock: u32, turn: u32, script: &Script, named: u64, mut row: Row) -> Log
     requires lock { lock < shape.locks }
-    requires few { operations ≤ 8 }
-    requires loaded { loaded ≤ 3 * operations }
-    requires script { loaded ≡ 3 * operations → (script : Program) × (script_of operations words ≡ Some script) × IsScript shape.cells script }
-    ensures after { result ≡ slate_stage shape lock turn operations words loaded }
-    ensures stage { (begun : ℕ) → IsStage shape begun result }
-{
-    if loaded < 3 * operations {
-        return go_on(Log::LoadSlate {
-            lock,
-            turn,
-            operations,
-            words,
-            loaded,
-        });
-    }
-    let Some(script) = from_slate(u64::from(operations), &words) else {
-        unreachable!();
-    };
-    script_stage(shape, lock, turn, script)
-}
-
-/// The script is known, and none of the cells that it names.
-fn script_stage(shape: Shape, lock: u32, turn: u32, script: Script) -> Stage
-    requires lock { lock < shape.locks }
-    requires script { IsScript shape.cells script }
-    ensures after { result ≡ script_stage shape lock turn (Some script) }
-    ensures stage { (begun : ℕ) → IsStage shape begun result }
-{
-    let named = mask_of(&script);
-    let row = Row::zeros(shape);
-    cells_from_here(shape, lock, turn, script, named, row, 0)
-}
-
-/// The named cells before `from` are known; where there is no further one, the script is run.
-fn cells_from_here(
-    shape: Shape,
-    lock: u32,
-    turn: u32,
-    script: Script,
-    named: u64,
-    row: Row,
-    from: u32,
-) -> Stage
-    requires lock { lock < shape.locks }
-    requires script { IsScript shape.cells script }
+    requires script { IsScript shape.cells script.now }
     requires row { length row ≡ shape.cells }
-    ensures after { result ≡ cells_from_here shape lock turn script named row (first_cell named from shape.cells) }
-    ensures stage { (begun : ℕ) → IsStage shape begun result }
+    ensures after { Stage.Logging result ≡ run_stage shape lock turn script.now named row }
+    ensures stage { IsLog shape result }
 {
-    match first_cell(named, from, shape.cells) {
-        Some(cell) => go_on(Log::LoadCells {
-            lock,
-            turn,
-            script,
-            named,
-            row,
-            cell,
-        }),
-        None => run_stage(shape, lock, turn, script, named, row),
-    }
-}
-
-/// All named cells are known, and the script is run on them.
-fn run_stage(shape: Shape, lock: u32, turn: u32, script: Script, named: u64, mut row: Row) -> Stage
-    requires lock { lock < shape.locks }
-    requires script { IsScript shape.cells script }
-    requires row { length row ≡ shape.cells }
-    ensures after { result ≡ run_stage shape lock turn script named row }
-    ensures stage { (begun : ℕ) → IsStage shape begun result }
-{
-    let reply = eval(&script, &mut row);
+    let reply = eval(script, &mut row);
     let parity = Parity::Even {
         operations: script.n(),
         cells: named,
     };
     let visit = Visit { lock, turn, parity };
-    shadows_from(shape, visit, named, row, reply, 0)
-}
-
-/// The shadow words of the named cells before `from` are stored.
-fn shadows_from(shape: Shape, visit: Visit, named: u64, row: Row, reply: u64, from: u32) -> Stage
-    requires lock { visit.lock < shape.locks }
-    requires row { length row ≡ shape.cells }
-    ensures after { result ≡ shadows_from visit named row reply (first_cell named from shape.cells) }
-    ensures stage { (begun : ℕ) → IsStage shape begun result }
-{
-    match first_cell(named, from, shape.cells) {
-        Some(cell) => go_on(Log::StoreShadows {
+    match first_cell(named, 0, shape.cells) {
+        Some(cell) => Log::StoreShadows {
             visit,
             named,
             row,
             reply,
             cell,
-        }),
-        None => go_on(Log::StoreShadowReply {
+        },
+        None => Log::StoreShadowReply {
             visit,
             named,
             reply,
-        }),
+        },
     }
+}
+
+/// One more shadow word is stored.
+fn after_shadow(shape: Shape, log: &mut Log)
+    requires here { (visit : Visit) × (named : ℕ) × (row : List ℕ) × (reply : ℕ) × (cell : ℕ) × (log.old ≡ Log.StoreShadows visit named row reply cell) }
+    requires stage { IsLog shape log.old }
+    ensures after { (value : ℕ) → Stage.Logging log.new ≡ after_log shape log.old value }
+    ensures stage { IsLog shape log.new }
+{
+    let Log::StoreShadows {
+        visit,
+        named,
+        reply,
+        cell,
+        ..
+    } = *log
+    else {
+        unreachable!();
+    };
+    let Some(next) = first_cell(named, cell + 1, shape.cells) else {
+        *log = Log::StoreShadowReply {
+            visit,
+            named,
+            reply,
+        };
+        return;
+    };
+    let Log::StoreShadows { cell, .. } = log else {
+        unreachable!();
+    };
+    *cell = next;
 }

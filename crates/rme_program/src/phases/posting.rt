@@ -2,20 +2,20 @@
 
 ghost use Rattle.std.specs.Prelude.{◌≡◌, ◌<◌, ◌≤◌, ◌+◌, ◌*◌, ◌==◌, if◌then◌else◌};
 ghost use Rattle.rme_words.specs.Words.{IsOfShape};
-ghost use Rattle.rme_program.specs.Steps.{slate_action, after_slate};
+ghost use Rattle.rme_program.specs.Steps.{slate_action};
+ghost use Rattle.rme_program.specs.declared.stage.Stage.{Stage};
 ghost use Rattle.rme_program.specs.Conditions.{IsStage};
 ghost use Rattle.rme_program.specs.Did.{address_of};
 
 use crate::action::Action;
-use crate::note::Note;
-use crate::stage::{Ascent, Slate, Stage};
-use rme_script::slate_words;
+use crate::stage::Slate;
+use rme_script::slate_word;
 use rme_words::{Address, Shape};
 
-pub fn action(shape: Shape, worker: u32, begun: u32, slate: Slate) -> Action
+pub fn action(shape: Shape, worker: u32, begun: u32, slate: &Slate) -> Action
     requires worker { worker < shape.workers }
-    requires stage { IsStage shape begun (Stage.Posting slate) }
-    ensures action { result ≡ slate_action worker begun slate }
+    requires stage { IsStage shape begun (Stage.Posting slate.now) }
+    ensures action { result ≡ slate_action worker begun slate.now }
     ensures within { IsOfShape shape (address_of result) }
 {
     let n = slate.job.script.n();
@@ -27,36 +27,12 @@ pub fn action(shape: Shape, worker: u32, begun: u32, slate: Slate) -> Action
     }
     if slate.stored < 2 + 3 * n {
         let at = slate.stored - 2;
-        let words = slate_words(&slate.job.script);
         return Action::Store(
             Address::SlateWord(worker, at / 3, at % 3),
-            words[at as usize],
+            slate_word(&slate.job.script, at),
         );
     }
     Action::Store(Address::Begun(worker), u64::from(begun) + 1)
-}
-
-pub fn after(shape: Shape, begun: u32, slate: Slate) -> (Stage, Note)
-    requires { IsStage shape begun (Stage.Posting slate) }
-    ensures after { result ≡ after_slate begun slate }
-    ensures stage { IsStage shape begun result.0 }
-{
-    if is_last(&slate) {
-        return (
-            Stage::Climbing(Ascent {
-                lock: slate.job.lock,
-                held: 0,
-            }),
-            Note::Asked(begun + 1),
-        );
-    }
-    (
-        Stage::Posting(Slate {
-            job: slate.job,
-            stored: slate.stored + 1,
-        }),
-        Note::Quiet,
-    )
 }
 
 /// The whole slate is stored, and the next store is that of `begun`.
