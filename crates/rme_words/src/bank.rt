@@ -1,6 +1,6 @@
 //! The words of a shape, in one list.
 
-ghost use Rattle.std.specs.Prelude.{◌≡◌, ◌≢◌, ◌+◌, ◌*◌, ◌<◌, IfOk, replicate};
+ghost use Rattle.std.specs.Prelude.{◌≡◌, ◌≢◌, ◌+◌, ◌*◌, ◌<◌, IfOk, length, replicate};
 ghost use Rattle.rme_words.specs.Words.{IsOfShape, Wrote, memory_of, read, word, words_of};
 
 use crate::address::Address;
@@ -44,6 +44,21 @@ impl Bank {
     {
         let words = zeros(alloc, shape.words())?;
         Ok(Bank { shape, words })
+    }
+
+    /// The bank of these words, as many as the shape has.
+    pub fn of(shape: Shape, words: Vec<u64>) -> Bank
+        requires { length words.items ≡ words_of shape }
+        ensures { result ≡ record { shape = shape; words = words.items } }
+    {
+        Bank { shape, words }
+    }
+
+    /// The words, each at the number that the shape gives its address.
+    pub fn words(&self) -> &[u64]
+        ensures { result.now ≡ self.now.words }
+    {
+        &self.words
     }
 
     /// The shape that the words are of.

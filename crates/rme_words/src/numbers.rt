@@ -6,7 +6,7 @@ use crate::address::Address;
 use crate::shape::Shape;
 
 impl Shape {
-    ghost use Rattle.std.specs.Prelude.{◌≡◌, ◌<◌, ◌+◌, ◌*◌};
+    ghost use Rattle.std.specs.Prelude.{◌≡◌, ◌<◌, ◌≤◌, ◌+◌, ◌*◌};
     ghost use Rattle.rme_words.specs.Words.{IsOfShape, lock_start, word, words_of};
     ghost use Rattle.rme_words.specs.declared.address.Address.{Address};
 
@@ -24,7 +24,8 @@ impl Shape {
         self.leaves as usize + 2 + 2 * self.cells as usize
     }
 
-    /// The number of an address: distinct addresses have distinct numbers, all below `words`.
+    /// The number of an address: distinct addresses have distinct numbers, all below `words`. Where the kind of
+    /// the address is known, the function of that kind is faster: `begun_at` to `mask_at`.
     pub fn word(&self, address: Address) -> usize
         requires { IsOfShape self.now address }
         ensures number { result ≡ word self.now address }
@@ -39,21 +40,139 @@ impl Shape {
         ensures { result ≡ word self.now address }
     {
         match address {
-            Address::Begun(worker) => own(worker, 0),
-            Address::Done(worker) => own(worker, 1),
-            Address::Reply(worker) => own(worker, 2),
-            Address::Place(worker) => own(worker, 3),
-            Address::At(worker) => own(worker, 4),
-            Address::SlateLock(worker) => own(worker, 5),
-            Address::SlateLen(worker) => own(worker, 6),
-            Address::SlateWord(worker, operation, part) => own(worker, 7 + 3 * operation + part),
-            Address::Node(lock, node) => self.of_lock(lock, node - 1),
-            Address::Turn(lock) => self.of_lock(lock, self.leaves - 1),
-            Address::Cell(lock, cell) => self.of_lock(lock, self.leaves + cell),
-            Address::Shadow(lock, cell) => self.of_lock(lock, self.leaves + self.cells + cell),
-            Address::ShadowReply(lock) => self.of_lock(lock, self.leaves + 2 * self.cells),
-            Address::Mask(lock) => self.of_lock(lock, self.leaves + 1 + 2 * self.cells),
+            Address::Begun(worker) => self.begun_at(worker),
+            Address::Done(worker) => self.done_at(worker),
+            Address::Reply(worker) => self.reply_at(worker),
+            Address::Place(worker) => self.place_at(worker),
+            Address::At(worker) => self.receipt_lock_at(worker),
+            Address::SlateLock(worker) => self.slate_lock_at(worker),
+            Address::SlateLen(worker) => self.slate_len_at(worker),
+            Address::SlateWord(worker, operation, part) => self.slate_at(worker, operation, part),
+            Address::Node(lock, node) => self.node_at(lock, node),
+            Address::Turn(lock) => self.turn_at(lock),
+            Address::Cell(lock, cell) => self.cell_at(lock, cell),
+            Address::Shadow(lock, cell) => self.shadow_at(lock, cell),
+            Address::ShadowReply(lock) => self.shadow_reply_at(lock),
+            Address::Mask(lock) => self.mask_at(lock),
         }
+    }
+
+    /// The number of `Begun(worker)`.
+    pub fn begun_at(&self, worker: u32) -> usize
+        requires { worker < self.now.workers }
+        ensures { result ≡ word self.now (Address.Begun worker) }
+    {
+        own(worker, 0)
+    }
+
+    /// The number of `Done(worker)`.
+    pub fn done_at(&self, worker: u32) -> usize
+        requires { worker < self.now.workers }
+        ensures { result ≡ word self.now (Address.Done worker) }
+    {
+        own(worker, 1)
+    }
+
+    /// The number of `Reply(worker)`.
+    pub fn reply_at(&self, worker: u32) -> usize
+        requires { worker < self.now.workers }
+        ensures { result ≡ word self.now (Address.Reply worker) }
+    {
+        own(worker, 2)
+    }
+
+    /// The number of `Place(worker)`.
+    pub fn place_at(&self, worker: u32) -> usize
+        requires { worker < self.now.workers }
+        ensures { result ≡ word self.now (Address.Place worker) }
+    {
+        own(worker, 3)
+    }
+
+    /// The number of `At(worker)`.
+    pub fn receipt_lock_at(&self, worker: u32) -> usize
+        requires { worker < self.now.workers }
+        ensures { result ≡ word self.now (Address.At worker) }
+    {
+        own(worker, 4)
+    }
+
+    /// The number of `SlateLock(worker)`.
+    pub fn slate_lock_at(&self, worker: u32) -> usize
+        requires { worker < self.now.workers }
+        ensures { result ≡ word self.now (Address.SlateLock worker) }
+    {
+        own(worker, 5)
+    }
+
+    /// The number of `SlateLen(worker)`.
+    pub fn slate_len_at(&self, worker: u32) -> usize
+        requires { worker < self.now.workers }
+        ensures { result ≡ word self.now (Address.SlateLen worker) }
+    {
+        own(worker, 6)
+    }
+
+    /// The number of `SlateWord(worker, operation, part)`.
+    pub fn slate_at(&self, worker: u32, operation: u32, part: u32) -> usize
+        requires worker { worker < self.now.workers }
+        requires operation { operation < 8 }
+        requires part { part < 3 }
+        ensures { result ≡ word self.now (Address.SlateWord worker operation part) }
+    {
+        own(worker, 7 + 3 * operation + part)
+    }
+
+    /// The number of `Node(lock, node)`.
+    pub fn node_at(&self, lock: u32, node: u32) -> usize
+        requires lock { lock < self.now.locks }
+        requires node { 1 ≤ node }
+        requires below { node < self.now.leaves }
+        ensures { result ≡ word self.now (Address.Node lock node) }
+    {
+        self.of_lock(lock, node - 1)
+    }
+
+    /// The number of `Turn(lock)`.
+    pub fn turn_at(&self, lock: u32) -> usize
+        requires { lock < self.now.locks }
+        ensures { result ≡ word self.now (Address.Turn lock) }
+    {
+        self.of_lock(lock, self.leaves - 1)
+    }
+
+    /// The number of `Cell(lock, cell)`.
+    pub fn cell_at(&self, lock: u32, cell: u32) -> usize
+        requires lock { lock < self.now.locks }
+        requires cell { cell < self.now.cells }
+        ensures { result ≡ word self.now (Address.Cell lock cell) }
+    {
+        self.of_lock(lock, self.leaves + cell)
+    }
+
+    /// The number of `Shadow(lock, cell)`.
+    pub fn shadow_at(&self, lock: u32, cell: u32) -> usize
+        requires lock { lock < self.now.locks }
+        requires cell { cell < self.now.cells }
+        ensures { result ≡ word self.now (Address.Shadow lock cell) }
+    {
+        self.of_lock(lock, self.leaves + self.cells + cell)
+    }
+
+    /// The number of `ShadowReply(lock)`.
+    pub fn shadow_reply_at(&self, lock: u32) -> usize
+        requires { lock < self.now.locks }
+        ensures { result ≡ word self.now (Address.ShadowReply lock) }
+    {
+        self.of_lock(lock, self.leaves + 2 * self.cells)
+    }
+
+    /// The number of `Mask(lock)`.
+    pub fn mask_at(&self, lock: u32) -> usize
+        requires { lock < self.now.locks }
+        ensures { result ≡ word self.now (Address.Mask lock) }
+    {
+        self.of_lock(lock, self.leaves + 1 + 2 * self.cells)
     }
 
     /// The number of the word at an offset of a lock's block.

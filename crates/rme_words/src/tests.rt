@@ -68,6 +68,49 @@ fn a_bank_of_37_words(rt: HostRuntime) -> Result<(), Fail> {
 }
 
 #[test]
+fn numbers_of_addresses(rt: HostRuntime) -> Result<(), Fail> {
+    let shape = Shape::new(2, 2, 3, 1)?;
+    assert_eq!(rt;
+        [
+            shape.begun_at(1),
+            shape.done_at(1),
+            shape.reply_at(1),
+            shape.place_at(1),
+            shape.receipt_lock_at(1),
+            shape.slate_lock_at(1),
+            shape.slate_len_at(1),
+            shape.slate_at(1, 2, 1),
+        ],
+        [31, 32, 33, 34, 35, 36, 37, 45]
+    );
+    assert_eq!(rt;
+        [
+            shape.node_at(1, 1),
+            shape.turn_at(1),
+            shape.cell_at(1, 2),
+            shape.shadow_at(1, 0),
+            shape.shadow_reply_at(1),
+            shape.mask_at(1),
+        ],
+        [72, 73, 76, 77, 80, 81]
+    );
+    Ok(())
+}
+
+#[test]
+fn a_bank_of_given_words(rt: HostRuntime) -> Result<(), Fail> {
+    let shape = Shape::new(1, 1, 1, 1)?;
+    let mut words = vec![in rt.alloc(); 0u64; shape.words()]?;
+    let at = shape.turn_at(0);
+    assert!(rt; at < words.len());
+    words[at] = 4;
+    let bank = Bank::of(shape, words);
+    assert_eq!(rt; bank.load(Address::Turn(0)), 4);
+    assert_eq!(rt; bank.words().len(), 37);
+    Ok(())
+}
+
+#[test]
 fn refusals_have_numbers_and_names(rt: HostRuntime) {
     assert_eq!(rt;
         (Refusal::BadLine.code(), Refusal::BadLine.name()),
