@@ -25,7 +25,7 @@ use Rattle.rme_wire.specs.Requests.{request_of_line}
 use Rattle.rme_texts.specs.declared.answer.WalkEnd.{WalkEnd}
 use Rattle.rme_server.specs.declared.tallied.TalliedWorld.{TalliedWorld}
 use Rattle.rme_server.specs.declared.walk.Walked.{Walked}
-use Rattle.rme_server.specs.Calls.{Crashed, Restarted, Submitted, Withdrawn}
+use Rattle.rme_world.specs.Calls.{Crashed, Restarted, Submitted, Withdrawn}
 use Rattle.rme_server.specs.Commands.{Does}
 use Rattle.rme_server.specs.Laws.{HasSeenAll}
 use Rattle.rme_server.specs.Lines.{Answers, DoesIn, Obeys, OpensBy, OpensIn, Replies}

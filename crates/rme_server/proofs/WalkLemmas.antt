@@ -9,7 +9,7 @@ use Rattle.rme_texts.specs.Texts.{note_text, separated}
 use Rattle.rme_server.specs.declared.tallied.TalliedWorld.{TalliedWorld}
 use Rattle.rme_server.specs.declared.walk.Walked.{Walked}
 use Rattle.rme_server.specs.declared.walk.Walked.TheVariants.{Ended, Refused}
-use Rattle.rme_server.specs.Calls.{ShowsReady}
+use Rattle.rme_world.specs.Calls.{ShowsReady}
 use Rattle.rme_server.specs.Tallies.{StepsTallied}
 use Rattle.rme_server.specs.Walks.{Goes, Walks, end_after, shown}
 

@@ -11,7 +11,7 @@ use Rattle.rme_server.specs.declared.tallied.TalliedWorld.{TalliedWorld}
 use Rattle.rme_server.specs.declared.walk.Walked.{Walked}
 use Rattle.rme_server.specs.declared.walk.Walked.TheVariants.{Ended, Refused}
 use Rattle.rme_server.specs.States.{Reply, all_entries, done, handed, last_one, owned, refused, reply_by, reported, shown_row, stepped, text_of, walked}
-use Rattle.rme_server.specs.Calls.{Crashed, Owned, Restarted, ShowsCells, ShowsLast, Submitted, Withdrawn}
+use Rattle.rme_world.specs.Calls.{Crashed, Owned, Restarted, ShowsCells, ShowsLast, Submitted, Withdrawn}
 use Rattle.rme_server.specs.Tallies.{StepsTallied}
 use Rattle.rme_server.specs.Walks.{Walks}
 

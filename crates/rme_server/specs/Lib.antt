@@ -1,7 +1,6 @@
 -- In reading order: what the lines so far have opened, what each call of a world answers, what a tally sees of a step,
 -- what a walk and each command do, what each line is answered and what its tally has seen, and what a run of lines writes.
 pub mod States
-pub mod Calls
 pub mod Tallies
 pub mod Walks
 pub mod Commands

@@ -11,7 +11,7 @@ use Rattle.rme_world.specs.Looks.{phase_seen}
 use Rattle.rme_world.specs.Opening.{opening}
 use Rattle.rme_world.specs.Seen.{Seen, counts_of}
 use Rattle.rme_server.specs.declared.tallied.TalliedWorld.{TalliedWorld}
-use Rattle.rme_server.specs.Calls.{Stepped}
+use Rattle.rme_world.specs.Calls.{Stepped}
 
 abbrev pub nothing_seen : Tally
 nothing_seen = record { recover = 0; post = 0; enter = 0; section = 0; exit = 0 }

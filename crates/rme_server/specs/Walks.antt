@@ -10,7 +10,7 @@ use Rattle.rme_wire.specs.declared.command.Until.TheVariants as until
 use Rattle.rme_server.specs.declared.tallied.TalliedWorld.{TalliedWorld}
 use Rattle.rme_server.specs.declared.walk.Walked.{Walked}
 use Rattle.rme_server.specs.declared.walk.Walked.TheVariants.{Ended, Refused}
-use Rattle.rme_server.specs.Calls.{ShowsReady}
+use Rattle.rme_world.specs.Calls.{ShowsReady}
 use Rattle.rme_server.specs.Tallies.{StepsTallied}
 
 -- the notes that a walk shows

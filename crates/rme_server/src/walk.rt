@@ -4,7 +4,7 @@ ghost use Rattle.std.specs.Prelude.{◌≡◌, ◌++◌, IfOk, List, Result, Boo
 ghost use Rattle.rme_program.specs.declared.note.Note.{Note};
 ghost use Rattle.rme_words.specs.declared.refusal.Refusal.{Refusal};
 ghost use Rattle.rme_texts.specs.Texts.{note_text, separated};
-ghost use Rattle.rme_server.specs.Calls.{ShowsReady};
+ghost use Rattle.rme_world.specs.Calls.{ShowsReady};
 ghost use Rattle.rme_server.specs.Walks as spec;
 
 use crate::tallied::TalliedWorld;

@@ -7,9 +7,9 @@ use Rattle.rme_server.proofs.answers.cells.Goals as goal
 pub returns-in-Ok : goal.returns-in-Ok
 returns-in-Ok c =
     told c.push_row.result c.args.names.now c.args.tallied.now (command.Cells c.args.lock) c.args.tallied.now (string_bytes c.args.out.now) (string_bytes c.push_row.new.out) (shown_row c.in-Ok.shown.0 c.in-Ok.shown.1) c.push_row.ensures
-    (Ok c.in-Ok.shown, record { accepted = c.in-Ok.ensures.accepted; shown = c.in-Ok.ensures.shown; settled = c.in-Ok.ensures.settled; refused = tt }, refl, refl)
+    (Ok c.in-Ok.shown, c.in-Ok.ensures, refl, refl)
 
 pub returns-in-Err : goal.returns-in-Err
 returns-in-Err c =
     told c.push_refusal.result c.args.names.now c.args.tallied.now (command.Cells c.args.lock) c.args.tallied.now (string_bytes c.args.out.now) (string_bytes c.push_refusal.new.out) (refused c.in-Err.refusal) c.push_refusal.ensures
-    (Err c.in-Err.refusal, record { accepted = c.in-Err.ensures.accepted; shown = tt; settled = tt; refused = c.in-Err.ensures.refused }, refl, refl)
+    (Err c.in-Err.refusal, c.in-Err.ensures, refl, refl)

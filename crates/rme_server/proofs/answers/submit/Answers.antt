@@ -9,10 +9,10 @@ pub returns-in-Ok : goal.returns-in-Ok
 returns-in-Ok c =
     let new : TalliedWorld = record { world = c.submit.new.self; tally = c.args.tallied.now.tally } in
     told c.push_number.result c.args.names.now c.args.tallied.now (command.Submit c.args.worker c.args.job) new (string_bytes c.args.out.now) (string_bytes c.push_number.new.out) (handed c.in-Ok.number) c.push_number.ensures
-    (Ok c.in-Ok.number, record { accepted = c.in-Ok.ensures.accepted; refused = tt; unchanged = tt; room = c.in-Ok.ensures.room; headline = c.in-Ok.ensures.headline }, refl, refl)
+    (Ok c.in-Ok.number, c.in-Ok.ensures, refl, refl)
 
 pub returns-in-Err : goal.returns-in-Err
 returns-in-Err c =
     let new : TalliedWorld = record { world = c.submit.new.self; tally = c.args.tallied.now.tally } in
     told c.push_refusal.result c.args.names.now c.args.tallied.now (command.Submit c.args.worker c.args.job) new (string_bytes c.args.out.now) (string_bytes c.push_refusal.new.out) (refused c.in-Err.refusal) c.push_refusal.ensures
-    (Err c.in-Err.refusal, record { accepted = tt; refused = c.in-Err.ensures.refused; unchanged = c.in-Err.ensures.unchanged; room = c.in-Err.ensures.room; headline = c.in-Err.ensures.headline }, refl, refl)
+    (Err c.in-Err.refusal, c.in-Err.ensures, refl, refl)

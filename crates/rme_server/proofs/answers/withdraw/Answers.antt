@@ -10,10 +10,10 @@ pub returns-in-Ok : goal.returns-in-Ok
 returns-in-Ok c =
     let new : TalliedWorld = record { world = c.withdraw.new.self; tally = c.args.tallied.now.tally } in
     told c.push_done.result c.args.names.now c.args.tallied.now (command.Withdraw c.args.worker) new (string_bytes c.args.out.now) (string_bytes c.push_done.new.out) (done word.Withdraw) c.push_done.ensures
-    (Ok tt, record { accepted = c.in-Ok.ensures.accepted; refused = tt; unchanged = tt; bound = c.in-Ok.ensures.bound; headline = c.in-Ok.ensures.headline }, refl, refl)
+    (Ok tt, c.in-Ok.ensures, refl, refl)
 
 pub returns-in-Err : goal.returns-in-Err
 returns-in-Err c =
     let new : TalliedWorld = record { world = c.withdraw.new.self; tally = c.args.tallied.now.tally } in
     told c.push_refusal.result c.args.names.now c.args.tallied.now (command.Withdraw c.args.worker) new (string_bytes c.args.out.now) (string_bytes c.push_refusal.new.out) (refused c.in-Err.refusal) c.push_refusal.ensures
-    (Err c.in-Err.refusal, record { accepted = tt; refused = c.in-Err.ensures.refused; unchanged = c.in-Err.ensures.unchanged; bound = tt; headline = c.in-Err.ensures.headline }, refl, refl)
+    (Err c.in-Err.refusal, c.in-Err.ensures, refl, refl)
