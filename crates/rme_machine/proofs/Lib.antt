@@ -34,3 +34,5 @@ pub mod Theorems
 pub mod Reached
 pub mod Rowed
 pub mod Tables
+pub mod Returning
+pub mod Books

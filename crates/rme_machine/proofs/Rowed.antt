@@ -1,6 +1,6 @@
 -- Each worker that is up stands in a row of the step table: the fact tells what its loads found.
-use Rattle.std.proofs.Common.{◌≡◌, ◌≢◌, ℕ, zero, suc, ◌+◌, ◌*◌, ◌%◌, ◌<◌, ◌≤◌, List, [], ◌∷◌, length, take, refl, sym, ◌∙◌, ap, subst, arith}
-use Rattle.std.specs.Prelude.{true, false, nat_lt, slice_get, slice_index, Some, ◌==◌, if◌then◌else◌}
+use Rattle.std.proofs.Common.{◌≡◌, ◌≢◌, ℕ, zero, suc, ◌*◌, ◌%◌, ◌<◌, ◌≤◌, List, [], ◌∷◌, take, refl, sym, ◌∙◌, ap, subst, arith}
+use Rattle.std.specs.Prelude.{true, nat_lt, slice_index, Some}
 use Rattle.std.proofs.lemmas.Bool.{eq-eqb, ne_eqb}
 use Rattle.std.proofs.lemmas.Option.{same_Some}
 use Rattle.rme_words.specs.declared.shape.Shape.{Shape}
@@ -9,11 +9,9 @@ use Rattle.rme_tree.specs.Nodes.{held_in}
 use Rattle.rme_script.specs.Cells.{has, named_by}
 use Rattle.rme_script.specs.Eval.{eval_of}
 use Rattle.rme_script.specs.Programs.{Program}
-use Rattle.rme_script.specs.Scripts.{IsScript}
 use Rattle.rme_script.specs.Slates.{IsSlate, words_of}
 use Rattle.rme_script.proofs.Rising.{has_named}
 use Rattle.rme_script.proofs.Slates.{script_slate}
-use Rattle.rme_program.specs.declared.private.Private.{Private}
 use Rattle.rme_program.specs.declared.stage.Stage.{Stage}
 use Rattle.rme_program.specs.declared.stage.Stage.TheVariants.{Resting, Recovering, Posting, Climbing, Logging, Copying, Leaving}
 use Rattle.rme_program.specs.declared.stage.Recovery.{Recovery}
@@ -36,8 +34,7 @@ use Rattle.rme_program.specs.Stays.{Stay, InRecover, InPost, InEnter, InSection,
 use Rattle.rme_program.specs.Table.{Reading}
 use Rattle.rme_program.proofs.MaskLemmas.{mask_of-is_mask}
 use Rattle.rme_program.proofs.Turns.{takes_by}
-use Rattle.rme_machine.specs.Fact.{Fact}
-use Rattle.rme_machine.specs.Fits.{SameBelow, IsEvenTurn, HasRun, KnowsLog, KnowsParity, IsOddTurn, KnowsRedo, KnowsRecovery, KnowsDeparture, Knows, log_lock, redo_lock}
+use Rattle.rme_machine.specs.Fits.{SameBelow, HasRun, KnowsLog, KnowsParity, KnowsRedo, KnowsRecovery, KnowsDeparture, Knows, log_lock, redo_lock}
 use Rattle.rme_machine.specs.Laws.{RowLaw}
 use Rattle.rme_machine.specs.Views.{WorkerWords, LockWords, worker_words, lock_words, is_pending, slate_script}
 use Rattle.rme_machine.proofs.Moves.{cells_long}

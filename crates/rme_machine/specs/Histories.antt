@@ -11,6 +11,10 @@ use Rattle.rme_program.specs.Conditions.{IsJob}
 abbrev pub entries_at : List Entry → ℕ → List Entry
 entries_at history lock = filter (λ (e : Entry). e.receipt.lock == lock) history
 
+-- The entries of a worker, in order.
+abbrev pub entries_by : List Entry → ℕ → List Entry
+entries_by history worker = filter (λ (e : Entry). e.receipt.worker == worker) history
+
 -- How many entries of a history are of a lock: the place of its next section.
 unfoldable pub place_of : List Entry → ℕ → ℕ
 place_of [] lock = 0

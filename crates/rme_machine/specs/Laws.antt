@@ -1,5 +1,5 @@
 -- The laws of a step. Each stands on the contract of a function of the module `laws`.
-use Rattle.std.specs.Prelude.{suc, Bool, true, false, not, ◌≡◌, ◌≢◌, ℕ, ◌+◌, ◌<◌, ◌==◌, if◌then◌else◌, List, [], Option, Some, None}
+use Rattle.std.specs.Prelude.{suc, Bool, true, false, not, ◌≡◌, ◌≢◌, ℕ, ◌+◌, ◌<◌, ◌≤◌, ◌==◌, if◌then◌else◌, List, [], ◌∷◌, ◌++◌, slice_get, Option, Some, None}
 use Rattle.rme_words.specs.declared.shape.Shape.{Shape}
 use Rattle.rme_words.specs.declared.address.Address.{Address}
 use Rattle.rme_words.specs.declared.address.Address.TheVariants.{Node}
@@ -13,17 +13,30 @@ use Rattle.rme_program.specs.declared.stage.Stage.{Stage}
 use Rattle.rme_program.specs.declared.stage.Stage.TheVariants.{Resting, Recovering, Posting, Climbing, Logging, Copying, Leaving}
 use Rattle.rme_program.specs.declared.stage.Departure.TheVariants.{LoadExitTurn, StoreExitTurn, Clear}
 use Rattle.rme_program.specs.declared.stage.Ascent.{Ascent}
+use Rattle.rme_program.specs.declared.kinds.Phase.TheVariants.{Recover}
+use Rattle.rme_program.specs.declared.note.Note.{Note}
+use Rattle.rme_program.specs.declared.note.Note.TheVariants.{Quiet, Reentered, Finished}
+use Rattle.rme_program.specs.declared.note.Receipt.{Receipt}
+use Rattle.rme_program.specs.declared.stage.Recovery.{Recovery}
+use Rattle.rme_program.specs.declared.stage.Redo.TheVariants.{StoreDone}
+use Rattle.rme_program.specs.declared.stage.Visit.{Visit}
+use Rattle.rme_program.specs.Phases.{phase_of}
+use Rattle.rme_program.specs.Places.{place_of_recovery, place_of_redo, section_steps}
+use Rattle.rme_machine.specs.declared.stance.Stance.{Stance}
+use Rattle.rme_machine.specs.declared.stance.Stance.TheVariants.{Idle, Waiting, Inside}
+use Rattle.rme_machine.specs.declared.stance.Stance.TheVariants as stance
+use Rattle.rme_machine.specs.Histories.{entries_by}
 use Rattle.rme_program.specs.Did.{Did}
-use Rattle.rme_program.specs.Steps.{action_of, private_after, note_after, ready_private, restarted_private, submitted_private, withdrawing_private}
+use Rattle.rme_program.specs.Steps.{action_of, after_at, private_after, note_after, ready_private, restarted_private, submitted_private, withdrawing_private}
 use Rattle.rme_program.specs.Conditions.{IsJob, IsPrivate, Takes}
 use Rattle.rme_program.specs.Progress.{IsOnTrack}
 use Rattle.rme_program.specs.Stays.{StandsInRow}
 use Rattle.rme_machine.specs.declared.label.Act.{Act}
 use Rattle.rme_machine.specs.declared.label.Act.TheVariants.{Hand, Crash, Restart, Wait}
-use Rattle.rme_machine.specs.Machine.{Does, opening_state}
+use Rattle.rme_machine.specs.Machine.{State, WorkerState, Does, opening_state}
 use Rattle.rme_machine.specs.Shown.{Privates, shown, act_of}
 use Rattle.rme_machine.specs.ShownCells.{ShowsTables, is_settled}
-use Rattle.rme_machine.specs.Views.{worker_words, lock_words, is_pending}
+use Rattle.rme_machine.specs.Views.{worker_words, lock_words, is_pending, slate_job}
 use Rattle.rme_machine.specs.Fits.{Fits, log_lock, redo_lock}
 use Rattle.rme_machine.specs.Fact.{Fact}
 use Rattle.rme_machine.specs.Clauses.{IsGood}
@@ -107,6 +120,54 @@ abbrev pub OwnsLaw : Type 0
 OwnsLaw = (shape : Shape) (memory : Address → ℕ) (privates : Privates) (history : List Entry) (worker lock : ℕ) (private : Private)
     → Fact shape memory privates history → worker < shape.workers → privates worker ≡ Some private → owned_by shape private.stage ≡ Some lock
     → (lock < shape.locks) × (owner_in shape memory lock ≡ Some worker)
+
+-- A section that a worker finishes took all its steps: 11 + 3n + 4t from an even turn, where the cells of the mask are those
+-- that the script names, and 7 + 2m from an odd one.
+abbrev pub SectionLaw : Type 0
+SectionLaw = (shape : Shape) (memory : Address → ℕ) (privates : Privates) (history : List Entry) (worker : ℕ) (private : Private) (visit : Visit) (mask reply : ℕ)
+    → Fact shape memory privates history → worker < shape.workers → privates worker ≡ Some private → private.stage ≡ Copying (StoreDone visit mask reply)
+    → place_of_redo shape (StoreDone visit mask reply) + 1 ≡ section_steps shape (slate_job (worker_words memory worker)).script mask visit.parity
+
+-- The step of an owner's Recover: those before step h + 3 are quiet, and that one re-enters.
+pub record ComesBackTo (shape : Shape) (lock : ℕ) (recovery : Recovery) (out : Stage × Note) : Type 0 where
+  pub before : place_of_recovery recovery < shape.height + 2 → (out.1 ≡ Quiet) × (phase_of out.0 ≡ Recover)
+  pub there : place_of_recovery recovery ≡ shape.height + 2 → out.1 ≡ Reentered lock
+  pub most : place_of_recovery recovery ≤ shape.height + 2
+
+abbrev pub ReturnLaw : Type 0
+ReturnLaw = (shape : Shape) (old new : Address → ℕ) (privates : Privates) (history : List Entry) (worker lock : ℕ) (private : Private) (recovery : Recovery) (found : ℕ)
+    → Fact shape old privates history → worker < shape.workers → privates worker ≡ Some private → private.stage ≡ Recovering recovery
+    → lock < shape.locks → owner_in shape old lock ≡ Some worker → Did old new (action_of shape private) found
+    → ComesBackTo shape lock recovery (after_at shape private.worker private.begun private.stage found)
+
+-- A finished section makes its worker's entries longer by its own, and leaves those of the others; no other step changes any.
+pub record BooksLaw : Type 0 where
+  pub own : (history : List Entry) (memory : Address → ℕ) (worker : ℕ) (receipt : Receipt) → receipt.worker ≡ worker
+      → entries_by (history_after history memory worker (Finished receipt)) worker
+      ≡ entries_by history worker ++ record { receipt = receipt; script = (slate_job (worker_words memory worker)).script } ∷ []
+  pub others : (history : List Entry) (memory : Address → ℕ) (worker other : ℕ) (receipt : Receipt) → receipt.worker ≡ worker → other ≢ worker
+      → entries_by (history_after history memory worker (Finished receipt)) other ≡ entries_by history other
+  pub else_same : (history : List Entry) (memory : Address → ℕ) (worker other : ℕ) (note : Note) → ((receipt : Receipt) → note ≢ Finished receipt)
+      → entries_by (history_after history memory worker note) other ≡ entries_by history other
+
+-- The job that a worker is busy with is the one that was handed to it last: its draft.
+abbrev pub IsDraft : Stance → Option Job → Type 0
+IsDraft Idle draft = Unit {0}
+IsDraft (stance.Handed job) draft = draft ≡ Some job
+IsDraft (Waiting number job) draft = draft ≡ Some job
+IsDraft (Inside number job) draft = draft ≡ Some job
+IsDraft (stance.Finished number job) draft = Unit {0}
+
+abbrev pub drafted : Act → Option Job → Option Job
+drafted (Hand number job) draft = Some job
+drafted _ draft = draft
+
+abbrev pub AreDrafts : State → (ℕ → Option Job) → Type 0
+AreDrafts state drafts = (worker : ℕ) (me : WorkerState) → slice_get state.workers worker ≡ Some me → IsDraft me.stance (drafts worker)
+
+abbrev pub DraftLaw : Type 0
+DraftLaw = (shape : Shape) (act : Act) (old : State) (worker : ℕ) (new : State) (drafts : ℕ → Option Job) → Does shape act old worker new → AreDrafts old drafts
+    → AreDrafts new (λ (other : ℕ). if other == worker then drafted act (drafts worker) else drafts other)
 
 -- Each worker that is up and not ready stands at a place of a row of the step table, and is on track there.
 abbrev pub RowLaw : Type 0

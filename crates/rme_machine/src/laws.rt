@@ -5,7 +5,7 @@
 //! the lemmas.
 
 ghost use Rattle.rme_machine.specs.Theorems.{ExclusionLaw, ReentryLaw, OnceLaw};
-ghost use Rattle.rme_machine.specs.Laws.{StepLaw, TakesLaw, SubmitLaw, CrashLaw, RestartLaw, WithdrawLaw, OpeningLaw, FitLaw, TablesLaw, OwnsLaw, RowLaw, BlockedLaw, StaleLaw, IdleLaw, ClausesLaw};
+ghost use Rattle.rme_machine.specs.Laws.{StepLaw, TakesLaw, SubmitLaw, CrashLaw, RestartLaw, WithdrawLaw, OpeningLaw, FitLaw, TablesLaw, OwnsLaw, SectionLaw, ReturnLaw, BooksLaw, DraftLaw, RowLaw, BlockedLaw, StaleLaw, IdleLaw, ClausesLaw};
 
 /// Each own step of a worker, of every kind and whatever it finds, keeps the fact and is the machine's step
 /// of its note (lemma `own_step`).
@@ -57,6 +57,28 @@ pub fn tabling()
 /// A worker in Section owns its lock, and so does one in Exit that still holds the root (lemma `owning`).
 pub fn owning()
     ensures { OwnsLaw }
+{}
+
+/// A section that a worker finishes took all its steps: on the even path the mask is the script's own (lemma
+/// `sectioned`).
+pub fn sectioning()
+    ensures { SectionLaw }
+{}
+
+/// An owner that recovers re-enters at step h+3 of Recover, and is quiet before (lemma `returning`).
+pub fn returning()
+    ensures { ReturnLaw }
+{}
+
+/// A finished section makes its worker's entries longer by its own, and no step changes any other's (lemma
+/// `books`).
+pub fn booking()
+    ensures { BooksLaw }
+{}
+
+/// The job that a worker is busy with is the one that was handed to it last (lemma `drafting`).
+pub fn drafting()
+    ensures { DraftLaw }
 {}
 
 /// Each worker that is up and not ready stands at a place of a row of the step table, where its next action is

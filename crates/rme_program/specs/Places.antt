@@ -1,6 +1,8 @@
 -- How many steps of its row a worker has made, where its stage tells.
-use Rattle.std.specs.Prelude.{ℕ, ◌+◌, ◌*◌}
+use Rattle.std.specs.Prelude.{ℕ, ◌+◌, ◌*◌, length}
 use Rattle.rme_words.specs.declared.shape.Shape.{Shape}
+use Rattle.rme_script.specs.Cells.{cells_of}
+use Rattle.rme_script.specs.Programs.{Program}
 use Rattle.rme_program.specs.declared.stage.Recovery.{Recovery}
 use Rattle.rme_program.specs.declared.stage.Recovery.TheVariants.{LoadBegun, LoadDone, LoadLock, LoadPath}
 use Rattle.rme_program.specs.declared.stage.Log.{Log}
@@ -51,3 +53,9 @@ place_of_redo shape (StoreReply visit mask reply) = redo_start shape visit.parit
 place_of_redo shape (StorePlace visit mask reply) = redo_start shape visit.parity + (3 + 2 * cells_below mask shape.cells)
 place_of_redo shape (StoreAt visit mask reply) = redo_start shape visit.parity + (4 + 2 * cells_below mask shape.cells)
 place_of_redo shape (StoreDone visit mask reply) = redo_start shape visit.parity + (5 + 2 * cells_below mask shape.cells)
+
+-- The steps of a whole section: begun at an even turn 11 + 3n + 4t, for a script of n operations that name t cells;
+-- redone from an odd turn 7 + 2m, for m cells of the mask.
+abbrev pub section_steps : Shape → Program → ℕ → Parity → ℕ
+section_steps shape script mask (Even operations cells) = 11 + 3 * script.n + 4 * length (cells_of script.ops shape.cells)
+section_steps shape script mask Odd = 7 + 2 * cells_below mask shape.cells

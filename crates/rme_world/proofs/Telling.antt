@@ -1,13 +1,10 @@
 -- What the note of a step tells of a world.
-use Rattle.std.proofs.Common.{◌≡◌, ◌≢◌, ℕ, suc, ◌+◌, ◌*◌, ◌<◌, ◌≤◌, length, refl, sym, ◌∙◌, ap, subst, inl, inr, arith}
+use Rattle.std.proofs.Common.{◌≡◌, ◌≢◌, ℕ, suc, ◌+◌, ◌<◌, ◌≤◌, refl, sym, ◌∙◌, ap, subst, inl, inr, arith}
 use Rattle.std.specs.Prelude.{Option, Some, slice_get, unwrap_or}
 use Rattle.std.proofs.lemmas.Option.{same_Some}
 use Rattle.rme_words.specs.declared.shape.Shape.{Shape}
 use Rattle.rme_words.specs.declared.address.Address.TheVariants.{Node}
 use Rattle.rme_tree.specs.Paths.{node}
-use Rattle.rme_script.specs.Cells.{cells_of, cells_named}
-use Rattle.rme_script.specs.Programs.{Program}
-use Rattle.rme_script.proofs.Rising.{cells_named_mask}
 use Rattle.rme_program.specs.declared.kinds.Phase.{Phase}
 use Rattle.rme_program.specs.declared.kinds.Phase.TheVariants as phase
 use Rattle.rme_program.specs.declared.note.Note.{Note}
@@ -16,34 +13,28 @@ use Rattle.rme_program.specs.declared.note.Note.TheVariants as notes
 use Rattle.rme_program.specs.declared.note.Receipt.{Receipt}
 use Rattle.rme_program.specs.declared.private.Private.{Private}
 use Rattle.rme_program.specs.declared.stage.Ascent.{Ascent}
-use Rattle.rme_program.specs.declared.stage.Parity.{Parity}
-use Rattle.rme_program.specs.declared.stage.Parity.TheVariants.{Even, Odd}
 use Rattle.rme_program.specs.declared.stage.Recovery.{Recovery}
 use Rattle.rme_program.specs.declared.stage.Recovery.TheVariants.{LoadPath}
 use Rattle.rme_program.specs.declared.stage.Redo.{Redo}
 use Rattle.rme_program.specs.declared.stage.Redo.TheVariants.{StoreDone}
 use Rattle.rme_program.specs.declared.stage.Slate.{Slate}
-use Rattle.rme_program.specs.declared.stage.Visit.{Visit}
 use Rattle.rme_program.specs.declared.stage.Stage.{Stage}
 use Rattle.rme_program.specs.declared.stage.Stage.TheVariants.{Resting, Recovering, Posting, Climbing, Logging, Copying, Leaving}
 use Rattle.rme_program.specs.Conditions.{IsPrivate, Takes}
 use Rattle.rme_program.specs.Did.{Did}
-use Rattle.rme_program.specs.Masks.{mask_of}
-use Rattle.rme_program.specs.Phases.{phase_of, left_of, cells_below}
+use Rattle.rme_program.specs.Phases.{phase_of, left_of}
 use Rattle.rme_program.specs.Places.{place_of_recovery, place_of_redo}
 use Rattle.rme_program.specs.Progress.{IsOnTrack, Taken, Falls, rank}
 use Rattle.rme_program.specs.Stays.{StandsInRow}
 use Rattle.rme_program.specs.Steps.{action_of, private_after}
 use Rattle.rme_program.proofs.Columns.{within_most}
 use Rattle.rme_program.proofs.Falls.{steps_on}
-use Rattle.rme_program.proofs.MaskLemmas.{mask_of-is_mask}
-use Rattle.rme_machine.specs.Fits.{KnowsParity}
-use Rattle.rme_machine.specs.Views.{WorkerWords, LockWords, worker_words, lock_words, slate_job, no_script}
 use Rattle.rme_machine.proofs.Further.{fitting, blocking}
+use Rattle.rme_machine.proofs.Returning.{sectioned}
 use Rattle.rme_machine.proofs.Rowed.{rowed}
 use Rattle.rme_machine.proofs.Taking.{taking}
 use Rattle.rme_world.specs.declared.counts.Counts.{Counts}
-use Rattle.rme_world.specs.Counting.{CountsAfter, IsStay, budget, count_of, counted, no_counts, row_steps, section_steps}
+use Rattle.rme_world.specs.Counting.{CountsAfter, IsStay, budget, count_of, counted, no_counts, row_steps}
 use Rattle.rme_world.specs.Seen.{Seen, IsKept, counts_of, memory_seen, privates_seen}
 use Rattle.rme_world.specs.Events.{Steps}
 use Rattle.rme_world.specs.Looks.{BeginsStay, IsStopped, IsWholePost, IsWholeSection, ComesOn, KeepsBound, StandsAt}
@@ -85,29 +76,6 @@ counted_one old new before after note some open_way counts = elim (cases_phase a
   | inl same ↦ ap (λ (c : Counts). count_of c before) (counts.goes_on open_way same) ∙ count_here old before _ some
   | inr apart ↦ ap (λ (c : Counts). count_of c before) (counts.ends open_way apart) ∙ count_there (counted old before) after before 0 (λ e. apart (sym e)) ∙ count_here old before _ some
 ]
-
--- On the even way the mask is the script's own, and all is counted.
-whole_steps : (shape : Shape) (own : WorkerWords) (lock : LockWords) (visit : Visit) (mask reply count : ℕ) → KnowsParity own lock visit.turn visit.parity → mask ≡ lock.mask
-    → count ≡ place_of_redo shape (StoreDone visit mask reply) + 1 → count ≡ section_steps shape (slate_job own).script mask visit.parity
-whole_steps shape own lock visit mask reply count knows is all = by_parity visit.parity refl
-  where
-    by_parity : (parity : Parity) → visit.parity ≡ parity → count ≡ section_steps shape (slate_job own).script mask parity
-    by_parity Odd e =
-        let here : place_of_redo shape (StoreDone visit mask reply) ≡ 1 + (5 + 2 * cells_below mask shape.cells)
-        = ap (λ (p : Parity). place_of_redo shape (StoreDone record { lock = visit.lock; turn = visit.turn; parity = p } mask reply)) e in
-        omega (arith, all, here)
-    by_parity (Even operations cells) e =
-        let knows_even : KnowsParity own lock visit.turn (Even operations cells) = subst (λ (p : Parity). KnowsParity own lock visit.turn p) e knows in
-        let script : Program = knows_even.0 in
-        let named : cells_named mask shape.cells ≡ cells_of script.ops shape.cells =
-        ap (λ (m : ℕ). cells_named m shape.cells) (is ∙ sym knows_even.4 ∙ knows_even.3) ∙ cells_named_mask (mask_of script.ops) script.ops (mask_of-is_mask script.ops) shape.cells in
-        let same_script : (slate_job own).script ≡ script = ap (λ (s : Option Program). unwrap_or s no_script) knows_even.1 in
-        let here : place_of_redo shape (StoreDone visit mask reply) ≡ 2 + 3 * operations + cells_below cells shape.cells + cells_below cells shape.cells + 3 + (5 + 2 * cells_below mask shape.cells)
-        = ap (λ (p : Parity). place_of_redo shape (StoreDone record { lock = visit.lock; turn = visit.turn; parity = p } mask reply)) e in
-        let t : cells_below mask shape.cells ≡ length (cells_of script.ops shape.cells) = ap length named in
-        let u : cells_below cells shape.cells ≡ cells_below mask shape.cells = ap (λ (m : ℕ). cells_below m shape.cells) (knows_even.4 ∙ sym is) in
-        let goal : count ≡ 11 + 3 * script.n + 4 * length (cells_of script.ops shape.cells) = omega (arith, all, here, t, u, knows_even.2) in
-        subst (λ (s : Program). count ≡ 11 + 3 * s.n + 4 * length (cells_of s.ops shape.cells)) (sym same_script) goal
 
 module _ (old new : Seen) (worker : ℕ) (note : Note) (kept : IsKept old) (steps : Steps old worker note new) where
   pub within : worker < old.shape.workers
@@ -200,8 +168,6 @@ module _ (old new : Seen) (worker : ℕ) (note : Note) (kept : IsKept old) (step
       let more : count_of (counts_of new worker) phase.Section ≡ count_of (counts_of old worker) phase.Section + 1 = subst P tale.3 (one_more (not_blocked (Finished receipt) finished (λ e. cc))) in
       let Q : Stage → Type 0 = λ (s : Stage). Taken old.shape stay.first s (count_of (counts_of old worker) (phase_of s)) in
       let place = taken_in_section old.shape stay.first (StoreDone tale.0 tale.1 tale.2) _ (subst Q tale.3 stay.taken) in
-      let fits = kept.fact.fits worker steps.private within up in
-      let knows = rw tale.3 at fits.knows in
       record {
         private = steps.private;
         found = steps.found;
@@ -209,7 +175,7 @@ module _ (old new : Seen) (worker : ℕ) (note : Note) (kept : IsKept old) (step
         mask = tale.1;
         reply = tale.2;
         last = tale.3;
-        steps = whole_steps old.shape (worker_words (memory_seen old) worker) (lock_words old.shape (memory_seen old) tale.0.lock) tale.0 tale.1 tale.2 _ knows.1.0.1 knows.1.1 (omega (arith, more, place));
+        steps = more ∙ ap (λ (n : ℕ). n + 1) place ∙ sectioned old.shape (memory_seen old) (privates_seen old) old.history worker steps.private tale.0 tale.1 tale.2 kept.fact within up tale.3;
       }
 
   pub posts : (number : ℕ) → note ≡ Asked number → IsWholePost old worker (count_of (counts_of new worker) phase.Post)

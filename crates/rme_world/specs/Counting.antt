@@ -1,16 +1,12 @@
 -- The counts of own steps.
-use Rattle.std.specs.Prelude.{◌≡◌, ◌≢◌, ℕ, ◌+◌, ◌*◌, ◌≤◌, length}
+use Rattle.std.specs.Prelude.{◌≡◌, ◌≢◌, ℕ, ◌+◌, ◌*◌, ◌≤◌}
 use Rattle.rme_words.specs.declared.shape.Shape.{Shape}
-use Rattle.rme_script.specs.Cells.{cells_of}
-use Rattle.rme_script.specs.Programs.{Program}
 use Rattle.rme_program.specs.declared.kinds.Phase.{Phase}
 use Rattle.rme_program.specs.declared.kinds.Phase.TheVariants.{Recover, Post, Enter, Section, Exit, Ready}
 use Rattle.rme_program.specs.declared.note.Note.{Note}
 use Rattle.rme_program.specs.declared.note.Note.TheVariants.{Blocked}
 use Rattle.rme_program.specs.declared.stage.Stage.{Stage}
-use Rattle.rme_program.specs.declared.stage.Parity.{Parity}
-use Rattle.rme_program.specs.declared.stage.Parity.TheVariants.{Even, Odd}
-use Rattle.rme_program.specs.Phases.{phase_of, left_of, cells_below}
+use Rattle.rme_program.specs.Phases.{phase_of, left_of}
 use Rattle.rme_program.specs.Progress.{Taken, most_of}
 use Rattle.rme_world.specs.declared.counts.Counts.{Counts}
 
@@ -60,12 +56,6 @@ most_steps shape Enter = shape.height
 most_steps shape Section = 35 + 4 * shape.cells
 most_steps shape Exit = shape.height + 3
 most_steps shape Ready = 0
-
--- The steps of a whole section: begun at an even turn 11 + 3n + 4t, for a script of n operations that name t cells;
--- redone from an odd turn 7 + 2m, for m cells of the mask.
-abbrev pub section_steps : Shape → Program → ℕ → Parity → ℕ
-section_steps shape script mask (Even operations cells) = 11 + 3 * script.n + 4 * length (cells_of script.ops shape.cells)
-section_steps shape script mask Odd = 7 + 2 * cells_below mask shape.cells
 
 -- The steps of the row of a stay that begins at this stage, at most: h + 3 of Recover, 3 + 3n of Post, h - j of Enter,
 -- 35 + 4C of a section, h + 2 of Exit, j of its partial and 4 + j of its withdrawing form, where j levels are held.

@@ -16,12 +16,13 @@ use Rattle.rme_program.specs.declared.stage.Redo.TheVariants.{StoreDone}
 use Rattle.rme_program.specs.declared.stage.Visit.{Visit}
 use Rattle.rme_program.specs.declared.stage.Slate.{Slate}
 use Rattle.rme_program.specs.declared.stage.Stage.TheVariants.{Resting, Posting, Climbing, Copying}
+use Rattle.rme_program.specs.Places.{section_steps}
 use Rattle.rme_program.specs.Progress.{Falls}
 use Rattle.rme_program.specs.Stays.{StandsInRow}
 use Rattle.rme_program.specs.Steps.{withdrawn_place}
 use Rattle.rme_machine.specs.Histories.{last_by, has_entry}
 use Rattle.rme_machine.specs.Views.{WorkerWords, worker_words, slate_job}
-use Rattle.rme_world.specs.Counting.{count_of, row_steps, budget, section_steps}
+use Rattle.rme_world.specs.Counting.{count_of, row_steps, budget}
 use Rattle.rme_world.specs.Seen.{Seen, counts_of, memory_seen, privates_seen}
 
 -- The words of a worker have a receipt: its last job is done, and its number was not withdrawn.

@@ -1,5 +1,5 @@
 use Rattle.std.proofs.Common.{refl, sym, subst, arith}
-use Rattle.std.specs.Prelude.{ℕ, ◌-◌, ◌<◌, Some, slice_set, vec_len, vec_capacity}
+use Rattle.std.specs.Prelude.{◌-◌, ◌<◌, Some, slice_set, vec_len, vec_capacity}
 use Rattle.rme_words.specs.declared.shape.Shape.{Shape}
 use Rattle.rme_program.specs.declared.kinds.Phase.{Phase}
 use Rattle.rme_world.specs.Counting.{count_of}
