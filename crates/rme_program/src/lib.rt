@@ -20,8 +20,6 @@ mod private;
 mod progress;
 mod stage;
 mod steps;
-#[cfg(test)]
-mod tests;
 
 pub use action::Action;
 pub use event::{Answer, Event};

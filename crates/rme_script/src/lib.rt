@@ -18,8 +18,6 @@ mod run;
 mod same;
 mod script;
 mod slate;
-#[cfg(test)]
-mod tests;
 
 pub use job::Job;
 pub use limits::{MOST_OPERATIONS, OPERATION_WORDS, SLATE_WORDS};

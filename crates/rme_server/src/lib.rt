@@ -16,6 +16,3 @@ mod tallied;
 mod walk;
 
 pub use run::run_lines;
-
-#[cfg(test)]
-mod tests;

@@ -13,6 +13,3 @@ mod paths;
 
 pub use owners::{held, owner};
 pub use paths::{node, side};
-
-#[cfg(test)]
-mod tests;

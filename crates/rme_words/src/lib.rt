@@ -18,6 +18,3 @@ pub use bank::Bank;
 pub use limits::{MOST_CELLS, MOST_JOBS, MOST_LOCKS, MOST_WORKERS};
 pub use refusal::{NoMemory, Refusal};
 pub use shape::Shape;
-
-#[cfg(test)]
-mod tests;

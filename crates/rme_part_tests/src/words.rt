@@ -1,6 +1,6 @@
 //! Each public call once, with values worked out by hand.
 
-use crate::{Address, Bank, NoMemory, Refusal, Shape};
+use rme_words::{Address, Bank, NoMemory, Refusal, Shape};
 use std::test::Fail;
 
 #[test]

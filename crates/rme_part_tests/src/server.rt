@@ -1,4 +1,6 @@
-use crate::run_lines;
+//! The engine over readers and writers that fail, and the forms that a line may have.
+
+use rme_server::run_lines;
 use rme_wire::EngineFault;
 use std::alloc::Global;
 use std::io::{Error, ErrorKind, Read, Result, Write};

@@ -5,7 +5,7 @@ ghost use Rattle.rme_words.specs.Words.{IsOfShape};
 ghost use Rattle.rme_program.specs.Did.{address_of};
 ghost use Rattle.rme_program.specs.Conditions.{IsPrivate, Takes};
 
-use crate::{
+use rme_program::{
     Action, Departure, Log, Note, Phase, Private, Receipt, Recovery, Stage, after, left, next,
     phase,
 };

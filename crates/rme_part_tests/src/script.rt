@@ -1,6 +1,6 @@
 //! Values worked out by hand.
 
-use crate::{
+use rme_script::{
     Job, Op, Row, Script, cell_count, eval, from_slate, named, next_cell, op_of, op_words,
     slate_word, slate_words,
 };

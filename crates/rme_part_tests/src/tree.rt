@@ -1,6 +1,6 @@
 //! The public calls on a small tree, with values worked out by hand.
 
-use crate::{held, laws, node, owner, side};
+use rme_tree::{held, laws, node, owner, side};
 use rme_words::{Address, Bank, Shape};
 use std::test::Fail;
 
