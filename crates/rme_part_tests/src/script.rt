@@ -2,7 +2,7 @@
 
 use rme_script::{
     Job, Op, Row, Script, cell_count, eval, from_slate, named, next_cell, op_of, op_words,
-    slate_word, slate_words,
+    read_slate, slate_word, slate_words,
 };
 use rme_words::{Refusal, Shape};
 use std::test::Fail;
@@ -132,6 +132,10 @@ fn writes_and_reads_one_operation(rt: HostRuntime) {
     assert_eq!(rt; op_words(Op::Set(0, u64::MAX)), [1, 0, u64::MAX]);
     assert_eq!(rt; op_of(1, 0, u64::MAX), Some(Op::Set(0, u64::MAX)));
     assert_eq!(rt; op_of(0, 0, 1), None);
+    let mut read = Script::of(&[]);
+    assert!(rt; read_slate(5, &FIVE_WORDS, &mut read));
+    assert_eq!(rt; read, script);
+    assert!(rt; !read_slate(9, &FIVE_WORDS, &mut read));
 }
 
 #[test]

@@ -1,8 +1,9 @@
--- The loop of `from_slate`: what was read, and what is left to read, give what all the words give.
-use Rattle.std.proofs.Common.{◌≡◌, ℕ, suc, ◌+◌, ◌-◌, ◌*◌, ◌<◌, ◌≤◌, min, nat_lt, false, Option, Some, None, List, [], ◌∷◌, ◌++◌, length, get_or, set, take, drop, refl, sym, ap, ◌∙◌, arith}
+-- The loop of `read_slate`: what was read, and what is left to read, give what all the words give.
+use Rattle.std.proofs.Common.{◌≡◌, ℕ, suc, ◌+◌, ◌-◌, ◌*◌, ◌<◌, ◌≤◌, min, nat_lt, false, Option, Some, None, List, [], ◌∷◌, ◌++◌, length, get_or, set, take, drop, replicate, refl, sym, ap, ◌∙◌, arith}
 use Rattle.std.proofs.lemmas.Bool.{le-ltb}
-use Rattle.std.proofs.lemmas.List.{append_assoc, append-nil, length-set, length-take-le, take_all, drop_more, take_more_set}
+use Rattle.std.proofs.lemmas.List.{append_assoc, append-nil, length-set, length-replicate, take_all, drop_more, take_more_set}
 use Rattle.rme_script.specs.declared.op.Op.{Op}
+use Rattle.rme_script.specs.declared.op.Op.TheVariants.{Get}
 use Rattle.rme_script.specs.Programs.{Program}
 use Rattle.rme_script.specs.Slates.{op_of, joined, ops_of, script_of}
 
@@ -13,7 +14,7 @@ before front (Some ops) = Some (front ++ ops)
 
 pub record Reading (n : ℕ) (words : List ℕ) (i : ℕ) (ops : List Op) : Type 0 where
   pub so_far : before (take i ops) (ops_of (n - i) (drop (3 * i) words)) ≡ ops_of n words
-  pub whole : length ops ≡ 8
+  pub whole : length ops ≡ n
 
 before_push : (front : List Op) (o : Op) (rest : Option (List Op)) → before (front ++ o ∷ []) rest ≡ before front (joined (Some o) rest)
 before_push front o None = refl
@@ -41,7 +42,7 @@ module _ (n : ℕ) (words : List ℕ) (i : ℕ) (ops : List Op) (few : n ≤ 8) 
   pub reading_next : (o : Op) → op_of (get_or words (3 * i) 0) (get_or words (3 * i + 1) 0) (get_or words (3 * i + 2) 0) ≡ Some o → Reading n words (i + 1) (set ops i o)
   reading_next o e =
       let rest : Option (List Op) = ops_of (n - (i + 1)) (drop (3 * (i + 1)) words) in
-      let front : take (i + 1) (set ops i o) ≡ take i ops ++ o ∷ [] = take_more_set ops i o (omega (arith, inside, few, r.whole)) in
+      let front : take (i + 1) (set ops i o) ≡ take i ops ++ o ∷ [] = take_more_set ops i o (omega (arith, inside, r.whole)) in
       record {
         so_far = ap (λ (xs : List Op). before xs rest) front
             ∙ before_push (take i ops) o rest
@@ -57,18 +58,24 @@ module _ (n : ℕ) (words : List ℕ) (i : ℕ) (ops : List Op) (few : n ≤ 8) 
       let all : ops_of n words ≡ None = sym r.so_far ∙ ap (λ (x : Option (List Op)). before (take i ops) x) (next ∙ ap (λ (x : Option Op). joined x rest) e) in
       rw (short, all) refl
 
-pub reading_end : (n : ℕ) (words : List ℕ) (i : ℕ) (ops : List Op) (made : Program) → n ≤ 8 → n ≤ i → i ≤ n → Reading n words i ops → made ≡ record { n = min (length (take n ops)) 9; ops = take 8 (take n ops) } → Some made ≡ script_of n words
-reading_end n words i ops made few past up r m =
+pub reading_begin : (n : ℕ) (words : List ℕ) → Reading n words 0 (replicate n (Get 0))
+reading_begin n words =
+    let all : n - 0 ≡ n = omega arith in
+    record { so_far = rw all (begun (ops_of n words)); whole = length-replicate n (Get 0) }
+  where
+    begun : (rest : Option (List Op)) → before [] rest ≡ rest
+    begun None = refl
+    begun (Some ops) = refl
+
+pub reading_end : (n : ℕ) (words : List ℕ) (i : ℕ) (ops : List Op) → n ≤ 8 → n ≤ i → i ≤ n → Reading n words i ops → Some record { n = n; ops = ops } ≡ script_of n words
+reading_end n words i ops few past up r =
     let here : i ≡ n = omega (arith, past, up) in
     let nothing : n - i ≡ 0 = omega (arith, past) in
-    let all : ops_of n words ≡ Some (take n ops) = sym r.so_far
+    let whole : take n ops ≡ ops = take_all n ops (omega (arith, r.whole)) in
+    let all : ops_of n words ≡ Some ops = sym r.so_far
     ∙ ap (λ (k : ℕ). before (take i ops) (ops_of k (drop (3 * i) words))) nothing
     ∙ ap (λ (xs : List Op). Some xs) (append-nil (take i ops))
-    ∙ ap (λ (k : ℕ). Some (take k ops)) here in
+    ∙ ap (λ (k : ℕ). Some (take k ops)) here
+    ∙ ap (λ (xs : List Op). Some xs) whole in
     let short : nat_lt 8 n ≡ false = le-ltb 8 n few in
-    let counted : length (take n ops) ≡ n = length-take-le n ops (omega (arith, few, r.whole)) in
-    let number : min (length (take n ops)) 9 ≡ n = omega (arith, counted, few) in
-    let kept : take 8 (take n ops) ≡ take n ops = take_all 8 (take n ops) (omega (arith, counted, few)) in
-    let same : ◌≡◌ {A = Program} (record { n = min (length (take n ops)) 9; ops = take 8 (take n ops) }) (record { n = n; ops = take n ops }) = rw (number, kept) refl in
-    let answer : made ≡ record { n = n; ops = take n ops } = m ∙ same in
-    rw (short, all) (ap (λ (p : Program). Some p) answer)
+    rw (short, all) refl

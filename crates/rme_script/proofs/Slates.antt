@@ -164,3 +164,20 @@ script_exact n ws p = (script_slate n ws p, slate_some n ws p)
 -- What answers `script_of` answers exactly the slates.
 pub exact_answer : (n : ℕ) (ws : List ℕ) (answer : Option Program) → answer ≡ script_of n ws → (p : Program) → (answer ≡ Some p) ↔ IsSlate n ws p
 exact_answer n ws answer e p = (λ h. script_slate n ws p (sym e ∙ h), λ s. e ∙ slate_some n ws p s)
+
+-- More than eight operations are no script.
+pub no_script : (n : ℕ) (ws : List ℕ) → 8 < n → script_of n ws ≡ None
+no_script n ws many = rw (lt-ltb 8 n many) refl
+
+-- Words that begin alike are the same script.
+pub same_script : (n : ℕ) (ws vs : List ℕ) → take (3 * n) ws ≡ take (3 * n) vs → script_of n ws ≡ script_of n vs
+same_script n ws vs same =
+    by_answers (script_of n ws) (script_of n vs) (λ p e. slate_some n vs p (moved ws vs p same (script_slate n ws p e))) (λ p e. slate_some n ws p (moved vs ws p (sym same) (script_slate n vs p e)))
+  where
+    moved : (xs ys : List ℕ) (p : Program) → take (3 * n) xs ≡ take (3 * n) ys → IsSlate n xs p → IsSlate n ys p
+    moved xs ys p e slate = record { counted = slate.counted; script = slate.script; first = sym e ∙ slate.first }
+
+    by_answers : (a b : Option Program) → ((p : Program) → a ≡ Some p → b ≡ Some p) → ((p : Program) → b ≡ Some p → a ≡ Some p) → a ≡ b
+    by_answers None None f g = refl
+    by_answers None (Some p) f g = g p refl
+    by_answers (Some p) b f g = sym (f p refl)

@@ -1,6 +1,6 @@
 //! A script: the operations of one job.
 
-ghost use Rattle.std.specs.Prelude.{◌≡◌, ◌<◌, ◌≤◌, min, take, length, slice_get};
+ghost use Rattle.std.specs.Prelude.{◌≡◌, ◌<◌, ◌≤◌, min, take, length, replicate, slice_get, slice_set};
 
 use crate::limits::MOST_OPERATIONS;
 use crate::op::Op;
@@ -45,6 +45,27 @@ impl Script {
             ops: kept,
             n: ops.len().min(MOST_OPERATIONS + 1) as u32,
         }
+    }
+
+    /// Makes it a script of `n` operations that all get cell 0, to be put in place one after another.
+    pub(crate) fn begin(&mut self, n: u32)
+        requires { n ≤ 8 }
+        ensures { self.new ≡ record { n = n; ops = replicate n (Op.Get 0) } }
+    {
+        *self = Script {
+            ops: [Op::Get(0); MOST_OPERATIONS],
+            n,
+        };
+    }
+
+    /// Puts an operation in the place of that at `i`.
+    pub(crate) fn put(&mut self, i: u32, op: Op)
+        requires few { self.old.n ≤ 8 }
+        requires place { i < length self.old.ops }
+        ensures { self.new ≡ record { n = self.old.n; ops = slice_set self.old.ops i op } }
+    {
+        let place = i as usize;
+        self.ops[place] = op;
     }
 
     /// How many operations the script was given; 9 stands for every number above 8.

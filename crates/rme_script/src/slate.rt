@@ -1,6 +1,6 @@
 //! The words of a script: three for each operation.
 
-ghost use Rattle.std.specs.Prelude.{◌≡◌, ◌*◌, ◌^◌, ◌<◌, ◌≤◌, ◌↔◌, length, slice_index};
+ghost use Rattle.std.specs.Prelude.{◌≡◌, ◌*◌, ◌^◌, ◌<◌, ◌≤◌, ◌↔◌, Some, None, IsTrue, IsFalse, length, slice_index};
 ghost use Rattle.rme_script.specs.Programs.{Program};
 ghost use Rattle.rme_script.specs.Scripts.{IsWithin};
 ghost use Rattle.rme_script.specs.Slates.{IsSlate, op_words, op_of, slate_of, script_of};
@@ -78,17 +78,29 @@ pub fn from_slate(n: u64, words: &[u64; SLATE_WORDS]) -> Option<Script>
     ensures decoded { result ≡ script_of n words.now }
     ensures exact { (p : Program) → (result ≡ Some p) ↔ IsSlate n words.now p }
 {
+    let mut script = Script::of(&[]);
+    if read_slate(n, words, &mut script) {
+        return Some(script);
+    }
+    None
+}
+
+/// Reads what `from_slate` would answer into a script in place, and answers whether there is one. Where there is
+/// none, the script may be any.
+pub fn read_slate(n: u64, words: &[u64; SLATE_WORDS], script: &mut Script) -> bool
+    ensures read { IsTrue result → Some script.new ≡ script_of n words.now }
+    ensures none { IsFalse result → None ≡ script_of n words.now }
+{
     if n > MOST_OPERATIONS as u64 {
-        return None;
+        return false;
     }
-    let n = n as usize;
-    let mut ops = [Op::Get(0); MOST_OPERATIONS];
-    for i in 0..n {
-        let at = OPERATION_WORDS * i;
+    script.begin(n as u32);
+    for i in 0..n as u32 {
+        let at = OPERATION_WORDS * i as usize;
         let Some(op) = op_of(words[at], words[at + 1], words[at + 2]) else {
-            return None;
+            return false;
         };
-        ops[i] = op;
+        script.put(i, op);
     }
-    Some(Script::of(&ops[..n]))
+    true
 }

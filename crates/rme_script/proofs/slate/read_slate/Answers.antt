@@ -1,0 +1,16 @@
+use Rattle.std.proofs.Common.{sym, ◌∙◌, ap, arith}
+use Rattle.std.specs.Prelude.{slice_set}
+use Rattle.rme_script.specs.Programs.{Program}
+use Rattle.rme_script.proofs.Readings.{Reading, reading_begin, reading_next, reading_none, reading_end}
+use Rattle.rme_script.proofs.slate.read_slate.Goals as goal
+
+pub loop-i-preserved : goal.loop-i-preserved
+loop-i-preserved c =
+    rw c.put.ensures (
+      c.loop-i.invariant.0,
+      reading_next c.args.n c.args.words.now c.loop-i.i c.loop-i.script.ops c.if-n.false c.told-words c.loop-i-test.true c.loop-i.invariant.1 c.in-Some.op (sym c.op_of.ensures ∙ c.in-Some.is),
+    )
+
+pub returns-in_default-clause-none : goal.returns-in_default-clause-none
+returns-in_default-clause-none c = λ no.
+    reading_none c.args.n c.args.words.now c.loop-i.i c.loop-i.script.ops c.if-n.false c.told-words c.loop-i-test.true c.loop-i.invariant.1 (sym c.op_of.ensures ∙ c.in_default.is)
