@@ -5,6 +5,7 @@ pub mod Firsts
 pub mod Fitting
 pub mod Lists
 pub mod MaskLemmas
+pub mod NoteLaws
 pub mod RowLaws
 pub mod Rows
 pub mod Scripting

@@ -1,7 +1,7 @@
 -- In reading order: the masks of cells, what an action does to a memory, what each stage does next and what
 -- follows from the value, what `next` and `after` may rely on, and the phases; then the step table: its rows, the
--- place of a worker in a row, the stays that walk the rows, how each step brings a worker on, the laws of rows, and
--- whole walks.
+-- place of a worker in a row, the stays that walk the rows, how each step brings a worker on, the laws of rows, whole
+-- walks, and what each step tells.
 pub mod Masks
 pub mod Did
 pub mod Steps
@@ -13,3 +13,4 @@ pub mod Stays
 pub mod Progress
 pub mod RowLaws
 pub mod Walks
+pub mod NoteLaws
