@@ -1,6 +1,6 @@
 //! One own step of one worker.
 
-ghost use Rattle.std.specs.Prelude.{◌≡◌, ◌<◌, ◌≤◌, vec_len, vec_capacity};
+ghost use Rattle.std.specs.Prelude.{◌≡◌, ◌<◌, ◌≤◌, take, vec_len, vec_capacity};
 ghost use Rattle.rme_program.specs.declared.note.Note.{Note};
 ghost use Rattle.rme_program.specs.declared.note.Receipt.{Receipt};
 ghost use Rattle.rme_machine.specs.Changes.{history_after};
@@ -95,19 +95,23 @@ fn slate(bank: &Bank, worker: u32) -> Script
     ensures { result ≡ (slate_job (worker_words (memory_of bank.now) worker)).script }
 {
     let n = bank.load(Address::SlateLen(worker));
-    match from_slate(n, &slate_loaded(bank, worker)) {
+    if n > 8 {
+        return Script::of(&[]);
+    }
+    match from_slate(n, &slate_loaded(bank, worker, 3 * n as u32)) {
         Some(script) => script,
         None => Script::of(&[]),
     }
 }
 
-/// The words of a worker's slate.
-fn slate_loaded(bank: &Bank, worker: u32) -> [u64; 24]
-    requires { worker < bank.now.shape.workers }
-    ensures { result ≡ slate_at (memory_of bank.now) worker }
+/// So many words of a worker's slate.
+fn slate_loaded(bank: &Bank, worker: u32, count: u32) -> [u64; 24]
+    requires worker { worker < bank.now.shape.workers }
+    requires count { count ≤ 24 }
+    ensures { take count result ≡ take count (slate_at (memory_of bank.now) worker) }
 {
     let mut words = [0; 24];
-    for i in 0..24u32 {
+    for i in 0..count {
         words[i as usize] = bank.load(Address::SlateWord(worker, i / 3, i % 3));
     }
     words
