@@ -1,31 +1,19 @@
-//! The worked rows: whole runs of the service with the answers that they must have.
+//! The worked rows as calls: whole runs of the service with the answers that they must have.
 //!
 //! A row is a list of calls and what each of them answers, worked out by hand from the model and never taken
 //! from a run. The crate has nothing but tests: it shows that the contracts of the crates below say what was
 //! meant, that a call with room succeeds, and that a job takes as many own steps as the algorithm is written
-//! to take. It stands on `rme_world`, `rme_server`, `rme_history` and `rme_wire`, whose calls the rows make, and
-//! on the crates that name a job, a note and a shape. Begin with `plays.rt`, which has the words that the rows are
-//! written in, and then `one_at_a_time.rt`.
+//! to take. It stands on `rme_world` and `rme_history`, whose calls the rows make, and on the crates that name
+//! a job, a note and a shape. Begin with `plays.rt`, which has the words that the rows are written in, and then
+//! `one_at_a_time.rt`. The rows as lines are tests of rme_line_rows.
 #![tactic(auto)]
 
 #[cfg(test)]
+mod corners;
+#[cfg(test)]
 mod crashes;
 #[cfg(test)]
-mod event_lines;
-#[cfg(test)]
 mod histories;
-#[cfg(test)]
-mod line_cuts;
-#[cfg(test)]
-mod line_readings;
-#[cfg(test)]
-mod line_refusals;
-#[cfg(test)]
-mod line_rows;
-#[cfg(test)]
-mod lines;
-#[cfg(test)]
-mod names;
 #[cfg(test)]
 mod one_at_a_time;
 #[cfg(test)]
@@ -36,8 +24,6 @@ mod refusals;
 mod runs;
 #[cfg(test)]
 mod seen;
-#[cfg(test)]
-mod session_lines;
 #[cfg(test)]
 mod sweeps;
 #[cfg(test)]

@@ -1,6 +1,8 @@
 //! One worker at a time, and no crash.
 
-use crate::plays::Line::{Cells, Counts, Crash, History, Owner, Restart, Steps, Submit, Walk};
+use crate::plays::Line::{
+    Cells, Counts, Crash, History, Owner, Restart, Steps, Submit, Walk, WalkMax,
+};
 use crate::plays::{FIVE, Line, play};
 use crate::walks::End;
 use crate::walks::Told::{Asked, Entered, Finished, Left, Reentered};
@@ -20,6 +22,23 @@ const PLAIN_PATH: &[Line] = &[
     Cells(&[5], true),
     History(&[(0, 1, 0, 5, &[Op::Add(0, 5)]), (1, 1, 1, 0, &[])]),
     Owner(None),
+];
+
+/// Row `cells in mid-copy`: the cells are read from the words, and the history knows nothing of the script yet.
+/// Of the 20 steps the last stores the cell: 6 of Post, 1 of Enter, 13 of the section.
+const CELLS_IN_MID_COPY: &[Line] = &[
+    Submit(0, &[Op::Add(0, 5)], 1),
+    WalkMax(0, 19, &[Asked(1), Entered]),
+    Cells(&[0], false),
+    WalkMax(0, 1, &[]),
+    Cells(&[5], false),
+    History(&[]),
+    Crash(0),
+    Cells(&[5], false),
+    Owner(Some(0)),
+    Restart(0),
+    Walk(0, End::Ready, &[Reentered, Finished(1, 0, 5), Left]),
+    Cells(&[5], true),
 ];
 
 /// Row `one worker`: a tree of two leaves, of which one is no worker's.
@@ -57,6 +76,7 @@ const TWO_CELLS_REDONE: &[Line] = &[
 #[test]
 fn one_at_a_time(rt: HostRuntime) -> Result<(), Fail> {
     play(&rt, rt.alloc(), (2, 1, 10), PLAIN_PATH)?;
+    play(&rt, rt.alloc(), (2, 1, 10), CELLS_IN_MID_COPY)?;
     play(&rt, rt.alloc(), (1, 1, 10), ONE_WORKER)?;
     play(&rt, rt.alloc(), (1, 2, 10), FIVE_OPERATIONS)?;
     play(&rt, rt.alloc(), (1, 16, 10), TWO_OF_SIXTEEN_CELLS)?;

@@ -44,6 +44,8 @@ pub enum Line {
     Walk(u32, End, &'static [Told]),
     /// A walk until a note of this kind, which it meets, and its notes.
     WalkUntil(u32, Until, &'static [Told]),
+    /// A walk of at most so many steps, which it makes, and its notes.
+    WalkMax(u32, u32, &'static [Told]),
     /// So many own steps.
     Steps(u32, u32),
     Crash(u32),
@@ -116,6 +118,14 @@ fn change(rt: &impl Abort, world: &mut World, line: Line) -> Result<(), Fail> {
             assert_eq!(rt;
                 walked,
                 Walked::told(worker, 0, End::Until, notes),
+                "{line:?}"
+            );
+        }
+        Line::WalkMax(worker, max, notes) => {
+            let walked = walk(world, worker, None, max)?;
+            assert_eq!(rt;
+                walked,
+                Walked::told(worker, 0, End::Max, notes),
                 "{line:?}"
             );
         }

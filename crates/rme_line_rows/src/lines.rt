@@ -1,7 +1,7 @@
 //! Rows on lines: bytes in, bytes out, exact to the byte.
 
 ghost use Rattle.std.specs.Prelude.{IfOk};
-ghost use Rattle.rme_rows.specs.Answered.{AreAnswers};
+ghost use Rattle.rme_line_rows.specs.Answered.{AreAnswers};
 
 use rme_server::run_lines;
 use std::alloc::Global;
@@ -74,6 +74,50 @@ const PLAIN_PATH: Row = &[
     (
         r#"{"do":"walk","worker":1}"#,
         r#"{"end":"ready","notes":[["asked",1],["entered","bank"],["finished","bank",1,1,0],["left","bank"]],"ok":"walk"}"#,
+    ),
+    (
+        r#"{"do":"cells","lock":"bank"}"#,
+        r#"{"cells":[5],"ok":"cells","settled":true}"#,
+    ),
+];
+
+/// Row `cells in mid-copy`: the cells are read from the words, and the history knows nothing of the script yet.
+const CELLS_IN_MID_COPY: Row = &[
+    TWO_WORKERS,
+    (
+        r#"{"do":"submit","lock":"bank","script":[["add",0,5]],"worker":0}"#,
+        r#"{"number":1,"ok":"submit"}"#,
+    ),
+    (
+        r#"{"do":"walk","max":19,"worker":0}"#,
+        r#"{"end":"max","notes":[["asked",1],["entered","bank"]],"ok":"walk"}"#,
+    ),
+    (
+        r#"{"do":"cells","lock":"bank"}"#,
+        r#"{"cells":[0],"ok":"cells","settled":false}"#,
+    ),
+    (
+        r#"{"do":"step","worker":0}"#,
+        r#"{"note":["quiet"],"ok":"step"}"#,
+    ),
+    (
+        r#"{"do":"cells","lock":"bank"}"#,
+        r#"{"cells":[5],"ok":"cells","settled":false}"#,
+    ),
+    (r#"{"do":"history"}"#, r#"{"entries":[],"ok":"history"}"#),
+    (r#"{"do":"crash","worker":0}"#, r#"{"ok":"crash"}"#),
+    (
+        r#"{"do":"cells","lock":"bank"}"#,
+        r#"{"cells":[5],"ok":"cells","settled":false}"#,
+    ),
+    (
+        r#"{"do":"owner","lock":"bank"}"#,
+        r#"{"ok":"owner","owner":0}"#,
+    ),
+    (r#"{"do":"restart","worker":0}"#, r#"{"ok":"restart"}"#),
+    (
+        r#"{"do":"walk","worker":0}"#,
+        r#"{"end":"ready","notes":[["reentered","bank"],["finished","bank",1,0,5],["left","bank"]],"ok":"walk"}"#,
     ),
     (
         r#"{"do":"cells","lock":"bank"}"#,
@@ -341,6 +385,7 @@ const REPORTS: Row = &[
 const ROWS: &[(&str, Row)] = &[
     ("first run", FIRST_RUN),
     ("plain path", PLAIN_PATH),
+    ("cells in mid-copy", CELLS_IN_MID_COPY),
     ("re-entry", RE_ENTRY),
     ("stale receipt", STALE_RECEIPT),
     ("partial exit", PARTIAL_EXIT),
