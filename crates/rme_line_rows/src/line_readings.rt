@@ -13,7 +13,7 @@ const BAD_SHAPE: &str = r#"{"code":5,"error":"BadShape"}"#;
 
 const NO_LOCK: &str = r#"{"code":11,"error":"NoLock"}"#;
 
-/// Keys come in any order, the last of a repeated key stands, and keys and texts are what their escapes spell.
+/// Keys come in any order, the last of a repeated key stands, and keys and strings are compared after unescaping.
 const KEYS: Row = &[
     TWO_WORKERS,
     (r#"{"worker":0,"do":"last"}"#, NOTHING_LAST),
