@@ -55,7 +55,7 @@ module _ (shape : Shape) (worker begun value : ℕ) where
       (λ e. other_told (Recovering (LoadPath pending lock held)) pending lock held)
 
   slate_told : (slate : Slate) → Told (Posting slate) (after_slate begun slate)
-  slate_told slate = either (Posting slate) (slate.stored == 2 + 3 * slate.job.script.n) _ _ (λ e. (slate, refl, refl, refl)) (λ e. tt)
+  slate_told slate = either (Posting slate) (slate.stored == 2 + 3 * slate.job.script.n) _ _ (λ whole. (slate, refl, refl, refl, eqb-true _ _ whole)) (λ e. tt)
 
   ascent_told : (ascent : Ascent) → Told (Climbing ascent) (after_ascent shape ascent value)
   ascent_told ascent =

@@ -1,6 +1,6 @@
 -- What each step tells of a worker: its note, its phase, what is left, what it knows of `begun`. Each is the
 -- contract of a function of the module `laws`.
-use Rattle.std.specs.Prelude.{◌≡◌, ◌≢◌, ℕ, ◌+◌, ◌≤◌, Bool, true, false}
+use Rattle.std.specs.Prelude.{◌≡◌, ◌≢◌, ℕ, ◌+◌, ◌*◌, ◌≤◌, Bool, true, false}
 use Rattle.rme_words.specs.declared.shape.Shape.{Shape}
 use Rattle.rme_program.specs.declared.kinds.Phase.{Phase}
 use Rattle.rme_program.specs.declared.kinds.Phase.TheVariants as phase
@@ -20,11 +20,12 @@ use Rattle.rme_program.specs.Phases.{phase_of, left_of}
 use Rattle.rme_program.specs.Steps.{after_at, begun_after, re_entry, finished}
 
 -- What a note tells: of the stage in which the step was made, of the value that it found, and of the stage that it
--- led to. A blocked worker stays where it is; the lock is entered at the root; only the store of Done finishes a
+-- led to. A job is asked for when its whole slate is stored; a blocked worker stays where it is; the lock is entered at the root; only the store of Done finishes a
 -- section, and its receipt is the visit's.
 abbrev pub Tells : Shape → ℕ → ℕ → Stage → ℕ → Stage → Note → Type 0
 Tells shape worker begun stage value next Quiet = Unit {0}
 Tells shape worker begun stage value next (Asked number) = (slate : Slate) × (stage ≡ Posting slate) × (number ≡ begun + 1) × (next ≡ Climbing record { lock = slate.job.lock; held = 0 })
+    × (slate.stored ≡ 2 + 3 * slate.job.script.n)
 Tells shape worker begun stage value next Blocked = (ascent : Ascent) × (stage ≡ Climbing ascent) × (value ≢ 0) × (next ≡ stage)
 Tells shape worker begun stage value next (Entered lock) = (held : ℕ) × (stage ≡ Climbing record { lock = lock; held = held }) × (held + 1 ≡ shape.height) × (next ≡ Logging (LoadTurn lock))
 Tells shape worker begun stage value next (Reentered lock) = (pending : Bool) × (held : ℕ) × (stage ≡ Recovering (LoadPath pending lock held)) × (held + 1 ≡ shape.height) × (next ≡ re_entry pending lock)

@@ -16,7 +16,8 @@ use Rattle.rme_world.specs.Counting.{CountsAfter, begun_stay, count_of, counted,
 use Rattle.rme_world.specs.Opening.{opening}
 use Rattle.rme_world.specs.Seen.{Seen, counts_of}
 use Rattle.rme_machine.proofs.Lists.{get_set_other}
-use Rattle.rme_world.proofs.Stays.{begun_here, cases_phase, count_there, within_limits}
+use Rattle.rme_program.proofs.NoteLaws.{cases_phase}
+use Rattle.rme_world.proofs.Stays.{begun_here, count_there, within_limits}
 use Rattle.rme_server.specs.Tallies.{HasSeen, steps_of}
 
 -- ---- the counts of a world of which one worker's were changed

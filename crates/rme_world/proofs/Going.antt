@@ -33,7 +33,8 @@ use Rattle.rme_world.specs.Seen.{Seen, IsKept, counts_of, memory_seen, privates_
 use Rattle.rme_world.specs.Refused.{is_ready}
 use Rattle.rme_world.specs.Looks.{IsBusy}
 use Rattle.rme_world.specs.Events.{Steps}
-use Rattle.rme_world.proofs.Notes.{Tells, told}
+use Rattle.rme_program.specs.NoteLaws.{Tells}
+use Rattle.rme_program.proofs.NoteLaws.{note_law}
 use Rattle.rme_world.proofs.Owing.{owed_step}
 use Rattle.rme_world.proofs.Worlds.{became, changed, is_worker, up_at}
 
@@ -49,14 +50,14 @@ job_same old new worker value wrote =
 
 -- The history after a step is the same, whether the slate is read before the step or after it.
 history_same : (shape : Shape) (old new : Address → ℕ) (history : List Entry) (worker begun value : ℕ) (stage : Stage) (note : Note)
-    → Did old new (action_at shape worker begun stage) value → Tells shape stage value (after_at shape worker begun stage value).0 note
+    → Did old new (action_at shape worker begun stage) value → Tells shape worker begun stage value (after_at shape worker begun stage value).0 note
     → history_after history new worker note ≡ history_after history old worker note
 history_same shape old new history worker begun value stage Quiet did tells = refl
 history_same shape old new history worker begun value stage (Asked k) did tells = refl
 history_same shape old new history worker begun value stage Blocked did tells = refl
 history_same shape old new history worker begun value stage (Entered lock) did tells = refl
 history_same shape old new history worker begun value stage (Reentered lock) did tells = refl
-history_same shape old new history worker begun value stage (Finished receipt) did (visit, mask, reply, e) =
+history_same shape old new history worker begun value stage (Finished receipt) did (visit, mask, reply, e, to) =
     let wrote : Wrote old new (Done worker) begun = rw e at did in
     ap (λ (j : Job). history ++ record { receipt = receipt; script = j.script } ∷ []) (job_same old new worker begun wrote)
 history_same shape old new history worker begun value stage (Left lock) did tells = refl
@@ -189,7 +190,7 @@ module _ (old : Seen) (worker : ℕ) (private : Private) (kept : IsKept old) (fo
       before_it : history_after old.history (memory_seen new) worker note ≡ history_after old.history (memory_seen old) worker note
       before_it = history_same old.shape (memory_seen old) (memory_seen new) old.history worker private.begun value private.stage note
           (let P : ℕ → Type 0 = λ (w : ℕ). Did (memory_seen old) (memory_seen new) (action_at old.shape w private.begun private.stage) value in subst P worker_is did_here)
-          (let P : Note → Type 0 = λ (n : Note). Tells old.shape private.stage value (after_at old.shape worker private.begun private.stage value).0 n in
+          (let P : Note → Type 0 = λ (n : Note). Tells old.shape worker private.begun private.stage value (after_at old.shape worker private.begun private.stage value).0 n in
           let Q : ℕ → Type 0 = λ (w : ℕ). note_after old.shape private value ≡ (after_at old.shape w private.begun private.stage value).1 in
           let at : note_after old.shape private value ≡ (after_at old.shape worker private.begun private.stage value).1 = subst Q worker_is refl in
-          subst P (sym (says ∙ at)) (told old.shape worker private.begun value private.stage))
+          subst P (sym (says ∙ at)) (note_law old.shape worker private.begun private.stage value))

@@ -1,4 +1,3 @@
-pub mod Notes
 pub mod Stays
 pub mod Owing
 pub mod Worlds

@@ -25,7 +25,8 @@ use Rattle.rme_program.proofs.Counts.{cells_below_less}
 use Rattle.rme_program.proofs.Falls.{Steps, steps_on}
 use Rattle.rme_world.specs.declared.counts.Counts.{Counts}
 use Rattle.rme_world.specs.Counting.{IsStay, CountsAfter, count_of, with_count, counted, begun_stay, most_steps}
-use Rattle.rme_world.proofs.Notes.{Tells, told}
+use Rattle.rme_program.specs.NoteLaws.{Tells}
+use Rattle.rme_program.proofs.NoteLaws.{cases_phase, note_law, some_left}
 
 -- ---- the counts of all phases
 
@@ -115,88 +116,7 @@ within_limits counts limit n Exit Exit less all = less
 within_limits counts limit n Exit Ready less all = all Ready
 within_limits counts limit n Ready other less all = all other
 
--- Two phases are the same or not.
-pub cases_phase : (a b : Phase) → (a ≡ b) ⊎ (a ≢ b)
-cases_phase Recover Recover = inl refl
-cases_phase Recover Post = inr (λ (e : Recover ≡ Post). cc)
-cases_phase Recover Enter = inr (λ (e : Recover ≡ Enter). cc)
-cases_phase Recover Section = inr (λ (e : Recover ≡ Section). cc)
-cases_phase Recover Exit = inr (λ (e : Recover ≡ Exit). cc)
-cases_phase Recover Ready = inr (λ (e : Recover ≡ Ready). cc)
-cases_phase Post Recover = inr (λ (e : Post ≡ Recover). cc)
-cases_phase Post Post = inl refl
-cases_phase Post Enter = inr (λ (e : Post ≡ Enter). cc)
-cases_phase Post Section = inr (λ (e : Post ≡ Section). cc)
-cases_phase Post Exit = inr (λ (e : Post ≡ Exit). cc)
-cases_phase Post Ready = inr (λ (e : Post ≡ Ready). cc)
-cases_phase Enter Recover = inr (λ (e : Enter ≡ Recover). cc)
-cases_phase Enter Post = inr (λ (e : Enter ≡ Post). cc)
-cases_phase Enter Enter = inl refl
-cases_phase Enter Section = inr (λ (e : Enter ≡ Section). cc)
-cases_phase Enter Exit = inr (λ (e : Enter ≡ Exit). cc)
-cases_phase Enter Ready = inr (λ (e : Enter ≡ Ready). cc)
-cases_phase Section Recover = inr (λ (e : Section ≡ Recover). cc)
-cases_phase Section Post = inr (λ (e : Section ≡ Post). cc)
-cases_phase Section Enter = inr (λ (e : Section ≡ Enter). cc)
-cases_phase Section Section = inl refl
-cases_phase Section Exit = inr (λ (e : Section ≡ Exit). cc)
-cases_phase Section Ready = inr (λ (e : Section ≡ Ready). cc)
-cases_phase Exit Recover = inr (λ (e : Exit ≡ Recover). cc)
-cases_phase Exit Post = inr (λ (e : Exit ≡ Post). cc)
-cases_phase Exit Enter = inr (λ (e : Exit ≡ Enter). cc)
-cases_phase Exit Section = inr (λ (e : Exit ≡ Section). cc)
-cases_phase Exit Exit = inl refl
-cases_phase Exit Ready = inr (λ (e : Exit ≡ Ready). cc)
-cases_phase Ready Recover = inr (λ (e : Ready ≡ Recover). cc)
-cases_phase Ready Post = inr (λ (e : Ready ≡ Post). cc)
-cases_phase Ready Enter = inr (λ (e : Ready ≡ Enter). cc)
-cases_phase Ready Section = inr (λ (e : Ready ≡ Section). cc)
-cases_phase Ready Exit = inr (λ (e : Ready ≡ Exit). cc)
-cases_phase Ready Ready = inl refl
-
 -- ---- what is left of a stay
-
--- A worker that is not ready has a step left in its phase.
-log_left : (shape : Shape) (b : ℕ) (log : Log) → IsStage shape b (Logging log) → 1 ≤ left_of_log shape log
-log_left shape b (LoadTurn lock) is = omega arith
-log_left shape b (LoadLen lock turn) is = omega arith
-log_left shape b (LoadSlate lock turn operations words loaded) is = omega (arith, is.2)
-log_left shape b (LoadCells lock turn script named row cell) is = omega (arith, cells_below_less named cell shape.cells (omega (arith, is.1)))
-log_left shape b (StoreShadows visit named row reply cell) is = omega (arith, cells_below_less named cell shape.cells (omega (arith, is.1)))
-log_left shape b (StoreShadowReply visit named reply) is = omega arith
-log_left shape b (StoreMask visit named) is = omega arith
-log_left shape b (StoreTurn visit) is = omega arith
-
-redo_left : (shape : Shape) (b : ℕ) (redo : Redo) → IsStage shape b (Copying redo) → 1 ≤ left_of_redo shape redo
-redo_left shape b (LoadMask visit) is = omega arith
-redo_left shape b (LoadShadow visit mask cell) is = omega (arith, cells_below_less mask cell shape.cells (omega (arith, is.1)))
-redo_left shape b (StoreCell visit mask cell value) is = omega (arith, cells_below_less mask cell shape.cells (omega (arith, is.1)))
-redo_left shape b (LoadReply visit mask) is = omega arith
-redo_left shape b (StoreReply visit mask reply) is = omega arith
-redo_left shape b (StorePlace visit mask reply) is = omega arith
-redo_left shape b (StoreAt visit mask reply) is = omega arith
-redo_left shape b (StoreDone visit mask reply) is = omega arith
-
-departure_left : (shape : Shape) (b : ℕ) (departure : Departure) → IsStage shape b (Leaving departure) → 1 ≤ left_of_departure shape departure
-departure_left shape b (LoadExitTurn lock) is = omega arith
-departure_left shape b (StoreExitTurn lock turn) is = omega arith
-departure_left shape b (Clear lock level) is = is.1
-departure_left shape b (WithdrawPlace lock held) is = omega arith
-departure_left shape b (WithdrawAt lock held) is = omega arith
-departure_left shape b (WithdrawReply lock held) is = omega arith
-departure_left shape b (WithdrawDone lock held) is = omega arith
-
-pub some_left : (shape : Shape) (b : ℕ) (stage : Stage) → stage ≢ Resting → IsStage shape b stage → 1 ≤ left_of shape stage
-some_left shape b Resting busy is = absurd (busy refl)
-some_left shape b (Recovering LoadBegun) busy is = omega arith
-some_left shape b (Recovering LoadDone) busy is = omega arith
-some_left shape b (Recovering (LoadLock pending)) busy is = omega arith
-some_left shape b (Recovering (LoadPath pending lock held)) busy is = omega (arith, is.1)
-some_left shape b (Posting slate) busy is = omega (arith, is.2)
-some_left shape b (Climbing ascent) busy is = omega (arith, is.1)
-some_left shape b (Logging log) busy is = log_left shape b log is
-some_left shape b (Copying redo) busy is = redo_left shape b redo is
-some_left shape b (Leaving departure) busy is = departure_left shape b departure is
 
 -- A stay that begins has at most the steps of its phase.
 first_left : (shape : Shape) (b : ℕ) (stage : Stage) → IsStage shape b stage → Taken shape stage stage 0 → left_of shape stage ≤ most_steps shape (phase_of stage)
@@ -302,8 +222,8 @@ module _ (shape : Shape) (private : Private) (value : ℕ) (old new : Counts) (i
 
   blocked : note_after shape private value ≡ Blocked → new ≡ old → GoOn shape (private_after shape private value).stage new
   blocked stuck e =
-      let T : Note → Type 0 = λ (n : Note). Tells shape private.stage value (private_after shape private value).stage n in
-      let tells : Tells shape private.stage value (private_after shape private value).stage Blocked = subst T stuck (told shape private.worker private.begun value private.stage) in
+      let T : Note → Type 0 = λ (n : Note). Tells shape private.worker private.begun private.stage value (private_after shape private value).stage n in
+      let tells : Tells shape private.worker private.begun private.stage value (private_after shape private value).stage Blocked = subst T stuck (note_law shape private.worker private.begun private.stage value) in
       let same : (private_after shape private value).stage ≡ private.stage = tells.3 in
       let P : Counts → Type 0 = λ (c : Counts). GoOn shape (private_after shape private value).stage c in
       let Q : Stage → Type 0 = λ (s : Stage). GoOn shape s old in

@@ -39,8 +39,9 @@ use Rattle.rme_world.specs.Seen.{Seen, IsKept, counts_of, memory_seen, privates_
 use Rattle.rme_world.specs.Events.{Steps}
 use Rattle.rme_world.specs.Looks.{BeginsStay, IsStopped, IsWholePost, IsWholeSection, ComesOn, KeepsBound, StandsAt}
 use Rattle.rme_machine.proofs.Lists.{get_set}
-use Rattle.rme_world.proofs.Notes.{Tells, told}
-use Rattle.rme_world.proofs.Stays.{cases_phase, busy_phase, begun_here, count_here, count_there}
+use Rattle.rme_program.specs.NoteLaws.{Tells}
+use Rattle.rme_program.proofs.NoteLaws.{cases_phase, note_law}
+use Rattle.rme_world.proofs.Stays.{busy_phase, begun_here, count_here, count_there}
 use Rattle.rme_world.proofs.Worlds.{busy_at, is_worker, step_kept, up_at}
 
 pub taken_in_recovery : (shape : Shape) (first : Stage) (recovery : Recovery) (count : ℕ) → Taken shape first (Recovering recovery) count → count ≡ place_of_recovery recovery
@@ -90,10 +91,10 @@ module _ (old new : Seen) (worker : ℕ) (note : Note) (kept : IsKept old) (step
   pub its : (steps.private.worker ≡ worker) × IsPrivate old.shape steps.private
   its = fitting old.shape (memory_seen old) (privates_seen old) old.history worker steps.private kept.fact within up
 
-  pub tells : (n : Note) → note ≡ n → Tells old.shape steps.private.stage steps.value (private_after old.shape steps.private steps.value).stage n
+  pub tells : (n : Note) → note ≡ n → Tells old.shape steps.private.worker steps.private.begun steps.private.stage steps.value (private_after old.shape steps.private steps.value).stage n
   tells n e =
-      subst (λ (m : Note). Tells old.shape steps.private.stage steps.value (private_after old.shape steps.private steps.value).stage m) (sym steps.says ∙ e)
-      (told old.shape steps.private.worker steps.private.begun steps.value steps.private.stage)
+      subst (λ (m : Note). Tells old.shape steps.private.worker steps.private.begun steps.private.stage steps.value (private_after old.shape steps.private steps.value).stage m) (sym steps.says ∙ e)
+      (note_law old.shape steps.private.worker steps.private.begun steps.private.stage steps.value)
 
   pub stopped : note ≡ Blocked → IsStopped old worker
   stopped blocked =
@@ -186,7 +187,7 @@ module _ (old new : Seen) (worker : ℕ) (note : Note) (kept : IsKept old) (step
       let more : count_of (counts_of new worker) phase.Post ≡ count_of (counts_of old worker) phase.Post + 1 = subst P tale.1 (one_more (not_blocked (Asked number) asked (λ e. cc))) in
       let Q : Stage → Type 0 = λ (s : Stage). Taken old.shape stay.first s (count_of (counts_of old worker) (phase_of s)) in
       let place = taken_in_post old.shape stay.first slate _ (subst Q tale.1 stay.taken) in
-      record { private = steps.private; found = steps.found; slate = slate; last = tale.1; steps = omega (arith, more, place, tale.2) }
+      record { private = steps.private; found = steps.found; slate = slate; last = tale.1; steps = omega (arith, more, place, tale.4) }
 
   -- What the step leaves of the stay's bound, for the private states that it was made from and leaves.
   bound_lasts : phase_of (private_after old.shape steps.private steps.value).stage ≡ phase_of steps.private.stage
