@@ -154,7 +154,7 @@ module _ (s : Shape) (own : WorkerWords) (lock : LockWords) (script : Program) (
 -- ---- the stay of each stage
 
 departure_stay : (s : Shape) (own : WorkerWords) (held : ℕ → ℕ) (locks : ℕ → LockWords) (b : ℕ) (departure : Departure) → IsDeparture s departure → KnowsDeparture s own held locks b departure
-    → (stay : Stay) × stays.Fits s b stay (Leaving departure)
+    → (stay : Stay) × stays.IsInStay s b stay (Leaving departure)
 departure_stay s own held locks b (LoadExitTurn lock) is knows = (InExit lock 0, refl)
 departure_stay s own held locks b (StoreExitTurn lock turn) is knows = (InExit lock turn, (refl, refl, (λ e. omega (arith, e, knows.2))))
 departure_stay s own held locks b (Clear lock level) is knows = (InExit lock 0, (refl, is.2))
@@ -163,7 +163,7 @@ departure_stay s own held locks b (WithdrawAt lock levels) is knows = (InWithdra
 departure_stay s own held locks b (WithdrawReply lock levels) is knows = (InWithdrawal lock levels, (refl, refl))
 departure_stay s own held locks b (WithdrawDone lock levels) is knows = (InWithdrawal lock levels, (refl, refl))
 
-recovery_stay : (s : Shape) (own : WorkerWords) (held : ℕ → ℕ) (b : ℕ) (recovery : Recovery) → KnowsRecovery own held b recovery → (stay : Stay) × stays.Fits s b stay (Recovering recovery)
+recovery_stay : (s : Shape) (own : WorkerWords) (held : ℕ → ℕ) (b : ℕ) (recovery : Recovery) → KnowsRecovery own held b recovery → (stay : Stay) × stays.IsInStay s b stay (Recovering recovery)
 recovery_stay s own held b LoadBegun knows = (InRecover 0 0 0, tt)
 recovery_stay s own held b LoadDone knows = (InRecover b 0 0, refl)
 recovery_stay s own held b (LoadLock pending) knows = (InRecover b own.done 0, (refl, sym knows.2 ∙ ap (nat_lt own.done) knows.0))
@@ -174,12 +174,12 @@ module _ (s : Shape) (mem : Address → ℕ) (w b : ℕ) (script : Program) (pos
   reads : (lock turn : ℕ) → IsReading s (reading_at (lock_words s mem lock) turn script)
   reads lock turn = record { script = post.shaped; cells = cells_long s mem lock }
 
-  section_log : (log : Log) → IsLog s log → KnowsLog s (worker_words mem w) (lock_words s mem (log_lock log)) log → (stay : Stay) × stays.Fits s b stay (Logging log)
+  section_log : (log : Log) → IsLog s log → KnowsLog s (worker_words mem w) (lock_words s mem (log_lock log)) log → (stay : Stay) × stays.IsInStay s b stay (Logging log)
   section_log log is knows =
       let found = log_stay s (worker_words mem w) (lock_words s mem (log_lock log)) script post words log is knows in
       (InSection (log_lock log) (reading_at (lock_words s mem (log_lock log)) found.0 script), (reads (log_lock log) found.0, found.1))
 
-  section_redo : (redo : Redo) → KnowsRedo s (worker_words mem w) (lock_words s mem (redo_lock redo)) redo → (stay : Stay) × stays.Fits s b stay (Copying redo)
+  section_redo : (redo : Redo) → KnowsRedo s (worker_words mem w) (lock_words s mem (redo_lock redo)) redo → (stay : Stay) × stays.IsInStay s b stay (Copying redo)
   section_redo redo knows =
       let found = redo_stay s (worker_words mem w) (lock_words s mem (redo_lock redo)) script post words redo knows in
       (InSection (redo_lock redo) (reading_at (lock_words s mem (redo_lock redo)) found.0 script), (reads (redo_lock redo) found.0, found.1))
@@ -192,7 +192,7 @@ rowed s mem privs es w p fact worker was = (on_track s (worker_words mem w) (hel
         let found = posted s (worker_words mem w) ((fact.accounts w worker).slate pending) in
         (found.0, found.1, script_slate (worker_words mem w).slate_len (worker_words mem w).slate found.0 found.1.slate)
 
-    stay_of : (stage : Stage) → stage ≢ Resting → IsStage s p.begun stage → Knows s (worker_words mem w) (held_in s mem w) (lock_words s mem) p.begun stage → (stay : Stay) × stays.Fits s p.begun stay stage
+    stay_of : (stage : Stage) → stage ≢ Resting → IsStage s p.begun stage → Knows s (worker_words mem w) (held_in s mem w) (lock_words s mem) p.begun stage → (stay : Stay) × stays.IsInStay s p.begun stay stage
     stay_of Resting busy is knows = absurd (busy refl)
     stay_of (Recovering recovery) busy is knows = recovery_stay s (worker_words mem w) (held_in s mem w) p.begun recovery knows
     stay_of (Posting slate) busy is knows = (InPost slate.job, refl)

@@ -45,7 +45,7 @@ module _ (s : Shape) (mem : Address → ℕ) (privs : Privates) (es : List Entry
       let there : slice_get (shown s mem privs es).workers w ≡ Some (shown_worker s mem privs es w) = made_get (λ (u : ℕ). shown_worker s mem privs es u) s.workers w holds.0 in
       let owned : lock_owned s mem w ≡ Some lock = owned_at s mem privs es w lock fact holds.0 below holds.1 in (
         job_of (last_by es w),
-        stance_is (Some w) is ∙ ap cells.stance_by there
+        stance_is (Some w) is ∙ ap cells.stance_found there
             ∙ ap (λ (o : Option ℕ). Some (shown.stance_by o (is_pending (worker_words mem w)) (worker_words mem w).begun (slate_job (worker_words mem w)) (job_of (last_by es w)) (privs w))) owned,
       )
 

@@ -20,13 +20,13 @@ abbrev pub owner_at : State → ℕ → Option ℕ
 owner_at state lock = owner_by (slice_get state.owners lock)
 
 -- The stance of a worker, and that of a lock's owner.
-abbrev pub stance_by : Option WorkerState → Option Stance
-stance_by None = None
-stance_by (Some worker) = Some worker.stance
+abbrev pub stance_found : Option WorkerState → Option Stance
+stance_found None = None
+stance_found (Some worker) = Some worker.stance
 
 abbrev pub stance_of_owner : State → Option ℕ → Option Stance
 stance_of_owner state None = None
-stance_of_owner state (Some worker) = stance_by (slice_get state.workers worker)
+stance_of_owner state (Some worker) = stance_found (slice_get state.workers worker)
 
 abbrev pub owners_stance : State → ℕ → Option Stance
 owners_stance state lock = stance_of_owner state (owner_at state lock)

@@ -22,7 +22,7 @@ use Rattle.rme_program.specs.Masks.{mask_of}
 use Rattle.rme_program.specs.Phases.{left_of, left_of_recovery, left_of_log, left_of_redo, left_of_departure, cells_below, even_steps}
 use Rattle.rme_program.specs.Table.{Reading}
 use Rattle.rme_program.specs.Places.{place_of_recovery, place_of_log, place_of_redo, redo_start}
-use Rattle.rme_program.specs.Stays.{Stay, InRecover, InPost, InEnter, InSection, InExit, InPartialExit, InWithdrawal, Fits, FitsLog, FitsRedo, FitsExit, FitsPartialExit, FitsWithdrawal, IsReading, parity_of, row_of, place_of}
+use Rattle.rme_program.specs.Stays.{Stay, InRecover, InPost, InEnter, InSection, InExit, InPartialExit, InWithdrawal, IsInStay, FitsLog, FitsRedo, FitsExit, FitsPartialExit, FitsWithdrawal, IsReading, parity_of, row_of, place_in_row}
 use Rattle.rme_program.specs.Progress.{IsEvenWith, IsEvenParity, IsLogOnTrack, IsOnTrack, column_of, column_of_log, column_of_redo, column_of_parity, column_of_exit, IsColumn, Taken, TakenInExit, most_of, most_in_exit, IsWithinMost}
 use Rattle.rme_program.proofs.Counts.{cells_below_less}
 use Rattle.rme_program.proofs.Rows.{recover_length, post_length, enter_length, exit_length, clear_length, withdraw_length}
@@ -130,7 +130,7 @@ record Adds (place left column long : ℕ) : Type 0 where
   within : long ≤ column
 
 adds_in_exit : (shape : Shape) (worker lock turn : ℕ) (departure : Departure) → IsDeparture shape departure → FitsExit shape lock turn departure
-    → Adds (place_of shape (InExit lock turn) (Leaving departure)) (left_of_departure shape departure) (column_of_exit shape turn departure) (length (row_of shape worker 0 (InExit lock turn)))
+    → Adds (place_in_row shape (InExit lock turn) (Leaving departure)) (left_of_departure shape departure) (column_of_exit shape turn departure) (length (row_of shape worker 0 (InExit lock turn)))
 adds_in_exit shape worker lock turn (LoadExitTurn here) is fits = record { column_is = omega arith; within = omega (arith, exit_length shape worker lock turn) }
 adds_in_exit shape worker lock turn (StoreExitTurn here odd) is fits = record { column_is = omega arith; within = omega (arith, exit_length shape worker lock turn) }
 adds_in_exit shape worker lock turn (Clear here level) is fits = record { column_is = omega (arith, is.1); within = omega (arith, exit_length shape worker lock turn) }
@@ -140,7 +140,7 @@ adds_in_exit shape worker lock turn (WithdrawReply here held) is fits = absurd f
 adds_in_exit shape worker lock turn (WithdrawDone here held) is fits = absurd fits
 
 adds_in_partial : (shape : Shape) (worker lock levels : ℕ) (departure : Departure) → FitsPartialExit shape lock levels departure
-    → Adds (place_of shape (InPartialExit lock levels) (Leaving departure)) (left_of_departure shape departure) levels (length (row_of shape worker 0 (InPartialExit lock levels)))
+    → Adds (place_in_row shape (InPartialExit lock levels) (Leaving departure)) (left_of_departure shape departure) levels (length (row_of shape worker 0 (InPartialExit lock levels)))
 adds_in_partial shape worker lock levels (Clear here level) fits = record { column_is = omega (arith, fits.1); within = omega (arith, clear_length shape worker lock levels) }
 adds_in_partial shape worker lock levels (LoadExitTurn here) fits = absurd fits
 adds_in_partial shape worker lock levels (StoreExitTurn here odd) fits = absurd fits
@@ -150,7 +150,7 @@ adds_in_partial shape worker lock levels (WithdrawReply here held) fits = absurd
 adds_in_partial shape worker lock levels (WithdrawDone here held) fits = absurd fits
 
 adds_in_withdrawal : (shape : Shape) (worker known lock levels : ℕ) (departure : Departure) → FitsWithdrawal shape lock levels departure
-    → Adds (place_of shape (InWithdrawal lock levels) (Leaving departure)) (left_of_departure shape departure) (4 + levels) (length (row_of shape worker known (InWithdrawal lock levels)))
+    → Adds (place_in_row shape (InWithdrawal lock levels) (Leaving departure)) (left_of_departure shape departure) (4 + levels) (length (row_of shape worker known (InWithdrawal lock levels)))
 adds_in_withdrawal shape worker known lock levels (WithdrawPlace here held) fits = record { column_is = omega (arith, fits.1); within = omega (arith, withdraw_length shape worker known lock levels) }
 adds_in_withdrawal shape worker known lock levels (WithdrawAt here held) fits = record { column_is = omega (arith, fits.1); within = omega (arith, withdraw_length shape worker known lock levels) }
 adds_in_withdrawal shape worker known lock levels (WithdrawReply here held) fits = record { column_is = omega (arith, fits.1); within = omega (arith, withdraw_length shape worker known lock levels) }
@@ -165,8 +165,8 @@ recovery_column shape LoadDone is = omega arith
 recovery_column shape (LoadLock pending) is = omega arith
 recovery_column shape (LoadPath pending lock held) is = omega (arith, is.1)
 
-adds : (shape : Shape) (worker known : ℕ) (stay : Stay) (stage : Stage) → IsStage shape known stage → Fits shape known stay stage
-    → Adds (place_of shape stay stage) (left_of shape stage) (column_of shape stay stage) (length (row_of shape worker known stay))
+adds : (shape : Shape) (worker known : ℕ) (stay : Stay) (stage : Stage) → IsStage shape known stage → IsInStay shape known stay stage
+    → Adds (place_in_row shape stay stage) (left_of shape stage) (column_of shape stay stage) (length (row_of shape worker known stay))
 adds shape worker known (InRecover begun done lock) (Recovering recovery) is fits =
     record { column_is = recovery_column shape recovery is; within = omega (arith, recover_length shape worker (nat_lt done begun) lock) }
 adds shape worker known (InPost job) (Posting slate) is fits =
@@ -185,11 +185,11 @@ adds shape worker known _ _ is fits = absurd fits
 
 pub column_is : (shape : Shape) (private : Private) → IsPrivate shape private → IsColumn shape private (left_of shape private.stage)
 column_is shape private is stay fits =
-    let sum : Adds (place_of shape stay private.stage) (left_of shape private.stage) (column_of shape stay private.stage) (length (row_of shape private.worker private.begun stay))
+    let sum : Adds (place_in_row shape stay private.stage) (left_of shape private.stage) (column_of shape stay private.stage) (length (row_of shape private.worker private.begun stay))
     = adds shape private.worker private.begun stay private.stage is.stage fits in
     record { column = sum.column_is; enough = omega (arith, sum.column_is, sum.within) }
 
-pub fits_on_track : (shape : Shape) (known : ℕ) (stay : Stay) (stage : Stage) → Fits shape known stay stage → IsOnTrack stage
+pub fits_on_track : (shape : Shape) (known : ℕ) (stay : Stay) (stage : Stage) → IsInStay shape known stay stage → IsOnTrack stage
 fits_on_track shape known (InSection lock reading) (Logging log) fits = log_on_track shape lock reading log fits.1
 fits_on_track shape known (InSection lock reading) (Copying (LoadShadow visit mask cell)) fits = fits.1.2
 fits_on_track shape known (InSection lock reading) (Copying (StoreCell visit mask cell value)) fits = fits.1.2

@@ -25,7 +25,7 @@ use Rattle.rme_program.specs.Phases.{cells_below}
 use Rattle.rme_program.specs.Steps.{shadows_from, run_stage, cells_from_here, script_stage, slate_stage, turn_stage, copies_from, after_log, after_redo, log_action, redo_action}
 use Rattle.rme_program.specs.Table.{Reading}
 use Rattle.rme_program.specs.Places.{redo_start, place_of_log, place_of_redo}
-use Rattle.rme_program.specs.Stays.{Stay, InSection, IsReading, IsEven, parity_of, visit_of, AgreeBefore, FitsLog, FitsRedo, Fits, place_of, Finds}
+use Rattle.rme_program.specs.Stays.{Stay, InSection, IsReading, IsEven, parity_of, visit_of, AgreeBefore, FitsLog, FitsRedo, IsInStay, place_in_row, Finds}
 use Rattle.rme_program.proofs.Firsts.{FirstCell, first_some, first_none, none_left, below_more, below_zero}
 use Rattle.rme_program.proofs.MaskLemmas.{mask_of-is_mask}
 
@@ -38,7 +38,7 @@ module _ (shape : Shape) (known lock : ℕ) (reading : Reading) (is : IsReading 
 
   -- The stage is the stay's, and so many steps of its row are made.
   abbrev pub FitsAt : Stage → ℕ → Type 0
-  FitsAt stage place = Fits shape known stay stage × (place_of shape stay stage ≡ place)
+  FitsAt stage place = IsInStay shape known stay stage × (place_in_row shape stay stage ≡ place)
 
   named_has : (c : ℕ) → has named c ≡ named_by reading.script.ops c
   named_has c = has_named named reading.script.ops (mask_of-is_mask reading.script.ops) c

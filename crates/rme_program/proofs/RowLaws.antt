@@ -11,7 +11,7 @@ use Rattle.rme_program.specs.declared.stage.Stage.TheVariants.{Recovering, Posti
 use Rattle.rme_program.specs.declared.stage.Departure.{Departure}
 use Rattle.rme_program.specs.declared.stage.Departure.TheVariants.{LoadExitTurn, StoreExitTurn, Clear, WithdrawPlace, WithdrawAt, WithdrawReply, WithdrawDone}
 use Rattle.rme_program.specs.Masks.{mask_of}
-use Rattle.rme_program.specs.Stays.{Stay, InRecover, InPost, InEnter, InSection, InExit, InPartialExit, InWithdrawal, Fits, FitsExit, FitsPartialExit, FitsWithdrawal, first_of, place_of, path_turn, recover_turn}
+use Rattle.rme_program.specs.Stays.{Stay, InRecover, InPost, InEnter, InSection, InExit, InPartialExit, InWithdrawal, IsInStay, FitsExit, FitsPartialExit, FitsWithdrawal, first_of, place_in_row, path_turn, recover_turn}
 use Rattle.rme_program.specs.Progress.{TakenInExit, Taken}
 use Rattle.rme_program.specs.RowLaws.{RowLengths, NamedMaskLaw, Reentry, BeginLaw, PlaceLaw}
 use Rattle.rme_program.proofs.Columns.{fits_on_track}
@@ -86,7 +86,7 @@ begin_law shape known (InExit lock turn) is = record { fits = refl; none = refl;
 begin_law shape known (InPartialExit lock levels) is = record { fits = (refl, omega arith, is); none = omega arith; taken = omega arith }
 begin_law shape known (InWithdrawal lock levels) is = record { fits = (refl, refl); none = refl; taken = (refl, refl) }
 
-exit_taken : (shape : Shape) (lock turn : ℕ) (departure : Departure) → FitsExit shape lock turn departure → TakenInExit shape (LoadExitTurn lock) departure (place_of shape (InExit lock turn) (Leaving departure))
+exit_taken : (shape : Shape) (lock turn : ℕ) (departure : Departure) → FitsExit shape lock turn departure → TakenInExit shape (LoadExitTurn lock) departure (place_in_row shape (InExit lock turn) (Leaving departure))
 exit_taken shape lock turn (LoadExitTurn here) fits = refl
 exit_taken shape lock turn (StoreExitTurn here odd) fits = refl
 exit_taken shape lock turn (Clear here level) fits = elim (cases_eq (turn % 2) 0) [
@@ -98,7 +98,7 @@ exit_taken shape lock turn (WithdrawAt here held) fits = absurd fits
 exit_taken shape lock turn (WithdrawReply here held) fits = absurd fits
 exit_taken shape lock turn (WithdrawDone here held) fits = absurd fits
 
-partial_taken : (shape : Shape) (lock levels : ℕ) (departure : Departure) → FitsPartialExit shape lock levels departure → TakenInExit shape (Clear lock levels) departure (place_of shape (InPartialExit lock levels) (Leaving departure))
+partial_taken : (shape : Shape) (lock levels : ℕ) (departure : Departure) → FitsPartialExit shape lock levels departure → TakenInExit shape (Clear lock levels) departure (place_in_row shape (InPartialExit lock levels) (Leaving departure))
 partial_taken shape lock levels (Clear here level) fits = omega (arith, fits.1)
 partial_taken shape lock levels (LoadExitTurn here) fits = absurd fits
 partial_taken shape lock levels (StoreExitTurn here odd) fits = absurd fits
@@ -107,7 +107,7 @@ partial_taken shape lock levels (WithdrawAt here held) fits = absurd fits
 partial_taken shape lock levels (WithdrawReply here held) fits = absurd fits
 partial_taken shape lock levels (WithdrawDone here held) fits = absurd fits
 
-withdrawal_taken : (shape : Shape) (lock levels : ℕ) (departure : Departure) → FitsWithdrawal shape lock levels departure → TakenInExit shape (WithdrawPlace lock levels) departure (place_of shape (InWithdrawal lock levels) (Leaving departure))
+withdrawal_taken : (shape : Shape) (lock levels : ℕ) (departure : Departure) → FitsWithdrawal shape lock levels departure → TakenInExit shape (WithdrawPlace lock levels) departure (place_in_row shape (InWithdrawal lock levels) (Leaving departure))
 withdrawal_taken shape lock levels (WithdrawPlace here held) fits = (fits.1, refl)
 withdrawal_taken shape lock levels (WithdrawAt here held) fits = (fits.1, refl)
 withdrawal_taken shape lock levels (WithdrawReply here held) fits = (fits.1, refl)
@@ -116,7 +116,7 @@ withdrawal_taken shape lock levels (Clear here level) fits = omega (arith, fits.
 withdrawal_taken shape lock levels (LoadExitTurn here) fits = absurd fits
 withdrawal_taken shape lock levels (StoreExitTurn here odd) fits = absurd fits
 
-taken : (shape : Shape) (known : ℕ) (stay : Stay) (stage : Stage) → Fits shape known stay stage → Taken shape (first_of stay) stage (place_of shape stay stage)
+taken : (shape : Shape) (known : ℕ) (stay : Stay) (stage : Stage) → IsInStay shape known stay stage → Taken shape (first_of stay) stage (place_in_row shape stay stage)
 taken shape known (InRecover begun done lock) (Recovering recovery) fits = (tt, refl)
 taken shape known (InPost job) (Posting slate) fits = (sym fits, refl, refl)
 taken shape known (InEnter lock from) (Climbing ascent) fits = omega (arith, fits.1)

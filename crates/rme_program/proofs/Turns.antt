@@ -29,15 +29,15 @@ use Rattle.rme_program.specs.declared.stage.Visit.{Visit}
 use Rattle.rme_program.specs.Phases.{cells_below}
 use Rattle.rme_program.specs.Places.{redo_start}
 use Rattle.rme_program.specs.Table.{Reading, section_row}
-use Rattle.rme_program.specs.Stays.{parity_of, Stay, InRecover, InPost, InEnter, InSection, InExit, InPartialExit, InWithdrawal, Onward, Goes, Stays, Leads, Fits, FitsRecovery, FitsExit, FitsPartialExit, FitsWithdrawal, Finds, place_of, place_in_exit, place_in_partial_exit, place_in_withdrawal, row_of, path_turn, recover_turn, post_turn, enter_turn, section_turn, exit_turn, clear_onward, clear_turn, withdraw_turn, turn_of, IsOnward, TakesRow, FollowsRow}
+use Rattle.rme_program.specs.Stays.{parity_of, Stay, InRecover, InPost, InEnter, InSection, InExit, InPartialExit, InWithdrawal, Onward, Goes, Stays, Leads, IsInStay, FitsRecovery, FitsExit, FitsPartialExit, FitsWithdrawal, Finds, place_in_row, place_in_exit, place_in_partial_exit, place_in_withdrawal, row_of, path_turn, recover_turn, post_turn, enter_turn, section_turn, exit_turn, clear_onward, clear_turn, withdraw_turn, turn_of, IsOnward, TakesRow, FollowsRow}
 use Rattle.rme_program.proofs.Rows.{recover_at, post_at, enter_at, exit_at, partial_at, withdraw_at}
 use Rattle.rme_program.proofs.SectionRows.{log_at, redo_at, section_length}
 use Rattle.rme_program.proofs.Fitting.{log_fits, redo_fits}
 
 -- ---- the action of a stage
 
-takes : (shape : Shape) (worker known : ℕ) (stay : Stay) (stage : Stage) → IsStage shape known stage → Fits shape known stay stage
-    → slice_get (row_of shape worker known stay) (place_of shape stay stage) ≡ Some (action_at shape worker known stage)
+takes : (shape : Shape) (worker known : ℕ) (stay : Stay) (stage : Stage) → IsStage shape known stage → IsInStay shape known stay stage
+    → slice_get (row_of shape worker known stay) (place_in_row shape stay stage) ≡ Some (action_at shape worker known stage)
 takes shape worker known (InRecover begun done lock) (Recovering recovery) is fits = recover_at shape worker known begun done lock recovery is fits
 takes shape worker known (InPost job) (Posting slate) is fits =
     subst (λ (j : Job). slice_get (row_of shape worker known (InPost j)) slate.stored ≡ Some (action_at shape worker known (Posting slate))) fits (post_at shape worker known slate is.1 is.2)
@@ -56,7 +56,7 @@ takes_row shape private is stay fits = takes shape private.worker private.begun 
 -- ---- what a step brings about
 
 abbrev StageOnward : Shape → Stay → ℕ → ℕ → Stage → Stage → Onward → Type 0
-StageOnward shape stay known now old new Goes = Fits shape now stay new × (place_of shape stay new ≡ place_of shape stay old + 1)
+StageOnward shape stay known now old new Goes = IsInStay shape now stay new × (place_in_row shape stay new ≡ place_in_row shape stay old + 1)
 StageOnward shape stay known now old new Stays = (new ≡ old) × (now ≡ known)
 StageOnward shape stay known now old new (Leads stage) = new ≡ stage
 
@@ -106,7 +106,7 @@ module _ (shape : Shape) (worker known begun done lock : ℕ) where
 
   recover_turned : (recovery : Recovery) (value : ℕ) → FitsRecovery known begun done lock recovery → Finds recover (recovery_action shape worker recovery) value
       → StageTurn shape recover known (begun_after known (Recovering recovery) value) (Recovering recovery) (after_recovery shape worker known recovery value)
-      (recover_turn shape worker begun done lock (place_of shape recover (Recovering recovery)) value)
+      (recover_turn shape worker begun done lock (place_in_row shape recover (Recovering recovery)) value)
   recover_turned LoadBegun value fits finds = record { says = refl; onward = (finds, refl) }
   recover_turned LoadDone value fits finds = rw (← fits) (either (known == 0) _ _ _ _
       (λ _. record { says = refl; onward = refl })
@@ -141,7 +141,7 @@ enter_turned shape known lock from value ascent fits =
 
 -- The node of a level is cleared: the worker goes on to the one below, or is ready.
 clear_onward_is : (shape : Shape) (stay : Stay) (known lock level : ℕ) (old : Stage) → 1 ≤ level
-    → (2 ≤ level → Fits shape known stay (Leaving (Clear lock (level - 1))) × (place_of shape stay (Leaving (Clear lock (level - 1))) ≡ place_of shape stay old + 1))
+    → (2 ≤ level → IsInStay shape known stay (Leaving (Clear lock (level - 1))) × (place_in_row shape stay (Leaving (Clear lock (level - 1))) ≡ place_in_row shape stay old + 1))
     → StageOnward shape stay known known old (clear_stage lock (level - 1)) (clear_onward level)
 clear_onward_is shape stay known lock level old some below = elim (cases_eq level 1) [
   | inl q ↦ rw (eq-eqb level 1 q, eq-eqb (level - 1) 0 (omega (arith, q))) refl
@@ -224,16 +224,16 @@ module _ (shape : Shape) (worker known lock : ℕ) (reading : Reading) where
   section = InSection lock reading
 
   -- A step after which the stay goes on is not the row's last.
-  going_on : (old new : Stage) → IsStage shape known new → Fits shape known section new × (place_of shape section new ≡ place_of shape section old + 1)
-      → StageTurn shape section known known old (new, Quiet) (section_turn worker known lock reading (place_of shape section old + 1 == length (section_row shape worker known lock reading)))
+  going_on : (old new : Stage) → IsStage shape known new → IsInStay shape known section new × (place_in_row shape section new ≡ place_in_row shape section old + 1)
+      → StageTurn shape section known known old (new, Quiet) (section_turn worker known lock reading (place_in_row shape section old + 1 == length (section_row shape worker known lock reading)))
   going_on old new is fits =
-      let inside : place_of shape section new < length (section_row shape worker known lock reading)
-      = slice_get_within (section_row shape worker known lock reading) (place_of shape section new) (action_at shape worker known new) (takes shape worker known section new is fits.0) in
-      let more : (place_of shape section old + 1 == length (section_row shape worker known lock reading)) ≡ false = ne_eqb (place_of shape section old + 1) (length (section_row shape worker known lock reading)) (omega (arith, inside, fits.1)) in
+      let inside : place_in_row shape section new < length (section_row shape worker known lock reading)
+      = slice_get_within (section_row shape worker known lock reading) (place_in_row shape section new) (action_at shape worker known new) (takes shape worker known section new is fits.0) in
+      let more : (place_in_row shape section old + 1 == length (section_row shape worker known lock reading)) ≡ false = ne_eqb (place_in_row shape section old + 1) (length (section_row shape worker known lock reading)) (omega (arith, inside, fits.1)) in
       rw more record { says = refl; onward = fits }
 
-  log_turned : (log : Log) (value : ℕ) → IsLog shape log → IsStage shape known (after_log shape log value) → Fits shape known section (Logging log) → Finds section (log_action worker log) value
-      → StageTurn shape section known known (Logging log) (after_log shape log value, Quiet) (turn_of shape worker known section (place_of shape section (Logging log)) value)
+  log_turned : (log : Log) (value : ℕ) → IsLog shape log → IsStage shape known (after_log shape log value) → IsInStay shape known section (Logging log) → Finds section (log_action worker log) value
+      → StageTurn shape section known known (Logging log) (after_log shape log value, Quiet) (turn_of shape worker known section (place_in_row shape section (Logging log)) value)
   log_turned log value is next fits finds = going_on (Logging log) (after_log shape log value) next (log_fits shape known lock reading fits.0 worker log value is fits.1 finds)
 
   redo_quiet : (redo : Redo) (value : ℕ) → ((visit : Visit) (mask reply : ℕ) → redo ≢ StoreDone visit mask reply) → after_redo shape worker known redo value ≡ ((after_redo shape worker known redo value).0, Quiet)
@@ -246,23 +246,23 @@ module _ (shape : Shape) (worker known lock : ℕ) (reading : Reading) where
   redo_quiet (StoreAt visit mask reply) value more = refl
   redo_quiet (StoreDone visit mask reply) value more = absurd (more visit mask reply refl)
 
-  redo_going : (redo : Redo) (value : ℕ) → IsRedo shape redo → IsStage shape known (after_redo shape worker known redo value).0 → Fits shape known section (Copying redo) → Finds section (redo_action worker known redo) value
+  redo_going : (redo : Redo) (value : ℕ) → IsRedo shape redo → IsStage shape known (after_redo shape worker known redo value).0 → IsInStay shape known section (Copying redo) → Finds section (redo_action worker known redo) value
       → ((visit : Visit) (mask reply : ℕ) → redo ≢ StoreDone visit mask reply)
-      → StageTurn shape section known known (Copying redo) (after_redo shape worker known redo value) (turn_of shape worker known section (place_of shape section (Copying redo)) value)
+      → StageTurn shape section known known (Copying redo) (after_redo shape worker known redo value) (turn_of shape worker known section (place_in_row shape section (Copying redo)) value)
   redo_going redo value is next fits finds more =
-      subst (λ (out : Stage × Note). StageTurn shape section known known (Copying redo) out (turn_of shape worker known section (place_of shape section (Copying redo)) value)) (sym (redo_quiet redo value more))
+      subst (λ (out : Stage × Note). StageTurn shape section known known (Copying redo) out (turn_of shape worker known section (place_in_row shape section (Copying redo)) value)) (sym (redo_quiet redo value more))
       (going_on (Copying redo) (after_redo shape worker known redo value).0 next (redo_fits shape known lock reading fits.0 worker redo value is fits.1 finds more))
 
-  done_turned : (visit : Visit) (mask reply value : ℕ) → Fits shape known section (Copying (StoreDone visit mask reply))
+  done_turned : (visit : Visit) (mask reply value : ℕ) → IsInStay shape known section (Copying (StoreDone visit mask reply))
       → StageTurn shape section known known (Copying (StoreDone visit mask reply)) (after_redo shape worker known (StoreDone visit mask reply) value)
-      (turn_of shape worker known section (place_of shape section (Copying (StoreDone visit mask reply))) value)
+      (turn_of shape worker known section (place_in_row shape section (Copying (StoreDone visit mask reply))) value)
   done_turned visit mask reply value fits =
       let last : (redo_start shape (parity_of reading) + (5 + 2 * cells_below reading.mask shape.cells) + 1 == length (section_row shape worker known lock reading)) ≡ true
       = eq-eqb (redo_start shape (parity_of reading) + (5 + 2 * cells_below reading.mask shape.cells) + 1) (length (section_row shape worker known lock reading)) (omega (arith, section_length shape worker known lock reading)) in
       rw (fits.1.0, fits.1.1, fits.1.2, last) record { says = refl; onward = refl }
 
-  redo_turned : (redo : Redo) (value : ℕ) → IsRedo shape redo → IsStage shape known (after_redo shape worker known redo value).0 → Fits shape known section (Copying redo) → Finds section (redo_action worker known redo) value
-      → StageTurn shape section known known (Copying redo) (after_redo shape worker known redo value) (turn_of shape worker known section (place_of shape section (Copying redo)) value)
+  redo_turned : (redo : Redo) (value : ℕ) → IsRedo shape redo → IsStage shape known (after_redo shape worker known redo value).0 → IsInStay shape known section (Copying redo) → Finds section (redo_action worker known redo) value
+      → StageTurn shape section known known (Copying redo) (after_redo shape worker known redo value) (turn_of shape worker known section (place_in_row shape section (Copying redo)) value)
   redo_turned (LoadMask visit) value is next fits finds = redo_going (LoadMask visit) value is next fits finds (λ v m r e. cc)
   redo_turned (LoadShadow visit mask cell) value is next fits finds = redo_going (LoadShadow visit mask cell) value is next fits finds (λ v m r e. cc)
   redo_turned (StoreCell visit mask cell copied) value is next fits finds = redo_going (StoreCell visit mask cell copied) value is next fits finds (λ v m r e. cc)
@@ -275,8 +275,8 @@ module _ (shape : Shape) (worker known lock : ℕ) (reading : Reading) where
 -- ---- all stages
 
 turned : (shape : Shape) (worker known : ℕ) (stay : Stay) (stage : Stage) (value : ℕ) → IsStage shape known stage → IsStage shape (begun_after known stage value) (after_at shape worker known stage value).0
-    → Fits shape known stay stage → Finds stay (action_at shape worker known stage) value
-    → StageTurn shape stay known (begun_after known stage value) stage (after_at shape worker known stage value) (turn_of shape worker known stay (place_of shape stay stage) value)
+    → IsInStay shape known stay stage → Finds stay (action_at shape worker known stage) value
+    → StageTurn shape stay known (begun_after known stage value) stage (after_at shape worker known stage value) (turn_of shape worker known stay (place_in_row shape stay stage) value)
 turned shape worker known (InRecover begun done lock) (Recovering recovery) value is next fits finds = recover_turned shape worker known begun done lock recovery value fits finds
 turned shape worker known (InPost job) (Posting slate) value is next fits finds =
     subst (λ (j : Job). StageTurn shape (InPost j) known (begun_after known (Posting slate) value) (Posting slate) (after_slate known slate) (post_turn known j slate.stored)) fits (post_turned shape known value slate)
@@ -298,12 +298,12 @@ onward_is shape stay worker known now old new (Leads stage) on = on
 pub follows_row : (shape : Shape) (private : Private) (value : ℕ) → IsPrivate shape private → IsPrivate shape (private_after shape private value)
     → FollowsRow shape private value (private_after shape private value) (note_after shape private value)
 follows_row shape private value is next stay fits finds =
-    let turn : StageTurn shape stay private.begun (begun_after private.begun private.stage value) private.stage (after_at shape private.worker private.begun private.stage value) (turn_of shape private.worker private.begun stay (place_of shape stay private.stage) value)
+    let turn : StageTurn shape stay private.begun (begun_after private.begun private.stage value) private.stage (after_at shape private.worker private.begun private.stage value) (turn_of shape private.worker private.begun stay (place_in_row shape stay private.stage) value)
     = turned shape private.worker private.begun stay private.stage value is.stage next.stage fits finds in
     record {
       says = turn.says;
       onward = onward_is shape stay private.worker private.begun (begun_after private.begun private.stage value) private.stage (after_at shape private.worker private.begun private.stage value).0
-          (turn_of shape private.worker private.begun stay (place_of shape stay private.stage) value).0 turn.onward;
+          (turn_of shape private.worker private.begun stay (place_in_row shape stay private.stage) value).0 turn.onward;
     }
 
 -- The same of an action that is known to be the stage's.

@@ -11,7 +11,7 @@ use Rattle.rme_program.specs.declared.stage.Stage.{Stage}
 use Rattle.rme_program.specs.declared.stage.Stage.TheVariants.{Posting, Climbing, Logging, Copying, Leaving}
 use Rattle.rme_program.specs.declared.note.Note.{Note}
 use Rattle.rme_program.specs.Conditions.{IsPrivate}
-use Rattle.rme_program.specs.Stays.{Stay, InRecover, InPost, InEnter, InSection, InExit, InPartialExit, InWithdrawal, Onward, Goes, Stays, Leads, Fits, IsOnward, IsTurn, row_of, place_of, turn_of, clear_onward}
+use Rattle.rme_program.specs.Stays.{Stay, InRecover, InPost, InEnter, InSection, InExit, InPartialExit, InWithdrawal, Onward, Goes, Stays, Leads, IsInStay, IsOnward, IsTurn, row_of, place_in_row, turn_of, clear_onward}
 use Rattle.rme_program.specs.Steps.{action_of, private_after, note_after, begun_after}
 use Rattle.rme_program.specs.Table.{section_row}
 use Rattle.rme_program.specs.Walks.{actions_of, WalkLaw, EndLaw}
@@ -25,7 +25,7 @@ posted : (known : ℕ) (last : Bool) (next : Stage) (note other : Note) → (let
 posted known true next note other e = absurd (cc)
 posted known false next note other e = refl
 
-same_begun : (shape : Shape) (worker known value : ℕ) (stay : Stay) (stage : Stage) → Fits shape known stay stage → (turn_of shape worker known stay (place_of shape stay stage) value).0 ≡ Goes
+same_begun : (shape : Shape) (worker known value : ℕ) (stay : Stay) (stage : Stage) → IsInStay shape known stay stage → (turn_of shape worker known stay (place_in_row shape stay stage) value).0 ≡ Goes
     → row_of shape worker (begun_after known stage value) stay ≡ row_of shape worker known stay
 same_begun shape worker known value (InRecover begun done lock) stage fits goes = refl
 same_begun shape worker known value (InPost job) (Posting slate) fits goes =
@@ -41,11 +41,11 @@ same_begun shape worker known value _ _ fits goes = absurd fits
 
 -- ---- walks
 
-first_action : (shape : Shape) (stay : Stay) (private : Private) → IsPrivate shape private → Fits shape private.begun stay private.stage
-    → drop (place_of shape stay private.stage) (row_of shape private.worker private.begun stay)
-    ≡ action_of shape private ∷ drop (place_of shape stay private.stage + 1) (row_of shape private.worker private.begun stay)
+first_action : (shape : Shape) (stay : Stay) (private : Private) → IsPrivate shape private → IsInStay shape private.begun stay private.stage
+    → drop (place_in_row shape stay private.stage) (row_of shape private.worker private.begun stay)
+    ≡ action_of shape private ∷ drop (place_in_row shape stay private.stage + 1) (row_of shape private.worker private.begun stay)
 first_action shape stay private is fits =
-    drop_at (row_of shape private.worker private.begun stay) (place_of shape stay private.stage) (action_of shape private) (takes_row shape private is stay fits)
+    drop_at (row_of shape private.worker private.begun stay) (place_in_row shape stay private.stage) (action_of shape private) (takes_row shape private is stay fits)
 
 pub walk_law : WalkLaw
 walk_law shape stay private [] is fits walks = refl
@@ -55,11 +55,11 @@ walk_law shape stay private (value ∷ after ∷ values) is fits walks =
     let next : Private = private_after shape private value in
     let turn : IsTurn shape private stay value next (note_after shape private value) = follows_row shape private value is walks.1 stay fits walks.0 in
     let on : IsOnward shape stay private next Goes = subst (λ (onward : Onward). IsOnward shape stay private next onward) walks.2 turn.onward in
-    let rest : actions_of shape next (after ∷ values) ≡ take (length (after ∷ values)) (drop (place_of shape stay next.stage) (row_of shape next.worker next.begun stay))
+    let rest : actions_of shape next (after ∷ values) ≡ take (length (after ∷ values)) (drop (place_in_row shape stay next.stage) (row_of shape next.worker next.begun stay))
     = walk_law shape stay next (after ∷ values) walks.1 on.0 walks.3 in
-    let place : drop (place_of shape stay next.stage) (row_of shape next.worker next.begun stay) ≡ drop (place_of shape stay private.stage + 1) (row_of shape private.worker private.begun stay)
+    let place : drop (place_in_row shape stay next.stage) (row_of shape next.worker next.begun stay) ≡ drop (place_in_row shape stay private.stage + 1) (row_of shape private.worker private.begun stay)
     = ap (λ (k : ℕ). drop k (row_of shape next.worker next.begun stay)) on.1
-    ∙ ap (λ (row : List Action). drop (place_of shape stay private.stage + 1) row) (same_begun shape private.worker private.begun value stay private.stage fits walks.2) in
+    ∙ ap (λ (row : List Action). drop (place_in_row shape stay private.stage + 1) row) (same_begun shape private.worker private.begun value stay private.stage fits walks.2) in
     ap (λ (xs : List Action). action_of shape private ∷ xs) (rest ∙ ap (λ (xs : List Action). take (length (after ∷ values)) xs) place)
     ∙ sym (ap (λ (xs : List Action). take (suc (length (after ∷ values))) xs) (first_action shape stay private is fits))
 

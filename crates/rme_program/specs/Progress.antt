@@ -22,7 +22,7 @@ use Rattle.rme_program.specs.declared.stage.Parity.TheVariants.{Even, Odd}
 use Rattle.rme_program.specs.Masks.{mask_of}
 use Rattle.rme_program.specs.Phases.{phase_of, left_of, cells_below, even_steps}
 use Rattle.rme_program.specs.Places.{place_of_recovery, place_of_log, place_of_redo, redo_start}
-use Rattle.rme_program.specs.Stays.{Stay, InRecover, InPost, InEnter, InSection, InExit, InPartialExit, InWithdrawal, Fits, row_of, place_of}
+use Rattle.rme_program.specs.Stays.{Stay, InRecover, InPost, InEnter, InSection, InExit, InPartialExit, InWithdrawal, IsInStay, row_of, place_in_row}
 
 -- The phases in order.
 abbrev pub rank : Phase → ℕ
@@ -115,11 +115,11 @@ column_of shape _ _ = 0
 
 -- What is left and the steps made add up to the column, and that is enough for the whole row.
 pub record IsLeft (shape : Shape) (private : Private) (stay : Stay) (left : ℕ) : Type 0 where
-  pub column : place_of shape stay private.stage + left ≡ column_of shape stay private.stage
-  pub enough : length (row_of shape private.worker private.begun stay) ≤ place_of shape stay private.stage + left
+  pub column : place_in_row shape stay private.stage + left ≡ column_of shape stay private.stage
+  pub enough : length (row_of shape private.worker private.begun stay) ≤ place_in_row shape stay private.stage + left
 
 abbrev pub IsColumn : Shape → Private → ℕ → Type 0
-IsColumn shape private left = (stay : Stay) → Fits shape private.begun stay private.stage → IsLeft shape private stay left
+IsColumn shape private left = (stay : Stay) → IsInStay shape private.begun stay private.stage → IsLeft shape private stay left
 
 -- HOW MANY STEPS OF A STAY WERE MADE, for whoever counts them without the values that were found. The stay began at
 -- the first of the two stages.

@@ -9,7 +9,7 @@ use Rattle.rme_program.specs.declared.note.Note.TheVariants.{Reentered}
 use Rattle.rme_program.specs.declared.stage.Stage.{Stage}
 use Rattle.rme_program.specs.Masks.{mask_of}
 use Rattle.rme_program.specs.Progress.{IsOnTrack, Taken}
-use Rattle.rme_program.specs.Stays.{Stay, IsReading, Fits, first_of, place_of, recover_turn, InSection, InPartialExit, InWithdrawal}
+use Rattle.rme_program.specs.Stays.{Stay, IsReading, IsInStay, first_of, place_in_row, recover_turn, InSection, InPartialExit, InWithdrawal}
 use Rattle.rme_program.specs.Table.{Reading, path_node, recover_row, post_row, enter_row, even_row, odd_row, exit_row, clear_row, withdraw_row}
 
 -- How many steps each row has: n operations, t named cells, m cells of the mask, h levels.
@@ -50,8 +50,8 @@ IsStay shape _ = Unit {0}
 
 -- A stay begins at its first stage, with no step made.
 pub record Begins (shape : Shape) (known : ℕ) (stay : Stay) : Type 0 where
-  pub fits : Fits shape known stay (first_of stay)
-  pub none : place_of shape stay (first_of stay) ≡ 0
+  pub fits : IsInStay shape known stay (first_of stay)
+  pub none : place_in_row shape stay (first_of stay) ≡ 0
   pub taken : Taken shape (first_of stay) (first_of stay) 0
 
 abbrev pub BeginLaw : Type 0
@@ -60,7 +60,7 @@ BeginLaw = (shape : Shape) (known : ℕ) (stay : Stay) → IsStay shape stay →
 -- A stage that fits a stay is on track, and what was taken of the stay is its place.
 pub record IsCounted (shape : Shape) (stay : Stay) (stage : Stage) : Type 0 where
   pub track : IsOnTrack stage
-  pub taken : Taken shape (first_of stay) stage (place_of shape stay stage)
+  pub taken : Taken shape (first_of stay) stage (place_in_row shape stay stage)
 
 abbrev pub PlaceLaw : Type 0
-PlaceLaw = (shape : Shape) (known : ℕ) (stay : Stay) (stage : Stage) → Fits shape known stay stage → IsCounted shape stay stage
+PlaceLaw = (shape : Shape) (known : ℕ) (stay : Stay) (stage : Stage) → IsInStay shape known stay stage → IsCounted shape stay stage

@@ -156,16 +156,16 @@ FitsWithdrawal shape lock levels (WithdrawDone here held) = (here ≡ lock) × (
 FitsWithdrawal shape lock levels (Clear here level) = (here ≡ lock) × (level ≤ levels) × (levels < shape.height)
 FitsWithdrawal shape lock levels _ = ⊥
 
-abbrev pub Fits : Shape → ℕ → Stay → Stage → Type 0
-Fits shape known (InRecover begun done lock) (Recovering recovery) = FitsRecovery known begun done lock recovery
-Fits shape known (InPost job) (Posting slate) = slate.job ≡ job
-Fits shape known (InEnter lock from) (Climbing ascent) = (ascent.lock ≡ lock) × (from ≤ ascent.held)
-Fits shape known (InSection lock reading) (Logging log) = IsReading shape reading × FitsLog shape lock reading log
-Fits shape known (InSection lock reading) (Copying redo) = IsReading shape reading × FitsRedo lock reading redo
-Fits shape known (InExit lock turn) (Leaving departure) = FitsExit shape lock turn departure
-Fits shape known (InPartialExit lock levels) (Leaving departure) = FitsPartialExit shape lock levels departure
-Fits shape known (InWithdrawal lock levels) (Leaving departure) = FitsWithdrawal shape lock levels departure
-Fits shape known _ _ = ⊥
+abbrev pub IsInStay : Shape → ℕ → Stay → Stage → Type 0
+IsInStay shape known (InRecover begun done lock) (Recovering recovery) = FitsRecovery known begun done lock recovery
+IsInStay shape known (InPost job) (Posting slate) = slate.job ≡ job
+IsInStay shape known (InEnter lock from) (Climbing ascent) = (ascent.lock ≡ lock) × (from ≤ ascent.held)
+IsInStay shape known (InSection lock reading) (Logging log) = IsReading shape reading × FitsLog shape lock reading log
+IsInStay shape known (InSection lock reading) (Copying redo) = IsReading shape reading × FitsRedo lock reading redo
+IsInStay shape known (InExit lock turn) (Leaving departure) = FitsExit shape lock turn departure
+IsInStay shape known (InPartialExit lock levels) (Leaving departure) = FitsPartialExit shape lock levels departure
+IsInStay shape known (InWithdrawal lock levels) (Leaving departure) = FitsWithdrawal shape lock levels departure
+IsInStay shape known _ _ = ⊥
 
 -- HOW MANY STEPS OF THE ROW ARE MADE
 
@@ -185,16 +185,16 @@ place_in_withdrawal levels (WithdrawDone lock held) = 3
 place_in_withdrawal levels (Clear lock level) = 4 + (levels - level)
 place_in_withdrawal levels _ = 0
 
-abbrev pub place_of : Shape → Stay → Stage → ℕ
-place_of shape (InRecover begun done lock) (Recovering recovery) = place_of_recovery recovery
-place_of shape (InPost job) (Posting slate) = slate.stored
-place_of shape (InEnter lock from) (Climbing ascent) = ascent.held - from
-place_of shape (InSection lock reading) (Logging log) = place_of_log shape log
-place_of shape (InSection lock reading) (Copying redo) = place_of_redo shape redo
-place_of shape (InExit lock turn) (Leaving departure) = place_in_exit shape turn departure
-place_of shape (InPartialExit lock levels) (Leaving departure) = place_in_partial_exit levels departure
-place_of shape (InWithdrawal lock levels) (Leaving departure) = place_in_withdrawal levels departure
-place_of shape _ _ = 0
+abbrev pub place_in_row : Shape → Stay → Stage → ℕ
+place_in_row shape (InRecover begun done lock) (Recovering recovery) = place_of_recovery recovery
+place_in_row shape (InPost job) (Posting slate) = slate.stored
+place_in_row shape (InEnter lock from) (Climbing ascent) = ascent.held - from
+place_in_row shape (InSection lock reading) (Logging log) = place_of_log shape log
+place_in_row shape (InSection lock reading) (Copying redo) = place_of_redo shape redo
+place_in_row shape (InExit lock turn) (Leaving departure) = place_in_exit shape turn departure
+place_in_row shape (InPartialExit lock levels) (Leaving departure) = place_in_partial_exit levels departure
+place_in_row shape (InWithdrawal lock levels) (Leaving departure) = place_in_withdrawal levels departure
+place_in_row shape _ _ = 0
 
 -- WHAT EACH STEP BRINGS ABOUT
 
@@ -271,7 +271,7 @@ turn_of shape worker known (InWithdrawal lock levels) place value = withdraw_tur
 
 -- Where a stay goes on, the worker is at the row's next place, and in the same stay.
 abbrev pub IsOnward : Shape → Stay → Private → Private → Onward → Type 0
-IsOnward shape stay old new Goes = Fits shape new.begun stay new.stage × (place_of shape stay new.stage ≡ place_of shape stay old.stage + 1)
+IsOnward shape stay old new Goes = IsInStay shape new.begun stay new.stage × (place_in_row shape stay new.stage ≡ place_in_row shape stay old.stage + 1)
 IsOnward shape stay old new Stays = new ≡ old
 IsOnward shape stay old new (Leads stage) = new.stage ≡ stage
 
@@ -280,21 +280,21 @@ IsOnward shape stay old new (Leads stage) = new.stage ≡ stage
 -- The next action of a worker in a stay is its row's at its place.
 abbrev pub TakesRow : Shape → Private → Action → Type 0
 TakesRow shape private action =
-    (stay : Stay) → Fits shape private.begun stay private.stage
-    → slice_get (row_of shape private.worker private.begun stay) (place_of shape stay private.stage) ≡ Some action
+    (stay : Stay) → IsInStay shape private.begun stay private.stage
+    → slice_get (row_of shape private.worker private.begun stay) (place_in_row shape stay private.stage) ≡ Some action
 
 -- What follows is what the table says of that place.
 pub record IsTurn (shape : Shape) (old : Private) (stay : Stay) (value : ℕ) (new : Private) (note : Note) : Type 0 where
-  pub says : note ≡ (turn_of shape old.worker old.begun stay (place_of shape stay old.stage) value).1
-  pub onward : IsOnward shape stay old new (turn_of shape old.worker old.begun stay (place_of shape stay old.stage) value).0
+  pub says : note ≡ (turn_of shape old.worker old.begun stay (place_in_row shape stay old.stage) value).1
+  pub onward : IsOnward shape stay old new (turn_of shape old.worker old.begun stay (place_in_row shape stay old.stage) value).0
 
 abbrev pub FollowsRow : Shape → Private → ℕ → Private → Note → Type 0
 FollowsRow shape old value new note =
-    (stay : Stay) → Fits shape old.begun stay old.stage → Finds stay (action_of shape old) value → IsTurn shape old stay value new note
+    (stay : Stay) → IsInStay shape old.begun stay old.stage → Finds stay (action_of shape old) value → IsTurn shape old stay value new note
 
 -- A worker stands at a place of a row: it is in a stay, of which it knows what it found, and its next action is the row's
 -- at its place.
 pub record StandsInRow (shape : Shape) (private : Private) : Type 0 where
   pub stay : Stay
-  pub fits : Fits shape private.begun stay private.stage
-  pub here : slice_get (row_of shape private.worker private.begun stay) (place_of shape stay private.stage) ≡ Some (action_of shape private)
+  pub fits : IsInStay shape private.begun stay private.stage
+  pub here : slice_get (row_of shape private.worker private.begun stay) (place_in_row shape stay private.stage) ≡ Some (action_of shape private)

@@ -5,7 +5,7 @@ use Rattle.rme_program.specs.declared.action.Action.{Action}
 use Rattle.rme_program.specs.declared.private.Private.{Private}
 use Rattle.rme_program.specs.declared.stage.Stage.{Stage}
 use Rattle.rme_program.specs.Conditions.{IsPrivate}
-use Rattle.rme_program.specs.Stays.{Stay, InRecover, Onward, Goes, Leads, Fits, Finds, row_of, place_of, turn_of}
+use Rattle.rme_program.specs.Stays.{Stay, InRecover, Onward, Goes, Leads, IsInStay, Finds, row_of, place_in_row, turn_of}
 use Rattle.rme_program.specs.Steps.{action_of, private_after}
 
 -- The actions of a worker whose loads and swaps find these values in turn.
@@ -24,16 +24,16 @@ Walks shape stay private [] = Unit {0}
 Walks shape stay private (value ∷ values) =
     Finds stay (action_of shape private) value
     × IsPrivate shape (private_after shape private value)
-    × GoesOn values (turn_of shape private.worker private.begun stay (place_of shape stay private.stage) value).0
+    × GoesOn values (turn_of shape private.worker private.begun stay (place_in_row shape stay private.stage) value).0
     × Walks shape stay (private_after shape private value) values
 
 -- A worker that walks in a stay makes its row's actions, from its place on. (In Recover `begun` is learnt on the
 -- way, and no action there depends on it.)
 abbrev pub WalkLaw : Type 0
 WalkLaw =
-    (shape : Shape) (stay : Stay) (private : Private) (values : List ℕ) → IsPrivate shape private → Fits shape private.begun stay private.stage
+    (shape : Shape) (stay : Stay) (private : Private) (values : List ℕ) → IsPrivate shape private → IsInStay shape private.begun stay private.stage
     → Walks shape stay private values
-    → actions_of shape private values ≡ take (length values) (drop (place_of shape stay private.stage) (row_of shape private.worker private.begun stay))
+    → actions_of shape private values ≡ take (length values) (drop (place_in_row shape stay private.stage) (row_of shape private.worker private.begun stay))
 
 -- A stay but Recover's ends with its row's last action: Recover's may end before, where it finds that there is
 -- nothing to recover or that a node is not the worker's.

@@ -24,7 +24,7 @@ mod steps;
 pub use action::Action;
 pub use event::{Answer, Event};
 pub use kinds::Phase;
-pub use note::{Entry, Note, Receipt};
+pub use note::{Entry, Note, Receipt, WITHDRAWN_PLACE};
 pub use private::Private;
 pub use progress::{left, phase};
 pub use stage::{Ascent, Departure, Log, Parity, Recovery, Redo, Slate, Stage, Visit};

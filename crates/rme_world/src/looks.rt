@@ -4,7 +4,7 @@ ghost use Rattle.std.specs.Prelude.{◌≡◌, ◌<◌, ◌^◌, ◌↔◌, IsTr
 ghost use Rattle.rme_program.specs.declared.stage.Stage.{Stage};
 
 use crate::world::World;
-use rme_program::{Entry, Phase, Private, Receipt, Stage};
+use rme_program::{Entry, Phase, Private, Receipt, Stage, WITHDRAWN_PLACE};
 use rme_script::Row;
 use rme_tree::owner;
 use rme_words::{Address, Refusal};
@@ -109,7 +109,7 @@ impl World {
         }
         let done = self.bank.load(Address::Done(worker));
         let place = self.bank.load(Address::Place(worker));
-        if done == 0 || done != self.bank.load(Address::Begun(worker)) || place == u64::MAX {
+        if done == 0 || done != self.bank.load(Address::Begun(worker)) || place == WITHDRAWN_PLACE {
             return Ok(None);
         }
         Ok(Some(Receipt {

@@ -7,13 +7,10 @@ ghost use Rattle.rme_program.specs.Conditions.{IsDeparture, IsStage, Takes};
 ghost use Rattle.rme_program.specs.Did.{address_of};
 
 use crate::action::Action;
-use crate::note::Note;
+use crate::note::{Note, WITHDRAWN_PLACE};
 use crate::stage::{Departure, Stage};
 use rme_tree::node;
 use rme_words::{Address, Shape};
-
-/// The place that says that a number was withdrawn, and has no receipt.
-const WITHDRAWN: u64 = u64::MAX;
 
 pub fn action(shape: Shape, worker: u32, begun: u32, departure: &Departure) -> Action
     requires worker { worker < shape.workers }
@@ -31,7 +28,7 @@ pub fn action(shape: Shape, worker: u32, begun: u32, departure: &Departure) -> A
             Address::Node(*lock, node(shape, worker, *level)),
             0,
         ),
-        Departure::WithdrawPlace { .. } => Action::Store(Address::Place(worker), WITHDRAWN),
+        Departure::WithdrawPlace { .. } => Action::Store(Address::Place(worker), WITHDRAWN_PLACE),
         Departure::WithdrawAt { lock, .. } => Action::Store(Address::At(worker), u64::from(*lock)),
         Departure::WithdrawReply { .. } => Action::Store(Address::Reply(worker), 0),
         Departure::WithdrawDone { .. } => Action::Store(Address::Done(worker), u64::from(begun)),
