@@ -11,10 +11,10 @@ use Rattle.rme_program.specs.declared.stage.Stage.{Stage}
 use Rattle.rme_program.specs.declared.stage.Stage.TheVariants.{Posting, Climbing, Logging, Copying, Leaving}
 use Rattle.rme_program.specs.declared.note.Note.{Note}
 use Rattle.rme_program.specs.Conditions.{IsPrivate}
-use Rattle.rme_program.specs.Stays.{Stay, InRecover, InPost, InEnter, InSection, InExit, InPartialExit, InWithdrawal, Onward, Goes, Stays, Leads, IsInStay, IsOnward, IsTurn, row_of, place_in_row, turn_of, clear_onward}
+use Rattle.rme_program.specs.Stays.{Finds, Stay, InRecover, InPost, InEnter, InSection, InExit, InPartialExit, InWithdrawal, Onward, Goes, Stays, Leads, IsInStay, IsOnward, IsTurn, row_of, place_in_row, turn_of, clear_onward}
 use Rattle.rme_program.specs.Steps.{action_of, private_after, note_after, begun_after}
 use Rattle.rme_program.specs.Table.{section_row}
-use Rattle.rme_program.specs.Walks.{actions_of, WalkLaw, EndLaw}
+use Rattle.rme_program.specs.Walks.{unless_blocked, GoesOn, actions_of, WalkLaw, EndLaw}
 use Rattle.rme_program.proofs.Rows.{post_length, enter_length, exit_length, clear_length, withdraw_length}
 use Rattle.rme_program.proofs.Turns.{takes_row, follows_row}
 
@@ -47,21 +47,51 @@ first_action : (shape : Shape) (stay : Stay) (private : Private) → IsPrivate s
 first_action shape stay private is fits =
     drop_at (row_of shape private.worker private.begun stay) (place_in_row shape stay private.stage) (action_of shape private) (takes_row shape private is stay fits)
 
+module _ (shape : Shape) (stay : Stay) (private : Private) (value : ℕ) (is : IsPrivate shape private) (fits : IsInStay shape private.begun stay private.stage)
+    (finds : Finds stay (action_of shape private) value) (next_is : IsPrivate shape (private_after shape private value)) where
+  here : IsTurn shape private stay value (private_after shape private value) (note_after shape private value)
+  here = follows_row shape private value is next_is stay fits finds
+
+  -- One step is its row's action.
+  last_step : action_of shape private ∷ [] ≡ take 1 (drop (place_in_row shape stay private.stage) (row_of shape private.worker private.begun stay))
+  last_step = sym (ap (λ (xs : List Action). take 1 xs) (first_action shape stay private is fits))
+
+  -- What follows a step is the row's from its next place on, or from the same where it was blocked.
+  more_steps : (values : List ℕ) (later : List Action) (onward : Onward) → (turn_of shape private.worker private.begun stay (place_in_row shape stay private.stage) value).0 ≡ onward
+      → GoesOn values onward → (values ≡ [] → later ≡ [])
+      → (IsInStay shape (private_after shape private value).begun stay (private_after shape private value).stage
+      → later ≡ take (length later) (drop (place_in_row shape stay (private_after shape private value).stage) (row_of shape (private_after shape private value).worker (private_after shape private value).begun stay)))
+      → unless_blocked onward (action_of shape private) later
+      ≡ take (length (unless_blocked onward (action_of shape private) later)) (drop (place_in_row shape stay private.stage) (row_of shape private.worker private.begun stay))
+  more_steps [] later Goes at on none rest = rw (none refl) last_step
+  more_steps [] later (Leads next) at on none rest = rw (none refl) last_step
+  more_steps (after ∷ values) later (Leads next) at on none rest = elim on [
+    | inl goes ↦ absurd (cc)
+    | inr stays ↦ absurd (cc)
+  ]
+  more_steps (after ∷ values) later Goes at on none rest =
+      let onto : IsOnward shape stay private (private_after shape private value) Goes = subst (λ (onward : Onward). IsOnward shape stay private (private_after shape private value) onward) at here.onward in
+      let place : drop (place_in_row shape stay (private_after shape private value).stage) (row_of shape (private_after shape private value).worker (private_after shape private value).begun stay)
+      ≡ drop (place_in_row shape stay private.stage + 1) (row_of shape private.worker private.begun stay)
+      = ap (λ (k : ℕ). drop k (row_of shape (private_after shape private value).worker (private_after shape private value).begun stay)) onto.1
+      ∙ ap (λ (row : List Action). drop (place_in_row shape stay private.stage + 1) row) (same_begun shape private.worker private.begun value stay private.stage fits at) in
+      ap (λ (xs : List Action). action_of shape private ∷ xs) (rest onto.0 ∙ ap (λ (xs : List Action). take (length later) xs) place)
+      ∙ sym (ap (λ (xs : List Action). take (suc (length later)) xs) (first_action shape stay private is fits))
+  more_steps values later Stays at on none rest =
+      let same : private_after shape private value ≡ private = subst (λ (onward : Onward). IsOnward shape stay private (private_after shape private value) onward) at here.onward in
+      let F : Private → Type 0 = λ (p : Private). IsInStay shape p.begun stay p.stage in
+      let P : Private → Type 0 = λ (p : Private). later ≡ take (length later) (drop (place_in_row shape stay p.stage) (row_of shape p.worker p.begun stay)) in
+      subst P same (rest (subst F (sym same) fits))
+
 pub walk_law : WalkLaw
 walk_law shape stay private [] is fits walks = refl
-walk_law shape stay private (value ∷ []) is fits walks =
-    sym (ap (λ (xs : List Action). take 1 xs) (first_action shape stay private is fits))
-walk_law shape stay private (value ∷ after ∷ values) is fits walks =
-    let next : Private = private_after shape private value in
-    let turn : IsTurn shape private stay value next (note_after shape private value) = follows_row shape private value is walks.1 stay fits walks.0 in
-    let on : IsOnward shape stay private next Goes = subst (λ (onward : Onward). IsOnward shape stay private next onward) walks.2 turn.onward in
-    let rest : actions_of shape next (after ∷ values) ≡ take (length (after ∷ values)) (drop (place_in_row shape stay next.stage) (row_of shape next.worker next.begun stay))
-    = walk_law shape stay next (after ∷ values) walks.1 on.0 walks.3 in
-    let place : drop (place_in_row shape stay next.stage) (row_of shape next.worker next.begun stay) ≡ drop (place_in_row shape stay private.stage + 1) (row_of shape private.worker private.begun stay)
-    = ap (λ (k : ℕ). drop k (row_of shape next.worker next.begun stay)) on.1
-    ∙ ap (λ (row : List Action). drop (place_in_row shape stay private.stage + 1) row) (same_begun shape private.worker private.begun value stay private.stage fits walks.2) in
-    ap (λ (xs : List Action). action_of shape private ∷ xs) (rest ∙ ap (λ (xs : List Action). take (length (after ∷ values)) xs) place)
-    ∙ sym (ap (λ (xs : List Action). take (suc (length (after ∷ values))) xs) (first_action shape stay private is fits))
+walk_law shape stay private (value ∷ values) is fits walks =
+    more_steps shape stay private value is fits walks.0 walks.1 values (actions_of shape stay (private_after shape private value) values) _ refl walks.2 (none values)
+    (λ next. walk_law shape stay (private_after shape private value) values walks.1 next walks.3)
+  where
+    none : (values : List ℕ) → values ≡ [] → actions_of shape stay (private_after shape private value) values ≡ []
+    none [] e = refl
+    none (after ∷ values) e = absurd (cc)
 
 -- ---- ends
 
