@@ -136,9 +136,9 @@ module _ (old roomy : Seen) (worker : ℕ) (job : Job) (private : Private) (same
       let P : Seen → Type 0 = λ (s : Seen). IsKept s → IsKept (with_worker s worker (Some (submitted_private private job)) (begun_stay (counts_of s worker) Post)) in
       subst P (sym same) (λ k. hand_kept record old { room = roomy.room } worker k job private found ready few is room) kept
 
-  pub roomy_submits : (new : Seen) (number : ℕ) → submit_refusal old worker job ≡ None → number ≡ private.begun + 1
+  pub roomy_submits : (new : Seen) (number : ℕ) → old.room ≤ roomy.room → submit_refusal old worker job ≡ None → number ≡ private.begun + 1
       → new ≡ with_worker roomy worker (Some (submitted_private private job)) (begun_stay (counts_of roomy worker) Post) → Submits old worker job number new
-  roomy_submits new number may next hands =
+  roomy_submits new number roomier may next hands =
       let P : Seen → Type 0 = λ (s : Seen). new ≡ with_worker s worker (Some (submitted_private private job)) (begun_stay (counts_of s worker) Post) in
       let from : new ≡ with_worker (record old { room = roomy.room }) worker (Some (submitted_private private job)) (begun_stay (counts_of old worker) Post) = subst P same hands in
       let room : roomy.room ≡ new.room = sym (ap (λ (s : Seen). s.room) from) in
@@ -148,6 +148,7 @@ module _ (old roomy : Seen) (worker : ℕ) (job : Job) (private : Private) (same
         private = private;
         found = found;
         next_number = next;
+        room = omega (arith, roomier, room);
         hands = from ∙ ap (λ (r : ℕ). record (with_worker old worker (Some (submitted_private private job)) (begun_stay (counts_of old worker) Post)) { room = r }) room;
       }
 

@@ -19,7 +19,7 @@ abbrev pub with_worker : Seen → ℕ → Option Private → Counts → Seen
 with_worker seen worker private counts = record seen { privates = slice_set seen.privates worker private; counts = slice_set seen.counts worker counts }
 
 -- `submit`: the worker knows its job, which will have the next number, and its stay in Post begins. There may be more
--- room than before.
+-- room than before, and never less.
 pub record Submits (old : Seen) (worker : ℕ) (job : Job) (number : ℕ) (new : Seen) : Type 0 where
   pub may : submit_refusal old worker job ≡ None
   pub is_job : IsJob old.shape job
@@ -27,6 +27,7 @@ pub record Submits (old : Seen) (worker : ℕ) (job : Job) (number : ℕ) (new :
   pub found : slice_get old.privates worker ≡ Some (Some private)
   pub next_number : number ≡ private.begun + 1
   pub hands : new ≡ record (with_worker old worker (Some (submitted_private private job)) (begun_stay (counts_of old worker) Post)) { room = new.room }
+  pub room : old.room ≤ new.room
 
 -- `step`: the action that the worker's private state has next is done on one word. The new private state and the
 -- note are what follows from it and from the value found. The history grows by the entry of a finished section alone,

@@ -147,6 +147,7 @@ impl World {
     pub(crate) fn make_room(&mut self, entries: usize) -> bool
         ensures kept { IsKept self.new }
         ensures room { self.new ≡ record self.old { room = self.new.room } }
+        ensures roomier { self.old.room ≤ self.new.room }
         ensures made { IsTrue result → entries ≤ self.new.room }
         ensures unchanged { IsFalse result → self.new ≡ self.old }
     {

@@ -1,4 +1,4 @@
-use Rattle.std.proofs.Common.{refl}
+use Rattle.std.proofs.Common.{refl, arith}
 use Rattle.rme_world.proofs.Calls.{refused_run, submit_run, submit_begins, roomy_submits, kept_room}
 use Rattle.rme_world.proofs.Happening.{hand_kept}
 use Rattle.rme_world.proofs.Refusing.{submit_refused, submit_memory}
@@ -11,7 +11,7 @@ hand-requires-clause-kept c =
 pub returns-in-Ok-clause-call : goal.returns-in-Ok-clause-call
 returns-in-Ok-clause-call c =
     let submits = roomy_submits c.args.self.now c.args.self.now c.args.worker c.args.job c.in-Ok.private refl c.in-Ok.ensures.found c.in-Ok.ensures.ready.2
-    c.hand.new.self c.hand.result c.in-Ok.ensures.may c.hand.ensures.number c.hand.ensures.hands in
+    c.hand.new.self c.hand.result (omega arith) c.in-Ok.ensures.may c.hand.ensures.number c.hand.ensures.hands in
     record {
       accepted = submits;
       refused = tt;

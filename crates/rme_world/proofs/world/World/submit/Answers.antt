@@ -31,7 +31,7 @@ hand-requires-clause-kept c =
 pub returns : goal.returns
 returns c =
     let submits = roomy_submits c.args.self.now c.make_room.new.self c.args.worker c.args.job c.in-Ok.private c.make_room.ensures.room c.in-Ok.ensures.found c.in-Ok.ensures.ready.2
-    c.hand.new.self c.hand.result c.in-Ok.ensures.may c.hand.ensures.number c.hand.ensures.hands in
+    c.hand.new.self c.hand.result c.make_room.ensures.roomier c.in-Ok.ensures.may c.hand.ensures.number c.hand.ensures.hands in
     record {
       accepted = submits;
       refused = tt;
