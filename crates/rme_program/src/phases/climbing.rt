@@ -54,7 +54,8 @@ fn after_taken(shape: Shape, lock: u32, held: u32, stage: &mut Stage) -> Note
     go_on(stage, Ascent { lock, held })
 }
 
-/// The worker wants its next node, and the step brought nothing else about.
+/// The worker wants its next node, and the step brought nothing else about. A stage is wide, so
+/// within its phase its own part alone is written.
 fn go_on(stage: &mut Stage, ascent: Ascent) -> Note
     ensures { (stage.new, result) ≡ quietly (Stage.Climbing ascent) }
 {

@@ -86,7 +86,8 @@ pub fn after(
     }
 }
 
-/// The section goes on at this place, and the step brought nothing else about.
+/// The section goes on at this place, and the step brought nothing else about. A stage is wide, so
+/// within its phase its own part alone is written.
 fn go_on(stage: &mut Stage, redo: Redo) -> Note
     ensures { (stage.new, result) ≡ quietly (Stage.Copying redo) }
 {

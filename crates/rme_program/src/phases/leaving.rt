@@ -67,7 +67,8 @@ pub fn after(shape: Shape, begun: u32, departure: Departure, stage: &mut Stage, 
     }
 }
 
-/// The exit goes on at this place, and the step brought nothing else about.
+/// The exit goes on at this place, and the step brought nothing else about. A stage is wide, so
+/// within its phase its own part alone is written.
 fn go_on(stage: &mut Stage, departure: Departure) -> Note
     ensures { (stage.new, result) ≡ quietly (Stage.Leaving departure) }
 {

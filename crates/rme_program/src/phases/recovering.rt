@@ -74,7 +74,8 @@ pub fn after(
     }
 }
 
-/// The recovery goes on at this place, and the step brought nothing else about.
+/// The recovery goes on at this place, and the step brought nothing else about. A stage is wide, so
+/// within its phase its own part alone is written.
 fn go_on(stage: &mut Stage, recovery: Recovery) -> Note
     ensures { (stage.new, result) ≡ quietly (Stage.Recovering recovery) }
 {
