@@ -1,5 +1,5 @@
 -- What each step tells of a worker.
-use Rattle.std.proofs.Common.{◌≡◌, ◌≢◌, ◌⊎◌, ℕ, zero, suc, ◌+◌, ◌-◌, ◌*◌, ◌%◌, ◌≤◌, Bool, true, false, List, slice_set, refl, sym, ap, ◌∙◌, subst, inl, inr, arith}
+use Rattle.std.proofs.Common.{◌≡◌, ◌≢◌, ◌⊎◌, ℕ, zero, suc, ◌+◌, ◌-◌, ◌*◌, ◌%◌, ◌≤◌, Bool, true, false, List, refl, sym, ap, ◌∙◌, inl, inr, arith}
 use Rattle.std.specs.Prelude.{Option, Some, None, if◌then◌else◌, ◌==◌}
 use Rattle.std.proofs.lemmas.Bool.{cases_Bool, cases_eq, eqb-true}
 use Rattle.rme_words.specs.declared.shape.Shape.{Shape}
@@ -25,9 +25,9 @@ use Rattle.rme_program.specs.declared.stage.Visit.{Visit}
 use Rattle.rme_program.specs.Conditions.{IsStage, Takes}
 use Rattle.rme_program.specs.Masks.{first_cell}
 use Rattle.rme_program.specs.NoteLaws.{Tells, NoteLaw, follows, PhaseLaw, LeftLaw, BegunLaw}
-use Rattle.rme_program.specs.Phases.{phase_of, left_of, left_of_log, left_of_redo, left_of_departure}
+use Rattle.rme_program.specs.Phases.{phase_of, left_of_log, left_of_redo, left_of_departure}
 use Rattle.rme_program.specs.Progress.{rank}
-use Rattle.rme_program.specs.Steps.{re_entry, after_own, after_other, after_recovery, after_slate, after_taken, after_ascent, cells_from_here, run_stage, shadows_from, script_stage, slate_stage, turn_stage, after_log, copies_from, after_redo, clear_stage, cleared_note, exit_stage, after_departure, after_at, begun_after}
+use Rattle.rme_program.specs.Steps.{re_entry, after_other, after_recovery, after_slate, after_ascent, cells_from_here, shadows_from, slate_stage, after_log, copies_from, after_redo, clear_stage, cleared_note, after_departure}
 use Rattle.rme_program.proofs.Counts.{cells_below_less}
 use Rattle.rme_program.proofs.Scripting.{no_operations}
 

@@ -1,7 +1,5 @@
-use Rattle.std.proofs.Common.{sym, ◌∙◌, ap, arith}
-use Rattle.std.specs.Prelude.{slice_set}
-use Rattle.rme_script.specs.Programs.{Program}
-use Rattle.rme_script.proofs.Readings.{Reading, reading_begin, reading_next, reading_none, reading_end}
+use Rattle.std.proofs.Common.{sym, ◌∙◌}
+use Rattle.rme_script.proofs.Readings.{reading_next, reading_none}
 use Rattle.rme_script.proofs.slate.read_slate.Goals as goal
 
 pub loop-i-preserved : goal.loop-i-preserved

@@ -3,7 +3,6 @@ use Rattle.std.specs.Prelude.{replicate}
 use Rattle.std.proofs.lemmas.List.{take-replicate}
 use Rattle.rme_script.specs.declared.op.Op.{Op}
 use Rattle.rme_script.specs.declared.op.Op.TheVariants.{Get}
-use Rattle.rme_script.specs.Programs.{Program}
 use Rattle.rme_script.proofs.Fills.{kept_fillers}
 use Rattle.rme_script.proofs.script.Script.begin.Goals as goal
 

@@ -2,7 +2,6 @@ use Rattle.std.proofs.Common.{◌<◌, min, List, ap, arith}
 use Rattle.std.proofs.Math.Seq.{take-set-lt}
 use Rattle.rme_script.specs.declared.op.Op.{Op}
 use Rattle.rme_script.specs.declared.op.Op.TheVariants.{Get}
-use Rattle.rme_script.specs.Programs.{Program}
 use Rattle.rme_script.proofs.Fills.{kept_set}
 use Rattle.rme_script.proofs.script.Script.put.Goals as goal
 
