@@ -17,7 +17,7 @@ pub record IsLast (test : Entry → Bool) (es : List Entry) (e : Entry) : Type 0
   pub none : filter test after ≡ []
 
 -- Where none is the last, none passes.
-none_passes : (test : Entry → Bool) (es : List Entry) → last_of test es ≡ None → filter test es ≡ []
+pub none_passes : (test : Entry → Bool) (es : List Entry) → last_of test es ≡ None → filter test es ≡ []
 unfolding last_of
 none_passes test [] none = refl
 none_passes test (x ∷ es) none = go (λ rest. none_passes test es rest) (last_of test es) refl
