@@ -16,7 +16,7 @@ use Rattle.rme_machine.specs.declared.label.Act.{Act}
 use Rattle.rme_machine.specs.declared.label.Act.TheVariants.{Hand, Ask, Take, Finish, Leave, Withdraw, Crash, Restart, Reenter, Still, Wait}
 use Rattle.rme_machine.specs.Changes.{history_after}
 use Rattle.rme_machine.specs.Histories.{entries_by}
-use Rattle.rme_machine.specs.Laws.{BooksLaw, IsDraft, drafted, AreDrafts, DraftLaw}
+use Rattle.rme_machine.specs.FurtherLaws.{BooksLaw, IsDraft, drafted, AreDrafts, DraftLaw}
 use Rattle.rme_machine.specs.Machine.{State, WorkerState, StepOf, fallen}
 use Rattle.rme_machine.specs.Views.{worker_words, slate_job}
 use Rattle.rme_machine.proofs.Lists.{get_set, get_set_other}

@@ -28,7 +28,7 @@ use Rattle.rme_program.specs.Places.{place_of_redo, section_steps}
 use Rattle.rme_program.specs.Steps.{action_of, recovery_action, after_recovery, after_at}
 use Rattle.rme_program.proofs.MaskLemmas.{mask_of-is_mask}
 use Rattle.rme_machine.specs.Fits.{KnowsParity, KnowsRecovery}
-use Rattle.rme_machine.specs.Laws.{ComesBackTo, ReturnLaw, SectionLaw}
+use Rattle.rme_machine.specs.FurtherLaws.{ComesBackTo, ReturnLaw, SectionLaw}
 use Rattle.rme_machine.specs.Views.{WorkerWords, LockWords, worker_words, lock_words, site_of, slate_job, no_script}
 use Rattle.rme_machine.proofs.Kept.{owner_holds_in}
 

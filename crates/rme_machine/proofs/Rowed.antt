@@ -35,7 +35,7 @@ use Rattle.rme_program.specs.Table.{Reading}
 use Rattle.rme_program.proofs.MaskLemmas.{mask_of-is_mask}
 use Rattle.rme_program.proofs.Turns.{takes_by}
 use Rattle.rme_machine.specs.Fits.{SameBelow, HasRun, KnowsLog, KnowsParity, KnowsRedo, KnowsRecovery, KnowsDeparture, Knows, log_lock, redo_lock}
-use Rattle.rme_machine.specs.Laws.{RowLaw}
+use Rattle.rme_machine.specs.FurtherLaws.{RowLaw}
 use Rattle.rme_machine.specs.Views.{WorkerWords, LockWords, worker_words, lock_words, is_pending, slate_script}
 use Rattle.rme_machine.proofs.Moves.{cells_long}
 use Rattle.rme_machine.proofs.Scripts.{IsPosted, posted}

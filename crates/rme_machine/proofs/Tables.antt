@@ -22,7 +22,7 @@ use Rattle.rme_machine.specs.ShownCells as cells
 use Rattle.rme_machine.specs.Views.{worker_words, lock_words, is_pending, slate_job}
 use Rattle.rme_machine.specs.Fact.{Fact, StandsOwned, Stands}
 use Rattle.rme_machine.specs.Fits.{Knows, log_lock, redo_lock}
-use Rattle.rme_machine.specs.Laws.{TablesLaw, OwnsLaw, owned_by}
+use Rattle.rme_machine.specs.FurtherLaws.{TablesLaw, OwnsLaw, owned_by}
 use Rattle.rme_machine.proofs.Copying.{redo_lock_less}
 use Rattle.rme_machine.proofs.Kept.{owner_holds_in, owner_of}
 use Rattle.rme_machine.proofs.Lists.{made_get}

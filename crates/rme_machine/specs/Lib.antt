@@ -1,7 +1,7 @@
 -- In reading order: histories; the machine, its steps and its runs; the words of a worker and of a lock; the
 -- state that a world shows; what fits a private state; the one fact, and the clauses of an image as written; the
--- label of an event; how private states and histories change; the laws; the
--- machine's own theorems.
+-- label of an event; how private states and histories change; the laws of a
+-- step, and further laws; the machine's own theorems.
 pub mod Histories
 pub mod Machine
 pub mod Views
@@ -13,4 +13,5 @@ pub mod Clauses
 pub mod Labels
 pub mod Changes
 pub mod Laws
+pub mod FurtherLaws
 pub mod Theorems

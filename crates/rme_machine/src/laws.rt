@@ -1,11 +1,12 @@
 //! The laws of a step, and the machine's own theorems.
 //!
-//! Each function here does nothing: its contract is a law of `specs/Laws.antt` or a theorem of
-//! `specs/Theorems.antt`, proved by the lemma of `proofs/` that the docstring names. The crates above cite
+//! Each function here does nothing: its contract is a law of `specs/Laws.antt` or `specs/FurtherLaws.antt`, or a
+//! theorem of `specs/Theorems.antt`, proved by the lemma of `proofs/` that the docstring names. The crates above cite
 //! the lemmas.
 
 ghost use Rattle.rme_machine.specs.Theorems.{ExclusionLaw, ReentryLaw, OnceLaw};
-ghost use Rattle.rme_machine.specs.Laws.{StepLaw, TakesLaw, SubmitLaw, CrashLaw, RestartLaw, WithdrawLaw, OpeningLaw, FitLaw, TablesLaw, OwnsLaw, SectionLaw, ReturnLaw, BooksLaw, DraftLaw, RowLaw, BlockedLaw, StaleLaw, IdleLaw, ClausesLaw};
+ghost use Rattle.rme_machine.specs.Laws.{StepLaw, TakesLaw, SubmitLaw, CrashLaw, RestartLaw, WithdrawLaw, OpeningLaw};
+ghost use Rattle.rme_machine.specs.FurtherLaws.{FitLaw, TablesLaw, OwnsLaw, SectionLaw, ReturnLaw, BooksLaw, DraftLaw, RowLaw, BlockedLaw, StaleLaw, IdleLaw, ClausesLaw};
 
 /// Each own step of a worker, of every kind and whatever it finds, keeps the fact and is the machine's step
 /// of its note (lemma `own_step`).

@@ -20,7 +20,7 @@ use Rattle.rme_program.specs.Progress.{Taken}
 use Rattle.rme_program.specs.Steps.{after_at, private_after, withdrawn_place}
 use Rattle.rme_machine.specs.Histories.{has_entry}
 use Rattle.rme_machine.specs.Views.{worker_words}
-use Rattle.rme_machine.specs.Laws.{ComesBackTo}
+use Rattle.rme_machine.specs.FurtherLaws.{ComesBackTo}
 use Rattle.rme_machine.proofs.Returning.{returning}
 use Rattle.rme_world.specs.Counting.{count_of}
 use Rattle.rme_world.specs.Seen.{Seen, IsKept, counts_of, memory_seen, privates_seen}
