@@ -2,7 +2,7 @@
 
 ghost use Rattle.std.specs.Prelude.{◌≡◌, ℕ};
 ghost use Rattle.rme_program.specs.declared.kinds.Phase.{Phase};
-ghost use Rattle.rme_history.specs.Tallies.{most_of, Sees};
+ghost use Rattle.rme_history.specs.Tallies.{most_in, Sees};
 
 use rme_program::Phase;
 
@@ -19,7 +19,7 @@ pub struct Tally {
 impl Tally {
     /// Nothing was seen: all are 0.
     pub fn new() -> Tally
-        ensures { (phase : Phase) → most_of result phase ≡ 0 }
+        ensures { (phase : Phase) → most_in result phase ≡ 0 }
     {
         Tally {
             recover: 0,
@@ -47,7 +47,7 @@ impl Tally {
 
     /// The most steps that were seen of a phase; 0 for phase Ready.
     pub fn most(&self, phase: Phase) -> u32
-        ensures { result ≡ most_of self.now phase }
+        ensures { result ≡ most_in self.now phase }
     {
         match phase {
             Phase::Recover => self.recover,

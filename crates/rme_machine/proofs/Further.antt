@@ -12,7 +12,7 @@ use Rattle.rme_program.specs.Steps.{private_after}
 use Rattle.rme_machine.specs.Views.{worker_words, lock_words}
 use Rattle.rme_machine.specs.Fits.{Knows, Fits}
 use Rattle.rme_machine.specs.Shown.{Privates}
-use Rattle.rme_machine.specs.FurtherLaws.{FitLaw, BlockedLaw, StaleLaw, IdleLaw, ClausesLaw, holds_nothing}
+use Rattle.rme_machine.specs.FurtherLaws.{FitLaw, HeldNodeLaw, StaleLaw, IdleLaw, ClausesLaw, holds_nothing}
 use Rattle.rme_machine.proofs.Kept.{private_kept}
 use Rattle.rme_machine.proofs.Own_step.{own_step}
 use Rattle.rme_machine.proofs.Clauses.{fact_good, good_fact}
@@ -20,7 +20,7 @@ use Rattle.rme_machine.proofs.Clauses.{fact_good, good_fact}
 pub fitting : FitLaw
 fitting s mem privs es w p fact worker was = ((fact.fits w p worker was).is, (fact.fits w p worker was).shaped)
 
-pub blocking : BlockedLaw
+pub blocking : HeldNodeLaw
 blocking s mem privs es w p ascent fact worker was climbs taken =
     let fits = fact.fits w p worker was in
     let knows = rw climbs at fits.knows in

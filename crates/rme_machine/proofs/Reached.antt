@@ -22,7 +22,7 @@ use Rattle.rme_machine.specs.Fact.{Fact, Account}
 use Rattle.rme_machine.specs.Histories.{numbers_by, has_entry, last_by, withdrawn_of, RisesFrom, IsLegalAfter}
 use Rattle.rme_machine.specs.Machine.{State, WorkerState, StaysOn, StepOf, Step, Run, opening_worker, opening_state}
 use Rattle.rme_machine.specs.Shown.{Privates, lock_owned, job_of, shown_worker, shown, stance_by, stance_outside}
-use Rattle.rme_machine.specs.Theorems.{Begins, IsReached, ExclusionLaw, IsAt, HasNoLeave, IsAloneAt, ReentryLaw, OnceLaw, times, under, places_of}
+use Rattle.rme_machine.specs.Theorems.{IsStart, IsReached, ExclusionLaw, IsActAt, HasNoLeave, IsAloneAt, ReentryLaw, OnceLaw, times, under, places_of}
 use Rattle.rme_machine.specs.Views.{worker_words, is_pending, slate_job}
 use Rattle.rme_machine.proofs.Historical.{no_entry}
 use Rattle.rme_machine.proofs.Kept.{owner_holds_in, owner_of}
@@ -339,7 +339,7 @@ module _ (s : Shape) (mem : Address → ℕ) (privs : Privates) (es : List Entry
 
 -- ---- the theorems
 
-begins_is : (shape : Shape) (state : State) → Begins shape state → IsState shape state
+begins_is : (shape : Shape) (state : State) → IsStart shape state → IsState shape state
 begins_is shape state (inl opens) = subst (λ (s : State). IsState shape s) (sym opens) (opening_is shape)
 begins_is shape state (inr (memory, privates, history, fact, shows)) = subst (λ (s : State). IsState shape s) (sym shows) (shown_is shape memory privates history fact)
 
@@ -399,7 +399,7 @@ leave_same v w l k a b = rw (a, b) refl
 
 -- While a worker owns a lock and does not leave it, it goes on owning it, and no other worker is at it.
 owner_stays : (shape : Shape) (act : Act) (old : State) (u : ℕ) (me : WorkerState) (new : State) (w lock : ℕ) → slice_get old.workers u ≡ Some me → StepOf shape act old u me new → IsState shape old
-    → slice_get old.owners lock ≡ Some (Some w) → (Of u act ≢ Of w (Leave lock)) → (IsAt act lock → u ≡ w) × (slice_get new.owners lock ≡ Some (Some w))
+    → slice_get old.owners lock ≡ Some (Some w) → (Of u act ≢ Of w (Leave lock)) → (IsActAt act lock → u ≡ w) × (slice_get new.owners lock ≡ Some (Some w))
 owner_stays shape (Hand k job) old u me new w lock at (up, idle, is, next, few, then_) was owns stays = ((λ a. absurd a), ap (λ (s : State). slice_get s.owners lock) then_ ∙ owns)
 owner_stays shape (Ask k) old u me new w lock at (job, up, handed, next, then_) was owns stays = ((λ a. absurd a), ap (λ (s : State). slice_get s.owners lock) then_ ∙ owns)
 owner_stays shape (Take here) old u me new w lock at (k, job, up, waits, there, free, then_) was owns stays =
@@ -445,7 +445,7 @@ alone shape w lock (Nothing ∷ labels) old new was owns (mid, step, rest) none 
 alone shape w lock (Of u act ∷ labels) old new was owns (mid, step, rest) none =
     let here = owner_stays shape act old u step.me mid w lock step.is_me step.goes was owns none.0 in
     let later_ = alone shape w lock labels mid new (label_keeps shape (Of u act) old mid step was) here.1 rest none.1 in
-    (((λ v a e at. same_worker v a e (here.0 (subst (λ (x : Act). IsAt x lock) (sym (same_act v a e)) at))), later_.0), later_.1)
+    (((λ v a e at. same_worker v a e (here.0 (subst (λ (x : Act). IsActAt x lock) (sym (same_act v a e)) at))), later_.0), later_.1)
   where
     same_act : (v : ℕ) (a : Act) → Of u act ≡ Of v a → act ≡ a
     same_act v a e = cc

@@ -130,8 +130,8 @@ RowLaw = (shape : Shape) (memory : Address → ℕ) (privates : Privates) (histo
     → IsOnTrack private.stage × (private.stage ≢ Resting → StandsInRow shape private)
 
 -- Where a climbing worker's node is not free, another worker holds it, from the other side.
-abbrev pub BlockedLaw : Type 0
-BlockedLaw = (shape : Shape) (memory : Address → ℕ) (privates : Privates) (history : List Entry) (worker : ℕ) (private : Private) (ascent : Ascent)
+abbrev pub HeldNodeLaw : Type 0
+HeldNodeLaw = (shape : Shape) (memory : Address → ℕ) (privates : Privates) (history : List Entry) (worker : ℕ) (private : Private) (ascent : Ascent)
     → Fact shape memory privates history → worker < shape.workers → privates worker ≡ Some private → private.stage ≡ Climbing ascent
     → memory (Node ascent.lock (node shape.leaves worker (suc ascent.held))) ≢ 0
     → IsBlocked (nodes_of memory ascent.lock) shape.leaves shape.height shape.workers worker ascent.held

@@ -17,15 +17,15 @@ use Rattle.rme_machine.specs.Fact.{Fact}
 
 -- Where a run may begin: at the opening, or at a state that words, private states and a history show for which the
 -- one fact holds.
-abbrev pub Begins : Shape → State → Type 0
-Begins shape state =
+abbrev pub IsStart : Shape → State → Type 0
+IsStart shape state =
     (state ≡ opening_state shape)
     ⊎ ((memory : Address → ℕ) × (privates : Privates) × (history : List Entry) × Fact shape memory privates history × (state ≡ shown shape memory privates history))
 
 -- A state that a run reaches.
 pub record IsReached (shape : Shape) (state : State) : Type 0 where
   pub start : State
-  pub begins : Begins shape start
+  pub begins : IsStart shape start
   pub labels : List Label
   pub run : Run shape start labels state
 
@@ -45,12 +45,12 @@ ExclusionLaw = (shape : Shape) (state : State) → IsReached shape state → Exc
 -- CRITICAL-SECTION RE-ENTRY
 
 -- The acts by which a worker is in the section of a lock, comes back to it, or leaves it.
-abbrev pub IsAt : Act → ℕ → Type 0
-IsAt (Take here) lock = here ≡ lock
-IsAt (Reenter here) lock = here ≡ lock
-IsAt (Finish receipt) lock = receipt.lock ≡ lock
-IsAt (Leave here) lock = here ≡ lock
-IsAt _ lock = ⊥
+abbrev pub IsActAt : Act → ℕ → Type 0
+IsActAt (Take here) lock = here ≡ lock
+IsActAt (Reenter here) lock = here ≡ lock
+IsActAt (Finish receipt) lock = receipt.lock ≡ lock
+IsActAt (Leave here) lock = here ≡ lock
+IsActAt _ lock = ⊥
 
 -- None of these labels is the worker's leave of the lock.
 abbrev pub HasNoLeave : ℕ → ℕ → List Label → Type 0
@@ -60,7 +60,7 @@ HasNoLeave worker lock (label ∷ labels) = (label ≢ Of worker (Leave lock)) �
 -- The worker alone is at the lock.
 abbrev pub IsAloneAt : ℕ → ℕ → List Label → Type 0
 IsAloneAt worker lock [] = Unit {0}
-IsAloneAt worker lock (label ∷ labels) = ((other : ℕ) (act : Act) → label ≡ Of other act → IsAt act lock → other ≡ worker) × IsAloneAt worker lock labels
+IsAloneAt worker lock (label ∷ labels) = ((other : ℕ) (act : Act) → label ≡ Of other act → IsActAt act lock → other ≡ worker) × IsAloneAt worker lock labels
 
 -- From a worker's take of a lock to its leave no other worker takes, re-enters, finishes in or leaves that lock, whatever
 -- crashes and restarts lie between: nobody enters before the fallen owner has come back. The same holds from any state

@@ -6,7 +6,7 @@
 
 ghost use Rattle.rme_machine.specs.Theorems.{ExclusionLaw, ReentryLaw, OnceLaw};
 ghost use Rattle.rme_machine.specs.Laws.{StepLaw, TakesLaw, SubmitLaw, CrashLaw, RestartLaw, WithdrawLaw, OpeningLaw};
-ghost use Rattle.rme_machine.specs.FurtherLaws.{FitLaw, TablesLaw, OwnsLaw, SectionLaw, ReturnLaw, BooksLaw, DraftLaw, RowLaw, BlockedLaw, StaleLaw, IdleLaw, ClausesLaw};
+ghost use Rattle.rme_machine.specs.FurtherLaws.{FitLaw, TablesLaw, OwnsLaw, SectionLaw, ReturnLaw, BooksLaw, DraftLaw, RowLaw, HeldNodeLaw, StaleLaw, IdleLaw, ClausesLaw};
 
 /// Each own step of a worker, of every kind and whatever it finds, keeps the fact and is the machine's step
 /// of its note (lemma `own_step`).
@@ -91,7 +91,7 @@ pub fn standing()
 /// A blocked step names another holder: where a climbing worker's node is not free, another worker holds it,
 /// from the other side (lemma `blocking`).
 pub fn blocking()
-    ensures { BlockedLaw }
+    ensures { HeldNodeLaw }
 {}
 
 /// What a fallen worker knew still fits after a step of another worker (lemma `staying`).

@@ -42,11 +42,11 @@ pub record Reentry (shape : Shape) (worker begun done lock : ℕ) : Type 0 where
 
 -- What a stay begins with: levels below the root of a partial or withdrawing Exit, a script of the shape and its
 -- lock's cells of a section.
-abbrev pub IsStay : Shape → Stay → Type 0
-IsStay shape (InSection lock reading) = IsReading shape reading
-IsStay shape (InPartialExit lock levels) = levels < shape.height
-IsStay shape (InWithdrawal lock levels) = levels < shape.height
-IsStay shape _ = Unit {0}
+abbrev pub MayBegin : Shape → Stay → Type 0
+MayBegin shape (InSection lock reading) = IsReading shape reading
+MayBegin shape (InPartialExit lock levels) = levels < shape.height
+MayBegin shape (InWithdrawal lock levels) = levels < shape.height
+MayBegin shape _ = Unit {0}
 
 -- A stay begins at its first stage, with no step made.
 pub record Begins (shape : Shape) (known : ℕ) (stay : Stay) : Type 0 where
@@ -55,7 +55,7 @@ pub record Begins (shape : Shape) (known : ℕ) (stay : Stay) : Type 0 where
   pub taken : Taken shape (first_of stay) (first_of stay) 0
 
 abbrev pub BeginLaw : Type 0
-BeginLaw = (shape : Shape) (known : ℕ) (stay : Stay) → IsStay shape stay → Begins shape known stay
+BeginLaw = (shape : Shape) (known : ℕ) (stay : Stay) → MayBegin shape stay → Begins shape known stay
 
 -- A stage that fits a stay is on track, and what was taken of the stay is its place.
 pub record IsCounted (shape : Shape) (stay : Stay) (stage : Stage) : Type 0 where

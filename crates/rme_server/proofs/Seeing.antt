@@ -10,7 +10,7 @@ use Rattle.rme_program.specs.declared.note.Note.{Note}
 use Rattle.rme_program.specs.declared.note.Note.TheVariants as told
 use Rattle.rme_program.specs.declared.note.Note.TheVariants.{Asked, Blocked, Entered, Finished, Left, Quiet, Reentered, Withdrew}
 use Rattle.rme_history.specs.declared.tally.Tally.{Tally}
-use Rattle.rme_history.specs.Tallies.{Sees, most_of}
+use Rattle.rme_history.specs.Tallies.{Sees, most_in}
 use Rattle.rme_world.specs.declared.counts.Counts.{Counts}
 use Rattle.rme_world.specs.Counting.{CountsAfter, begun_stay, count_of, counted, no_counts}
 use Rattle.rme_world.specs.Opening.{opening}
@@ -63,15 +63,15 @@ opening_seen tally shape worker phase =
 
 module _ (tally : Tally) (old new : Seen) (worker : ℕ) (counts : Counts) (has : HasSeen tally old) (goes : new.counts ≡ slice_set old.counts worker counts) where
   -- other counts of one worker that were seen too
-  pub seen_too : ((phase : Phase) → count_of counts phase ≤ most_of tally phase) → HasSeen tally new
+  pub seen_too : ((phase : Phase) → count_of counts phase ≤ most_in tally phase) → HasSeen tally new
   seen_too few u =
-      let P : Counts → Type 0 = λ c. (phase : Phase) → count_of c phase ≤ most_of tally phase in
+      let P : Counts → Type 0 = λ c. (phase : Phase) → count_of c phase ≤ most_in tally phase in
       let Q : List Counts → Type 0 = λ all. P (unwrap_or (slice_get all u) no_counts) in
       subst Q (sym goes) (changed P old.counts worker counts has few u)
 
   -- a stay of the worker begins
   pub begun_seen : (phase : Phase) → counts ≡ begun_stay (counts_of old worker) phase → HasSeen tally new
-  begun_seen phase e = seen_too (λ p. rw e (within_limits (counts_of old worker) (most_of tally) 0 phase p (omega arith) (λ q. has worker q)))
+  begun_seen phase e = seen_too (λ p. rw e (within_limits (counts_of old worker) (most_in tally) 0 phase p (omega arith) (λ q. has worker q)))
 
   pub same_seen : counts ≡ counts_of old worker → HasSeen tally new
   same_seen e = seen_too (λ p. rw e (has worker p))
@@ -109,32 +109,32 @@ others_stay old new before after note c phase apart =
 
 module _ (old new : Tally) (phase : Phase) (steps : ℕ) (sees : Sees old new phase steps) where
   -- what a tally saw it does not forget
-  pub sees_more : (other : Phase) → most_of old other ≤ most_of new other
+  pub sees_more : (other : Phase) → most_in old other ≤ most_in new other
   sees_more other =
       elim (cases_phase other phase) [
         | inl same ↦ elim (cases_phase phase Ready) [
           | inl ready ↦ rw (same, ready) (omega arith)
-          | inr some ↦ rw (same, sees.greater some) (le-max_left (most_of old phase) steps)
+          | inr some ↦ rw (same, sees.greater some) (le-max_left (most_in old phase) steps)
         ]
         | inr apart ↦ rw (sees.others other apart) (omega arith)
       ]
 
-  pub sees_now : phase ≢ Ready → steps ≤ most_of new phase
-  sees_now some = rw (sees.greater some) (le-max_right (most_of old phase) steps)
+  pub sees_now : phase ≢ Ready → steps ≤ most_in new phase
+  sees_now some = rw (sees.greater some) (le-max_right (most_in old phase) steps)
 
 module _ (old new : Seen) (worker : ℕ) (before : Tally) (after : Tally) (phase : Phase) (counts : Counts) (next : Phase) (note : Note) (has : HasSeen before old)
     (goes : new.counts ≡ slice_set old.counts worker counts) (counted_so : CountsAfter (counts_of old worker) phase next note counts)
     (sees : Sees before after phase (steps_of new worker phase)) where
   -- of the worker's counts that of the step's phase alone can have grown
-  pub grown_alone : (other : Phase) → other ≢ phase → steps_of new worker other ≤ most_of before other
+  pub grown_alone : (other : Phase) → other ≢ phase → steps_of new worker other ≤ most_in before other
   grown_alone other apart =
       let less = others_stay (counts_of old worker) counts phase next note counted_so other apart in
       let seen = has worker other in
-      let P : Counts → Type 0 = λ c. count_of c other ≤ most_of before other in
+      let P : Counts → Type 0 = λ c. count_of c other ≤ most_in before other in
       let Q : List Counts → Type 0 = λ all. P (unwrap_or (slice_get all worker) no_counts) in
       subst Q (sym goes) (changed P old.counts worker counts (λ u. has u other) (omega (arith, less, seen)) worker)
 
-  pub step_phases : (other : Phase) → most_of after other ≡ max (most_of before other) (steps_of new worker other)
+  pub step_phases : (other : Phase) → most_in after other ≡ max (most_in before other) (steps_of new worker other)
   step_phases other =
       elim (cases_phase other phase) [
         | inl same ↦ elim (cases_phase phase Ready) [
@@ -148,7 +148,7 @@ module _ (old new : Seen) (worker : ℕ) (before : Tally) (after : Tally) (phase
   step_seen u other =
       let more = sees_more before after phase (steps_of new worker phase) sees other in
       elim (cases_eq u worker) [
-        | inl same ↦ rw (same, step_phases other) (le-max_right (most_of before other) (steps_of new worker other))
+        | inl same ↦ rw (same, step_phases other) (le-max_right (most_in before other) (steps_of new worker other))
         | inr apart ↦
             let seen = has u other in
             let kept : counts_of new u ≡ counts_of old u = ap (λ all. unwrap_or (slice_get all u) no_counts) goes ∙ ap (λ found. unwrap_or found no_counts) (get_set_other old.counts worker u counts apart) in

@@ -11,7 +11,7 @@ use Rattle.rme_machine.specs.declared.label.Label.TheVariants.{Of}
 use Rattle.rme_machine.specs.Machine.{Does, Run, Step}
 use Rattle.rme_machine.specs.Shown.{act_of}
 use Rattle.rme_history.specs.declared.tally.Tally.{Tally}
-use Rattle.rme_history.specs.Tallies.{most_of}
+use Rattle.rme_history.specs.Tallies.{most_in}
 use Rattle.rme_world.specs.Running.{AreLabels, IsRunOfOne}
 use Rattle.rme_world.proofs.Happening.{shown_long}
 use Rattle.rme_world.specs.Seen.{Seen, shown_by}
@@ -24,7 +24,7 @@ zeros : (a b c d e : ℕ) → a ≡ 0 → b ≡ 0 → c ≡ 0 → d ≡ 0 → e 
 zeros a b c d e p q r s t = rw (p, q, r, s, t) refl
 
 -- a tally whose counts are all 0 saw nothing
-pub all_zero : (tally : Tally) → ((phase : Phase) → most_of tally phase ≡ 0) → tally ≡ nothing_seen
+pub all_zero : (tally : Tally) → ((phase : Phase) → most_in tally phase ≡ 0) → tally ≡ nothing_seen
 unfolding tally_of
 all_zero tally none = zeros tally.recover tally.post tally.enter tally.section tally.exit (none Recover) (none Post) (none Enter) (none Section) (none Exit)
 

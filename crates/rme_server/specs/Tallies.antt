@@ -5,7 +5,7 @@ use Rattle.rme_words.specs.declared.shape.Shape.{Shape}
 use Rattle.rme_program.specs.declared.kinds.Phase.{Phase}
 use Rattle.rme_program.specs.declared.note.Note.{Note}
 use Rattle.rme_history.specs.declared.tally.Tally.{Tally}
-use Rattle.rme_history.specs.Tallies.{Sees, most_of}
+use Rattle.rme_history.specs.Tallies.{Sees, most_in}
 use Rattle.rme_world.specs.Counting.{count_of}
 use Rattle.rme_world.specs.Looks.{phase_seen}
 use Rattle.rme_world.specs.Opening.{opening}
@@ -26,7 +26,7 @@ steps_of world worker phase = count_of (counts_of world worker) phase
 
 -- a tally sees the steps of all phases of a worker: of each it keeps the greater number
 abbrev pub SeesPhases : Tally → Seen → ℕ → Tally → Type 0
-SeesPhases old world worker new = (phase : Phase) → most_of new phase ≡ max (most_of old phase) (steps_of world worker phase)
+SeesPhases old world worker new = (phase : Phase) → most_in new phase ≡ max (most_in old phase) (steps_of world worker phase)
 
 -- after an accepted step a tally sees the steps of the phase in which it was made; a refused step feeds it nothing
 abbrev pub IsFed : Tally → Result Note Refusal → Seen → Seen → ℕ → Tally → Type 0
@@ -40,4 +40,4 @@ pub record StepsTallied (old : TalliedWorld) (worker : ℕ) (result : Result Not
 
 -- a tally has seen all counts of a world's workers
 abbrev pub HasSeen : Tally → Seen → Type 0
-HasSeen tally world = (worker : ℕ) (phase : Phase) → steps_of world worker phase ≤ most_of tally phase
+HasSeen tally world = (worker : ℕ) (phase : Phase) → steps_of world worker phase ≤ most_in tally phase

@@ -6,7 +6,7 @@ use Rattle.rme_words.specs.declared.shape.Shape.{Shape}
 use Rattle.rme_words.specs.declared.address.Address.{Address}
 use Rattle.rme_words.specs.declared.address.Address.TheVariants.{Begun, Done, Reply, Place, At, SlateLock, SlateLen, SlateWord, Node, Turn, Cell, Shadow, ShadowReply, Mask}
 use Rattle.std.proofs.lemmas.List.{get_or_default}
-use Rattle.rme_words.specs.Words.{IsOfShape, is_of_shape, word, words_of, read, Wrote, Memory, memory_of}
+use Rattle.rme_words.specs.Words.{IsOfShape, is_of_shape, word, word_count, read, Wrote, Memory, memory_of}
 use Rattle.rme_words.proofs.Places.{same_address, word_below}
 
 pub of_shape-true : (s : Shape) (a : Address) → IsOfShape s a → is_of_shape s a ≡ true
@@ -52,7 +52,7 @@ unfolding read
 read_outside s ws a h = rw h refl
 
 -- Writing the word of an address is a store at that address.
-pub wrote_word : (s : Shape) (ws : List ℕ) (a : Address) (x : ℕ) → length ws ≡ words_of s → IsOfShape s a
+pub wrote_word : (s : Shape) (ws : List ℕ) (a : Address) (x : ℕ) → length ws ≡ word_count s → IsOfShape s a
     → Wrote (read s ws) (read s (slice_set ws (word s a) x)) a x
 wrote_word s ws a x long h = record { at = there; off = elsewhere }
   where
@@ -73,7 +73,7 @@ wrote_word s ws a x long h = record { at = there; off = elsewhere }
 
 -- What an index of the list of words gives is what the memory reads.
 pub loaded : (s : Shape) (ws : List ℕ) (m : Memory) (a : Address) (i v : ℕ) → record { shape = s; words = ws } ≡ m
-    → length ws ≡ words_of s → IsOfShape m.shape a → i ≡ word s a → v ≡ get_or ws i v → v ≡ memory_of m a
+    → length ws ≡ word_count s → IsOfShape m.shape a → i ≡ word s a → v ≡ get_or ws i v → v ≡ memory_of m a
 loaded s ws m a i v same long h at value =
     let P : Memory → Type 0 = λ n. IsOfShape n.shape a → v ≡ memory_of n a in
     let here : (k : IsOfShape s a) → v ≡ read s ws a = λ k.
@@ -84,7 +84,7 @@ loaded s ws m a i v same long h at value =
 
 -- Writing at an index of the list of words is a store.
 pub stored : (s : Shape) (ws : List ℕ) (m : Memory) (a : Address) (i x : ℕ) → record { shape = s; words = ws } ≡ m
-    → length ws ≡ words_of s → IsOfShape m.shape a → i ≡ word s a → Wrote (memory_of m) (read s (slice_set ws i x)) a x
+    → length ws ≡ word_count s → IsOfShape m.shape a → i ≡ word s a → Wrote (memory_of m) (read s (slice_set ws i x)) a x
 stored s ws m a i x same long h at =
     let P : Memory → Type 0 = λ n. IsOfShape n.shape a → Wrote (memory_of n) (read s (slice_set ws i x)) a x in
     subst P same (λ k. rw at (wrote_word s ws a x long k)) h

@@ -6,7 +6,7 @@ use Rattle.std.proofs.lemmas.Bool.{lt-ltb, le-ltb, eq-eqb, ne_eqb}
 use Rattle.rme_words.specs.declared.shape.Shape.{Shape}
 use Rattle.rme_words.specs.declared.address.Address.{Address}
 use Rattle.rme_words.specs.declared.address.Address.TheVariants.{Begun, Done, Reply, Place, At, SlateLock, SlateLen, SlateWord, Node, Turn, Cell, Shadow, ShadowReply, Mask}
-use Rattle.rme_words.specs.Words.{IsOfShape, word, words_of, lock_start, lock_block}
+use Rattle.rme_words.specs.Words.{IsOfShape, word, word_count, lock_start, lock_block}
 
 -- Which block an address is in, and where in it.
 pub data Spot : Type 0 where
@@ -181,10 +181,10 @@ same_address s a b h k e =
     let spots : spot s a ≡ spot s b = same_spot s _ _ (spot-in_block s a h) (spot-in_block s b k) numbers in
     sym (address-spot s a h) ∙ (ap (address_at s) spots ∙ address-spot s b k)
 
-number_below : (s : Shape) (p : Spot) → IsInBlock s p → number s p < words_of s
+number_below : (s : Shape) (p : Spot) → IsInBlock s p → number s p < word_count s
 number_below s (of_worker w o) h = omega arith
 number_below s (of_lock l o) h = omega (arith, mul-add-lt l (lock_block s) o s.locks h.0 h.1)
 
 -- Each number is below the number of words.
-pub word_below : (s : Shape) (a : Address) → IsOfShape s a → word s a < words_of s
+pub word_below : (s : Shape) (a : Address) → IsOfShape s a → word s a < word_count s
 word_below s a h = rw (← number-spot s a) (number_below s _ (spot-in_block s a h))

@@ -9,8 +9,8 @@ abbrev pub lock_block : Shape → ℕ
 lock_block shape = shape.leaves + 2 + 2 * shape.cells
 
 -- How many words a shape has: the workers' blocks, then the locks' blocks.
-abbrev pub words_of : Shape → ℕ
-words_of shape = 31 * shape.workers + shape.locks * lock_block shape
+abbrev pub word_count : Shape → ℕ
+word_count shape = 31 * shape.workers + shape.locks * lock_block shape
 
 -- Where a worker's and a lock's block begin.
 abbrev pub worker_start : ℕ → ℕ

@@ -1,7 +1,7 @@
 //! The words of a shape, in one list.
 
 ghost use Rattle.std.specs.Prelude.{◌≡◌, ◌≢◌, ◌+◌, ◌*◌, ◌<◌, IfOk, length, replicate};
-ghost use Rattle.rme_words.specs.Words.{IsOfShape, Wrote, memory_of, read, word, words_of};
+ghost use Rattle.rme_words.specs.Words.{IsOfShape, Wrote, memory_of, read, word, word_count};
 
 use crate::address::Address;
 use crate::refusal::NoMemory;
@@ -18,13 +18,13 @@ pub struct Bank {
 
 impl Model for Bank {
     ghost use Rattle.std.specs.Prelude.{◌≡◌, length};
-    ghost use Rattle.rme_words.specs.Words.{Memory, words_of};
+    ghost use Rattle.rme_words.specs.Words.{Memory, word_count};
 
     ghost Value = { Memory };
 
     ghost view = { λ bank. record { shape = bank.shape; words = bank.words.items } };
 
-    ghost invariant = { λ bank. length bank.words.items ≡ words_of bank.shape };
+    ghost invariant = { λ bank. length bank.words.items ≡ word_count bank.shape };
 }
 
 /// As many zeros as the shape has words.
@@ -40,7 +40,7 @@ fn zeros(alloc: Global, count: usize) -> Result<Vec<u64>, NoMemory>
 impl Bank {
     /// The words of a shape, all 0. Takes memory for them all; `NoMemory` where it was refused.
     pub fn new(alloc: Global, shape: Shape) -> Result<Bank, NoMemory>
-        ensures { IfOk result (λ bank. bank ≡ record { shape = shape; words = replicate (words_of shape) 0 }) }
+        ensures { IfOk result (λ bank. bank ≡ record { shape = shape; words = replicate (word_count shape) 0 }) }
     {
         let words = zeros(alloc, shape.words())?;
         Ok(Bank { shape, words })
@@ -48,7 +48,7 @@ impl Bank {
 
     /// The bank of these words, as many as the shape has.
     pub fn of(shape: Shape, words: Vec<u64>) -> Bank
-        requires { length words.items ≡ words_of shape }
+        requires { length words.items ≡ word_count shape }
         ensures { result ≡ record { shape = shape; words = words.items } }
     {
         Bank { shape, words }

@@ -7,12 +7,12 @@ use crate::shape::Shape;
 
 impl Shape {
     ghost use Rattle.std.specs.Prelude.{◌≡◌, ◌<◌, ◌≤◌, ◌+◌, ◌*◌};
-    ghost use Rattle.rme_words.specs.Words.{IsOfShape, lock_start, word, words_of};
+    ghost use Rattle.rme_words.specs.Words.{IsOfShape, lock_start, word, word_count};
     ghost use Rattle.rme_words.specs.declared.address.Address.{Address};
 
     /// How many words the shape has: 31 for each worker, and for each lock its leaves, 2, and twice its cells.
     pub fn words(&self) -> usize
-        ensures { result ≡ words_of self.now }
+        ensures { result ≡ word_count self.now }
     {
         31 * self.workers as usize + self.locks as usize * self.lock_block()
     }
@@ -29,7 +29,7 @@ impl Shape {
     pub fn word(&self, address: Address) -> usize
         requires { IsOfShape self.now address }
         ensures number { result ≡ word self.now address }
-        ensures below { result < words_of self.now }
+        ensures below { result < word_count self.now }
         ensures distinct { (other : Address) → IsOfShape self.now other → word self.now other ≡ result → other ≡ address }
     {
         self.number(address)

@@ -20,7 +20,7 @@ use Rattle.rme_world.specs.declared.counts.Counts.{Counts}
 use Rattle.rme_world.specs.Counting.{begun_stay, count_of, no_counts, row_steps}
 use Rattle.rme_world.specs.Seen.{Seen, IsKept, counts_of, memory_seen, owed, shown_by}
 use Rattle.rme_world.specs.Refused.{submit_refusal, withdraw_refusal, is_climbing}
-use Rattle.rme_world.specs.Events.{Submits, Steps, Crashes, Restarts, Withdraws, with_worker}
+use Rattle.rme_world.specs.Events.{Submits, Steps, Crashes, Restarts, Withdraws, with_private}
 use Rattle.rme_world.specs.Looks.{BeginsStay, HasBegun, IsGivingUp}
 use Rattle.rme_world.specs.Running.{IsRunOfOne}
 use Rattle.rme_world.proofs.Worlds.{is_worker, kept_sound, step_goes, up_at}
@@ -57,29 +57,29 @@ withdraw_run old new worker kept withdraws = act_run old new _ _ worker _ refl (
 -- ---- what each call did
 
 pub crashes_by : (old new : Seen) (worker : ℕ) (private : Private) (counts : Counts) → slice_get old.privates worker ≡ Some (Some private) → counts ≡ counts_of old worker
-    → new ≡ with_worker old worker None counts → Crashes old worker new
+    → new ≡ with_private old worker None counts → Crashes old worker new
 crashes_by old new worker private counts found e falls = record { may = rw found refl; falls = rw e at falls }
 
-pub restarts_by : (old new : Seen) (worker : ℕ) → slice_get old.privates worker ≡ Some None → new ≡ with_worker old worker (Some (restarted_private worker)) no_counts → Restarts old worker new
+pub restarts_by : (old new : Seen) (worker : ℕ) → slice_get old.privates worker ≡ Some None → new ≡ with_private old worker (Some (restarted_private worker)) no_counts → Restarts old worker new
 restarts_by old new worker found rises = record { may = rw found refl; rises = rises }
 
 pub withdraws_by : (old new : Seen) (worker : ℕ) (private : Private) (ascent : Ascent) → slice_get old.privates worker ≡ Some (Some private) → private.stage ≡ Climbing ascent
-    → new ≡ with_worker old worker (Some (withdrawing_private private)) (begun_stay (counts_of old worker) Exit) → Withdraws old worker new
+    → new ≡ with_private old worker (Some (withdrawing_private private)) (begun_stay (counts_of old worker) Exit) → Withdraws old worker new
 withdraws_by old new worker private ascent found climbing turns = record { may = rw (found, climbing) refl; private = private; found = found; turns = turns }
 
 -- ---- a stay that an event begins
 
 -- A worker whose state and counts were put in place begins a stay where its counts say so.
 begins_put : (old new : Seen) (worker : ℕ) (private : Private) (counts : Counts) (room : ℕ) → IsKept old → worker < old.shape.workers
-    → new ≡ record (with_worker old worker (Some private) counts) { room = room } → count_of counts (phase_of private.stage) ≡ 0 → left_of old.shape private.stage ≤ row_steps old.shape private.stage
+    → new ≡ record (with_private old worker (Some private) counts) { room = room } → count_of counts (phase_of private.stage) ≡ 0 → left_of old.shape private.stage ≤ row_steps old.shape private.stage
     → HasBegun new worker
 begins_put old new worker private counts room kept within put none row =
     let P : Seen → Type 0 = λ (s : Seen). HasBegun s worker in
     subst P (sym put) (λ q found.
     let same : private ≡ q = same_Some _ _ (same_Some _ _ (sym (get_set old.privates worker (Some private) (omega (arith, kept.all_privates, within))) ∙ found)) in
-    let mine : counts_of (record (with_worker old worker (Some private) counts) { room = room }) worker ≡ counts
+    let mine : counts_of (record (with_private old worker (Some private) counts) { room = room }) worker ≡ counts
     = ap (λ (c : Option Counts). unwrap_or c no_counts) (get_set old.counts worker counts (omega (arith, kept.all_counts, within))) in
-    let B : Private → Type 0 = λ (p : Private). BeginsStay (record (with_worker old worker (Some private) counts) { room = room }) worker p in
+    let B : Private → Type 0 = λ (p : Private). BeginsStay (record (with_private old worker (Some private) counts) { room = room }) worker p in
     subst B same record { none = ap (λ (c : Counts). count_of c (phase_of private.stage)) mine ∙ none; left = row })
 
 pub submit_begins : (old new : Seen) (worker : ℕ) (job : Job) (number : ℕ) → IsKept old → Submits old worker job number new → HasBegun new worker
@@ -115,7 +115,7 @@ module _ (old new : Seen) (worker : ℕ) (kept : IsKept old) (withdraws : Withdr
       let fits = kept.fact.fits worker withdraws.private here (up_at old worker (Some withdraws.private) withdraws.found) in
       let knows : IsAt (worker_words (memory_seen old) worker) (held_in old.shape (memory_seen old) worker) withdraws.private.begun climbing.0.lock climbing.0.held = rw climbing.1 at fits.knows in
       let shaped = rw climbing.1 at fits.shaped.stage in
-      let after : Seen = with_worker old worker (Some (withdrawing_private withdraws.private)) (begun_stay (counts_of old worker) Exit) in
+      let after : Seen = with_private old worker (Some (withdrawing_private withdraws.private)) (begun_stay (counts_of old worker) Exit) in
       let G : Seen → Type 0 = λ (s : Seen). (q : Private) → slice_get s.privates worker ≡ Some (Some q) → IsGivingUp s worker q in
       subst G (sym withdraws.turns) (λ q found.
       let same : withdrawing_private withdraws.private ≡ q
@@ -131,16 +131,16 @@ module _ (old roomy : Seen) (worker : ℕ) (job : Job) (private : Private) (same
     (found : slice_get old.privates worker ≡ Some (Some private)) (is : IsJob old.shape job) where
   pub roomy_kept : IsKept roomy → private.stage ≡ Resting → private.begun < old.shape.jobs
       → old.shape.workers ≤ roomy.room
-      → IsKept (with_worker roomy worker (Some (submitted_private private job)) (begun_stay (counts_of roomy worker) Post))
+      → IsKept (with_private roomy worker (Some (submitted_private private job)) (begun_stay (counts_of roomy worker) Post))
   roomy_kept kept ready few room =
-      let P : Seen → Type 0 = λ (s : Seen). IsKept s → IsKept (with_worker s worker (Some (submitted_private private job)) (begun_stay (counts_of s worker) Post)) in
+      let P : Seen → Type 0 = λ (s : Seen). IsKept s → IsKept (with_private s worker (Some (submitted_private private job)) (begun_stay (counts_of s worker) Post)) in
       subst P (sym same) (λ k. hand_kept record old { room = roomy.room } worker k job private found ready few is room) kept
 
   pub roomy_submits : (new : Seen) (number : ℕ) → old.room ≤ roomy.room → submit_refusal old worker job ≡ None → number ≡ private.begun + 1
-      → new ≡ with_worker roomy worker (Some (submitted_private private job)) (begun_stay (counts_of roomy worker) Post) → Submits old worker job number new
+      → new ≡ with_private roomy worker (Some (submitted_private private job)) (begun_stay (counts_of roomy worker) Post) → Submits old worker job number new
   roomy_submits new number roomier may next hands =
-      let P : Seen → Type 0 = λ (s : Seen). new ≡ with_worker s worker (Some (submitted_private private job)) (begun_stay (counts_of s worker) Post) in
-      let from : new ≡ with_worker (record old { room = roomy.room }) worker (Some (submitted_private private job)) (begun_stay (counts_of old worker) Post) = subst P same hands in
+      let P : Seen → Type 0 = λ (s : Seen). new ≡ with_private s worker (Some (submitted_private private job)) (begun_stay (counts_of s worker) Post) in
+      let from : new ≡ with_private (record old { room = roomy.room }) worker (Some (submitted_private private job)) (begun_stay (counts_of old worker) Post) = subst P same hands in
       let room : roomy.room ≡ new.room = sym (ap (λ (s : Seen). s.room) from) in
       record {
         may = may;
@@ -149,7 +149,7 @@ module _ (old roomy : Seen) (worker : ℕ) (job : Job) (private : Private) (same
         found = found;
         next_number = next;
         room = omega (arith, roomier, room);
-        hands = from ∙ ap (λ (r : ℕ). record (with_worker old worker (Some (submitted_private private job)) (begun_stay (counts_of old worker) Post)) { room = r }) room;
+        hands = from ∙ ap (λ (r : ℕ). record (with_private old worker (Some (submitted_private private job)) (begun_stay (counts_of old worker) Post)) { room = r }) room;
       }
 
 -- What is kept has room.

@@ -26,7 +26,7 @@ use Rattle.rme_world.specs.declared.counts.Counts.{Counts}
 use Rattle.rme_world.specs.Counting.{IsStay, count_of, begun_stay, most_steps, no_counts}
 use Rattle.rme_world.specs.Seen.{Seen, IsKept, memory_seen, privates_seen, counts_of, shown_by}
 use Rattle.rme_world.specs.Refused.{of_up, of_down, is_ready, is_climbing, job_refusal}
-use Rattle.rme_world.specs.Events.{Submits, Crashes, Restarts, Withdraws, with_worker}
+use Rattle.rme_world.specs.Events.{Submits, Crashes, Restarts, Withdraws, with_private}
 use Rattle.rme_world.proofs.Owing.{owed_step, owed_few}
 use Rattle.rme_world.proofs.Stays.{within_limits, stay_begins}
 use Rattle.rme_world.proofs.Worlds.{IsSound, GoesAs, kept_sound, is_worker, up_at, became, goes_as, changed, changed_kept}
@@ -172,7 +172,7 @@ module _ (old : Seen) (worker : ℕ) (kept : IsKept old) where
 
   pub hand_kept : (job : Job) (private : Private) → slice_get old.privates worker ≡ Some (Some private) → private.stage ≡ Resting → private.begun < old.shape.jobs → IsJob old.shape job
       → old.shape.workers ≤ old.room
-      → IsKept (with_worker old worker (Some (submitted_private private job)) (begun_stay (counts_of old worker) phase.Post))
+      → IsKept (with_private old worker (Some (submitted_private private job)) (begun_stay (counts_of old worker) phase.Post))
   hand_kept job private found ready few is roomy =
       let within : worker < old.shape.workers = is_worker old worker (Some private) kept.all_privates found in
       let goes = hand_goes old worker (kept_sound old kept) job private (begun_stay (counts_of old worker) phase.Post) old.room found ready few is in
@@ -182,13 +182,13 @@ module _ (old : Seen) (worker : ℕ) (kept : IsKept old) where
       (omega (
         arith,
         roomy,
-        owed_few (shown_by (with_worker old worker (Some (submitted_private private job)) (begun_stay (counts_of old worker) phase.Post))).workers,
-        shown_long (with_worker old worker (Some (submitted_private private job)) (begun_stay (counts_of old worker) phase.Post)),
+        owed_few (shown_by (with_private old worker (Some (submitted_private private job)) (begun_stay (counts_of old worker) phase.Post))).workers,
+        shown_long (with_private old worker (Some (submitted_private private job)) (begun_stay (counts_of old worker) phase.Post)),
       ))
       (λ p e. begins_stay old.shape (begun_stay (counts_of old worker) phase.Post) (submitted_private private job) p stay e)
       (begins_short old worker phase.Post kept within)
 
-  pub crash_kept : (private : Private) → slice_get old.privates worker ≡ Some (Some private) → IsKept (with_worker old worker None (counts_of old worker))
+  pub crash_kept : (private : Private) → slice_get old.privates worker ≡ Some (Some private) → IsKept (with_private old worker None (counts_of old worker))
   crash_kept private found =
       let within : worker < old.shape.workers = is_worker old worker (Some private) kept.all_privates found in
       let goes = crash_goes old worker (kept_sound old kept) private (counts_of old worker) found in
@@ -196,7 +196,7 @@ module _ (old : Seen) (worker : ℕ) (kept : IsKept old) where
       (omega (arith, kept.room, owed_step old.shape Crash (shown_by old) worker _ goes.does))
       (λ p e. absurd (none-some p e)) (λ p. kept.short worker p within)
 
-  pub restart_kept : slice_get old.privates worker ≡ Some None → IsKept (with_worker old worker (Some (restarted_private worker)) no_counts)
+  pub restart_kept : slice_get old.privates worker ≡ Some None → IsKept (with_private old worker (Some (restarted_private worker)) no_counts)
   restart_kept found =
       let within : worker < old.shape.workers = is_worker old worker None kept.all_privates found in
       let goes = restart_goes old worker (kept_sound old kept) no_counts found in
@@ -208,7 +208,7 @@ module _ (old : Seen) (worker : ℕ) (kept : IsKept old) where
       (none_short old.shape)
 
   pub withdraw_kept : (private : Private) (ascent : Ascent) → slice_get old.privates worker ≡ Some (Some private) → private.stage ≡ Climbing ascent
-      → IsKept (with_worker old worker (Some (withdrawing_private private)) (begun_stay (counts_of old worker) phase.Exit))
+      → IsKept (with_private old worker (Some (withdrawing_private private)) (begun_stay (counts_of old worker) phase.Exit))
   withdraw_kept private ascent found climbing =
       let within : worker < old.shape.workers = is_worker old worker (Some private) kept.all_privates found in
       let goes = withdraw_goes old worker (kept_sound old kept) private ascent (begun_stay (counts_of old worker) phase.Exit) found climbing in

@@ -8,7 +8,7 @@ use Rattle.std.proofs.lemmas.List.FromFn.{length-map-range_with_len}
 use lib.ListN.{length-replicate}
 use Rattle.rme_words.specs.declared.shape.Shape.{Shape}
 use Rattle.rme_words.specs.declared.address.Address.{Address}
-use Rattle.rme_words.specs.Words.{read, is_of_shape, word, words_of}
+use Rattle.rme_words.specs.Words.{read, is_of_shape, word, word_count}
 use Rattle.rme_program.specs.declared.note.Entry.{Entry}
 use Rattle.rme_program.specs.declared.private.Private.{Private}
 use Rattle.rme_program.specs.Conditions.{IsPrivate}
@@ -32,10 +32,10 @@ same_at x zero i = refl
 same_at x (suc n) zero = refl
 same_at x (suc n) (suc i) = same_at x n i
 
-blank : (shape : Shape) (address : Address) → read shape (replicate (words_of shape) 0) address ≡ 0
+blank : (shape : Shape) (address : Address) → read shape (replicate (word_count shape) 0) address ≡ 0
 unfolding read
 blank shape address = elim (cases_Bool (is_of_shape shape address)) [
-  | inl is ↦ rw is (same_at 0 (words_of shape) (word shape address))
+  | inl is ↦ rw is (same_at 0 (word_count shape) (word shape address))
   | inr not ↦ rw not refl
 ]
 
@@ -75,11 +75,11 @@ opening_kept shape room = record {
         subst (λ (p : Private). IsStay shape p.stage (count_of (counts_of (with_room shape room) worker) (phase_of p.stage))) same
         (stay_begins shape (ready_private worker 0) is tt refl)
 
-pub opened_shown : (seen : Seen) (shape : Shape) → seen.shape ≡ shape → seen.words ≡ replicate (words_of shape) 0
+pub opened_shown : (seen : Seen) (shape : Shape) → seen.shape ≡ shape → seen.words ≡ replicate (word_count shape) 0
     → seen.privates ≡ map (λ (worker : ℕ). Some (ready_private worker 0)) (range_with_len 0 shape.workers) → seen.history ≡ [] → shown_by seen ≡ opening_state shape
 opened_shown seen shape shaped words privates history =
     ap (λ (s : Shape). shown_by record seen { shape = s }) shaped
     ∙ ap (λ (ws : List ℕ). shown_by record seen { shape = shape; words = ws }) words
-    ∙ ap (λ (ps : List (Option Private)). shown_by record seen { shape = shape; words = replicate (words_of shape) 0; privates = ps }) privates
+    ∙ ap (λ (ps : List (Option Private)). shown_by record seen { shape = shape; words = replicate (word_count shape) 0; privates = ps }) privates
     ∙ ap (λ (es : List Entry). shown_by record (opening shape) { history = es }) history
     ∙ (opened shape 0).1

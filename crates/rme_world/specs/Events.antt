@@ -15,8 +15,8 @@ use Rattle.rme_world.specs.Seen.{Seen, counts_of, memory_seen}
 use Rattle.rme_world.specs.Refused.{step_refusal, submit_refusal, crash_refusal, restart_refusal, withdraw_refusal}
 
 -- The same words and history, with one worker's private state and counts changed.
-abbrev pub with_worker : Seen → ℕ → Option Private → Counts → Seen
-with_worker seen worker private counts = record seen { privates = slice_set seen.privates worker private; counts = slice_set seen.counts worker counts }
+abbrev pub with_private : Seen → ℕ → Option Private → Counts → Seen
+with_private seen worker private counts = record seen { privates = slice_set seen.privates worker private; counts = slice_set seen.counts worker counts }
 
 -- `submit`: the worker knows its job, which will have the next number, and its stay in Post begins. There may be more
 -- room than before, and never less.
@@ -26,7 +26,7 @@ pub record Submits (old : Seen) (worker : ℕ) (job : Job) (number : ℕ) (new :
   pub private : Private
   pub found : slice_get old.privates worker ≡ Some (Some private)
   pub next_number : number ≡ private.begun + 1
-  pub hands : new ≡ record (with_worker old worker (Some (submitted_private private job)) (begun_stay (counts_of old worker) Post)) { room = new.room }
+  pub hands : new ≡ record (with_private old worker (Some (submitted_private private job)) (begun_stay (counts_of old worker) Post)) { room = new.room }
   pub room : old.room ≤ new.room
 
 -- `step`: the action that the worker's private state has next is done on one word. The new private state and the
@@ -41,22 +41,22 @@ pub record Steps (old : Seen) (worker : ℕ) (note : Note) (new : Seen) : Type 0
   pub says : note ≡ note_after old.shape private value
   pub counts : Counts
   pub counted : CountsAfter (counts_of old worker) (phase_of private.stage) (phase_of (private_after old.shape private value).stage) note counts
-  pub goes : new ≡ record (with_worker old worker (Some (private_after old.shape private value)) counts) { words = new.words; history = history_after old.history (memory_seen old) worker note; room = new.room }
+  pub goes : new ≡ record (with_private old worker (Some (private_after old.shape private value)) counts) { words = new.words; history = history_after old.history (memory_seen old) worker note; room = new.room }
   pub room : length old.history + old.room ≤ length new.history + new.room
 
 -- `crash`: the worker's private state is gone, and its counts stay.
 pub record Crashes (old : Seen) (worker : ℕ) (new : Seen) : Type 0 where
   pub may : crash_refusal old worker ≡ None
-  pub falls : new ≡ with_worker old worker None (counts_of old worker)
+  pub falls : new ≡ with_private old worker None (counts_of old worker)
 
 -- `restart`: the worker comes up and knows its own number alone, and nothing is counted yet.
 pub record Restarts (old : Seen) (worker : ℕ) (new : Seen) : Type 0 where
   pub may : restart_refusal old worker ≡ None
-  pub rises : new ≡ with_worker old worker (Some (restarted_private worker)) no_counts
+  pub rises : new ≡ with_private old worker (Some (restarted_private worker)) no_counts
 
 -- `withdraw`: the worker begins to give its job up, and its stay in Exit begins.
 pub record Withdraws (old : Seen) (worker : ℕ) (new : Seen) : Type 0 where
   pub may : withdraw_refusal old worker ≡ None
   pub private : Private
   pub found : slice_get old.privates worker ≡ Some (Some private)
-  pub turns : new ≡ with_worker old worker (Some (withdrawing_private private)) (begun_stay (counts_of old worker) Exit)
+  pub turns : new ≡ with_private old worker (Some (withdrawing_private private)) (begun_stay (counts_of old worker) Exit)

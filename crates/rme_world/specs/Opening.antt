@@ -2,7 +2,7 @@
 use Rattle.std.specs.Prelude.{ℕ, [], map, replicate, Some}
 use Rattle.std.specs.List.{range_with_len}
 use Rattle.rme_words.specs.declared.shape.Shape.{Shape}
-use Rattle.rme_words.specs.Words.{words_of}
+use Rattle.rme_words.specs.Words.{word_count}
 use Rattle.rme_program.specs.Steps.{ready_private}
 use Rattle.rme_world.specs.Counting.{no_counts}
 use Rattle.rme_world.specs.Seen.{Seen}
@@ -11,7 +11,7 @@ use Rattle.rme_world.specs.Seen.{Seen}
 abbrev pub opening : Shape → Seen
 opening shape = record {
   shape = shape;
-  words = replicate (words_of shape) 0;
+  words = replicate (word_count shape) 0;
   privates = map (λ (worker : ℕ). Some (ready_private worker 0)) (range_with_len 0 shape.workers);
   history = [];
   counts = replicate shape.workers no_counts;

@@ -18,7 +18,7 @@ impl World {
     ghost use Rattle.rme_world.specs.Counting.{begun_stay};
     ghost use Rattle.rme_world.specs.Seen.{IsKept, counts_of};
     ghost use Rattle.rme_world.specs.Refused.{of_up, submit_refusal, restart_refusal};
-    ghost use Rattle.rme_world.specs.Events.{with_worker};
+    ghost use Rattle.rme_world.specs.Events.{with_private};
     ghost use Rattle.rme_world.specs.Calls.{Submitted, Crashed, Restarted, Withdrawn};
 
     /// Hands a job to a worker that is ready, and answers the number that the job will have: one more than
@@ -159,9 +159,9 @@ impl World {
         requires worker { worker < self.old.shape.workers }
         requires ready { private.stage ≡ Stage.Resting }
         requires few { private.begun < self.old.shape.jobs }
-        requires kept { IsKept (with_worker self.old worker (Some (submitted_private private job)) (begun_stay (counts_of self.old worker) Post)) }
+        requires kept { IsKept (with_private self.old worker (Some (submitted_private private job)) (begun_stay (counts_of self.old worker) Post)) }
         ensures number { result ≡ private.begun + 1 }
-        ensures hands { self.new ≡ with_worker self.old worker (Some (submitted_private private job)) (begun_stay (counts_of self.old worker) Post) }
+        ensures hands { self.new ≡ with_private self.old worker (Some (submitted_private private job)) (begun_stay (counts_of self.old worker) Post) }
     {
         let number = private.begun + 1;
         let counts = self.counts_at(worker).begin(Phase::Post);
@@ -181,8 +181,8 @@ impl World {
     /// Puts a worker's private state and its counts in place.
     fn put(&mut self, worker: u32, private: Option<Private>, counts: Counts)
         requires worker { worker < self.old.shape.workers }
-        requires kept { IsKept (with_worker self.old worker private counts) }
-        ensures { self.new ≡ with_worker self.old worker private counts }
+        requires kept { IsKept (with_private self.old worker private counts) }
+        ensures { self.new ≡ with_private self.old worker private counts }
     {
         self.privates[worker as usize] = private;
         self.counts[worker as usize] = counts;
