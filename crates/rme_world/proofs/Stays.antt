@@ -1,5 +1,5 @@
 -- How the counts of a stay go on.
-use Rattle.std.proofs.Common.{◌≡◌, ◌≢◌, ◌⊎◌, ℕ, ◌+◌, ◌<◌, ◌≤◌, refl, sym, ◌∙◌, ap, subst, inl, inr, arith}
+use Rattle.std.proofs.Common.{◌≡◌, ◌≢◌, ℕ, ◌+◌, ◌<◌, ◌≤◌, refl, sym, ◌∙◌, ap, subst, inl, inr, arith}
 use Rattle.rme_words.specs.declared.shape.Shape.{Shape}
 use Rattle.rme_program.specs.declared.kinds.Phase.{Phase}
 use Rattle.rme_program.specs.declared.kinds.Phase.TheVariants.{Recover, Post, Enter, Section, Exit, Ready}
@@ -10,18 +10,13 @@ use Rattle.rme_program.specs.declared.private.Private.{Private}
 use Rattle.rme_program.specs.declared.stage.Stage.{Stage}
 use Rattle.rme_program.specs.declared.stage.Stage.TheVariants.{Resting, Recovering, Posting, Climbing, Logging, Copying, Leaving}
 use Rattle.rme_program.specs.declared.stage.Recovery.TheVariants.{LoadBegun, LoadDone, LoadLock, LoadPath}
-use Rattle.rme_program.specs.declared.stage.Log.{Log}
 use Rattle.rme_program.specs.declared.stage.Log.TheVariants.{LoadTurn, LoadLen, LoadSlate, LoadCells, StoreShadows, StoreShadowReply, StoreMask, StoreTurn}
-use Rattle.rme_program.specs.declared.stage.Redo.{Redo}
-use Rattle.rme_program.specs.declared.stage.Redo.TheVariants.{LoadMask, LoadShadow, StoreCell, LoadReply, StoreReply, StorePlace, StoreAt, StoreDone}
-use Rattle.rme_program.specs.declared.stage.Departure.{Departure}
 use Rattle.rme_program.specs.declared.stage.Departure.TheVariants.{LoadExitTurn, StoreExitTurn, Clear, WithdrawPlace, WithdrawAt, WithdrawReply, WithdrawDone}
 use Rattle.rme_program.specs.Conditions.{IsPrivate, IsStage, Takes}
-use Rattle.rme_program.specs.Phases.{phase_of, left_of, left_of_log, left_of_redo, left_of_departure}
+use Rattle.rme_program.specs.Phases.{phase_of, left_of}
 use Rattle.rme_program.specs.Progress.{IsOnTrack, Taken, rank}
 use Rattle.rme_program.specs.Steps.{private_after, note_after, after_at}
 use Rattle.rme_program.proofs.Columns.{within_most}
-use Rattle.rme_program.proofs.Counts.{cells_below_less}
 use Rattle.rme_program.proofs.Falls.{Steps, steps_on}
 use Rattle.rme_world.specs.declared.counts.Counts.{Counts}
 use Rattle.rme_world.specs.Counting.{IsStay, CountsAfter, count_of, with_count, counted, begun_stay, most_steps}
