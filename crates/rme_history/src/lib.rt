@@ -16,6 +16,7 @@ mod replaying;
 mod tally;
 
 pub use fault::ReplayFault;
+pub use fold::Fold;
 pub use places::by_place;
 pub use replaying::replay;
 pub use tally::Tally;

@@ -24,6 +24,7 @@ mod steps;
 pub use action::Action;
 pub use event::{Answer, Event};
 pub use kinds::Phase;
+pub use masks::{first_cell, mask_of};
 pub use note::{Entry, Note, Receipt, WITHDRAWN_PLACE};
 pub use private::Private;
 pub use progress::{left, phase};

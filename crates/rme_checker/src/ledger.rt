@@ -1,0 +1,171 @@
+//! All that a machine knows beside the owners: its workers, and what was finished.
+
+ghost use Rattle.std.specs.Prelude.{◌≡◌, IfOk, length, map};
+ghost use Rattle.std.specs.List.{range_with_len};
+ghost use Rattle.rme_script.specs.Scripts.{IsScript};
+ghost use Rattle.rme_machine.specs.Machine.{opening_worker};
+ghost use Rattle.rme_checker.specs.Deciding.{job_fits, has_outcome};
+
+use crate::stances::script_inside;
+use crate::worker::Worker;
+use rme_history::Fold;
+use rme_machine::{Act, Stance};
+use rme_program::{Entry, Receipt};
+use rme_script::{Job, Row, Script, eval};
+use rme_words::{NoMemory, Shape};
+use std::alloc::Global;
+use std::marker::Model;
+
+/// The workers and the finished sections of a machine.
+///
+/// Beside the sections stands their fold, the cells and the count of each lock, so that the next section of a
+/// lock is told without going through the earlier ones.
+#[derive(Drop)]
+pub struct Ledger {
+    shape: Shape,
+    workers: Vec<Worker>,
+    entries: Vec<Entry>,
+    fold: Fold,
+}
+
+impl Model for Ledger {
+    ghost use Rattle.rme_checker.specs.Views.{LedgerView};
+    ghost use Rattle.rme_checker.specs.Keeping.{IsLedger};
+
+    ghost Value = { LedgerView };
+
+    ghost view = { λ ledger. record { shape = ledger.shape; workers = ledger.workers.items; history = ledger.entries.items } };
+
+    ghost invariant = { λ ledger. IsLedger ledger.shape ledger.workers.items ledger.entries.items ledger.fold.rows.items ledger.fold.counts.items };
+}
+
+impl Ledger {
+    ghost use Rattle.std.specs.Prelude.{◌≡◌, ◌<◌, false, true, [], ◌∷◌, ◌++◌, IfOk, OnErr, Some, length, slice_get, slice_set, replicate};
+    ghost use Rattle.rme_machine.specs.declared.label.Act.TheVariants.{Finish, Withdraw};
+    ghost use Rattle.rme_machine.specs.Machine.{WorkerState, opening_worker};
+    ghost use Rattle.rme_checker.specs.Deciding.{is_receipt, worker_next, entry_inside};
+    ghost use Rattle.rme_checker.specs.Keeping.{BringsJob, is_withdrawal};
+
+    /// The ledger at opening. Takes memory for the workers and for the fold.
+    pub fn new(alloc: Global, shape: Shape) -> Result<Ledger, NoMemory>
+        ensures { IfOk result (λ ledger. ledger ≡ record { shape = shape; workers = replicate shape.workers opening_worker; history = [] }) }
+    {
+        let workers = opening_workers(alloc, shape)?;
+        let Ok(fold) = Fold::new(alloc, shape) else {
+            return Err(NoMemory);
+        };
+        Ok(Ledger {
+            shape,
+            workers,
+            entries: Vec::new(alloc),
+            fold,
+        })
+    }
+
+    pub fn shape(&self) -> Shape
+        ensures { result ≡ self.now.shape }
+    {
+        self.shape
+    }
+
+    /// The workers, in order.
+    pub fn workers(&self) -> &[Worker]
+        ensures { result.now ≡ self.now.workers }
+    {
+        &self.workers
+    }
+
+    /// The finished sections, in order.
+    pub fn entries(&self) -> &[Entry]
+        ensures { result.now ≡ self.now.history }
+    {
+        &self.entries
+    }
+
+    /// Whether the receipt is that of the section which the worker is inside, if that section finished now.
+    pub fn is_receipt(&self, worker: u32, receipt: &Receipt) -> bool
+        requires { worker < length self.now.workers }
+        ensures { (me : WorkerState) → slice_get self.now.workers worker ≡ Some me → result ≡ is_receipt self.now.shape self.now.history worker me.stance receipt.now }
+    {
+        let Stance::Inside(number, job) = self.workers[worker as usize].stance() else {
+            return false;
+        };
+        if receipt.worker != worker || receipt.lock != job.lock || receipt.number != number {
+            return false;
+        }
+        let count = self.fold.counts[job.lock as usize];
+        let row = self.fold.rows[job.lock as usize];
+        has_outcome(count, row, &job.script, receipt)
+    }
+
+    /// Makes the worker's own part of a step that grows no list.
+    pub fn change(&mut self, worker: u32, act: &Act)
+        requires worker { worker < length self.old.workers }
+        requires withdrawal { is_withdrawal act.now ≡ false }
+        requires brings { BringsJob self.old.shape act.now }
+        ensures changed { (me : WorkerState) → slice_get self.old.workers worker ≡ Some me → self.new ≡ record self.old { workers = slice_set self.old.workers worker (worker_next act.now me) } }
+        ensures shape { self.new.shape ≡ self.old.shape }
+    {
+        self.workers[worker as usize].change(act);
+    }
+
+    /// Notes that the worker gave up the job of this number.
+    pub fn withdraw(&mut self, worker: u32, number: u32) -> Result<(), NoMemory>
+        requires { worker < length self.old.workers }
+        ensures withdrawn { (me : WorkerState) → slice_get self.old.workers worker ≡ Some me → IfOk result (λ _. self.new ≡ record self.old { workers = slice_set self.old.workers worker (worker_next (Withdraw number) me) }) }
+        ensures shape { self.new.shape ≡ self.old.shape }
+        ensures unchanged { OnErr result (self.new ≡ self.old) }
+    {
+        self.workers[worker as usize].withdraw(number)
+    }
+
+    /// Finishes the section that the worker is inside, by its receipt.
+    pub fn finish(&mut self, worker: u32, receipt: Receipt) -> Result<(), NoMemory>
+        requires worker { worker < length self.old.workers }
+        requires receipt { (me : WorkerState) → slice_get self.old.workers worker ≡ Some me → is_receipt self.old.shape self.old.history worker me.stance receipt ≡ true }
+        ensures finished { (me : WorkerState) → slice_get self.old.workers worker ≡ Some me → IfOk result (λ _. self.new ≡ record self.old { workers = slice_set self.old.workers worker (worker_next (Finish receipt) me); history = self.old.history ++ entry_inside receipt me.stance ∷ [] }) }
+        ensures shape { self.new.shape ≡ self.old.shape }
+        ensures unchanged { OnErr result (self.new ≡ self.old) }
+    {
+        let last = self.entries.len();
+        let script = script_inside(&self.workers[worker as usize].stance());
+        let Ok(()) = self.entries.push(Entry { receipt, script }) else {
+            return Err(NoMemory);
+        };
+        // Its place and its reply are those of the receipt that is due, so that it follows.
+        let follows = self.fold.follow(self.shape, &self.entries, last);
+        prove!(follows);
+        self.workers[worker as usize].change(&Act::Finish(receipt));
+        Ok(())
+    }
+}
+
+/// The workers at opening.
+fn opening_workers(alloc: Global, shape: Shape) -> Result<Vec<Worker>, NoMemory>
+    ensures { IfOk result (λ workers. workers.items ≡ map (λ _. opening_worker) (range_with_len 0 shape.workers)) }
+{
+    match (0..shape.workers)
+        .map(|_| Worker::new(alloc))
+        .collect(alloc)
+    {
+        Ok(workers) => Ok(workers),
+        Err(_) => Err(NoMemory),
+    }
+}
+
+/// Whether a job is of the shape: its lock is one of the shape's, and its script passes `check`.
+pub fn job_fits(shape: Shape, job: &Job) -> bool
+    ensures { result ≡ job_fits shape job.now }
+{
+    job.lock < shape.locks && job.script.check(shape).is_ok()
+}
+
+/// Whether the receipt's place and reply are those of a script that is run on this row, after so many sections.
+fn has_outcome(count: usize, row: Row, script: &Script, receipt: &Receipt) -> bool
+    requires { IsScript (length row) script.now }
+    ensures { result ≡ has_outcome count row script.now receipt.now }
+{
+    let mut row = row;
+    let reply = eval(script, &mut row);
+    receipt.place as usize == count && receipt.reply == reply
+}
