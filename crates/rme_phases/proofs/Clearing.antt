@@ -1,0 +1,64 @@
+-- The release of a worker's nodes, one level after another.
+use Rattle.std.proofs.Common.{◌≡◌, ℕ, ◌-◌, ◌<◌, ◌≤◌, refl, sym, ◌∙◌, ap, subst, arith}
+use Rattle.std.proofs.lemmas.Bool.{ne_eqb}
+use Rattle.rme_words.specs.declared.shape.Shape.{Shape}
+use Rattle.rme_words.specs.declared.address.Address.TheVariants.{Node}
+use Rattle.rme_program.specs.declared.action.Action.TheVariants.{Store}
+use Rattle.rme_words.specs.Words.{word}
+use Rattle.rme_tree.specs.Paths.{node}
+use Rattle.rme_program.specs.declared.stage.Stage.{Stage}
+use Rattle.rme_program.specs.declared.stage.Stage.TheVariants.{Resting, Leaving}
+use Rattle.rme_program.specs.declared.stage.Departure.TheVariants.{Clear}
+use Rattle.rme_program.specs.Steps.{clear_stage}
+use Rattle.rme_seats.specs.Parts.{onward}
+use Rattle.rme_seats.specs.Chances.{Tally}
+use Rattle.rme_seats.specs.Stands.{Ident, Stand}
+use Rattle.rme_seats.specs.Doing.{IsAt, IsBefore, Doing, Falling, Fallen, MadeStep, MayStore}
+use Rattle.rme_seats.proofs.Chains.{nothing, did, then_on, falls_on, falls_at, may_store}
+
+-- So many of the levels are still to be released.
+pub record Clearing (ident : Ident) (a : Stand) (t : Tally) (lock levels : ℕ) (now : Stand) (u : Tally) (level : ℕ) : Type 0 where
+  pub few : level ≤ levels
+  pub ours : now.ident ≡ ident
+  pub doing : Doing ident.shape onward a now t u (levels - level) a.part.private.begun (clear_stage lock level)
+
+pub clearing_at : (lock level : ℕ) → 0 < level → clear_stage lock level ≡ Leaving (Clear lock level)
+clearing_at lock level some_level = rw (ne_eqb level 0 (omega (arith, some_level))) refl
+
+module _ (ident : Ident) (a : Stand) (t : Tally) (lock levels : ℕ) where
+  pub clear_begins : a.ident ≡ ident → IsBefore ident.shape a.part (clear_stage lock levels) → Clearing ident a t lock levels a t levels
+  clear_begins ours at = record {
+    few = omega arith;
+    ours = ours;
+    doing = subst (λ (n : ℕ). Doing ident.shape onward a a t t n a.part.private.begun (clear_stage lock levels)) (omega arith) (nothing ident.shape a t a.part.private.begun (clear_stage lock levels) at);
+  }
+
+  module _ (now : Stand) (u : Tally) (level : ℕ) (state : Clearing ident a t lock levels now u level) where
+    at_level : 0 < level → IsAt ident.shape now.part a.part.private.begun (Leaving (Clear lock level))
+    at_level some_level = subst (λ (st : Stage). IsAt ident.shape now.part a.part.private.begun st) (clearing_at lock level some_level) state.doing.at
+
+    pub clear_may : (s : Shape) (worker n number : ℕ) → 0 < level → s ≡ ident.shape → worker ≡ a.part.worker → n ≡ node s.leaves worker level → 1 ≤ n → n < s.leaves
+        → number ≡ word s (Node lock n) → lock < ident.shape.locks → MayStore ident.shape onward now.part number 0
+    clear_may s worker n number some_level same own is one below its lock_in =
+        may_store ident.shape now.part a.part.private.begun (Leaving (Clear lock level)) (at_level some_level) (Node lock n) number 0 refl
+        (ap (λ (v : ℕ). Store (Node lock v) 0) (sym (is ∙ ap (λ (x : Shape). node x.leaves worker level) same ∙ ap (λ (w : ℕ). node ident.shape.leaves w level) (own ∙ sym state.doing.stays.own))))
+        (lock_in, one, subst (λ (x : Shape). n < x.leaves) same below) (its ∙ ap (λ (x : Shape). word x (Node lock n)) same)
+
+    pub clear_more : (next : Stand) (v : Tally) → 0 < level → MadeStep ident.shape onward now next u v 0 → Clearing ident a t lock levels next v (level - 1)
+    clear_more next v some_level made =
+        let one = did ident.shape now next u v 0 made (at_level some_level) refl refl refl in
+        record {
+          few = let f = state.few in omega (arith, f);
+          ours = made.ident ∙ state.ours;
+          doing = subst (λ (n : ℕ). Doing ident.shape onward a next t v n a.part.private.begun (clear_stage lock (level - 1))) (let f = state.few in omega (arith, f, some_level))
+              (then_on ident.shape a now next t u v state.doing one);
+        }
+
+    pub clear_fell : (next : Stand) (v : Tally) → 0 < level → Fallen now next u v → Falling ident.shape onward a next t v levels
+    clear_fell next v some_level fell = let f = state.few in
+        falls_on ident.shape a now next t u v state.doing (falls_at ident.shape onward now next u v 1 fell (omega arith)) (omega (arith, f, some_level))
+
+    pub clear_ends : level ≡ 0 → Doing ident.shape onward a now t u levels a.part.private.begun Resting
+    clear_ends none =
+        let D : ℕ → Type 0 = λ (n : ℕ). Doing ident.shape onward a now t u (levels - n) a.part.private.begun (clear_stage lock n) in
+        let d : D 0 = subst D none state.doing in subst (λ (n : ℕ). Doing ident.shape onward a now t u n a.part.private.begun Resting) (omega arith) d

@@ -1,0 +1,136 @@
+-- The recovery of a worker: the restart, the loads up to the lock, and the look up the path.
+use Rattle.std.proofs.Common.{◌≡◌, ◌≢◌, ℕ, ◌+◌, ◌<◌, ◌≤◌, refl, sym, ◌∙◌, ap, subst, arith}
+use Rattle.std.specs.Prelude.{Bool, true, false, nat_lt}
+use Rattle.std.proofs.lemmas.Bool.{eq-eqb, ne_eqb}
+use Rattle.rme_words.specs.declared.shape.Shape.{Shape}
+use Rattle.rme_words.specs.declared.address.Address.TheVariants.{Begun, Done}
+use Rattle.rme_words.specs.Words.{IsOfShape, word}
+use Rattle.rme_program.specs.declared.action.Action.TheVariants.{Load}
+use Rattle.rme_program.specs.declared.note.Note.TheVariants.{Quiet, Ready}
+use Rattle.rme_program.specs.declared.stage.Stage.TheVariants.{Resting, Recovering}
+use Rattle.rme_program.specs.declared.stage.Recovery.TheVariants.{LoadBegun, LoadDone, LoadLock, LoadPath}
+use Rattle.rme_program.specs.Steps.{action_at, after_at}
+use Rattle.rme_seats.specs.Parts.{onward, restarted}
+use Rattle.rme_seats.specs.Steps.{Stood}
+use Rattle.rme_seats.specs.Chances.{Tally}
+use Rattle.rme_seats.specs.Stands.{Ident, Stand}
+use Rattle.rme_seats.specs.Doing.{IsBefore, Doing, Falling, Fallen, MadeStep, MayLoad}
+use Rattle.rme_seats.proofs.Leading.{leads_restart}
+use Rattle.rme_seats.proofs.Chains.{did_led, note_led, falls_led, falls_at, few_begun, takes_value}
+use Rattle.rme_phases.specs.declared.recovering.Found.{Found}
+use Rattle.rme_phases.specs.declared.recovering.Found.TheVariants as found
+use Rattle.rme_phases.specs.Finds.{lock_address, Finds}
+use Rattle.rme_phases.proofs.Joins.{is_before, call_led, next_load, next_did, next_fell}
+
+none_begun : (s : Shape) (worker begun done : ℕ) → begun ≡ 0 → after_at s worker begun (Recovering LoadDone) done ≡ (Resting, Ready)
+none_begun s worker begun done none = rw (eq-eqb begun 0 none) refl
+
+some_begun : (s : Shape) (worker begun done : ℕ) → begun ≢ 0 → after_at s worker begun (Recovering LoadDone) done ≡ (Recovering (LoadLock (nat_lt done begun)), Quiet)
+some_begun s worker begun done some_job = rw (ne_eqb begun 0 some_job) refl
+
+names_lock : (s : Shape) (pending : Bool) (begun worker : ℕ) → action_at s worker begun (Recovering (LoadLock pending)) ≡ Load (lock_address pending worker)
+names_lock s true begun worker = refl
+names_lock s false begun worker = refl
+
+lock_within : (s : Shape) (pending : Bool) (worker : ℕ) → worker < s.workers → IsOfShape s (lock_address pending worker)
+lock_within s true worker is = is
+lock_within s false worker is = is
+
+module _ (ident : Ident) (a : Stand) (ours : a.ident ≡ ident) (stood : Stood a.ident.shape a.part) where
+  pub worker_in : a.part.worker < ident.shape.workers
+  worker_in = subst (λ (i : Ident). a.part.worker < i.shape.workers) ours stood.worker
+
+  module _ (x : Shape) (worker : ℕ) (same : x ≡ ident.shape) (mine : worker ≡ a.part.worker) where
+    pub is_worker : worker < x.workers
+    is_worker = subst (λ (y : Shape). worker < y.workers) (sym same) (subst (λ (w : ℕ). w < ident.shape.workers) (sym mine) worker_in)
+
+    pub restart_may : (number : ℕ) → number ≡ word x (Begun worker) → MayLoad ident.shape restarted a.part number
+    restart_may number its = (
+      Begun a.part.worker,
+      record {
+        may = record {
+          leads = leads_restart ident.shape a.part;
+          entries = refl;
+          count = refl;
+          here = refl;
+          within = worker_in;
+          number = its ∙ ap (λ (y : Shape). word y (Begun worker)) same ∙ ap (λ (w : ℕ). word ident.shape (Begun w)) mine;
+        };
+        plain = refl;
+        draft = refl;
+      },
+    )
+
+    module _ (t u : Tally) (b : Stand) where
+      pub restart_fell : Fallen a b t u → Falling ident.shape restarted a b t u (ident.shape.height + 3)
+      restart_fell fell = falls_at ident.shape restarted a b t u (ident.shape.height + 3) fell (omega arith)
+
+      module _ (begun : ℕ) (one : MadeStep ident.shape restarted a b t u begun) where
+        restarts : Doing ident.shape restarted a b t u 1 begun (Recovering LoadDone)
+        restarts = did_led ident.shape restarted a b t u begun 0 (Recovering LoadBegun) one refl refl refl refl refl refl refl
+
+        pub begun_few : begun ≤ 1000000
+        begun_few = let few = few_begun ident.shape b.part begun (Recovering LoadDone) restarts.at in
+            let most = ident.shape.counted.limits.few_jobs in omega (arith, few, most)
+
+        pub done_may : (number : ℕ) → number ≡ word x (Done worker) → MayLoad ident.shape onward b.part number
+        done_may number its = next_load ident.shape restarted a b t u restarts Done x worker number refl worker_in same mine its (λ w. refl)
+
+        module _ (v : Tally) (c : Stand) where
+          pub done_fell : Fallen b c u v → Falling ident.shape restarted a c t v (ident.shape.height + 3)
+          done_fell fell = next_fell ident.shape restarted a b t u restarts c v (ident.shape.height + 3) (omega arith) fell (omega arith)
+
+          module _ (done : ℕ) (two : MadeStep ident.shape onward b c u v done) where
+            pub none_ready : begun ≡ 0 → Finds ident.shape restarted a c t v 0 found.Ready 2 (ident.shape.height + 3)
+            none_ready none = record {
+              count = 2;
+              enough = omega arith;
+              few = omega arith;
+              doing = subst (λ (n : ℕ). Doing ident.shape restarted a c t v 2 n Resting) none
+                  (next_did ident.shape restarted a b t u restarts c v (omega arith) two refl (none_begun ident.shape b.part.worker begun done none) refl);
+              note = note_led ident.shape onward b c u v done begun (Recovering LoadDone) two restarts.at.private (none_begun ident.shape b.part.worker begun done none);
+              whole = λ inside. let no : false ≡ true = inside in cc;
+            }
+
+            module _ (some_job : begun ≢ 0) (pending : Bool) (is : pending ≡ nat_lt done begun) where
+              told : Doing ident.shape restarted a c t v 2 begun (Recovering (LoadLock pending))
+              told = subst (λ (y : Bool). Doing ident.shape restarted a c t v 2 begun (Recovering (LoadLock y))) (sym is)
+                  (next_did ident.shape restarted a b t u restarts c v (omega arith) two refl (some_begun ident.shape b.part.worker begun done some_job) refl)
+
+              pub lock_may : (number : ℕ) → number ≡ word x (lock_address pending worker) → MayLoad ident.shape onward c.part number
+              lock_may number its =
+                  next_load ident.shape restarted a c t v told (lock_address pending) x worker number refl (lock_within ident.shape pending a.part.worker worker_in) same mine its (names_lock ident.shape pending begun)
+
+              module _ (w : Tally) (d : Stand) where
+                pub lock_fell : Fallen c d v w → Falling ident.shape restarted a d t w (ident.shape.height + 3)
+                lock_fell fell = next_fell ident.shape restarted a c t v told d w (ident.shape.height + 3) (omega arith) fell (omega arith)
+
+                module _ (lock : ℕ) (three : MadeStep ident.shape onward c d v w lock) where
+                  pub lock_few : lock < 16
+                  lock_few =
+                      let few : lock < ident.shape.locks = takes_value ident.shape c.part lock begun (Recovering (LoadLock pending)) three.told told.at (λ e. cc) in
+                      let most = ident.shape.counted.limits.few_locks in omega (arith, few, most)
+
+                  named : Doing ident.shape restarted a d t w 3 begun (Recovering (LoadPath pending lock 0))
+                  named = next_did ident.shape restarted a c t v told d w (omega arith) three refl refl refl
+
+                  pub path_before : IsBefore ident.shape d.part (Recovering (LoadPath pending lock 0))
+                  path_before = is_before ident.shape d.part begun (Recovering (LoadPath pending lock 0)) named.at
+
+                  module _ (y : Tally) (e : Stand) where
+                    pub path_falls : Falling ident.shape onward d e w y ident.shape.height → Falling ident.shape restarted a e t y (ident.shape.height + 3)
+                    path_falls fell = falls_led ident.shape a d e t w y (omega arith) named fell (omega arith)
+
+                    pub path_found : (found : Found) → Finds ident.shape onward d e w y d.part.private.begun found 1 ident.shape.height
+                        → Finds ident.shape restarted a e t y begun found 2 (ident.shape.height + 3)
+                    path_found found finds =
+                        let enough = finds.enough in
+                        let few = finds.few in
+                        record {
+                          count = 3 + finds.count;
+                          enough = omega (arith, enough);
+                          few = omega (arith, few);
+                          doing = call_led ident.shape a d e t w y restarted (omega arith) named finds.doing;
+                          note = finds.note;
+                          whole = λ inside. let all = finds.whole inside in omega (arith, all);
+                        }

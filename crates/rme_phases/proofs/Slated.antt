@@ -1,0 +1,119 @@
+-- The slate's words, loaded one after another.
+use Rattle.std.proofs.Common.{◌≡◌, ℕ, ◌+◌, ◌*◌, ◌/◌, ◌%◌, ◌<◌, ◌≤◌, List, [], refl, sym, ◌∙◌, ap, subst, inl, inr, arith}
+use Rattle.std.specs.Prelude.{slice_set, replicate, nat_lt, Option, Some, None}
+use Rattle.std.proofs.lemmas.Option.{same_Some}
+use Rattle.std.proofs.lemmas.Bool.{cases_Bool, ne_eqb, eq-eqb}
+use Rattle.rme_words.specs.declared.shape.Shape.{Shape}
+use Rattle.rme_words.specs.declared.address.Address.TheVariants.{SlateLen, SlateWord}
+use Rattle.rme_words.specs.Words.{word}
+use Rattle.rme_script.specs.Programs.{Program}
+use Rattle.rme_script.specs.Scripts.{IsScript}
+use Rattle.rme_script.specs.declared.op.Op.{Op}
+use Rattle.rme_script.specs.Slates.{script_of, script_by, ops_of}
+use Rattle.rme_program.specs.declared.action.Action.TheVariants.{Load}
+use Rattle.rme_program.specs.declared.stage.Stage.{Stage}
+use Rattle.rme_program.specs.declared.stage.Stage.TheVariants.{Logging, Copying}
+use Rattle.rme_program.specs.declared.stage.Redo.TheVariants.{LoadMask}
+use Rattle.rme_program.specs.Masks.{mask_of}
+use Rattle.rme_program.specs.Phases.{cells_below}
+use Rattle.rme_program.specs.declared.stage.Log.TheVariants.{LoadLen, LoadSlate}
+use Rattle.rme_program.specs.Steps.{slate_stage, script_stage}
+use Rattle.rme_seats.specs.Parts.{onward}
+use Rattle.rme_seats.specs.Chances.{Tally}
+use Rattle.rme_seats.specs.Stands.{Ident, Stand}
+use Rattle.rme_seats.specs.Doing.{IsAt, IsBefore, Doing, Falling, Fallen, MadeStep, MayLoad}
+use Rattle.rme_seats.proofs.Chains.{nothing, did, then_on, falls_on, falls_at, may_load, takes_value}
+use Rattle.rme_phases.specs.Sections.{IsRead, Logs, even_visit}
+
+-- So many words were loaded; once they are all, they are a script of the shape.
+pub record Reads (ident : Ident) (a : Stand) (t : Tally) (lock turn operations : ℕ) (words : List ℕ) (now : Stand) (u : Tally) (k : ℕ) : Type 0 where
+  pub ours : now.ident ≡ ident
+  pub doing : Doing ident.shape onward a now t u k a.part.private.begun (slate_stage ident.shape lock turn operations words k)
+  pub good : k ≡ 3 * operations → IsRead ident.shape operations words
+
+stage_before : (s : Shape) (lock turn operations : ℕ) (words : List ℕ) (k : ℕ) → k < 3 * operations → slate_stage s lock turn operations words k ≡ Logging (LoadSlate lock turn operations words k)
+stage_before s lock turn operations words k below = rw (ne_eqb k (3 * operations) (λ e. omega (arith, e, below))) refl
+
+no_words : (s : Shape) (operations : ℕ) (words : List ℕ) → operations ≡ 0 → IsRead s operations words
+no_words s operations words none =
+    let P : ℕ → Type 0 = λ (n : ℕ). IsRead s n words in
+    let empty : P 0 = record { script = record { n = 0; ops = [] }; read = refl; good = record { few = omega arith; counted = refl; within = λ k d below. absurd (omega (arith, below)) } } in
+    subst P (sym none) empty
+
+module _ (ident : Ident) (a : Stand) (t : Tally) (lock turn operations : ℕ) where
+  pub read_begins : (words : List ℕ) → a.ident ≡ ident → IsBefore ident.shape a.part (slate_stage ident.shape lock turn operations words 0) → Reads ident a t lock turn operations words a t 0
+  read_begins words ours at = record {
+    ours = ours;
+    doing = nothing ident.shape a t a.part.private.begun _ at;
+    good = λ e. no_words ident.shape operations words (omega (arith, e));
+  }
+
+  module _ (words : List ℕ) (now : Stand) (u : Tally) (k : ℕ) (state : Reads ident a t lock turn operations words now u k) where
+    at_word : k < 3 * operations → IsAt ident.shape now.part a.part.private.begun (Logging (LoadSlate lock turn operations words k))
+    at_word below = subst (λ (st : Stage). IsAt ident.shape now.part a.part.private.begun st) (stage_before ident.shape lock turn operations words k below) state.doing.at
+
+    pub read_may : (shape : Shape) (worker number : ℕ) → operations ≤ 8 → k < 3 * operations → shape ≡ ident.shape → worker ≡ a.part.worker → number ≡ word shape (SlateWord worker (k / 3) (k % 3))
+        → MayLoad ident.shape onward now.part number
+    read_may shape worker number few below same own its =
+        let mine : worker ≡ now.part.worker = own ∙ sym state.doing.stays.own in
+        let small : k < 24 = omega (arith, few, below) in
+        may_load ident.shape now.part a.part.private.begun _ (at_word below) (SlateWord worker (k / 3) (k % 3)) number refl
+        (ap (λ (w : ℕ). Load (SlateWord w (k / 3) (k % 3))) (sym mine))
+        (subst (λ (w : ℕ). w < ident.shape.workers) (sym mine) state.doing.at.stood.worker, omega (arith, small), omega arith)
+        (its ∙ ap (λ (x : Shape). word x (SlateWord worker (k / 3) (k % 3))) same)
+
+    pub read_more : (next : Stand) (v : Tally) (value : ℕ) (later : List ℕ) → k < 3 * operations → later ≡ slice_set words k value → MadeStep ident.shape onward now next u v value
+        → Reads ident a t lock turn operations later next v (k + 1)
+    read_more next v value later below is made =
+        let one = did ident.shape now next u v value made (at_word below) refl refl refl in
+        let takes = takes_value ident.shape now.part value a.part.private.begun _ made.told (at_word below) (λ e. cc) in
+        let good : k + 1 ≡ 3 * operations → IsRead ident.shape operations (slice_set words k value) = λ e. record { script = (takes e).0; read = (takes e).1; good = (takes e).2 } in
+        let P : List ℕ → Type 0 = λ (xs : List ℕ). Reads ident a t lock turn operations xs next v (k + 1) in
+        subst P (sym is) record { ours = made.ident ∙ state.ours; doing = then_on ident.shape a now next t u v state.doing one; good = good }
+
+    pub read_fell : (next : Stand) (v : Tally) → k < 3 * operations → Fallen now next u v → Falling ident.shape onward a next t v (3 * operations)
+    read_fell next v below fell = falls_on ident.shape a now next t u v state.doing (falls_at ident.shape onward now next u v 1 fell (omega arith)) (omega (arith, below))
+
+    pub read_all : k ≡ 3 * operations → Doing ident.shape onward a now t u (3 * operations) a.part.private.begun (slate_stage ident.shape lock turn operations words (3 * operations))
+    read_all e = subst (λ (n : ℕ). Doing ident.shape onward a now t u n a.part.private.begun (slate_stage ident.shape lock turn operations words n)) e state.doing
+
+-- The length loaded.
+module _ (s : Shape) (a : Stand) (t : Tally) (b lock turn : ℕ) (at : IsAt s a.part b (Logging (LoadLen lock turn))) where
+  pub len_may : (shape : Shape) (worker number : ℕ) → shape ≡ s → worker ≡ a.part.worker → number ≡ word shape (SlateLen worker) → MayLoad s onward a.part number
+  len_may shape worker number same own its = may_load s a.part b _ at (SlateLen a.part.worker) number refl refl at.stood.worker
+      (its ∙ ap (λ (x : Shape). word x (SlateLen worker)) same ∙ ap (λ (w : ℕ). word s (SlateLen w)) own)
+
+  module _ (c : Stand) (u : Tally) (value : ℕ) (made : MadeStep s onward a c t u value) where
+    pub len_few : value ≤ 8
+    len_few = takes_value s a.part value b _ made.told at (λ e. cc)
+
+    pub len_loaded : Doing s onward a c t u 1 b (slate_stage s lock turn value (replicate 24 0) 0)
+    len_loaded = did s a c t u value made at refl refl refl
+
+-- All words are read: the script is known.
+pub slate_known : (s : Shape) (lock turn n : ℕ) (words : List ℕ) (script : Program) → Some script ≡ script_of n words
+    → slate_stage s lock turn n words (3 * n) ≡ script_stage s lock turn (Some script)
+slate_known s lock turn n words script read = rw (eq-eqb (3 * n) (3 * n) refl) (ap (script_stage s lock turn) (sym read))
+
+-- The script that was read is the one that the words are.
+pub good_script : (s : Shape) (n : ℕ) (words : List ℕ) (script : Program) → IsRead s n words → Some script ≡ script_of n words → IsScript s.cells script
+good_script s n words script its read = subst (λ (p : Program). IsScript s.cells p) (same_Some its.script script (sym its.read ∙ sym read)) its.good
+
+pub some_script : (s : Shape) (n : ℕ) (words : List ℕ) → IsRead s n words → None ≡ script_of n words → ⊥
+some_script s n words its none = let e : None ≡ Some its.script = none ∙ its.read in cc
+
+-- It has as many operations as was said.
+pub script_count : (n : ℕ) (words : List ℕ) (p : Program) → Some p ≡ script_of n words → p.n ≡ n
+script_count n words p read = elim (cases_Bool (nat_lt 8 n)) [
+  | inl over ↦ (let e : Some p ≡ None = rw over at read in cc)
+  | inr within ↦ (let e : Some p ≡ script_by n (ops_of n words) = rw within at read in of_ops (ops_of n words) e)
+]
+  where
+    of_ops : (ops : Option (List Op)) → Some p ≡ script_by n ops → p.n ≡ n
+    of_ops None e = cc
+    of_ops (Some ops) e = ap (λ (q : Program). q.n) (same_Some p record { n = n; ops = ops } e)
+
+pub logs : {s : Shape} {a c : Stand} {t u : Tally} {lock turn : ℕ} (script : Program) → IsScript s.cells script
+    → Doing s onward a c t u (4 + 3 * script.n + cells_below (mask_of script.ops) s.cells * 2) a.part.private.begun (Copying (LoadMask (even_visit lock turn script.n (mask_of script.ops))))
+    → Logs s a c t u lock turn
+logs script good doing = record { script = script; good = good; doing = doing }

@@ -1,0 +1,53 @@
+-- What phase Recover finds.
+use Rattle.std.specs.Prelude.{◌≡◌, ℕ, ◌≤◌, Bool, true, false}
+use Rattle.rme_words.specs.declared.shape.Shape.{Shape}
+use Rattle.rme_words.specs.declared.address.Address.{Address}
+use Rattle.rme_words.specs.declared.address.Address.TheVariants.{At, SlateLock}
+use Rattle.rme_program.specs.declared.note.Note.{Note}
+use Rattle.rme_program.specs.declared.note.Note.TheVariants as note
+use Rattle.rme_program.specs.declared.stage.Stage.{Stage}
+use Rattle.rme_program.specs.declared.stage.Stage.TheVariants as stage
+use Rattle.rme_program.specs.declared.stage.Departure.TheVariants.{Clear}
+use Rattle.rme_program.specs.Steps.{re_entry}
+use Rattle.rme_seats.specs.declared.record.Part.{Part}
+use Rattle.rme_seats.specs.Chances.{Tally}
+use Rattle.rme_seats.specs.Stands.{Stand}
+use Rattle.rme_seats.specs.Doing.{Doing}
+use Rattle.rme_phases.specs.declared.recovering.Found.{Found}
+use Rattle.rme_phases.specs.declared.recovering.Found.TheVariants.{Ready, Climbing, Inside, Leaving}
+
+-- The word that names the lock: the slate's where the last job is pending, and else the receipt's.
+abbrev pub lock_address : Bool → ℕ → Address
+lock_address true worker = SlateLock worker
+lock_address false worker = At worker
+
+-- Where the worker goes on.
+abbrev pub found_stage : Found → Stage
+found_stage Ready = stage.Resting
+found_stage (Climbing lock held) = stage.Climbing record { lock = lock; held = held }
+found_stage (Inside lock pending) = re_entry pending lock
+found_stage (Leaving lock level) = stage.Leaving (Clear lock level)
+
+-- What the last step of Recover then brings about.
+abbrev pub found_note : Found → Note
+found_note Ready = note.Ready
+found_note (Climbing lock held) = note.Quiet
+found_note (Inside lock pending) = note.Reentered lock
+found_note (Leaving lock level) = note.Quiet
+
+-- The worker has its whole path.
+abbrev pub is_inside : Found → Bool
+is_inside Ready = false
+is_inside (Climbing lock held) = false
+is_inside (Inside lock pending) = true
+is_inside (Leaving lock level) = false
+
+-- So many steps, from the least number to the most, have led to where the worker goes on. Where it has its whole path they
+-- were the most.
+pub record Finds (shape : Shape) (lead : Part → Part) (start now : Stand) (old new : Tally) (begun : ℕ) (found : Found) (least most : ℕ) : Type 0 where
+  pub count : ℕ
+  pub enough : least ≤ count
+  pub few : count ≤ most
+  pub doing : Doing shape lead start now old new count begun (found_stage found)
+  pub note : now.part.note ≡ found_note found
+  pub whole : is_inside found ≡ true → count ≡ most

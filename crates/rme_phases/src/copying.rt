@@ -1,0 +1,114 @@
+//! Phase Section from the odd turn on: what was written down is copied, and the job is finished.
+
+ghost use Rattle.std.specs.Prelude.{◌≡◌, ℕ, ◌+◌, ◌*◌, ◌/◌, ◌^◌, ◌<◌, MatchResult};
+ghost use Rattle.rme_program.specs.declared.stage.Stage.TheVariants.{Copying};
+ghost use Rattle.rme_program.specs.declared.stage.Redo.TheVariants.{LoadMask, LoadReply, StoreDone};
+ghost use Rattle.rme_program.specs.Phases.{cells_below};
+ghost use Rattle.rme_program.specs.Steps.{copies_from};
+ghost use Rattle.rme_program.specs.Masks.{first_cell};
+ghost use Rattle.rme_seats.specs.Parts.{onward, draft_script};
+ghost use Rattle.rme_seats.specs.Doing.{Doing, Falling, IsAt, IsBefore};
+ghost use Rattle.rme_phases.specs.Sections.{visit_of, Completes};
+
+use rme_program::{Receipt, first_cell};
+use rme_script::Script;
+use rme_seats::{Chance, Fell, Onward, Service, WorkerSeat};
+
+/// Copies the shadow words of the mask's cells into the cells, rising.
+fn copy_cells<C: Chance>(
+    seat: &mut WorkerSeat,
+    service: &Service,
+    chance: &mut C,
+    lock: u32,
+    turn: u32,
+    mask: u64,
+) -> Result<(), Fell>
+    requires ours { seat.old.ident ≡ service.now }
+    requires lock { lock < service.now.shape.locks }
+    requires at { IsBefore service.now.shape seat.old.part (copies_from (visit_of seat.old.part lock turn) mask (first_cell mask 0 service.now.shape.cells)) }
+    ensures { MatchResult result (λ _. Doing service.now.shape onward seat.old seat.new (C.tally chance.old) (C.tally chance.new) (cells_below mask service.now.shape.cells * 2) seat.old.part.private.begun (Copying (LoadReply (visit_of seat.old.part lock turn) mask))) (λ _. Falling service.now.shape onward seat.old seat.new (C.tally chance.old) (C.tally chance.new) (cells_below mask service.now.shape.cells * 2)) }
+{
+    let shape = service.shape();
+    let mut from = 0;
+    while let Some(cell) = first_cell(mask, from, shape.cells()) {
+        let value = seat.load::<Onward, C>(service, chance, shape.shadow_at(lock, cell))?;
+        seat.store::<Onward, C>(service, chance, shape.cell_at(lock, cell), value)?;
+        from = cell + 1;
+    }
+    Ok(())
+}
+
+/// Copies what was written down: loads the mask, and copies its cells. Answers the mask.
+fn copy<C: Chance>(
+    seat: &mut WorkerSeat,
+    service: &Service,
+    chance: &mut C,
+    lock: u32,
+    turn: u32,
+) -> Result<u64, Fell>
+    requires ours { seat.old.ident ≡ service.now }
+    requires lock { lock < service.now.shape.locks }
+    requires at { IsBefore service.now.shape seat.old.part (Copying (LoadMask (visit_of seat.old.part lock turn))) }
+    ensures { MatchResult result (λ mask. Doing service.now.shape onward seat.old seat.new (C.tally chance.old) (C.tally chance.new) (1 + cells_below mask service.now.shape.cells * 2) seat.old.part.private.begun (Copying (LoadReply (visit_of seat.old.part lock turn) mask))) (λ _. Falling service.now.shape onward seat.old seat.new (C.tally chance.old) (C.tally chance.new) (1 + service.now.shape.cells * 2)) }
+{
+    let at = service.shape().mask_at(lock);
+    let mask = seat.load::<Onward, C>(service, chance, at)?;
+    copy_cells(seat, service, chance, lock, turn, mask)?;
+    Ok(mask)
+}
+
+/// Stores the receipt's words: the reply, the place and the lock. Answers the reply.
+fn store_receipt<C: Chance>(
+    seat: &mut WorkerSeat,
+    service: &Service,
+    chance: &mut C,
+    lock: u32,
+    turn: u32,
+    mask: u64,
+) -> Result<u64, Fell>
+    requires ours { seat.old.ident ≡ service.now }
+    requires lock { lock < service.now.shape.locks }
+    requires at { IsBefore service.now.shape seat.old.part (Copying (LoadReply (visit_of seat.old.part lock turn) mask)) }
+    ensures { MatchResult result (λ reply. Doing service.now.shape onward seat.old seat.new (C.tally chance.old) (C.tally chance.new) 4 seat.old.part.private.begun (Copying (StoreDone (visit_of seat.old.part lock turn) mask reply))) (λ _. Falling service.now.shape onward seat.old seat.new (C.tally chance.old) (C.tally chance.new) 4) }
+{
+    let shape = service.shape();
+    let worker = seat.worker();
+    let reply = seat.load::<Onward, C>(service, chance, shape.shadow_reply_at(lock))?;
+    seat.store::<Onward, C>(service, chance, shape.reply_at(worker), reply)?;
+    seat.store::<Onward, C>(service, chance, shape.place_at(worker), turn as u64 / 2)?;
+    seat.store::<Onward, C>(service, chance, shape.receipt_lock_at(worker), lock as u64)?;
+    Ok(reply)
+}
+
+/// From the load of the mask to the store of `done`: copies what was written down, stores the receipt's words,
+/// and finishes the job. `script` is that of the job; its entry is put to the worker's.
+pub(crate) fn complete<C: Chance>(
+    seat: &mut WorkerSeat,
+    service: &Service,
+    chance: &mut C,
+    begun: u32,
+    lock: u32,
+    turn: u32,
+    script: &Script,
+) -> Result<Receipt, Fell>
+    requires ours { seat.old.ident ≡ service.now }
+    requires lock { lock < service.now.shape.locks }
+    requires begun { begun ≡ seat.old.part.private.begun }
+    requires at { IsBefore service.now.shape seat.old.part (Copying (LoadMask (visit_of seat.old.part lock turn))) }
+    requires script { draft_script seat.old.part.draft ≡ script.now }
+    ensures { MatchResult result (λ receipt. Completes service.now.shape seat.old seat.new (C.tally chance.old) (C.tally chance.new) begun lock turn receipt) (λ _. Falling service.now.shape onward seat.old seat.new (C.tally chance.old) (C.tally chance.new) (6 + service.now.shape.cells * 2)) }
+{
+    let worker = seat.worker();
+    let mask = copy(seat, service, chance, lock, turn)?;
+    let reply = store_receipt(seat, service, chance, lock, turn, mask)?;
+    let receipt = Receipt {
+        worker,
+        lock,
+        number: begun,
+        place: turn / 2,
+        reply,
+    };
+    let at = service.shape().done_at(worker);
+    seat.finish(service, chance, at, receipt, script)?;
+    Ok(receipt)
+}

@@ -1,0 +1,60 @@
+//! Phase Post: a worker writes its job down.
+
+ghost use Rattle.std.specs.Prelude.{◌≡◌, ◌+◌, ◌*◌, ◌<◌, MatchResult};
+ghost use Rattle.rme_program.specs.declared.note.Note.TheVariants.{Asked};
+ghost use Rattle.rme_program.specs.declared.stage.Stage.TheVariants.{Resting, Posting, Climbing};
+ghost use Rattle.rme_program.specs.Conditions.{IsJob};
+ghost use Rattle.rme_seats.specs.Parts.{onward, submitted};
+ghost use Rattle.rme_seats.specs.Doing.{Doing, Falling, IsBefore};
+
+use rme_script::{Job, slate_word};
+use rme_seats::{Chance, Fell, Onward, Posting, Service, WorkerSeat};
+
+/// Phase Post: stores the job's lock, its number of operations and their words, and then counts `begun` up, so
+/// that the job has its number. `begun` is what the ready worker knows of the word of that name.
+pub fn post<J: Posting, C: Chance>(
+    seat: &mut WorkerSeat,
+    service: &Service,
+    chance: &mut C,
+    begun: u32,
+    job: &Job,
+) -> Result<(), Fell>
+    requires ours { seat.old.ident ≡ service.now }
+    requires at { IsBefore service.now.shape seat.old.part Resting }
+    requires begun { begun ≡ seat.old.part.private.begun }
+    requires named { job.now ≡ J.job }
+    requires good { IsJob service.now.shape job.now }
+    requires few { begun < service.now.shape.jobs }
+    ensures posted { MatchResult result (λ _. Doing service.now.shape (submitted job.now) seat.old seat.new (C.tally chance.old) (C.tally chance.new) (3 + 3 * job.now.script.n) (begun + 1) (Climbing record { lock = job.now.lock; held = 0 })) (λ _. Falling service.now.shape (submitted job.now) seat.old seat.new (C.tally chance.old) (C.tally chance.new) (3 + 3 * job.now.script.n)) }
+{
+    let shape = service.shape();
+    let worker = seat.worker();
+    let at = shape.slate_lock_at(worker);
+    seat.submit::<J, C>(service, chance, at, job.lock as u64)?;
+    let at = shape.slate_len_at(worker);
+    seat.store::<Onward, C>(service, chance, at, job.script.n() as u64)?;
+    write_operations(seat, service, chance, job)?;
+    let at = shape.begun_at(worker);
+    seat.store::<Onward, C>(service, chance, at, begun as u64 + 1)?;
+    Ok(())
+}
+
+/// Stores the words of the job's operations.
+fn write_operations<C: Chance>(
+    seat: &mut WorkerSeat,
+    service: &Service,
+    chance: &mut C,
+    job: &Job,
+) -> Result<(), Fell>
+    requires ours { seat.old.ident ≡ service.now }
+    requires at { IsBefore service.now.shape seat.old.part (Posting record { job = job.now; stored = 2 }) }
+    ensures { MatchResult result (λ _. Doing service.now.shape onward seat.old seat.new (C.tally chance.old) (C.tally chance.new) (3 * job.now.script.n) seat.old.part.private.begun (Posting record { job = job.now; stored = 2 + 3 * job.now.script.n })) (λ _. Falling service.now.shape onward seat.old seat.new (C.tally chance.old) (C.tally chance.new) (3 * job.now.script.n)) }
+{
+    let shape = service.shape();
+    let worker = seat.worker();
+    for i in 0..3 * job.script.n() {
+        let at = shape.slate_at(worker, i / 3, i % 3);
+        seat.store::<Onward, C>(service, chance, at, slate_word(&job.script, i))?;
+    }
+    Ok(())
+}

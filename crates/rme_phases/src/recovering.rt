@@ -1,0 +1,117 @@
+//! Phase Recover: what a worker that comes up after a crash finds.
+
+ghost use Rattle.std.specs.Prelude.{◌≡◌, ◌+◌, ◌<◌, false, MatchResult};
+ghost use Rattle.rme_words.specs.Words.{word};
+ghost use Rattle.rme_program.specs.declared.stage.Stage.TheVariants.{Recovering};
+ghost use Rattle.rme_program.specs.declared.stage.Recovery.TheVariants.{LoadPath};
+ghost use Rattle.rme_program.specs.Steps.{after_other};
+ghost use Rattle.rme_seats.specs.Parts.{onward, restarted};
+ghost use Rattle.rme_seats.specs.Doing.{Falling, IsBefore};
+ghost use Rattle.rme_phases.specs.Finds.{lock_address, found_stage, found_note, is_inside, Finds};
+
+use rme_seats::{Chance, Fell, Onward, Restart, Service, WorkerSeat};
+use rme_tree::{node, side};
+use rme_words::Shape;
+
+/// What Recover finds: how many jobs the worker has begun, and where its last life ended.
+#[derive(Clone, Copy, Debug, PartialEq, Eq)]
+pub struct Recovered {
+    pub begun: u32,
+    pub found: Found,
+}
+
+/// Where a worker's last life ended, and so where it goes on.
+#[derive(Clone, Copy, Debug, PartialEq, Eq)]
+pub enum Found {
+    /// No job is pending, and no node is held.
+    Ready,
+    /// The last job waits for this lock, with so many nodes held.
+    Climbing { lock: u32, held: u32 },
+    /// The worker owns this lock; its last job is pending, or its section is finished.
+    Inside { lock: u32, pending: bool },
+    /// No job is pending, and so many nodes are still held.
+    Leaving { lock: u32, level: u32 },
+}
+
+/// The number of the word that names the lock.
+fn lock_at(shape: Shape, worker: u32, pending: bool) -> usize
+    requires { worker < shape.workers }
+    ensures { result ≡ word shape (lock_address pending worker) }
+{
+    if pending {
+        return shape.slate_lock_at(worker);
+    }
+    shape.receipt_lock_at(worker)
+}
+
+/// What is found where so many nodes are the worker's, and the next is not.
+fn partly(lock: u32, held: u32, pending: bool) -> Found
+    ensures leads { after_other pending lock held ≡ (found_stage result, found_note result) }
+    ensures outside { is_inside result ≡ false }
+{
+    if pending {
+        return Found::Climbing { lock, held };
+    }
+    if held == 0 {
+        return Found::Ready;
+    }
+    Found::Leaving { lock, level: held }
+}
+
+/// Looks up the worker's path from the leaf, to the first node that is not its own.
+fn find_path<C: Chance>(
+    seat: &mut WorkerSeat,
+    service: &Service,
+    chance: &mut C,
+    lock: u32,
+    pending: bool,
+) -> Result<Found, Fell>
+    requires ours { seat.old.ident ≡ service.now }
+    requires at { IsBefore service.now.shape seat.old.part (Recovering (LoadPath pending lock 0)) }
+    ensures { MatchResult result (λ found. Finds service.now.shape onward seat.old seat.new (C.tally chance.old) (C.tally chance.new) seat.old.part.private.begun found 1 service.now.shape.height) (λ _. Falling service.now.shape onward seat.old seat.new (C.tally chance.old) (C.tally chance.new) service.now.shape.height) }
+{
+    let shape = service.shape();
+    let worker = seat.worker();
+    let mut held = 0;
+    while held < shape.height {
+        let at = shape.node_at(lock, node(shape, worker, held + 1));
+        let word = seat.load::<Onward, C>(service, chance, at)?;
+        if word != side(shape, worker, held + 1) {
+            return Ok(partly(lock, held, pending));
+        }
+        held += 1;
+    }
+    Ok(Found::Inside { lock, pending })
+}
+
+/// Phase Recover of a worker that comes up after a crash and knows its own number alone: finds how many jobs
+/// it has begun, whether the last one is pending, its lock, and how many nodes of the path it holds there.
+pub fn recover<C: Chance>(
+    seat: &mut WorkerSeat,
+    service: &Service,
+    chance: &mut C,
+) -> Result<Recovered, Fell>
+    requires ours { seat.old.ident ≡ service.now }
+    ensures { MatchResult result (λ its. Finds service.now.shape restarted seat.old seat.new (C.tally chance.old) (C.tally chance.new) its.begun its.found 2 (service.now.shape.height + 3)) (λ _. Falling service.now.shape restarted seat.old seat.new (C.tally chance.old) (C.tally chance.new) (service.now.shape.height + 3)) }
+{
+    let shape = service.shape();
+    let worker = seat.worker();
+    let begun_at = shape.begun_at(worker);
+    let begun = seat.load::<Restart, C>(service, chance, begun_at)?;
+    let done_at = shape.done_at(worker);
+    let done = seat.load::<Onward, C>(service, chance, done_at)?;
+    if begun == 0 {
+        return Ok(Recovered {
+            begun: 0,
+            found: Found::Ready,
+        });
+    }
+    let pending = done < begun;
+    let lock_at = lock_at(shape, worker, pending);
+    let lock = seat.load::<Onward, C>(service, chance, lock_at)?;
+    let found = find_path(seat, service, chance, lock as u32, pending)?;
+    Ok(Recovered {
+        begun: begun as u32,
+        found,
+    })
+}

@@ -1,0 +1,84 @@
+-- What may stand before a call's first step: nothing, a crash and a restart, a submission, a withdrawal.
+use Rattle.std.proofs.Common.{◌≡◌, ◌≢◌, ℕ, ◌+◌, ◌<◌, List, refl, sym, ◌∙◌, ap, subst}
+use Rattle.std.specs.Prelude.{Some, None, ◌==◌, if◌then◌else◌}
+use Rattle.std.proofs.lemmas.Bool.{eq-eqb, ne_eqb}
+use Rattle.rme_words.specs.declared.shape.Shape.{Shape}
+use Rattle.rme_script.specs.declared.job.Job.{Job}
+use Rattle.rme_program.specs.declared.note.Entry.{Entry}
+use Rattle.rme_program.specs.declared.stage.Stage.TheVariants.{Resting, Climbing}
+use Rattle.rme_program.specs.declared.stage.Ascent.{Ascent}
+use Rattle.rme_program.specs.Conditions.{IsJob}
+use Rattle.rme_program.specs.Steps.{restarted_private}
+use Rattle.rme_machine.specs.declared.label.Act.TheVariants.{Hand, Crash, Restart, Wait}
+use Rattle.rme_machine.specs.Changes.{Became}
+use Rattle.rme_machine.specs.Shown.{Privates, shown}
+use Rattle.rme_machine.proofs.Events.{submit, crash, restart, withdraw}
+use Rattle.rme_seats.specs.declared.record.Part.{Part}
+use Rattle.rme_seats.specs.Parts.{onward, restarted, submitted, withdrawing}
+use Rattle.rme_seats.specs.Rule.{World, memory_in, privates_of, updated}
+use Rattle.rme_seats.specs.Steps.{Leads}
+use Rattle.rme_seats.proofs.Worlds.{became, world_of, drafts_of, drafts_same, same_parts, books_of}
+
+pub leads_onward : (s : Shape) (p : Part) → p.private.stage ≢ Resting → Leads s onward p
+leads_onward s p busy = record {
+  worker = refl;
+  busy = busy;
+  world = λ words parts es world worker here. subst (λ (f : ℕ → Part). World s words f es) (sym (same_parts parts p here)) world;
+}
+
+module _ (s : Shape) (p : Part) (words : List ℕ) (parts : ℕ → Part) (es : List Entry) (world : World s words parts es) (worker : p.worker < s.workers) (here : parts p.worker ≡ p) where
+  was : privates_of parts p.worker ≡ Some p.private
+  was = ap (λ (q : Part). Some q.private) here
+
+  -- The private states while the worker is down.
+  without : Privates
+  without = λ (u : ℕ). if u == p.worker then None else privates_of parts u
+
+  fell : Became (privates_of parts) without p.worker None
+  unfolding without
+  fell = record { at = rw (eq-eqb p.worker p.worker refl) refl; off = λ u apart. rw (ne_eqb u p.worker apart) refl }
+
+  rose : Became without (privates_of (updated parts p.worker (restarted p))) p.worker (Some (restarted_private p.worker))
+  unfolding without
+  rose = record {
+    at = (became parts p.worker (restarted p)).at;
+    off = λ u apart. (became parts p.worker (restarted p)).off u apart ∙ rw (ne_eqb u p.worker apart) refl;
+  }
+
+  restart_world : World s words (updated parts p.worker (restarted p)) es
+  restart_world =
+      let mem = memory_in s words in
+      let down = crash s mem (privates_of parts) without es p.worker p.private world.fact worker was fell in
+      let up = restart s mem without (privates_of (updated parts p.worker (restarted p))) es p.worker down.0 worker fell.at rose in
+      let drafts = drafts_of s Crash _ (shown s mem without es) parts p p down.1 here refl world.drafts in
+      let still = drafts_same (shown s mem without es) _ (λ (u : ℕ). (parts u).draft) drafts (λ u. ap (λ (f : ℕ → Part). (f u).draft) (same_parts parts p here)) in
+      world_of s words (updated parts p.worker (restarted p)) es world.long world.idle up.0 (books_of s words parts es p (restarted p) world here refl refl)
+      (drafts_of s Restart _ _ parts p (restarted p) up.1 here refl still)
+
+  submit_world : (job : Job) → p.private.stage ≡ Resting → p.private.begun < s.jobs → IsJob s job → World s words (updated parts p.worker (submitted job p)) es
+  submit_world job rests few is =
+      let mem = memory_in s words in
+      let goes = submit s mem (privates_of parts) _ es p.worker p.private job world.fact worker was rests few is (became parts p.worker (submitted job p)) in
+      world_of s words (updated parts p.worker (submitted job p)) es world.long world.idle goes.0 (books_of s words parts es p (submitted job p) world here refl refl)
+      (drafts_of s (Hand (p.private.begun + 1) job) _ _ parts p (submitted job p) goes.1 here refl world.drafts)
+
+  withdraw_world : (ascent : Ascent) → p.private.stage ≡ Climbing ascent → World s words (updated parts p.worker (withdrawing p)) es
+  withdraw_world ascent climbs =
+      let mem = memory_in s words in
+      let goes = withdraw s mem (privates_of parts) _ es p.worker p.private ascent world.fact worker was climbs (became parts p.worker (withdrawing p)) in
+      world_of s words (updated parts p.worker (withdrawing p)) es world.long world.idle goes.0 (books_of s words parts es p (withdrawing p) world here refl refl)
+      (drafts_of s Wait _ _ parts p (withdrawing p) goes.1 here refl world.drafts)
+
+pub leads_restart : (s : Shape) (p : Part) → Leads s restarted p
+leads_restart s p = record { worker = refl; busy = λ e. cc; world = λ words parts es world worker here. restart_world s p words parts es world worker here }
+
+pub leads_submit : (s : Shape) (p : Part) (job : Job) → p.private.stage ≡ Resting → p.private.begun < s.jobs → IsJob s job → Leads s (submitted job) p
+leads_submit s p job rests few is =
+    record { worker = refl; busy = λ e. cc; world = λ words parts es world worker here. submit_world s p words parts es world worker here job rests few is }
+
+pub leads_withdraw : (s : Shape) (p : Part) (ascent : Ascent) → p.private.stage ≡ Climbing ascent → Leads s withdrawing p
+leads_withdraw s p ascent climbs = record {
+  worker = refl;
+  busy = rw climbs (λ e. cc);
+  world = λ words parts es world worker here. withdraw_world s p words parts es world worker here ascent climbs;
+}

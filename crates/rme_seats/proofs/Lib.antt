@@ -1,0 +1,11 @@
+pub mod Tables
+pub mod Worlds
+pub mod Keeping
+pub mod Leading
+pub mod Totals
+pub mod Going
+pub mod Seats
+pub mod Chains
+pub mod Cutting
+pub mod Opened
+pub mod Gathering

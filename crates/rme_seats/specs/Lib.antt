@@ -1,0 +1,13 @@
+-- In reading order: a shape, a job and a part that stand where there is none; the part of one worker and how it goes on;
+-- what the words and every seat's record show together; what an own step and a reader's load tell; what contracts see
+-- of a Chance, of a service and of a worker's seat; what a call has done; and how a service opens and
+-- is closed.
+pub mod Nobody
+pub mod Parts
+pub mod Rule
+pub mod Steps
+pub mod Chances
+pub mod Stands
+pub mod Doing
+pub mod Opening
+pub mod Closing

@@ -1,0 +1,27 @@
+-- A new service: its words are all 0, and each worker has a seat, with nothing done.
+use Rattle.std.specs.Prelude.{◌≡◌, ℕ, ◌+◌, ◌-◌, List, map, length, slice_get, replicate, Some}
+use Rattle.std.specs.List.{range_with_len}
+use Rattle.rme_words.specs.declared.shape.Shape.{Shape}
+use Rattle.rme_words.specs.Words.{word_count}
+use Rattle.rme_seats.specs.declared.record.Record.{Record}
+use Rattle.rme_seats.specs.Parts.{fresh_part}
+use Rattle.rme_seats.specs.Stands.{Ident, Stand}
+
+-- All words of the table are 0.
+abbrev pub zeros_of : Shape → List ℕ
+zeros_of shape = replicate (1 + word_count shape) 0
+
+-- The record of the first seat, the parts of the workers below this one being dealt out.
+abbrev pub from_worker : Shape → ℕ → Record
+from_worker shape worker = record { shape = shape; parts = map fresh_part (range_with_len worker (shape.workers - worker)) }
+
+-- A seat of the service has the part of this worker as it is at the opening.
+pub record IsFresh (ident : Ident) (worker : ℕ) (seat : Stand) : Type 0 where
+  pub ours : seat.ident ≡ ident
+  pub part : seat.part ≡ fresh_part worker
+
+-- The service is of the shape, and there is one seat for each worker, in order.
+pub record Opens (shape : Shape) (ident : Ident) (seats : List Stand) : Type 0 where
+  pub shaped : ident.shape ≡ shape
+  pub count : length seats ≡ shape.workers
+  pub fresh : (k : ℕ) (seat : Stand) → slice_get seats k ≡ Some seat → IsFresh ident k seat

@@ -1,0 +1,38 @@
+-- Which service a value is of, and what contracts see of a worker's seat.
+use Rattle.std.specs.Prelude.{◌≡◌, ℕ, ◌+◌, ◌^◌, ◌<◌, ◌≤◌, Bool, is_some, List, []}
+use Rattle.atomic_table.specs.Seated.{TableId}
+use Rattle.atomic_table.specs.Table.{Me}
+use Rattle.rme_words.specs.declared.shape.Shape.{Shape}
+use Rattle.rme_words.specs.Words.{word_count}
+use Rattle.rme_program.specs.declared.note.Entry.{Entry}
+use Rattle.rme_seats.specs.declared.record.Part.{Part}
+use Rattle.rme_seats.specs.declared.record.Record.{Record}
+use Rattle.rme_seats.specs.Rule.{solo, lone}
+use Rattle.rme_seats.specs.Steps.{Stood}
+
+-- One service: its table, which no other has, and its shape.
+pub record Ident : Type 0 where
+  pub table : TableId
+  pub shape : Shape
+
+-- A worker's seat: the service that it is of, and the part that its record has.
+pub record Stand : Type 0 where
+  pub ident : Ident
+  pub part : Part
+
+-- What every service keeps.
+pub record IsService (table : TableId) (told shape : Shape) : Type 0 where
+  pub key : told ≡ shape
+  pub words : table.words ≡ 1 + word_count shape
+  pub slots : table.slots ≡ 0
+  pub few : 1 + word_count shape < 2 ^ 64
+
+-- What every worker's seat keeps: its record has one part, which is its worker's and stood in a world; the seat knows
+-- whether it has a draft; its own list is the part's entries, and has room for all that may come.
+pub record IsSeated (me : Me ℕ Record) (worker : ℕ) (drafted : Bool) (entries : List Entry) (room : ℕ) : Type 0 where
+  pub one : me ≡ (solo me.0.shape (lone me.0), [])
+  pub own : (lone me.0).worker ≡ worker
+  pub drafts : is_some (lone me.0).draft ≡ drafted
+  pub all : (lone me.0).entries ≡ entries
+  pub jobs : me.0.shape.jobs ≤ room
+  pub stood : Stood me.0.shape (lone me.0)

@@ -1,0 +1,109 @@
+//! The end of a service.
+
+ghost use Rattle.std.specs.Prelude.{◌≡◌, ◌+◌, ◌<◌, ◌≤◌, [], ◌++◌, length, vec_capacity};
+ghost use Rattle.std.specs.Slots.{slots_items, slots_len, IsFull};
+ghost use Rattle.rme_seats.specs.Rule.{bank_words};
+
+use crate::rule::{AllParts, Place};
+use crate::seat::WorkerSeat;
+use crate::service::Service;
+use atomic_table::Closed;
+use rme_program::Entry;
+use std::alloc::Global;
+
+impl Service {
+    ghost use Rattle.std.specs.Prelude.{◌≡◌, ◌+◌, ◌<◌, ◌≤◌, [], ◌++◌, length, vec_capacity};
+    ghost use Rattle.rme_words.specs.Words.{word_count};
+    ghost use Rattle.rme_seats.specs.Closing.{AreOf, parts_given, entries_given, Gathers};
+
+    /// Closes the service: its words are put to `words`, and the finished sections of all seats to `history`.
+    ///
+    /// The seats are this service's, and there is at least one. Both lists have the room, so that no memory is
+    /// taken.
+    pub fn gather(
+        self,
+        seats: Vec<WorkerSeat>,
+        words: Vec<u64>,
+        mut history: Vec<Entry>,
+    ) -> (Vec<u64>, Vec<Entry>)
+        requires ours { AreOf self seats.items }
+        requires some_seat { 0 < length seats.items }
+        requires word_room { length words.items + word_count self.shape ≤ vec_capacity words }
+        requires entry_room { length history.items + length (entries_given seats.items) ≤ vec_capacity history }
+        ensures { Gathers self.shape seats.items words.items history.items result.0.items result.1.items }
+    {
+        let seat = self.join_all(seats, &mut history);
+        let Service { table, shape } = self;
+        let closed = table.close_with(seat);
+        let words = with_bank(words, &closed, shape.words());
+        closed.free();
+        (words, history)
+    }
+
+    /// Puts the parts of all seats together in one, and their entries to the history.
+    fn join_all(&self, mut seats: Vec<WorkerSeat>, history: &mut Vec<Entry>) -> Place
+        requires ours { AreOf self.now seats.items }
+        requires some_seat { 0 < length seats.items }
+        requires room { length history.old.items + length (entries_given seats.items) ≤ vec_capacity history.old }
+        ensures table { result.table_id ≡ self.now.table }
+        ensures parts { result.me ≡ (record { shape = self.now.shape; parts = parts_given seats.items }, []) }
+        ensures entries { history.new.items ≡ history.old.items ++ entries_given seats.items }
+    {
+        let Some(last) = seats.pop() else {
+            unreachable!()
+        };
+        let mut all = last.leave(history);
+        while let Some(seat) = seats.pop() {
+            let other = seat.leave(history);
+            self.table.shared.join_seat::<AllParts>(&mut all, other);
+        }
+        all
+    }
+}
+
+impl WorkerSeat {
+    ghost use Rattle.std.specs.Prelude.{◌≡◌, ◌+◌, ◌≤◌, [], ◌++◌, length, vec_capacity};
+    ghost use Rattle.rme_seats.specs.Rule.{solo};
+
+    /// The place alone; the entries are put to the history.
+    fn leave(self, history: &mut Vec<Entry>) -> Place
+        requires { length history.old.items + length self.part.entries ≤ vec_capacity history.old }
+        ensures table { result.table_id ≡ self.ident.table }
+        ensures part { result.me ≡ (solo self.ident.shape self.part, []) }
+        ensures entries { history.new.items ≡ history.old.items ++ self.part.entries }
+        ensures room { vec_capacity history.new ≡ vec_capacity history.old }
+    {
+        let WorkerSeat {
+            seat,
+            worker: _,
+            drafted: _,
+            entries,
+        } = self;
+        put_all(history, &entries);
+        seat
+    }
+}
+
+/// Puts the entries to the history, one after another.
+fn put_all(history: &mut Vec<Entry>, entries: &[Entry])
+    requires { length history.old.items + length entries.now ≤ vec_capacity history.old }
+    ensures entries { history.new.items ≡ history.old.items ++ entries.now }
+    ensures room { vec_capacity history.new ≡ vec_capacity history.old }
+{
+    for entry in entries {
+        history.push_reserved(*entry);
+    }
+}
+
+/// Puts the words of the table behind word 0 to the list, so many.
+fn with_bank(mut words: Vec<u64>, closed: &Closed<u8, Global>, count: usize) -> Vec<u64>
+    requires full { IsFull closed.now.words }
+    requires count { slots_len closed.now.words ≡ 1 + count }
+    requires room { length words.items + count ≤ vec_capacity words }
+    ensures { result.items ≡ words.items ++ bank_words (slots_items closed.now.words) }
+{
+    for at in 0..count {
+        words.push_reserved(closed.word(at + 1));
+    }
+    words
+}

@@ -1,0 +1,88 @@
+//! A new service, and the seats of its workers.
+
+ghost use Rattle.std.specs.Prelude.{◌≡◌, ◌≤◌, [], IfOk, vec_capacity};
+
+use crate::rule::{FirstPart, Place};
+use crate::seat::WorkerSeat;
+use crate::service::Service;
+use atomic_table::Table;
+use rme_program::Entry;
+use rme_words::{NoMemory, Shape};
+use std::alloc::Global;
+
+impl Service {
+    ghost use Rattle.std.specs.Prelude.{◌≡◌, ◌+◌, ◌<◌, ◌≤◌, [], IfOk, vec_capacity};
+    ghost use Rattle.rme_seats.specs.Parts.{fresh_part};
+    ghost use Rattle.rme_seats.specs.Opening.{from_worker, Opens};
+
+    /// A new service of this shape: all words are 0, and each worker has a seat, in order, with nothing posted
+    /// and nothing done.
+    ///
+    /// Takes memory for the words, and for each worker's seat with room for as many entries as the shape has
+    /// jobs; `NoMemory` where it was refused.
+    pub fn open(alloc: Global, shape: Shape) -> Result<(Service, Vec<WorkerSeat>), NoMemory>
+        ensures { IfOk result (λ opened. Opens shape opened.0 opened.1.items) }
+    {
+        let mut seats = room_for_seats(alloc, shape)?;
+        let (service, mut seat) = Service::lay(alloc, shape)?;
+        for worker in 0..shape.workers {
+            let entries = room_for_entries(alloc, shape)?;
+            seats.push_reserved(service.deal(&mut seat, worker, entries));
+        }
+        Ok((service, seats))
+    }
+
+    /// The service, and the first seat, which has the parts of all workers.
+    fn lay(alloc: Global, shape: Shape) -> Result<(Service, Place), NoMemory>
+        ensures service { IfOk result (λ laid. laid.0.shape ≡ shape) }
+        ensures seat { IfOk result (λ laid. (laid.1.table_id ≡ laid.0.table) × (laid.1.me ≡ (from_worker shape 0, []))) }
+    {
+        let Ok(words) = vec![in alloc; 0u64; 1 + shape.words()] else {
+            return Err(NoMemory);
+        };
+        let Ok((table, seat)) = Table::of_words(alloc, words.as_slice(), &shape) else {
+            return Err(NoMemory);
+        };
+        Ok((Service { table, shape }, seat))
+    }
+
+    /// The seat of a worker, whose part the first seat gives away.
+    fn deal(&self, seat: &mut Place, worker: u32, entries: Vec<Entry>) -> WorkerSeat
+        requires own { seat.old.table_id ≡ self.now.table }
+        requires parts { seat.old.me ≡ (from_worker self.now.shape worker, []) }
+        requires worker { worker < self.now.shape.workers }
+        requires none { entries.items ≡ [] }
+        requires room { self.now.shape.jobs ≤ vec_capacity entries }
+        ensures same { seat.new.table_id ≡ seat.old.table_id }
+        ensures parts { seat.new.me ≡ (from_worker self.now.shape (worker + 1), []) }
+        ensures fresh { result ≡ record { ident = self.now; part = fresh_part worker } }
+    {
+        let own = self.table.shared.split_seat::<FirstPart>(seat);
+        WorkerSeat {
+            seat: own,
+            worker,
+            drafted: false,
+            entries,
+        }
+    }
+}
+
+/// Room for a seat of each worker.
+fn room_for_seats(alloc: Global, shape: Shape) -> Result<Vec<WorkerSeat>, NoMemory>
+    ensures { IfOk result (λ seats. (seats.items ≡ []) × (shape.workers ≤ vec_capacity seats)) }
+{
+    match Vec::with_capacity(alloc, shape.workers as usize) {
+        Ok(seats) => Ok(seats),
+        Err(_) => Err(NoMemory),
+    }
+}
+
+/// Room for the entries of one worker.
+fn room_for_entries(alloc: Global, shape: Shape) -> Result<Vec<Entry>, NoMemory>
+    ensures { IfOk result (λ entries. (entries.items ≡ []) × (shape.jobs ≤ vec_capacity entries)) }
+{
+    match Vec::with_capacity(alloc, shape.jobs as usize) {
+        Ok(entries) => Ok(entries),
+        Err(_) => Err(NoMemory),
+    }
+}

@@ -1,0 +1,100 @@
+-- What was gathered, with each lock filled from it, is a close.
+use Rattle.std.proofs.Common.{◌≡◌, ℕ, ◌<◌, List, [], ◌++◌, length, refl, sym, ◌∙◌, ap, subst, arith}
+use Rattle.std.specs.Prelude.{true, slice_get, Option, Some, None}
+use Rattle.std.specs.List.Sorted.{IsPermutation, IsSorted}
+use Rattle.std.proofs.lemmas.List.Sorted.{IsPermutation-trans}
+use Rattle.std.proofs.lemmas.Option.{slice_get_within}
+use Rattle.rme_words.specs.declared.shape.Shape.{Shape}
+use Rattle.rme_words.specs.declared.address.Address.{Address}
+use Rattle.rme_words.specs.Words.{Memory}
+use Rattle.rme_tree.specs.Nodes.{owner_in}
+use Rattle.rme_program.specs.declared.note.Entry.{Entry}
+use Rattle.rme_machine.specs.Fact.{Fact}
+use Rattle.rme_machine.specs.Histories.{entries_at, entries_by}
+use Rattle.rme_machine.specs.Shown.{Privates, shown}
+use Rattle.rme_machine.specs.ShownCells.{ShownCells, is_settled}
+use Rattle.rme_machine.proofs.Tables.{tables}
+use Rattle.rme_history.specs.Places.{place_order}
+use Rattle.rme_history.proofs.Machines.{legal_both}
+use Rattle.rme_history.proofs.Returning.{returning}
+use Rattle.rme_seats.specs.Rule.{bank_words, memory_in, privates_of}
+use Rattle.rme_seats.specs.declared.record.Part.{Part}
+use Rattle.rme_seats.specs.Stands.{Stand}
+use Rattle.rme_seats.specs.Closing.{entries_given, Gathers}
+use Rattle.rme_table.specs.declared.closed.ClosedLock.{ClosedLock}
+use Rattle.rme_table.specs.Downs.{all_given}
+use Rattle.rme_table.specs.Filling.{HasRoom, HaveRoom, IsFilled, is_done}
+use Rattle.rme_table.specs.Closing.{IsClose, IsClosedLock, shown_in}
+use Rattle.rme_table.proofs.Mixed.{history_mixed, lock_mixed}
+
+-- What the words say of a lock being settled is what the state shows.
+settled_as : (s : Shape) (mem : Address → ℕ) (privs : Privates) (es : List Entry) (lock : ℕ) (owner : Option ℕ) → Fact s mem privs es → lock < s.locks → owner_in s mem lock ≡ owner
+    → is_done mem owner ≡ is_settled (shown s mem privs es) lock
+settled_as s mem privs es lock None fact below is = sym (tables.free s mem privs es lock fact below is)
+settled_as s mem privs es lock (Some worker) fact below is = sym (tables.owned s mem privs es lock worker fact below is)
+
+module _ (s : Shape) (downs : List Stand) (before after : List ℕ) (old new sorted : List Entry) (g : Gathers s downs before old after new) (none : before ≡ []) (nothing : old ≡ [])
+    (all : all_given s downs ≡ true) (mixes : IsPermutation new sorted) (order : IsSorted place_order sorted) where
+  entries_are : new ≡ entries_given downs
+  entries_are = g.entries ∙ ap (λ (es : List Entry). es ++ entries_given downs) nothing
+
+  own : (k : ℕ) (d : Stand) → slice_get downs k ≡ Some d → (d.part.worker < s.workers) × (entries_by g.history d.part.worker ≡ d.part.entries)
+  own k d at =
+      let given = g.given k d at in
+      (given.worker, (g.world.books d.part.worker given.worker).entries ∙ ap (λ (p : Part). p.entries) given.here)
+
+  sorts : IsPermutation (entries_given downs) sorted
+  sorts = subst (λ (es : List Entry). IsPermutation es sorted) entries_are mixes
+
+  back : (lock : ℕ) → entries_at sorted lock ≡ entries_at g.history lock
+  back =
+      returning s g.history sorted ((legal_both s g.history).0 g.world.fact.legal).1
+      (IsPermutation-trans _ _ _ (history_mixed s g.history downs g.world.fact.legal all own g.apart) sorts) order
+
+  -- The room that was taken is room for the entries as they are sorted.
+  pub still_room : (bank : Memory) (entries : List Entry) (rooms : List ClosedLock) → bank.shape ≡ s → entries ≡ sorted → HaveRoom s (entries_given downs) rooms → HaveRoom bank.shape entries rooms
+  still_room bank entries rooms shaped same have =
+      let P : Shape → List Entry → Type 0 = λ (x : Shape) (es : List Entry). HaveRoom x es rooms in
+      let here : P s sorted = record {
+        count = have.count;
+        each = λ lock room at. subst (λ (n : ℕ). HasRoom s n room) (sym (lock_mixed lock (entries_given downs) sorted sorts)) (have.each lock room at);
+      } in
+      subst (λ (x : Shape). P x entries) (sym shaped) (subst (λ (es : List Entry). P s es) (sym same) here)
+
+  one_lock : (lock : ℕ) (closed : ClosedLock) → lock < s.locks → IsFilled record { shape = s; words = bank_words g.words } sorted lock closed
+      → IsClosedLock s g.words (shown_in s g.words g.parts g.history) lock closed
+  one_lock lock closed below filled =
+      let mem = memory_in s g.words in
+      let privs = privates_of g.parts in record {
+        cells = filled.cells;
+        as_shown = subst (λ (cells : List ℕ). ShownCells s (shown_in s g.words g.parts g.history) lock cells) (sym filled.cells) ((tables.tables s mem privs g.history g.world.fact).cells lock below);
+        settled = filled.settled ∙ settled_as s mem privs g.history lock (owner_in s mem lock) g.world.fact below refl;
+        entries = filled.its_entries ∙ back lock;
+      }
+
+  pub closes : (bank : Memory) (entries : List Entry) (locks : List ClosedLock) → bank ≡ record { shape = s; words = after } → entries ≡ sorted → length locks ≡ bank.shape.locks
+      → ((lock : ℕ) (closed : ClosedLock) → slice_get locks lock ≡ Some closed → IsFilled bank entries lock closed) → IsClose s downs locks
+  closes bank entries locks is same count filled = record {
+    words = g.words;
+    parts = g.parts;
+    history = g.history;
+    world = g.world;
+    given = g.given;
+    all = all;
+    legal = g.world.fact.legal;
+    count = long;
+    each = λ lock closed at.
+        let within = slice_get_within locks lock closed at in
+        one_lock lock closed (omega (arith, within, long)) (moved lock closed (filled lock closed at));
+  }
+    where
+      whole : bank ≡ record { shape = s; words = bank_words g.words }
+      whole = is ∙ ap {B = Memory} (λ (ws : List ℕ). record { shape = s; words = ws }) (g.bank ∙ ap (λ (ws : List ℕ). ws ++ bank_words g.words) none)
+
+      long : length locks ≡ s.locks
+      long = count ∙ ap (λ (m : Memory). m.shape.locks) whole
+
+      moved : (lock : ℕ) (closed : ClosedLock) → IsFilled bank entries lock closed → IsFilled record { shape = s; words = bank_words g.words } sorted lock closed
+      moved lock closed fills =
+          let P : Memory → List Entry → Type 0 = λ (m : Memory) (es : List Entry). IsFilled m es lock closed in
+          subst (λ (m : Memory). P m sorted) whole (subst (λ (es : List Entry). P bank es) same fills)

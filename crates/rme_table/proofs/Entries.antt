@@ -1,0 +1,105 @@
+-- Lists that are gone through from the front: what is counted and what is kept of them.
+use Rattle.std.proofs.Common.{◌≡◌, ℕ, zero, suc, ◌+◌, ◌<◌, ◌≤◌, List, [], ◌∷◌, ◌++◌, length, take, get_or, refl, sym, ◌∙◌, ap, inl, inr, arith}
+use Rattle.std.specs.Prelude.{Bool, true, false, ◌==◌, filter, if◌then◌else◌}
+use Rattle.std.specs.List.{list_all, range_with_len}
+use Rattle.std.proofs.lemmas.Bool.{cases_Bool, cases_eq, eq-eqb, and_parts}
+use Rattle.std.proofs.lemmas.List.{length-append, append-nil}
+use Rattle.std.proofs.lemmas.List.Elements.{filter-append}
+use Rattle.rme_program.specs.declared.note.Entry.{Entry}
+use Rattle.rme_machine.specs.Histories.{entries_at}
+use Rattle.rme_seats.specs.Rule.{total}
+use Rattle.rme_seats.specs.Stands.{Stand}
+use Rattle.rme_seats.specs.Closing.{entries_given}
+
+-- One more is counted.
+pub total_more : {A : Type 0} (f : A → ℕ) (xs : List A) (i : ℕ) (d : A) → i < length xs → total f (take (suc i) xs) ≡ total f (take i xs) + f (get_or xs i d)
+total_more f [] i d within = absurd (omega (arith, within))
+total_more f (x ∷ xs) zero d within = omega arith
+total_more f (x ∷ xs) (suc i) d within = let rest = total_more f xs i d (omega (arith, within)) in omega (arith, rest)
+
+-- One more is looked at.
+filter_more : {A : Type 0} (p : A → Bool) (xs : List A) (i : ℕ) (d : A) → i < length xs
+    → filter p (take (suc i) xs) ≡ filter p (take i xs) ++ filter p (get_or xs i d ∷ [])
+filter_more p [] i d within = absurd (omega (arith, within))
+filter_more p (x ∷ xs) zero d within = refl
+filter_more p (x ∷ xs) (suc i) d within =
+    let rest = filter_more p xs i d (omega (arith, within)) in
+    elim (cases_Bool (p x)) [
+      | inl t ↦ rw t (ap (λ (ys : List _). x ∷ ys) rest)
+      | inr f ↦ rw f rest
+    ]
+
+one_more : (i : ℕ) → i + 1 ≡ suc i
+one_more i = omega arith
+
+module _ (lock : ℕ) (es : List Entry) (i : ℕ) (d : Entry) (within : i < length es) where
+  more : entries_at (take (i + 1) es) lock ≡ entries_at (take i es) lock ++ entries_at (get_or es i d ∷ []) lock
+  more = ap (λ (k : ℕ). entries_at (take k es) lock) (one_more i) ∙ filter_more (λ (e : Entry). e.receipt.lock == lock) es i d within
+
+  pub kept_one : ((get_or es i d).receipt.lock == lock) ≡ true → entries_at (take (i + 1) es) lock ≡ entries_at (take i es) lock ++ get_or es i d ∷ []
+  kept_one is = more ∙ ap (λ (b : Bool). entries_at (take i es) lock ++ (if b then get_or es i d ∷ [] else [])) is
+
+  pub left_one : ((get_or es i d).receipt.lock == lock) ≡ false → entries_at (take (i + 1) es) lock ≡ entries_at (take i es) lock
+  left_one is = more ∙ ap (λ (b : Bool). entries_at (take i es) lock ++ (if b then get_or es i d ∷ [] else [])) is ∙ append-nil (entries_at (take i es) lock)
+
+-- What is kept of the first ones is no more than what is kept of all.
+pub few_kept : (lock : ℕ) (es : List Entry) (i : ℕ) → length (entries_at (take i es) lock) ≤ length (entries_at es lock)
+few_kept lock [] zero = omega arith
+few_kept lock [] (suc i) = omega arith
+few_kept lock (e ∷ es) zero = omega arith
+few_kept lock (e ∷ es) (suc i) = elim (cases_Bool (e.receipt.lock == lock)) [
+  | inl t ↦ rw t (let rest = few_kept lock es i in omega (arith, rest))
+  | inr f ↦ rw f (few_kept lock es i)
+]
+
+-- The entries of all are as many as those of each together.
+pub all_counted : (downs : List Stand) → length (entries_given downs) ≡ total (λ (down : Stand). length down.part.entries) downs
+all_counted [] = refl
+all_counted (d ∷ downs) = let rest = all_counted downs in let both = length-append (entries_given downs) d.part.entries in omega (arith, rest, both)
+
+pub lock_counted : (lock : ℕ) (downs : List Stand) → length (entries_at (entries_given downs) lock) ≡ total (λ (down : Stand). length (entries_at down.part.entries lock)) downs
+lock_counted lock [] = refl
+lock_counted lock (d ∷ downs) =
+    let rest = lock_counted lock downs in
+    let apart = ap (λ (es : List Entry). length es) (filter-append (λ (e : Entry). e.receipt.lock == lock) (entries_given downs) d.part.entries) in
+    let both = length-append (entries_at (entries_given downs) lock) (entries_at d.part.entries lock) in
+    omega (arith, rest, apart, both)
+
+-- All of a row pass a test where each does, and the other way round.
+pub all_pass : (p : ℕ → Bool) (from n : ℕ) → ((w : ℕ) → w < from + n → p w ≡ true) → list_all p (range_with_len from n) ≡ true
+all_pass p from zero each = refl
+all_pass p from (suc n) each = rw (each from (omega arith)) (all_pass p (from + 1) n (λ w less. each w (omega (arith, less))))
+
+pub each_passes : (p : ℕ → Bool) (from n w : ℕ) → list_all p (range_with_len from n) ≡ true → from ≤ w → w < from + n → p w ≡ true
+each_passes p from zero w all low high = absurd (omega (arith, low, high))
+each_passes p from (suc n) w all low high =
+    let both = and_parts (p from) (list_all p (range_with_len (from + 1) n)) all in
+    elim (cases_eq w from) [
+      | inl e ↦ ap p e ∙ both.0
+      | inr apart ↦ each_passes p (from + 1) n w both.1 (omega (arith, low, apart)) (omega (arith, high))
+    ]
+
+pub one_fails : (p : ℕ → Bool) (n w : ℕ) → w < n → p w ≡ false → list_all p (range_with_len 0 n) ≡ false
+one_fails p n w less fails = elim (cases_Bool (list_all p (range_with_len 0 n))) [
+  | inl all ↦ (let passes = each_passes p 0 n w all (omega arith) (omega (arith, less)) in cc)
+  | inr otherwise ↦ otherwise
+]
+
+-- One more is counted, where the count is kept in a number.
+pub total_next : {A : Type 0} (f : A → ℕ) (xs : List A) (i : ℕ) (d : A) (before later here : ℕ) → before ≡ total f (take i xs) → i < length xs → d ≡ get_or xs i d → here ≡ f d
+    → later ≡ before + here → later ≡ total f (take (i + 1) xs)
+total_next f xs i d before later here so_far within is its adds =
+    let one = total_more f xs i d within in
+    let same : f d ≡ f (get_or xs i d) = ap f is in
+    let more : total f (take (i + 1) xs) ≡ total f (take (suc i) xs) = ap (λ (k : ℕ). total f (take k xs)) (one_more i) in
+    omega (arith, so_far, its, adds, one, same, more)
+
+-- There is room for one more of a lock.
+pub room_kept : (lock : ℕ) (es own : List Entry) (i : ℕ) (d : Entry) (room : ℕ) → own ≡ entries_at (take i es) lock → i < length es → d ≡ get_or es i d → d.receipt.lock ≡ lock
+    → length (entries_at es lock) ≤ room → length own < room
+room_kept lock es own i d room is within here its wide =
+    let kept = kept_one lock es i d within (eq-eqb (get_or es i d).receipt.lock lock (ap (λ (e : Entry). e.receipt.lock) (sym here) ∙ its)) in
+    let long : length (entries_at (take (i + 1) es) lock) ≡ length (entries_at (take i es) lock) + 1 = ap (λ (xs : List Entry). length xs) kept ∙ length-append (entries_at (take i es) lock) (get_or es i d ∷ []) in
+    let few = few_kept lock es (i + 1) in
+    let now : length own ≡ length (entries_at (take i es) lock) = ap (λ (xs : List Entry). length xs) is in
+    omega (arith, long, few, now, wide)

@@ -1,0 +1,9 @@
+pub mod Entries
+pub mod Filled
+pub mod Mixed
+pub mod Closes
+pub mod Holding
+pub mod Lasts
+pub mod Drafts
+pub mod Owners
+pub mod Leavings

@@ -1,0 +1,22 @@
+use Rattle.std.proofs.Common.{arith, subst}
+use Rattle.rme_seats.specs.Stands.{Ident}
+use Rattle.rme_table.specs.Calls.{HoldsNone}
+use Rattle.rme_table.proofs.Holding.{holds_none, seen_made, seen_fell, climbs_below, same_height}
+use Rattle.rme_table.proofs.kinds.Climb.withdraw.Goals as goal
+
+pub returns-in_default-clause-made : goal.returns-in_default-clause-made
+returns-in_default-clause-made g c =
+    let below = climbs_below _ _ _ _ _ c.self.invariant in
+    let height = same_height c.self.view_is c.service.view_is c.requires.ours in
+    seen_fell c.self.view_is c.service.view_is c.in_default.ensures (omega (arith, below.1, height))
+
+pub returns-clause-made : goal.returns-clause-made
+returns-clause-made g c =
+    let below = climbs_below _ _ _ _ _ c.self.invariant in
+    let height = same_height c.self.view_is c.service.view_is c.requires.ours in
+    seen_made c.self.view_is c.service.view_is c.in-Ok.ensures (omega arith) (omega (arith, below.1, height))
+
+pub returns-clause-holds_none : goal.returns-clause-holds_none
+returns-clause-holds_none g c =
+    let doing = c.in-Ok.ensures in
+    subst (λ (x : Ident). HoldsNone x.shape c.withdraw.new.seat.part) c.service.view_is (holds_none _ _ _ doing.at)

@@ -1,0 +1,102 @@
+//! A worker that waits for the lock of its job.
+
+use crate::down::Down;
+use crate::job::read_job;
+use crate::kinds::{Climb, Held, Ready, Sweep};
+use crate::service::Service;
+use rme_phases::{Climbed, climb, withdraw};
+use rme_script::Job;
+use rme_seats::Chance;
+
+impl Climb {
+    ghost use Rattle.std.specs.Prelude.{◌≡◌, ◌≢◌, ◌+◌, ◌*◌, ◌<◌, MatchResult};
+    ghost use Rattle.rme_program.specs.declared.kinds.Phase.{Phase};
+    ghost use Rattle.rme_program.specs.Phases.{phase_of};
+    ghost use Rattle.rme_seats.specs.Doing.{Falling};
+    ghost use Rattle.std.specs.Prelude.{Some};
+    ghost use Rattle.rme_seats.specs.Parts.{withdrawing};
+    ghost use Rattle.rme_table.specs.Calls.{HoldsNone, Made, Sweeps};
+
+    /// The worker's number.
+    pub fn worker(&self) -> u32
+        ensures worker { result ≡ self.now.part.worker }
+        ensures phase { phase_of self.now.part.private.stage ≡ Phase.Enter }
+    {
+        self.seat.worker()
+    }
+
+    /// The number of its job.
+    pub fn number(&self) -> u32
+        ensures { result ≡ self.now.part.private.begun }
+    {
+        self.begun
+    }
+
+    /// The job that it waits with, read from its slate.
+    pub fn job(&mut self, service: &Service) -> Job
+        requires ours { self.old.ident ≡ service.now }
+        ensures same { self.new ≡ self.old }
+        ensures draft { self.old.part.draft ≡ Some result }
+    {
+        read_job(&mut self.seat, &service.words, self.lock)
+    }
+
+    /// One sweep: climbs until the root is taken, or the first node that another holds.
+    pub fn try_enter<C: Chance>(self, service: &Service, chance: &mut C) -> Sweep
+        requires ours { self.ident ≡ service.now }
+        ensures { Sweeps service.now.shape self (C.tally chance.old) (C.tally chance.new) result }
+    {
+        let Climb {
+            mut seat,
+            begun,
+            lock,
+            held,
+        } = self;
+        match climb(&mut seat, &service.words, chance, lock, held) {
+            Err(_) => Sweep::Fell(Down { seat }),
+            Ok(Climbed::Entered) => Sweep::Got(Held {
+                seat,
+                begun,
+                lock,
+                pending: true,
+            }),
+            Ok(Climbed::Blocked { held }) => Sweep::Blocked(Climb {
+                seat,
+                begun,
+                lock,
+                held,
+            }),
+        }
+    }
+
+    /// Gives the job up: its number is withdrawn, all nodes are released, and the worker is ready again.
+    pub fn withdraw<C: Chance>(self, service: &Service, chance: &mut C) -> Result<Ready, Down>
+        requires ours { self.ident ≡ service.now }
+        ensures made { MatchResult result (λ ready. Made service.now.shape withdrawing self ready (C.tally chance.old) (C.tally chance.new) 4 (service.now.shape.height + 3)) (λ down. Falling service.now.shape withdrawing self down (C.tally chance.old) (C.tally chance.new) (service.now.shape.height + 3)) }
+        ensures holds_none { MatchResult result (λ ready. HoldsNone service.now.shape ready.part) (λ _. Unit {0}) }
+    {
+        let Climb {
+            mut seat,
+            begun,
+            lock,
+            held,
+        } = self;
+        let Ok(()) = withdraw(&mut seat, &service.words, chance, lock, held, begun) else {
+            return Err(Down { seat });
+        };
+        Ok(Ready { seat, begun })
+    }
+
+    /// The worker falls.
+    pub fn crash(self) -> Down
+        ensures { result ≡ self }
+    {
+        let Climb {
+            seat,
+            begun: _,
+            lock: _,
+            held: _,
+        } = self;
+        Down { seat }
+    }
+}

@@ -1,0 +1,30 @@
+//! What a closed service answers.
+
+use crate::down::Down;
+use crate::service::Service;
+use rme_program::Entry;
+use rme_words::Refusal;
+
+/// What the locks of a closed service are, in order.
+#[derive(Drop)]
+pub struct Closed {
+    pub locks: Vec<ClosedLock>,
+}
+
+/// A lock of a closed service: its cells, whether they are settled, which they are not where it has an owner
+/// whose section is not finished, and its finished sections in the order of their places.
+#[derive(Drop)]
+pub struct ClosedLock {
+    pub cells: Vec<u64>,
+    pub settled: bool,
+    pub entries: Vec<Entry>,
+}
+
+/// The service was not closed; it and all that was given come back unchanged. `why` is `NoWorker` where some
+/// worker's Down was not given, and else `NoMemory`.
+#[derive(Drop)]
+pub struct Unclosed {
+    pub why: Refusal,
+    pub service: Service,
+    pub downs: Vec<Down>,
+}

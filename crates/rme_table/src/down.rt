@@ -1,0 +1,49 @@
+//! A worker that is down.
+
+use rme_program::Entry;
+use rme_seats::WorkerSeat;
+use std::marker::Model;
+
+/// A worker that is down: all that it has in the service, and its finished sections.
+///
+/// It may be dropped. That worker never comes back then, and what it owns stays its own.
+#[derive(Drop)]
+pub struct Down {
+    pub(crate) seat: WorkerSeat,
+}
+
+impl Model for Down {
+    ghost use Rattle.rme_seats.specs.Stands.{Stand};
+
+    ghost Value = { Stand };
+
+    ghost view = { λ down. down.seat };
+}
+
+impl Down {
+    ghost use Rattle.std.specs.Prelude.{◌≡◌};
+    ghost use Rattle.rme_seats.specs.Steps.{Stood};
+    ghost use Rattle.rme_table.specs.Downs.{is_fresh};
+
+    /// The worker's number.
+    pub fn worker(&self) -> u32
+        ensures worker { result ≡ self.now.part.worker }
+        ensures stood { Stood self.now.ident.shape self.now.part }
+    {
+        self.seat.worker()
+    }
+
+    /// The worker's finished sections, in order.
+    pub fn entries(&self) -> &[Entry]
+        ensures { result.now ≡ self.now.part.entries }
+    {
+        self.seat.entries()
+    }
+
+    /// Whether the worker has no finished section, and was never handed a job.
+    pub fn fresh(&self) -> bool
+        ensures { result ≡ is_fresh self.now.part }
+    {
+        !self.seat.is_drafted() && self.seat.entries().is_empty()
+    }
+}

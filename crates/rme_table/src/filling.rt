@@ -1,0 +1,85 @@
+//! Each lock of a closed service, from the words and the entries.
+
+ghost use Rattle.std.specs.Prelude.{◌≡◌, ℕ, ◌<◌, ◌≤◌, [], length, slice_get, vec_capacity, Some};
+ghost use Rattle.rme_words.specs.Words.{memory_of};
+ghost use Rattle.rme_tree.specs.Nodes.{owner_in};
+ghost use Rattle.rme_machine.specs.Histories.{entries_at};
+ghost use Rattle.rme_machine.specs.Views.{lock_words, worker_words, is_pending};
+ghost use Rattle.rme_table.specs.declared.closed.ClosedLock.{ClosedLock};
+ghost use Rattle.rme_table.specs.Filling.{HasRoom, HaveRoom, IsFilled, is_done};
+
+use crate::closed::ClosedLock;
+use rme_program::Entry;
+use rme_tree::owner;
+use rme_words::{Address, Bank};
+
+/// Fills the room of all locks.
+pub(crate) fn fill_all(
+    mut locks: Vec<ClosedLock>,
+    bank: &Bank,
+    entries: &[Entry],
+) -> Vec<ClosedLock>
+    requires { HaveRoom bank.now.shape entries.now locks.items }
+    ensures count { length result.items ≡ bank.now.shape.locks }
+    ensures filled { (lock : ℕ) (closed : ClosedLock) → slice_get result.items lock ≡ Some closed → IsFilled bank.now entries.now lock closed }
+{
+    for lock in 0..bank.shape().locks {
+        fill(&mut locks[lock as usize], bank, entries, lock);
+    }
+    locks
+}
+
+/// Fills the room of one lock.
+fn fill(room: &mut ClosedLock, bank: &Bank, entries: &[Entry], lock: u32)
+    requires lock { lock < bank.now.shape.locks }
+    requires room { HasRoom bank.now.shape (length (entries_at entries.now lock)) room.old }
+    ensures { IsFilled bank.now entries.now lock room.new }
+{
+    put_cells(&mut room.cells, bank, lock);
+    room.settled = settled(bank, lock);
+    put_entries(&mut room.entries, entries, lock);
+}
+
+/// Puts the cells of a lock to an empty list.
+fn put_cells(cells: &mut Vec<u64>, bank: &Bank, lock: u32)
+    requires lock { lock < bank.now.shape.locks }
+    requires none { cells.old.items ≡ [] }
+    requires room { bank.now.shape.cells ≤ vec_capacity cells.old }
+    ensures { cells.new.items ≡ (lock_words bank.now.shape (memory_of bank.now) lock).cells }
+{
+    for cell in 0..bank.shape().cells {
+        cells.push_reserved(bank.load(Address::Cell(lock, cell)));
+    }
+}
+
+/// A lock has no owner, or its owner's section is finished.
+fn settled(bank: &Bank, lock: u32) -> bool
+    requires { lock < bank.now.shape.locks }
+    ensures { result ≡ is_done (memory_of bank.now) (owner_in bank.now.shape (memory_of bank.now) lock) }
+{
+    match owner(bank, lock) {
+        None => true,
+        Some(worker) => !pending(bank, worker),
+    }
+}
+
+/// A worker's last job is begun and not done.
+fn pending(bank: &Bank, worker: u32) -> bool
+    requires { worker < bank.now.shape.workers }
+    ensures { result ≡ is_pending (worker_words (memory_of bank.now) worker) }
+{
+    bank.load(Address::Done(worker)) < bank.load(Address::Begun(worker))
+}
+
+/// Puts those of the entries that are of a lock to an empty list, in order.
+fn put_entries(own: &mut Vec<Entry>, entries: &[Entry], lock: u32)
+    requires none { own.old.items ≡ [] }
+    requires room { length (entries_at entries.now lock) ≤ vec_capacity own.old }
+    ensures { own.new.items ≡ entries_at entries.now lock }
+{
+    for entry in entries {
+        if entry.receipt.lock == lock {
+            own.push_reserved(*entry);
+        }
+    }
+}

@@ -1,0 +1,136 @@
+//! A worker that owns the lock of its job.
+
+use crate::down::Down;
+use crate::job::read_job;
+use crate::kinds::{Held, Leave};
+use crate::service::Service;
+use crate::way::Way;
+use rme_phases::perform;
+use rme_program::Receipt;
+use rme_script::Job;
+use rme_seats::Chance;
+
+impl Held {
+    ghost use Rattle.std.specs.Prelude.{◌≡◌, ◌≢◌, ◌+◌, ◌*◌, ◌<◌, MatchResult};
+    ghost use Rattle.rme_program.specs.declared.kinds.Phase.{Phase};
+    ghost use Rattle.rme_program.specs.Phases.{phase_of};
+    ghost use Rattle.rme_seats.specs.Doing.{Falling};
+    ghost use Rattle.std.specs.Prelude.{Some, false, true, List, [], ◌∷◌, ◌++◌};
+    ghost use Rattle.rme_program.specs.declared.note.Entry.{Entry};
+    ghost use Rattle.rme_seats.specs.Parts.{onward};
+    ghost use Rattle.rme_table.specs.Calls.{OwnsLock, Performed, IsTold, is_over, held_phase};
+
+    /// The worker's number.
+    pub fn worker(&self) -> u32
+        ensures worker { result ≡ self.now.part.worker }
+        ensures phase { phase_of self.now.part.private.stage ≡ held_phase (is_over self.now.part.private.stage) }
+    {
+        self.seat.worker()
+    }
+
+    /// The number of its job.
+    pub fn number(&self) -> u32
+        ensures { result ≡ self.now.part.private.begun }
+    {
+        self.begun
+    }
+
+    /// The lock that it owns.
+    pub fn lock(&self) -> u32
+        ensures { OwnsLock self.now.ident.shape self.now.part result }
+    {
+        self.lock
+    }
+
+    /// Whether its job is finished already.
+    pub fn finished(&self) -> bool
+        ensures { result ≡ is_over self.now.part.private.stage }
+    {
+        !self.pending
+    }
+
+    /// The job that it is inside with, read from its slate; the job is not finished.
+    pub fn job(&mut self, service: &Service) -> Job
+        requires ours { self.old.ident ≡ service.now }
+        requires pending { is_over self.old.part.private.stage ≡ false }
+        ensures same { self.new ≡ self.old }
+        ensures draft { self.old.part.draft ≡ Some result }
+    {
+        read_job(&mut self.seat, &service.words, self.lock)
+    }
+
+    /// Runs the section, or redoes it where it was begun before a crash, so that it counts once, and answers the
+    /// job's receipt; one that is finished already answers its receipt without an own step.
+    pub fn perform<C: Chance>(
+        self,
+        service: &Service,
+        chance: &mut C,
+    ) -> Result<(Leave, Receipt), Down>
+        requires ours { self.ident ≡ service.now }
+        ensures { MatchResult result (λ done. Performed service.now.shape (is_over self.part.private.stage) self done.0 (C.tally chance.old) (C.tally chance.new) done.1) (λ down. Falling service.now.shape onward self down (C.tally chance.old) (C.tally chance.new) (35 + service.now.shape.cells * 4)) }
+    {
+        if !self.pending {
+            return Ok(self.told());
+        }
+        let Held {
+            mut seat,
+            begun,
+            lock,
+            pending: _,
+        } = self;
+        let Ok(receipt) = perform(&mut seat, &service.words, chance, begun, lock) else {
+            return Err(Down { seat });
+        };
+        let way = Way::Whole;
+        Ok((
+            Leave {
+                seat,
+                begun,
+                lock,
+                way,
+            },
+            receipt,
+        ))
+    }
+
+    /// The receipt of a job that is finished.
+    fn told(self) -> (Leave, Receipt)
+        requires over { is_over self.part.private.stage ≡ true }
+        ensures same { result.0 ≡ self }
+        ensures last { (before : List Entry) × (last : Entry) × (self.part.entries ≡ before ++ last ∷ []) × (last.receipt ≡ result.1) }
+    {
+        let Held {
+            seat,
+            begun,
+            lock,
+            pending: _,
+        } = self;
+        let Some(entry) = seat.entries().last() else {
+            unreachable!();
+        };
+        let receipt = entry.receipt;
+        let way = Way::Whole;
+        (
+            Leave {
+                seat,
+                begun,
+                lock,
+                way,
+            },
+            receipt,
+        )
+    }
+
+    /// The worker falls.
+    pub fn crash(self) -> Down
+        ensures { result ≡ self }
+    {
+        let Held {
+            seat,
+            begun: _,
+            lock: _,
+            pending: _,
+        } = self;
+        Down { seat }
+    }
+}

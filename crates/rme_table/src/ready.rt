@@ -1,0 +1,128 @@
+//! A worker that is ready: it may post a job.
+
+ghost use Rattle.std.specs.Prelude.{◌≡◌};
+ghost use Rattle.rme_table.specs.Calls.{last_receipt};
+
+use crate::down::Down;
+use crate::kinds::{Climb, Posted, Ready};
+use crate::service::Service;
+use rme_phases::post;
+use rme_program::{Entry, Receipt, WITHDRAWN_PLACE};
+use rme_script::Job;
+use rme_seats::{Chance, Posting};
+use rme_words::Refusal;
+use std::marker::Brand;
+
+impl Ready {
+    ghost use Rattle.std.specs.Prelude.{◌≡◌, ◌≢◌, ◌+◌, ◌*◌, ◌<◌, MatchResult};
+    ghost use Rattle.rme_program.specs.declared.kinds.Phase.{Phase};
+    ghost use Rattle.rme_program.specs.Phases.{phase_of};
+    ghost use Rattle.rme_seats.specs.Doing.{Falling};
+    ghost use Rattle.rme_script.specs.declared.job.Job.{Job};
+    ghost use Rattle.rme_words.specs.declared.refusal.Refusal.{Refusal};
+    ghost use Rattle.std.specs.Prelude.{OnOk, IfErr, None, Some};
+    ghost use Rattle.rme_program.specs.Conditions.{IsJob};
+    ghost use Rattle.rme_table.specs.Calls.{HoldsNone, Posts, IsLast, post_refusal};
+
+    /// The worker's number.
+    pub fn worker(&self) -> u32
+        ensures worker { result ≡ self.now.part.worker }
+        ensures phase { phase_of self.now.part.private.stage ≡ Phase.Ready }
+        ensures holds_none { HoldsNone self.now.ident.shape self.now.part }
+    {
+        self.seat.worker()
+    }
+
+    /// The number of the job that was finished or withdrawn last, or 0.
+    pub fn number(&self) -> u32
+        ensures { result ≡ self.now.part.private.begun }
+    {
+        self.begun
+    }
+
+    /// Posts a job: it has its number then, and waits for its lock.
+    ///
+    /// `NoLock` where there is no such lock, then `BadScript` where it has more than 8 operations, then `NoCell`
+    /// where it names a cell that is not there, then `TooManyJobs` where the worker has begun as many as the
+    /// shape has.
+    pub fn post<C: Chance>(self, service: &Service, job: Job, chance: &mut C) -> Posted
+        requires ours { self.ident ≡ service.now }
+        ensures { Posts service.now.shape job self (C.tally chance.old) (C.tally chance.new) result }
+    {
+        if let Err(refusal) = self.may_post(service, &job) {
+            return Posted::Refused(self, refusal);
+        }
+        self.put::<Brand, C>(service, &job, chance)
+    }
+
+    /// Whether the job may be posted, or why it may not.
+    fn may_post(&self, service: &Service, job: &Job) -> Result<(), Refusal>
+        ensures may { OnOk result (IsJob service.now.shape job.now × (self.now.part.private.begun < service.now.shape.jobs)) }
+        ensures none { OnOk result (post_refusal service.now.shape self.now.part.private.begun job.now ≡ None) }
+        ensures refused { IfErr result (λ refusal. post_refusal service.now.shape self.now.part.private.begun job.now ≡ Some refusal) }
+    {
+        let shape = service.shape();
+        if job.lock >= shape.locks() {
+            return Err(Refusal::NoLock);
+        }
+        if let Err(refusal) = job.script.check(shape) {
+            return Err(refusal);
+        }
+        if self.begun >= shape.jobs() {
+            return Err(Refusal::TooManyJobs);
+        }
+        Ok(())
+    }
+
+    /// Posts a job that may be posted.
+    fn put<J: Posting, C: Chance>(self, service: &Service, job: &Job, chance: &mut C) -> Posted
+        requires ours { self.ident ≡ service.now }
+        requires named { job.now ≡ J.job }
+        requires good { IsJob service.now.shape job.now }
+        requires few { self.part.private.begun < service.now.shape.jobs }
+        requires none { post_refusal service.now.shape self.part.private.begun job.now ≡ None }
+        ensures { Posts service.now.shape job.now self (C.tally chance.old) (C.tally chance.new) result }
+    {
+        let Ready { mut seat, begun } = self;
+        if post::<J, C>(&mut seat, &service.words, chance, begun, job).is_err() {
+            return Posted::Fell(Down { seat });
+        }
+        Posted::Asked(Climb {
+            seat,
+            begun: begun + 1,
+            lock: job.lock,
+            held: 0,
+        })
+    }
+
+    /// The receipt of the worker's last job: `None` where it has none, and where the last number was withdrawn.
+    pub fn last(&mut self, service: &Service) -> Option<Receipt>
+        requires ours { self.old.ident ≡ service.now }
+        ensures same { self.new ≡ self.old }
+        ensures last { IsLast service.now.shape self.old.part result }
+    {
+        let at = service.shape().place_at(self.seat.worker());
+        if self.seat.look(&service.words, at) == WITHDRAWN_PLACE {
+            return None;
+        }
+        last_receipt(self.seat.entries())
+    }
+
+    /// The worker falls.
+    pub fn crash(self) -> Down
+        ensures { result ≡ self }
+    {
+        let Ready { seat, begun: _ } = self;
+        Down { seat }
+    }
+}
+
+/// The receipt of the last entry.
+fn last_receipt(entries: &[Entry]) -> Option<Receipt>
+    ensures { result ≡ last_receipt entries.now }
+{
+    match entries.last() {
+        None => None,
+        Some(entry) => Some(entry.receipt),
+    }
+}

@@ -1,0 +1,50 @@
+//! A worker that comes up.
+
+use crate::down::Down;
+use crate::kinds::{Climb, Held, Leave, Ready, Stance};
+use crate::service::Service;
+use crate::way::Way;
+use rme_phases::{Found, recover};
+use rme_seats::Chance;
+
+impl Down {
+    ghost use Rattle.std.specs.Prelude.{◌≡◌, ◌≢◌, ◌+◌, ◌*◌, ◌<◌, MatchResult};
+    ghost use Rattle.rme_seats.specs.Doing.{Falling};
+    ghost use Rattle.rme_seats.specs.Parts.{restarted};
+    ghost use Rattle.rme_table.specs.Calls.{Made, IsPhased, stand_of};
+
+    /// Comes up after a crash, or for the first time: reads where the last life ended, and goes on from there.
+    /// `Err` where the worker fell again.
+    pub fn recover<C: Chance>(self, service: &Service, chance: &mut C) -> Result<Stance, Down>
+        requires ours { self.ident ≡ service.now }
+        ensures made { MatchResult result (λ stance. Made service.now.shape restarted self (stand_of stance) (C.tally chance.old) (C.tally chance.new) 2 (service.now.shape.height + 3)) (λ down. Falling service.now.shape restarted self down (C.tally chance.old) (C.tally chance.new) (service.now.shape.height + 3)) }
+        ensures phase { MatchResult result (λ stance. IsPhased stance) (λ _. Unit {0}) }
+    {
+        let Down { mut seat } = self;
+        let Ok(recovered) = recover(&mut seat, &service.words, chance) else {
+            return Err(Down { seat });
+        };
+        let begun = recovered.begun;
+        Ok(match recovered.found {
+            Found::Ready => Stance::Ready(Ready { seat, begun }),
+            Found::Climbing { lock, held } => Stance::Climb(Climb {
+                seat,
+                begun,
+                lock,
+                held,
+            }),
+            Found::Inside { lock, pending } => Stance::Held(Held {
+                seat,
+                begun,
+                lock,
+                pending,
+            }),
+            Found::Leaving { lock, level } => Stance::Leave(Leave {
+                seat,
+                begun,
+                lock,
+                way: Way::Partial { level },
+            }),
+        })
+    }
+}

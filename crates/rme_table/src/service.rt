@@ -1,0 +1,31 @@
+//! The service.
+
+use rme_words::Shape;
+use std::alloc::Global;
+use std::marker::Model;
+
+/// A lock service that runs: the shared words of all locks and workers. Threads use it by a `&`.
+#[derive(Drop)]
+pub struct Service {
+    pub(crate) words: rme_seats::Service,
+    pub(crate) alloc: Global,
+}
+
+impl Model for Service {
+    ghost use Rattle.rme_seats.specs.Stands.{Ident};
+
+    ghost Value = { Ident };
+
+    ghost view = { λ service. service.words };
+}
+
+impl Service {
+    ghost use Rattle.std.specs.Prelude.{◌≡◌};
+
+    /// The sizes of the service.
+    pub fn shape(&self) -> Shape
+        ensures { result ≡ self.now.shape }
+    {
+        self.words.shape()
+    }
+}

@@ -1,0 +1,343 @@
+//! The words that the rows are written in: a service and its Downs, and each call with the answer that it must
+//! have.
+
+ghost use Rattle.std.specs.Prelude.{◌≡◌, IfOk, IfSome};
+ghost use Rattle.rme_seats.specs.Closing.{AreOf};
+ghost use Rattle.rme_table.specs.Calls.{is_over};
+
+use crate::chances::Counting;
+use rme_program::{Entry, Receipt};
+use rme_script::{Job, Op, Script};
+use rme_table::{
+    Chance, Climb, Closed, ClosedLock, Down, Held, Leave, Posted, Ready, Service, Stance, Sweep,
+};
+use rme_words::Shape;
+use std::alloc::Global;
+use std::process::Abort;
+use std::test::Fail;
+
+/// A job on a lock.
+pub fn job(lock: u32, operations: &[Op]) -> Job {
+    Job {
+        lock,
+        script: Script::of(operations),
+    }
+}
+
+/// Whether a job is on this lock, with just these operations.
+pub fn is_job(job: &Job, lock: u32, operations: &[Op]) -> bool {
+    job.lock == lock && job.script == Script::of(operations)
+}
+
+/// A new service of these workers, locks, cells and jobs, and its Downs.
+pub fn open(alloc: Global, sizes: (u32, u32, u32, u32)) -> Result<(Service, Vec<Down>), Fail>
+    ensures { IfOk result (λ opened. AreOf opened.0 opened.1.items) }
+{
+    let (workers, locks, cells, jobs) = sizes;
+    Ok(Service::new(alloc, Shape::new(workers, locks, cells, jobs)?)?)
+}
+
+/// The next of the Downs, from the last worker's on.
+pub fn next(rt: &impl Abort, service: &Service, downs: &mut Vec<Down>) -> Down
+    requires ours { AreOf service.now downs.old.items }
+    ensures ours { result.ident ≡ service.now }
+    ensures rest { AreOf service.now downs.new.items }
+{
+    downs.pop().expect(rt, "a Down")
+}
+
+/// A Down as a list.
+pub fn alone(alloc: Global, service: &Service, down: Down) -> Result<Vec<Down>, Fail>
+    requires ours { down.ident ≡ service.now }
+    ensures { IfOk result (λ downs. AreOf service.now downs.items) }
+{
+    let mut downs = Vec::with_capacity(alloc, 1)?;
+    downs.push_reserved(down);
+    Ok(downs)
+}
+
+/// Two Downs as a list.
+pub fn both(alloc: Global, service: &Service, first: Down, second: Down) -> Result<Vec<Down>, Fail>
+    requires first { first.ident ≡ service.now }
+    requires second { second.ident ≡ service.now }
+    ensures { IfOk result (λ downs. AreOf service.now downs.items) }
+{
+    let mut downs = Vec::with_capacity(alloc, 2)?;
+    downs.push_reserved(first);
+    downs.push_reserved(second);
+    Ok(downs)
+}
+
+/// The worker comes up, and must be ready.
+pub fn come_up<C: Chance>(rt: &impl Abort, service: &Service, down: Down, chance: &mut C) -> Ready
+    requires ours { down.ident ≡ service.now }
+    ensures ours { result.ident ≡ service.now }
+{
+    match down.recover(service, chance) {
+        Ok(Stance::Ready(ready)) => ready,
+        _ => panic!(rt; "it is not ready"),
+    }
+}
+
+/// The worker comes up, and must be waiting.
+pub fn come_up_waiting<C: Chance>(
+    rt: &impl Abort,
+    service: &Service,
+    down: Down,
+    chance: &mut C,
+) -> Climb
+    requires ours { down.ident ≡ service.now }
+    ensures ours { result.ident ≡ service.now }
+{
+    match down.recover(service, chance) {
+        Ok(Stance::Climb(climb)) => climb,
+        _ => panic!(rt; "it does not wait"),
+    }
+}
+
+/// The worker comes up, and must own the lock of its job.
+pub fn come_up_inside<C: Chance>(
+    rt: &impl Abort,
+    service: &Service,
+    down: Down,
+    chance: &mut C,
+) -> Held
+    requires ours { down.ident ≡ service.now }
+    ensures ours { result.ident ≡ service.now }
+{
+    match down.recover(service, chance) {
+        Ok(Stance::Held(held)) => held,
+        _ => panic!(rt; "it owns no lock"),
+    }
+}
+
+/// The worker comes up, and must have nodes to release.
+pub fn come_up_leaving<C: Chance>(
+    rt: &impl Abort,
+    service: &Service,
+    down: Down,
+    chance: &mut C,
+) -> Leave
+    requires ours { down.ident ≡ service.now }
+    ensures ours { result.ident ≡ service.now }
+{
+    match down.recover(service, chance) {
+        Ok(Stance::Leave(leave)) => leave,
+        _ => panic!(rt; "it has nothing to release"),
+    }
+}
+
+/// The job is posted, and must be accepted.
+pub fn ask<C: Chance>(
+    rt: &impl Abort,
+    service: &Service,
+    ready: Ready,
+    job: Job,
+    chance: &mut C,
+) -> Climb
+    requires ours { ready.ident ≡ service.now }
+    ensures ours { result.ident ≡ service.now }
+{
+    match ready.post(service, job, chance) {
+        Posted::Asked(climb) => climb,
+        _ => panic!(rt; "it was not asked for"),
+    }
+}
+
+/// A sweep, which must end with the lock.
+pub fn enter<C: Chance>(rt: &impl Abort, service: &Service, climb: Climb, chance: &mut C) -> Held
+    requires ours { climb.ident ≡ service.now }
+    ensures ours { result.ident ≡ service.now }
+{
+    match climb.try_enter(service, chance) {
+        Sweep::Got(held) => held,
+        _ => panic!(rt; "it did not enter"),
+    }
+}
+
+/// A sweep, which must be blocked.
+pub fn meet<C: Chance>(rt: &impl Abort, service: &Service, climb: Climb, chance: &mut C) -> Climb
+    requires ours { climb.ident ≡ service.now }
+    ensures ours { result.ident ≡ service.now }
+{
+    match climb.try_enter(service, chance) {
+        Sweep::Blocked(climb) => climb,
+        _ => panic!(rt; "it was not blocked"),
+    }
+}
+
+/// The job is performed, and must have this receipt: worker, lock, number, place and reply.
+pub fn perform<C: Chance>(
+    rt: &impl Abort,
+    service: &Service,
+    held: Held,
+    told: (u32, u32, u32, u32, u64),
+    chance: &mut C,
+) -> Leave
+    requires ours { held.ident ≡ service.now }
+    ensures ours { result.ident ≡ service.now }
+{
+    match held.perform(service, chance) {
+        Ok((leave, found)) => {
+            assert_eq!(rt; found, receipt(told));
+            leave
+        }
+        _ => panic!(rt; "it fell"),
+    }
+}
+
+/// The worker must fall before its job is performed.
+pub fn fall_inside<C: Chance>(
+    rt: &impl Abort,
+    service: &Service,
+    held: Held,
+    chance: &mut C,
+) -> Down
+    requires ours { held.ident ≡ service.now }
+    ensures ours { result.ident ≡ service.now }
+{
+    match held.perform(service, chance) {
+        Err(down) => down,
+        _ => panic!(rt; "it did not fall"),
+    }
+}
+
+/// The worker leaves, and must be ready then.
+pub fn exit<C: Chance>(rt: &impl Abort, service: &Service, leave: Leave, chance: &mut C) -> Ready
+    requires ours { leave.ident ≡ service.now }
+    ensures ours { result.ident ≡ service.now }
+{
+    match leave.exit(service, chance) {
+        Ok(ready) => ready,
+        _ => panic!(rt; "it fell"),
+    }
+}
+
+/// The job is given up, and the worker must be ready then.
+pub fn give_up<C: Chance>(rt: &impl Abort, service: &Service, climb: Climb, chance: &mut C) -> Ready
+    requires ours { climb.ident ≡ service.now }
+    ensures ours { result.ident ≡ service.now }
+{
+    match climb.withdraw(service, chance) {
+        Ok(ready) => ready,
+        _ => panic!(rt; "it fell"),
+    }
+}
+
+/// The worker must fall before it has given its job up.
+pub fn fall_back<C: Chance>(
+    rt: &impl Abort,
+    service: &Service,
+    climb: Climb,
+    chance: &mut C,
+) -> Down
+    requires ours { climb.ident ≡ service.now }
+    ensures ours { result.ident ≡ service.now }
+{
+    match climb.withdraw(service, chance) {
+        Err(down) => down,
+        _ => panic!(rt; "it did not fall"),
+    }
+}
+
+/// The chance must have been asked so often since it was looked at last.
+pub fn asked(rt: &impl Abort, chance: &mut Counting, times: u32) {
+    assert_eq!(rt; chance.take(), times);
+}
+
+/// A waiting worker must have this number and this job, on this lock.
+pub fn climb_is(
+    rt: &impl Abort,
+    service: &Service,
+    climb: &mut Climb,
+    number: u32,
+    lock: u32,
+    operations: &[Op],
+)
+    requires ours { climb.old.ident ≡ service.now }
+    ensures same { climb.new ≡ climb.old }
+{
+    assert_eq!(rt; climb.number(), number);
+    assert!(rt; is_job(&climb.job(service), lock, operations));
+}
+
+/// A ready worker must have this number and this last receipt.
+pub fn ready_is(
+    rt: &impl Abort,
+    service: &Service,
+    ready: &mut Ready,
+    number: u32,
+    last: Option<Receipt>,
+)
+    requires ours { ready.old.ident ≡ service.now }
+    ensures same { ready.new ≡ ready.old }
+{
+    assert_eq!(rt; ready.number(), number);
+    assert_eq!(rt; ready.last(service), last);
+}
+
+/// A worker inside must have this number and this lock, and its job is finished already or not.
+pub fn held_is(rt: &impl Abort, held: &Held, number: u32, lock: u32, finished: bool)
+    ensures { finished ≡ is_over held.now.part.private.stage }
+{
+    assert_eq!(rt; (held.number(), held.lock()), (number, lock));
+    assert_eq!(rt; held.finished(), finished);
+}
+
+/// The service is closed, and must answer what its locks are.
+pub fn close(rt: &impl Abort, service: Service, downs: Vec<Down>) -> Closed
+    requires { AreOf service downs.items }
+{
+    match service.close(downs) {
+        Ok(closed) => closed,
+        Err(_) => panic!(rt; "it is not closed"),
+    }
+}
+
+/// The job is posted, and must be refused by the refusal of this number, without a question.
+pub fn refuse(rt: &impl Abort, service: &Service, ready: Ready, job: Job, code: u32) -> Ready
+    requires ours { ready.ident ≡ service.now }
+    ensures ours { result.ident ≡ service.now }
+{
+    let mut chance = Counting::new();
+    match ready.post(service, job, &mut chance) {
+        Posted::Refused(ready, refusal) => {
+            assert_eq!(rt; refusal.code(), code);
+            assert_eq!(rt; chance.take(), 0);
+            ready
+        }
+        _ => panic!(rt; "it was not refused"),
+    }
+}
+
+/// A receipt: worker, lock, number, place and reply.
+pub fn receipt((worker, lock, number, place, reply): (u32, u32, u32, u32, u64)) -> Receipt {
+    Receipt {
+        worker,
+        lock,
+        number,
+        place,
+        reply,
+    }
+}
+
+/// An entry: a receipt and the operations of its job.
+pub type Told = ((u32, u32, u32, u32, u64), &'static [Op]);
+
+/// Whether a list has just these entries.
+pub fn entries_are(entries: &[Entry], told: &[Told]) -> bool {
+    entries.len() == told.len()
+        && entries
+            .iter()
+            .zip(told)
+            .all(|(entry, told)| is_entry(entry, *told))
+}
+
+fn is_entry(entry: &Entry, (told, operations): Told) -> bool {
+    entry.receipt == receipt(told) && entry.script == Script::of(operations)
+}
+
+/// Whether a closed lock has just these cells, is settled or not, and has just these entries.
+pub fn lock_is(lock: &ClosedLock, cells: &[u64], settled: bool, told: &[Told]) -> bool {
+    lock.cells.as_slice() == cells && lock.settled == settled && entries_are(&lock.entries, told)
+}

@@ -1,0 +1,60 @@
+//! Who is in the section of each lock, seen while threads run.
+
+use std::alloc::Global;
+use std::sync::atomic::{AtomicU64, Ordering};
+use std::test::Fail;
+
+/// A mark for each lock: 0 where nobody is in its section, and w + 1 where worker w is.
+///
+/// A worker that falls in a section leaves its mark there, since it owns the lock still.
+#[derive(Drop)]
+pub struct Watch {
+    marks: Vec<AtomicU64>,
+    visits: AtomicU64,
+    clashes: AtomicU64,
+}
+
+impl Watch {
+    /// Of so many locks, with nobody in any section.
+    pub fn new(alloc: Global, locks: u32) -> Result<Watch, Fail> {
+        let mut marks = Vec::new(alloc);
+        for _ in 0..locks {
+            marks.push(AtomicU64::new(0))?;
+        }
+        Ok(Watch {
+            marks,
+            visits: AtomicU64::new(0),
+            clashes: AtomicU64::new(0),
+        })
+    }
+
+    /// The worker is in the section from here on. It must find nobody there, or itself after a fall.
+    pub fn go_in(&self, lock: u32, worker: u32) {
+        self.visits.fetch_add(1, Ordering::SeqCst);
+        let own = u64::from(worker).saturating_add(1);
+        let found = match self.marks.get(lock as usize) {
+            Some(mark) => mark.swap(own, Ordering::SeqCst),
+            None => u64::MAX,
+        };
+        if found != 0 && found != own {
+            self.clashes.fetch_add(1, Ordering::SeqCst);
+        }
+    }
+
+    /// The worker whose section it was goes out, and still owns the lock.
+    pub fn go_out(&self, lock: u32) {
+        if let Some(mark) = self.marks.get(lock as usize) {
+            mark.store(0, Ordering::SeqCst);
+        }
+    }
+
+    /// How often a worker went into a section, or back into it after a fall.
+    pub fn visits(&self) -> u64 {
+        self.visits.load(Ordering::SeqCst)
+    }
+
+    /// How often it found another worker there.
+    pub fn clashes(&self) -> u64 {
+        self.clashes.load(Ordering::SeqCst)
+    }
+}

@@ -1,0 +1,83 @@
+//! The life of a thread's worker.
+
+ghost use Rattle.std.specs.Prelude.{◌≡◌, MatchResult};
+
+use rme_script::{Job, Op, Script};
+use rme_table::{Chance, Climb, Down, Held, Leave, Posted, Ready, Service, Stance, Sweep};
+use std::{hint, thread};
+
+/// No job waits for so many sweeps.
+const MOST_SWEEPS: u64 = 1 << 62;
+
+/// Comes up, and makes so many jobs on a lock.
+pub fn live<C: Chance>(
+    service: &Service,
+    down: Down,
+    lock: u32,
+    jobs: u32,
+    chance: &mut C,
+) -> Result<Ready, Down>
+    requires ours { down.ident ≡ service.now }
+    ensures ours { MatchResult result (λ ready. ready.ident ≡ service.now) (λ down. down.ident ≡ service.now) }
+{
+    let job = Job {
+        lock,
+        script: Script::of(&[Op::Add(0, 1)]),
+    };
+    let mut ready = come_up(service, down, chance)?;
+    for _ in 0..jobs {
+        ready = make_job(service, ready, &job, chance)?;
+    }
+    Ok(ready)
+}
+
+/// Comes up, and must be ready.
+fn come_up<C: Chance>(service: &Service, down: Down, chance: &mut C) -> Result<Ready, Down>
+    requires ours { down.ident ≡ service.now }
+    ensures ours { MatchResult result (λ ready. ready.ident ≡ service.now) (λ down. down.ident ≡ service.now) }
+{
+    match down.recover(service, chance)? {
+        Stance::Ready(ready) => Ok(ready),
+        Stance::Climb(climb) => Err(climb.crash()),
+        Stance::Held(held) => Err(held.crash()),
+        Stance::Leave(leave) => Err(leave.crash()),
+    }
+}
+
+/// Makes a job: posts it, sweeps until the lock is the worker's, performs it and leaves.
+fn make_job<C: Chance>(
+    service: &Service,
+    ready: Ready,
+    job: &Job,
+    chance: &mut C,
+) -> Result<Ready, Down>
+    requires ours { ready.ident ≡ service.now }
+    ensures ours { MatchResult result (λ ready. ready.ident ≡ service.now) (λ down. down.ident ≡ service.now) }
+{
+    let climb = match ready.post(service, *job, chance) {
+        Posted::Asked(climb) => climb,
+        Posted::Fell(down) => return Err(down),
+        Posted::Refused(ready, _) => return Err(ready.crash()),
+    };
+    let held = enter(service, climb, chance)?;
+    let (leave, _receipt) = held.perform(service, chance)?;
+    leave.exit(service, chance)
+}
+
+/// Sweeps until the lock is the worker's. After each blocked sweep it waits, and not for long: a pause, and the
+/// processor is given away once.
+fn enter<C: Chance>(service: &Service, mut climb: Climb, chance: &mut C) -> Result<Held, Down>
+    requires ours { climb.ident ≡ service.now }
+    ensures ours { MatchResult result (λ held. held.ident ≡ service.now) (λ down. down.ident ≡ service.now) }
+{
+    for _ in 0..MOST_SWEEPS {
+        match climb.try_enter(service, chance) {
+            Sweep::Got(held) => return Ok(held),
+            Sweep::Blocked(blocked) => climb = blocked,
+            Sweep::Fell(down) => return Err(down),
+        }
+        hint::spin_loop();
+        thread::yield_now();
+    }
+    Err(climb.crash())
+}
