@@ -1,0 +1,4 @@
+mod Lists
+mod Rests
+mod Following
+mod Ending

@@ -1,0 +1,8 @@
+-- In reading order: which plans may be supervised; how a worker's lives may end; where one life stops; a worker between two
+-- lives; what the slots held in the end; and what a run answers.
+pub mod Plans
+pub mod Ends
+pub mod Stops
+pub mod Berths
+pub mod Settled
+pub mod Supervised

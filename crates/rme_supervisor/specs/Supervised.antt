@@ -1,0 +1,89 @@
+-- What a supervised run answers.
+use Rattle.std.specs.Prelude.{◌≡◌, ℕ, Bool, true, List, length, take, map, slice_get, Some}
+use Rattle.std.specs.List.{list_all}
+use Rattle.rme_words.specs.declared.shape.Shape.{Shape}
+use Rattle.rme_words.specs.declared.refusal.Refusal.{Refusal}
+use Rattle.rme_words.specs.declared.refusal.Refusal.TheVariants.{BadShape, NoWorker, NoMemory}
+use Rattle.rme_script.specs.declared.job.Job.{Job}
+use Rattle.rme_program.specs.declared.note.Entry.{Entry}
+use Rattle.rme_seats.specs.Stands.{Ident, Stand}
+use Rattle.rme_seats.specs.Closing.{AreOf}
+use Rattle.rme_table.specs.Downs.{is_fresh}
+use Rattle.rme_table.specs.Closing.{IsClose}
+use Rattle.rme_supervisor.specs.declared.end.End.{End}
+use Rattle.rme_supervisor.specs.declared.end.End.TheVariants.{AllDone}
+use Rattle.rme_supervisor.specs.declared.plan.WorkerPlan.{WorkerPlan}
+use Rattle.rme_supervisor.specs.declared.report.Report.{Report}
+use Rattle.rme_supervisor.specs.declared.report.Fault.{Fault}
+use Rattle.rme_supervisor.specs.Ends.{IsEarned}
+use Rattle.rme_supervisor.specs.Plans.{ArePlans}
+
+-- These are the Downs of all workers, in order.
+pub record AreAll (shape : Shape) (downs : List Stand) : Type 0 where
+  pub count : length downs ≡ shape.workers
+  pub order : (worker : ℕ) (down : Stand) → slice_get downs worker ≡ Some down → down.part.worker ≡ worker
+
+-- No worker has an entry or a draft.
+abbrev pub all_fresh : List Stand → Bool
+all_fresh downs = list_all (λ (down : Stand). is_fresh down.part) downs
+
+-- The jobs of entries, in order.
+abbrev pub job_of : Entry → Job
+job_of entry = record { lock = entry.receipt.lock; script = entry.script }
+
+abbrev pub jobs_in : List Entry → List Job
+jobs_in entries = map job_of entries
+
+-- The entries are the first jobs of the plan, in order, each once, and all of them where the end is AllDone.
+pub record Follows (plan : WorkerPlan) (entries : List Entry) (end : End) : Type 0 where
+  pub first : jobs_in entries ≡ take (length entries) plan.jobs.items
+  pub all : end ≡ AllDone → jobs_in entries ≡ plan.jobs.items
+
+-- The entries of each worker follow its plan.
+abbrev pub AllFollow : List WorkerPlan → List Stand → List End → Type 0
+AllFollow plans downs ends = (worker : ℕ) (plan : WorkerPlan) (down : Stand) (end : End) → slice_get plans worker ≡ Some plan → slice_get downs worker ≡ Some down
+    → slice_get ends worker ≡ Some end → Follows plan down.part.entries end
+
+-- What became of a worker: its end is one that its plan allows, and if all workers were fresh its entries follow the plan.
+pub record IsEnded (shape : Shape) (fresh : Bool) (plan : WorkerPlan) (down : Stand) (end : End) : Type 0 where
+  pub earned : IsEarned shape plan down.part.private.begun end
+  pub follows : fresh ≡ true → Follows plan down.part.entries end
+
+-- The service was closed with the Downs of all workers at the end; and each worker ended as it says.
+pub record IsOver (shape : Shape) (plans : List WorkerPlan) (fresh : Bool) (report : Report) : Type 0 where
+  pub downs : List Stand
+  pub all : AreAll shape downs
+  pub closed : IsClose shape downs report.closed.locks.items
+  pub ends : length report.ends.items ≡ shape.workers
+  pub lives : length report.lives.items ≡ shape.workers
+  pub each : (worker : ℕ) (down : Stand) (plan : WorkerPlan) (end : End) → slice_get downs worker ≡ Some down → slice_get plans worker ≡ Some plan
+      → slice_get report.ends.items worker ≡ Some end → IsEnded shape fresh plan down end
+
+-- The plans were good, and the run is over.
+pub record IsReport (shape : Shape) (plans : List WorkerPlan) (given : List Stand) (report : Report) : Type 0 where
+  pub good : ArePlans plans (length given)
+  pub over : IsOver shape plans (all_fresh given) report
+
+-- Why a run has no report: want of memory, and the Downs of all workers come back, in order; or a worker that is missing.
+abbrev pub IsLateWhy : Refusal → Ident → List Stand → Type 0
+IsLateWhy NoMemory ident back = AreAll ident.shape back
+IsLateWhy NoWorker ident back = Unit {0}
+IsLateWhy _ ident back = ⊥
+
+-- Or bad plans, and nothing was done.
+abbrev pub IsWhy : Refusal → Ident → List WorkerPlan → List Stand → List Stand → Type 0
+IsWhy BadShape ident plans given back = (ArePlans plans (length given) → ⊥) × (back ≡ given)
+IsWhy why ident plans given back = ArePlans plans (length given) × IsLateWhy why ident back
+
+-- The service comes back, and Downs of its workers.
+pub record IsBack (ident : Ident) (fault : Fault) : Type 0 where
+  pub service : fault.service ≡ ident
+  pub ours : AreOf ident fault.downs.items
+
+pub record IsLate (ident : Ident) (fault : Fault) : Type 0 where
+  pub back : IsBack ident fault
+  pub why : IsLateWhy fault.why ident fault.downs.items
+
+pub record IsFault (ident : Ident) (plans : List WorkerPlan) (given : List Stand) (fault : Fault) : Type 0 where
+  pub back : IsBack ident fault
+  pub why : IsWhy fault.why ident plans given fault.downs.items

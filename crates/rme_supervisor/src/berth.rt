@@ -1,0 +1,120 @@
+//! A worker between two lives.
+
+ghost use Rattle.std.specs.Prelude.{◌≡◌, ◌≤◌, IfSome};
+ghost use Rattle.rme_supervisor.specs.declared.end.End.TheVariants.{OutOfLives};
+
+use crate::course::Course;
+use crate::end::End;
+use crate::falls::Falls;
+use crate::gate::Gate;
+use crate::life::{Orders, Trail, live};
+use crate::stop::Stop;
+use rme_table::Kept;
+use std::marker::Model;
+use std::sync::Wait;
+
+/// What a worker's lives have come to so far.
+#[derive(Clone, Copy)]
+pub(crate) struct Past {
+    /// Own steps, blocked ones included.
+    pub steps: u64,
+    /// How often it fell.
+    pub fallen: usize,
+    /// Blocked sweeps on its job.
+    pub blocked: u32,
+    /// Lives that were started.
+    pub lives: u32,
+}
+
+/// A worker between two lives, and how its lives ended if they have.
+#[derive(Drop)]
+pub(crate) struct Berth<K: Course> {
+    pub kept: Kept<K>,
+    pub past: Past,
+    pub end: Option<End>,
+}
+
+impl<K: Course> Model for Berth<K> {
+    ghost use Rattle.rme_supervisor.specs.Berths.{Rest, IsRest};
+
+    ghost Value = { Rest };
+
+    ghost view = { λ berth. record { stand = berth.kept.down; end = berth.end } };
+
+    ghost invariant = { λ berth. IsRest K.Tag.ident.shape K.plans (record { stand = berth.kept.down; end = berth.end }) };
+}
+
+impl<K: Course> Berth<K> {
+    ghost use Rattle.std.specs.Prelude.{◌≡◌, slice_get, Some, None};
+    ghost use Rattle.rme_supervisor.specs.Berths.{Rest};
+
+    /// A worker before its first life.
+    pub(crate) fn new(kept: Kept<K>) -> Berth<K>
+        ensures { result ≡ record { stand = kept.down; end = None } }
+    {
+        let past = Past {
+            steps: 0,
+            fallen: 0,
+            blocked: 0,
+            lives: 0,
+        };
+        Berth {
+            kept,
+            past,
+            end: None,
+        }
+    }
+
+    /// The worker's number.
+    pub(crate) fn worker(&self) -> u32
+        ensures { result ≡ self.now.stand.part.worker }
+    {
+        self.kept.down.worker()
+    }
+
+    /// The worker after its next life.
+    pub(crate) fn live<G: Gate, R: Wait>(self, rt: &R, orders: &Orders<'_, G>) -> Berth<K>
+        requires ours { orders.now.service.now ≡ K.Tag.ident }
+        requires planned { slice_get K.plans self.stand.part.worker ≡ Some orders.now.plan.now }
+        ensures { result.stand.part.worker ≡ self.stand.part.worker }
+    {
+        let Berth { kept, past, end: _ } = self;
+        let Kept { down, of } = kept;
+        let falls = Falls::after(orders.plan.falls.as_slice(), past.steps, past.fallen);
+        let mut trail = Trail {
+            falls,
+            blocked: past.blocked,
+        };
+        let stop = live(rt, orders, down, &mut trail);
+        // A fall is one of the plan's.
+        let fallen = trail.falls.fallen().min(orders.plan.falls.len());
+        let past = Past {
+            steps: trail.falls.steps(),
+            fallen,
+            blocked: trail.blocked,
+            lives: past.lives.saturating_add(1),
+        };
+        match stop {
+            Stop::Ended(down, end) => Berth {
+                kept: Kept { down, of },
+                past,
+                end: Some(end),
+            },
+            Stop::Fell(down) => Berth {
+                kept: Kept { down, of },
+                past,
+                end: end_after(fallen, orders.plan.lives),
+            },
+        }
+    }
+}
+
+/// The end of a worker that fell so often, if it has no further life.
+fn end_after(fallen: usize, lives: u32) -> Option<End>
+    ensures { IfSome result (λ end. (end ≡ OutOfLives) × (lives ≤ fallen)) }
+{
+    if fallen < lives as usize {
+        return None;
+    }
+    Some(End::OutOfLives)
+}

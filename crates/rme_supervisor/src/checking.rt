@@ -1,0 +1,120 @@
+//! What a run looks at before it begins, and when it is over.
+
+ghost use Rattle.std.specs.Prelude.{◌≡◌, ◌↔◌, IsTrue, true, length, take};
+ghost use Rattle.rme_supervisor.specs.Plans.{IsRising, IsPlan, ArePlans};
+ghost use Rattle.rme_supervisor.specs.Supervised.{AreAll, AllFollow, Follows, all_fresh, job_of, jobs_in};
+
+use crate::end::End;
+use crate::plan::WorkerPlan;
+use rme_program::Entry;
+use rme_script::Job;
+use rme_table::Down;
+use rme_words::Shape;
+
+/// Whether there are so many plans, and each may be supervised.
+pub(crate) fn are_plans(plans: &[WorkerPlan], count: usize) -> bool
+    ensures { IsTrue result ↔ ArePlans plans.now count }
+{
+    if plans.len() != count {
+        return false;
+    }
+    for plan in plans {
+        if !is_plan(plan) {
+            return false;
+        }
+    }
+    true
+}
+
+/// Whether the falls of a plan rise strictly, and its lives and sweeps are not 0.
+fn is_plan(plan: &WorkerPlan) -> bool
+    ensures { IsTrue result ↔ IsPlan plan.now }
+{
+    plan.lives != 0 && plan.sweeps != 0 && is_rising(plan.falls.as_slice())
+}
+
+/// Whether each count is less than the next.
+fn is_rising(counts: &[u32]) -> bool
+    ensures { IsTrue result ↔ IsRising counts.now }
+{
+    for i in 1..counts.len() {
+        if counts[i - 1] >= counts[i] {
+            return false;
+        }
+    }
+    true
+}
+
+/// Whether no worker has an entry or a draft.
+pub(crate) fn are_fresh(downs: &[Down]) -> bool
+    ensures { result ≡ all_fresh downs.now }
+{
+    for down in downs {
+        if !down.fresh() {
+            return false;
+        }
+    }
+    true
+}
+
+/// Whether these are the Downs of all workers, in order.
+pub(crate) fn are_all(downs: &[Down], shape: Shape) -> bool
+    ensures { IsTrue result ↔ AreAll shape downs.now }
+{
+    if downs.len() != shape.workers() as usize {
+        return false;
+    }
+    for worker in 0..downs.len() {
+        if downs[worker].worker() as usize != worker {
+            return false;
+        }
+    }
+    true
+}
+
+/// Whether the entries of each worker follow its plan, if all were fresh.
+pub(crate) fn all_follow(fresh: bool, plans: &[WorkerPlan], downs: &[Down], ends: &[End]) -> bool
+    requires plans { length plans.now ≡ length downs.now }
+    requires ends { length ends.now ≡ length downs.now }
+    ensures { IsTrue result → fresh ≡ true → AllFollow plans.now downs.now ends.now }
+{
+    if !fresh {
+        return true;
+    }
+    for worker in 0..downs.len() {
+        if !follows(&plans[worker], downs[worker].entries(), ends[worker]) {
+            return false;
+        }
+    }
+    true
+}
+
+/// Whether entries are the first jobs of a plan, in order, each once, and all of them where all are done.
+fn follows(plan: &WorkerPlan, entries: &[Entry], end: End) -> bool
+    ensures { IsTrue result ↔ Follows plan.now entries.now end }
+{
+    are_first(plan.jobs.as_slice(), entries)
+        && (end != End::AllDone || entries.len() == plan.jobs.len())
+}
+
+/// Whether entries are the first of these jobs, in order, each once.
+fn are_first(jobs: &[Job], entries: &[Entry]) -> bool
+    ensures { IsTrue result ↔ (jobs_in entries.now ≡ take (length entries.now) jobs.now) }
+{
+    if entries.len() > jobs.len() {
+        return false;
+    }
+    for i in 0..entries.len() {
+        if !is_of_job(&entries[i], &jobs[i]) {
+            return false;
+        }
+    }
+    true
+}
+
+/// Whether an entry is of this job.
+fn is_of_job(entry: &Entry, job: &Job) -> bool
+    ensures { IsTrue result ↔ (job_of entry.now ≡ job.now) }
+{
+    entry.receipt.lock == job.lock && entry.script.same(&job.script)
+}

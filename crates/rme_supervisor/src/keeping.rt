@@ -1,0 +1,103 @@
+//! The keepers: a thread for each worker, and in it a thread for each of the worker's lives.
+
+ghost use Rattle.std.specs.Prelude.{◌≡◌, ◌≤◌, slice_get, length, Some};
+
+use crate::course::Course;
+use crate::gate::Gate;
+use crate::life::Orders;
+use crate::plan::WorkerPlan;
+use crate::slots::{Slot, has_ended, live_in};
+use rme_table::Service;
+use std::sync::Wait;
+use std::thread;
+use std::thread::Threads;
+
+/// Keeps each worker alive, until all have ended.
+pub(crate) fn keep_all<K: Course + Send + Sync, G: Gate + Sync, R: Threads + Wait + Sync>(
+    rt: &R,
+    slots: &[Slot<K>],
+    service: &Service,
+    plans: &[WorkerPlan],
+    gate: &G,
+)
+    requires ours { service.now ≡ K.Tag.ident }
+    requires planned { plans.now ≡ K.plans }
+{
+    thread::scope(
+        thread::scope_env(),
+        rt,
+        |scope|
+            requires ours { service.now ≡ K.Tag.ident }
+            requires planned { plans.now ≡ K.plans }
+        {
+            for worker in 0..service.shape().workers() {
+                let (Some(slot), Some(plan)) = (
+                    slots.get(worker as usize),
+                    plans.get(worker as usize),
+                ) else {
+                    break;
+                };
+                let keeper = move ||
+                    requires ours { service.now ≡ K.Tag.ident }
+                    requires planned { slice_get K.plans worker ≡ Some plan.now }
+                {
+                    keep(
+                        rt,
+                        slot,
+                        worker,
+                        &Orders {
+                            service,
+                            plan,
+                            gate,
+                        },
+                    )
+                };
+                // Where no thread can be made the worker has no life, and its end stays NoStart.
+                let _ = scope.spawn(keeper);
+            }
+        },
+    )
+}
+
+/// Keeps a worker alive: one life after another, until it ends.
+fn keep<K: Course + Send + Sync, G: Gate + Sync, R: Threads + Wait + Sync>(
+    rt: &R,
+    slot: &Slot<K>,
+    worker: u32,
+    orders: &Orders<'_, G>,
+)
+    requires ours { orders.now.service.now ≡ K.Tag.ident }
+    requires planned { slice_get K.plans worker ≡ Some orders.now.plan.now }
+{
+    for _ in 0..orders.plan.lives {
+        if !is_lived(rt, slot, worker, orders) || has_ended(rt, slot) {
+            return;
+        }
+    }
+}
+
+/// A life in a thread of its own, and whether there was a thread for it.
+fn is_lived<K: Course + Send + Sync, G: Gate + Sync, R: Threads + Wait + Sync>(
+    rt: &R,
+    slot: &Slot<K>,
+    worker: u32,
+    orders: &Orders<'_, G>,
+) -> bool
+    requires ours { orders.now.service.now ≡ K.Tag.ident }
+    requires planned { slice_get K.plans worker ≡ Some orders.now.plan.now }
+{
+    thread::scope(
+        thread::scope_env(),
+        rt,
+        |scope| -> bool
+            requires ours { orders.now.service.now ≡ K.Tag.ident }
+            requires planned { slice_get K.plans worker ≡ Some orders.now.plan.now }
+        {
+            let life = move ||
+                requires ours { orders.now.service.now ≡ K.Tag.ident }
+                requires planned { slice_get K.plans worker ≡ Some orders.now.plan.now }
+            { live_in(rt, slot, worker, orders) };
+            scope.spawn(life).is_ok()
+        },
+    )
+}

@@ -1,0 +1,158 @@
+//! Gates of the rows.
+
+use crossbeam_utils::Backoff;
+use rme_supervisor::Gate;
+use std::sync::atomic::{AtomicU64, Ordering};
+
+/// How often a gate looks for what it waits for. Each time it gives the processor away, so that the test stands
+/// on a loaded machine too.
+const MOST_TURNS: u32 = 1_000_000;
+
+/// Something that has happened, or not yet.
+#[derive(Drop)]
+pub struct Flag {
+    raised: AtomicU64,
+}
+
+impl Flag {
+    pub fn new() -> Flag {
+        Flag {
+            raised: AtomicU64::new(0),
+        }
+    }
+
+    fn raise(&self) {
+        self.raised.store(1, Ordering::SeqCst);
+    }
+
+    /// Waits until it has happened, and says whether it has; not forever.
+    fn is_raised_in_time(&self) -> bool {
+        let backoff = Backoff::new();
+        for _ in 0..MOST_TURNS {
+            if self.raised.load(Ordering::SeqCst) == 1 {
+                return true;
+            }
+            backoff.snooze();
+        }
+        false
+    }
+}
+
+/// Worker 0 is let into its section of lock 0 once worker 1 has left lock 1, and worker 1 into its section once
+/// worker 0 was asked for. So both are inside at the same time, or one waits in vain.
+#[derive(Drop)]
+pub struct Crossing {
+    asked: Flag,
+    left: Flag,
+}
+
+impl Crossing {
+    pub fn new() -> Crossing {
+        Crossing {
+            asked: Flag::new(),
+            left: Flag::new(),
+        }
+    }
+}
+
+impl Gate for Crossing {
+    fn inside(&self, worker: u32, _lock: u32) -> bool {
+        if worker != 0 {
+            return self.asked.is_raised_in_time();
+        }
+        self.asked.raise();
+        self.left.is_raised_in_time()
+    }
+
+    fn over(&self, worker: u32, lock: u32, number: u32) {
+        if (worker, lock, number) == (1, 1, 1) {
+            self.left.raise();
+        }
+    }
+}
+
+/// Worker 1 is let into its section of lock 1 once worker 0 was asked for.
+#[derive(Drop)]
+pub struct After {
+    asked: Flag,
+}
+
+impl After {
+    pub fn new() -> After {
+        After { asked: Flag::new() }
+    }
+}
+
+impl Gate for After {
+    fn inside(&self, worker: u32, lock: u32) -> bool {
+        if worker == 0 {
+            self.asked.raise();
+        }
+        (worker, lock) != (1, 1) || self.asked.is_raised_in_time()
+    }
+
+    fn over(&self, _worker: u32, _lock: u32, _number: u32) {}
+}
+
+/// Lets nobody in, and counts what it is told.
+#[derive(Drop)]
+pub struct Shut {
+    asked: AtomicU64,
+    over: AtomicU64,
+}
+
+impl Shut {
+    pub fn new() -> Shut {
+        Shut {
+            asked: AtomicU64::new(0),
+            over: AtomicU64::new(0),
+        }
+    }
+
+    /// How often it was asked, and how often it was told of a job that is over.
+    pub fn counts(&self) -> (u64, u64) {
+        (
+            self.asked.load(Ordering::SeqCst),
+            self.over.load(Ordering::SeqCst),
+        )
+    }
+}
+
+impl Gate for Shut {
+    fn inside(&self, _worker: u32, _lock: u32) -> bool {
+        self.asked.fetch_add(1, Ordering::SeqCst);
+        false
+    }
+
+    fn over(&self, _worker: u32, _lock: u32, _number: u32) {
+        self.over.fetch_add(1, Ordering::SeqCst);
+    }
+}
+
+/// Lets all in, and counts the jobs that are over.
+#[derive(Drop)]
+pub struct Counted {
+    over: AtomicU64,
+}
+
+impl Counted {
+    pub fn new() -> Counted {
+        Counted {
+            over: AtomicU64::new(0),
+        }
+    }
+
+    pub fn over(&self) -> u64 {
+        self.over.load(Ordering::SeqCst)
+    }
+}
+
+impl Gate for Counted {
+    fn inside(&self, _worker: u32, _lock: u32) -> bool {
+        true
+    }
+
+    fn over(&self, _worker: u32, _lock: u32, _number: u32) {
+        self.over.fetch_add(1, Ordering::SeqCst);
+    }
+}
