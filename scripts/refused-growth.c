@@ -1,5 +1,6 @@
 /* Refuses one growth of memory: the Nth that a program asks for once it has started, N from the environment.
    try-memory preloads it. */
+#include <errno.h>
 #include <stdlib.h>
 #include <unistd.h>
 
@@ -16,10 +17,15 @@ __attribute__((constructor)) static void begin(void) {
 
 static int is_refused(void) {
     static const char said[] = "growth refused\n";
-    if (left == 0 || --left != 0) {
+    if (__atomic_sub_fetch(&left, 1, __ATOMIC_SEQ_CST) != 0) {
         return 0;
     }
-    return write(STDERR_FILENO, said, sizeof said - 1) != 0;
+    if (write(STDERR_FILENO, said, sizeof said - 1) < 0) {
+        return 0;
+    }
+    /* As malloc does; the start of a thread looks at it. */
+    errno = ENOMEM;
+    return 1;
 }
 
 void *malloc(size_t size) {

@@ -1,8 +1,9 @@
-//! The program `rme`: a recoverable mutual exclusion lock service over lines.
+//! The program `rme`: a recoverable mutual exclusion lock service over lines, and over threads.
 //!
-//! It stands on rme_server, whose engine it runs on its standard streams. The words of the command line are
-//! read in `words.rt`, and `told.rt` says what becomes of those that give no task; what went wrong has its
-//! text and its status in `fault.rt`. Begin with `main`.
+//! It stands on rme_engine, whose engine it runs on its standard streams, and on rme_supervisor, by which
+//! `threads.rt` runs workers in threads. The words of the command line are read in `words.rt`, and `told.rt` says
+//! what becomes of those that give no task; what went wrong has its text and its status in `fault.rt`. Begin with
+//! `main`.
 #![tactic(auto)]
 
 ghost use Rattle.std.specs.Prelude.{◌≡◌, Bool};
@@ -10,19 +11,25 @@ ghost use Rattle.clap.specs.Values.{kind_of};
 ghost use Rattle.rme_cli.specs.Statuses.{told};
 
 mod fault;
+mod progress;
+mod threads;
 mod told;
 mod words;
 
 use crate::fault::Fault;
+use crate::threads::run_threads;
 use crate::told::answer_of;
 use crate::words::{Task, task_of};
 use clap::error::ErrorKind;
-use rme_server::run_lines;
+use rme_engine::run_lines;
+use rme_wire::LineReader;
 use std::process::ExitCode;
+use std::sync::Wait;
+use std::thread::Threads;
 use std::{env, io};
 
 fn main(rt: HostRuntime) -> ExitCode {
-    match perform(&rt) {
+    match perform(&rt, &rt) {
         Ok(status) => ExitCode::from(status),
         Err(fault) => {
             let _ = eprintln!(rt; "fault: {fault}");
@@ -32,13 +39,15 @@ fn main(rt: HostRuntime) -> ExitCode {
 }
 
 /// Does what the words of the command line ask for, and answers the status.
-fn perform(rt: &HostRuntime) -> Result<u8, Fault> {
+fn perform<R: Threads + Wait + Sync>(rt: &HostRuntime, threads: &R) -> Result<u8, Fault> {
     let words = given_words(rt)?;
     match task_of(rt.alloc(), words.as_slice()) {
         Ok(Task::Run) => {
-            run_lines(rt.alloc(), rt.stdin(), &mut io::writer(rt))?;
+            let mut lines = LineReader::new(rt.alloc(), rt.stdin())?;
+            run_lines(rt.alloc(), &mut lines, &mut io::writer(rt))?;
             Ok(0)
         }
+        Ok(Task::Threads(task)) => run_threads(rt, threads, &task),
         Err(error) => explain(rt, &error),
     }
 }

@@ -1,13 +1,16 @@
 //! The words of the command line.
 
-use clap::{Command, Error};
+use crate::threads::ThreadsTask;
+use clap::{Arg, ArgAction, ArgMatches, Command, Error, value_parser};
 use std::alloc::Global;
 
 /// What the words ask for.
-#[derive(Clone, Copy, Debug, PartialEq, Eq)]
+#[derive(Drop)]
 pub enum Task {
     /// Answer the lines of the standard input.
     Run,
+    /// Supervise workers that add to one cell.
+    Threads(ThreadsTask),
 }
 
 const ABOUT: &str = "A recoverable mutual exclusion lock service, over lines of JSON";
@@ -58,11 +61,63 @@ A line that is refused is answered {\"code\":N,\"error\":NAME} and changes nothi
 Status: 0 at the end of the input, 2 for words that are refused, 3 where reading failed, 4 where writing
 failed, 5 where memory ran out.";
 
+const THREADS_ABOUT: &str =
+    "Supervises workers in threads, which fall and go on, and prints what their lock then holds";
+
+const THREADS_LINES: &str = "\
+Each worker makes JOBS jobs, one after another, on one lock with one cell; a job adds 1 to it. Where a
+worker falls its thread ends there and all that it knew is lost, and its next life goes on. Each job
+counts once all the same:
+
+  rme threads 8 100 7 19 40
+
+  workers 8
+  jobs 100
+  all done 8
+  cell 800
+  entries 800
+
+Status: 0 where all workers were done, 1 where one was not, 2 for words that are refused (falls that do
+not rise, or more than 256 workers or 1000000 jobs), 4 where writing failed, 5 where memory ran out.";
+
+/// The words after `threads`.
+fn threads_command<'a>(alloc: Global) -> Result<Command<'a>, Error> {
+    let workers = Arg::new(alloc, "WORKERS")
+        .required(true)
+        .action(ArgAction::Set)
+        .value_parser(value_parser!(u32))
+        .help("How many workers, 1 to 256");
+    let jobs = Arg::new(alloc, "JOBS")
+        .required(true)
+        .action(ArgAction::Set)
+        .value_parser(value_parser!(u32))
+        .help("How many jobs each of them makes, 1 to 1000000");
+    let falls = Arg::new(alloc, "FALL")
+        .action(ArgAction::Append)
+        .num_args(0..)
+        .value_parser(value_parser!(u32))
+        .help("Each worker falls after so many own steps; the numbers rise");
+    let quiet = Arg::new(alloc, "quiet")
+        .long("quiet")
+        .short('q')
+        .action(ArgAction::SetTrue)
+        .help("Shows no progress on a terminal");
+    let threads = Command::new(alloc, "threads")
+        .about(THREADS_ABOUT)
+        .after_help(THREADS_LINES)
+        .arg(workers)?
+        .arg(jobs)?
+        .arg(falls)?
+        .arg(quiet)?;
+    Ok(threads)
+}
+
 /// The command line of the program.
 fn command<'a>(alloc: Global) -> Result<Command<'a>, Error> {
     let run = Command::new(alloc, "run")
         .about(RUN_ABOUT)
         .after_help(RUN_LINES);
+    let threads = threads_command(alloc)?;
     let program = Command::new(alloc, "rme")
         .bin_name("rme")?
         .version("0.1.0")
@@ -70,7 +125,8 @@ fn command<'a>(alloc: Global) -> Result<Command<'a>, Error> {
         .after_help(EXAMPLE)
         .subcommand_required(true)
         .arg_required_else_help(true)
-        .subcommand(run)?;
+        .subcommand(run)?
+        .subcommand(threads)?;
     Ok(program)
 }
 
@@ -78,6 +134,25 @@ fn command<'a>(alloc: Global) -> Result<Command<'a>, Error> {
 ///
 /// An error holds what is to be printed: help, the version or what is wrong; or its kind is `OutOfMemory`.
 pub fn task_of(alloc: Global, words: &[String]) -> Result<Task, Error> {
-    command(alloc)?.try_get_matches_from(words)?;
-    Ok(Task::Run)
+    let found = command(alloc)?.try_get_matches_from(words)?;
+    match found.subcommand_matches("threads") {
+        Some(threads) => Ok(Task::Threads(threads_task(alloc, threads)?)),
+        None => Ok(Task::Run),
+    }
+}
+
+/// What the words after `threads` ask for. Each number has been read before, as an argument of its type.
+fn threads_task(alloc: Global, found: &ArgMatches<'_>) -> Result<ThreadsTask, Error> {
+    let mut falls = Vec::new(alloc);
+    if let Some(given) = found.get_many::<u32>("FALL") {
+        for fall in given {
+            falls.push(fall.unwrap_or(0))?;
+        }
+    }
+    Ok(ThreadsTask {
+        workers: found.get_one("WORKERS").unwrap_or(0),
+        jobs: found.get_one("JOBS").unwrap_or(0),
+        falls,
+        is_quiet: found.get_flag("quiet"),
+    })
 }

@@ -5,6 +5,7 @@
 //! changed nothing. Begin with `main`.
 #![tactic(auto)]
 
+mod threads;
 mod worlds;
 
 use rme_texts::Names;
@@ -23,7 +24,8 @@ fn main(rt: HostRuntime) -> io::Result<()> {
     };
     bank(&rt, shape)?;
     names(&rt)?;
-    worlds::world(&rt, shape)
+    worlds::world(&rt, shape)?;
+    threads::service(&rt, &rt, shape)
 }
 
 fn bank(rt: &HostRuntime, shape: Shape) -> io::Result<()> {

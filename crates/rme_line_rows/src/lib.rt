@@ -3,7 +3,7 @@
 //! A row is a list of lines and what each of them is answered, to the byte, worked out by hand from the model
 //! and never taken from a run. The crate has nothing but tests: it shows that the contracts of the crates below
 //! say what was meant, that a run with room succeeds, and that a run over a reader and a writer that are read
-//! and written is not given up. It stands on `rme_server`, which runs lines, on `rme_wire`, which reads and
+//! and written is not given up. It stands on `rme_engine`, which runs lines, on `rme_wire`, which reads and
 //! writes those of transcripts and sessions, and on the crates that name a job, a note and a shape. Begin with
 //! `lines.rt`, whose `answers` is what a caller over bytes in memory gets.
 #![tactic(auto)]
@@ -28,3 +28,5 @@ mod names;
 mod session_lines;
 #[cfg(test)]
 mod streams;
+#[cfg(test)]
+mod waiting;

@@ -3,7 +3,8 @@
 ghost use Rattle.std.specs.Prelude.{IfOk};
 ghost use Rattle.rme_line_rows.specs.Answered.{AreAnswers};
 
-use rme_server::run_lines;
+use rme_engine::run_lines;
+use rme_wire::LineReader;
 use std::alloc::Global;
 use std::process::Abort;
 use std::test::Fail;
@@ -426,6 +427,7 @@ pub fn answers(alloc: Global, input: &[u8]) -> Result<Vec<u8>, Fail>
     ensures { IfOk result (λ output. AreAnswers input.now output.items) }
 {
     let mut output = Vec::new(alloc);
-    run_lines(alloc, input, &mut output)?;
+    let mut lines = LineReader::new(alloc, input)?;
+    run_lines(alloc, &mut lines, &mut output)?;
     Ok(output)
 }

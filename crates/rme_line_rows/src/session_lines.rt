@@ -3,7 +3,7 @@
 use crate::event_lines::names_of;
 use rme_program::Receipt;
 use rme_script::{Job, Op, Script};
-use rme_wire::{Order, Outcome, Reply, Standing, Submission, order_of, push_reply};
+use rme_wire::{Order, Outcome, SessionReply, Standing, Submission, order_of, push_session_reply};
 use rme_words::Refusal;
 use std::test::Fail;
 
@@ -16,66 +16,69 @@ const RECEIPT: Receipt = Receipt {
 };
 
 /// The texts of rows `session` and `withdrawal in a session`, and of the answers that these don't have.
-const REPLIES: &[(Reply, &str)] = &[
+const REPLIES: &[(SessionReply, &str)] = &[
     (
-        Reply::Attached(0, Standing::Ready),
+        SessionReply::Attached(0, Standing::Ready),
         r#"{"number":0,"ok":"attach","stance":"ready"}"#,
     ),
     (
-        Reply::Attached(2, Standing::Held),
+        SessionReply::Attached(2, Standing::Held),
         r#"{"number":2,"ok":"attach","stance":"held"}"#,
     ),
     (
-        Reply::Attached(1, Standing::Climb),
+        SessionReply::Attached(1, Standing::Climb),
         r#"{"number":1,"ok":"attach","stance":"climb"}"#,
     ),
     (
-        Reply::Submitted(Outcome::Receipt(RECEIPT)),
+        SessionReply::Submitted(Outcome::Receipt(RECEIPT)),
         r#"{"ok":"submit","receipt":{"lock":"a","number":1,"place":0,"reply":5,"worker":0}}"#,
     ),
     (
-        Reply::Submitted(Outcome::Withdrawn),
+        SessionReply::Submitted(Outcome::Withdrawn),
         r#"{"ok":"submit","withdrawn":true}"#,
     ),
     (
-        Reply::Submitted(Outcome::Waiting),
+        SessionReply::Submitted(Outcome::Waiting),
         r#"{"ok":"submit","waiting":true}"#,
     ),
     (
-        Reply::Submitted(Outcome::Fell),
+        SessionReply::Submitted(Outcome::Fell),
         r#"{"fell":true,"ok":"submit"}"#,
     ),
     (
-        Reply::Resumed(Outcome::Receipt(RECEIPT)),
+        SessionReply::Resumed(Outcome::Receipt(RECEIPT)),
         r#"{"ok":"resume","receipt":{"lock":"a","number":1,"place":0,"reply":5,"worker":0}}"#,
     ),
     (
-        Reply::Resumed(Outcome::Fell),
+        SessionReply::Resumed(Outcome::Fell),
         r#"{"fell":true,"ok":"resume"}"#,
     ),
-    (Reply::Withdrew(1), r#"{"number":1,"ok":"withdraw"}"#),
-    (Reply::WithdrawFell, r#"{"fell":true,"ok":"withdraw"}"#),
-    (Reply::Last(None), r#"{"last":null,"ok":"last"}"#),
+    (SessionReply::Withdrew(1), r#"{"number":1,"ok":"withdraw"}"#),
     (
-        Reply::Last(Some(RECEIPT)),
+        SessionReply::WithdrawFell,
+        r#"{"fell":true,"ok":"withdraw"}"#,
+    ),
+    (SessionReply::Last(None), r#"{"last":null,"ok":"last"}"#),
+    (
+        SessionReply::Last(Some(RECEIPT)),
         r#"{"last":{"lock":"a","number":1,"place":0,"reply":5,"worker":0},"ok":"last"}"#,
     ),
-    (Reply::CrashPlanned, r#"{"ok":"crash_after"}"#),
-    (Reply::Detached, r#"{"ok":"detach"}"#),
+    (SessionReply::CrashPlanned, r#"{"ok":"crash_after"}"#),
+    (SessionReply::Detached, r#"{"ok":"detach"}"#),
     (
-        Reply::Refused(Refusal::Differs),
+        SessionReply::Refused(Refusal::Differs),
         r#"{"code":17,"error":"Differs"}"#,
     ),
     (
-        Reply::Refused(Refusal::WrongNumber(2)),
+        SessionReply::Refused(Refusal::WrongNumber(2)),
         r#"{"code":16,"error":"WrongNumber","expected":2}"#,
     ),
     (
-        Reply::Refused(Refusal::Taken),
+        SessionReply::Refused(Refusal::Taken),
         r#"{"code":18,"error":"Taken"}"#,
     ),
     (
-        Reply::Refused(Refusal::NotAttached),
+        SessionReply::Refused(Refusal::NotAttached),
         r#"{"code":19,"error":"NotAttached"}"#,
     ),
 ];
@@ -197,7 +200,7 @@ fn replies(rt: HostRuntime) -> Result<(), Fail> {
     let names = names_of(rt.alloc(), &["a"])?;
     for (reply, wanted) in REPLIES {
         let mut text = String::new(rt.alloc());
-        push_reply(&mut text, &names, *reply)?;
+        push_session_reply(&mut text, &names, *reply)?;
         assert_eq!(rt; text.as_str(), *wanted);
     }
     Ok(())

@@ -1,8 +1,8 @@
 //! Readers and writers that are not bytes in memory: what is read and written of them, and when it is over.
 
 use crate::lines::{TWO_WORKERS, push_line};
-use rme_server::run_lines;
-use rme_wire::EngineFault;
+use rme_engine::run_lines;
+use rme_wire::{EngineFault, LineReader};
 use std::alloc::Global;
 use std::io::{self, Error, ErrorKind, Read, Write};
 use std::process::Abort;
@@ -95,12 +95,22 @@ fn two_answers(alloc: Global) -> Result<Vec<u8>, Fail> {
     Ok(wanted)
 }
 
+/// Runs the lines of a reader, which is given up afterwards.
+fn run<R: Read + Drop, W: Write>(
+    alloc: Global,
+    reader: R,
+    writer: &mut W,
+) -> Result<(), EngineFault> {
+    let mut lines = LineReader::new(alloc, reader)?;
+    run_lines(alloc, &mut lines, writer)
+}
+
 /// Runs two lines on a terminal, and looks that both were answered and nothing was read after its end.
 fn check_end(rt: &impl Abort, alloc: Global, last_is_whole: bool, fails: bool) -> Result<(), Fail> {
     let input = two_lines(alloc, last_is_whole)?;
     let mut terminal = Terminal::new(input.as_slice(), 65_536, fails);
     let mut output = Vec::new(alloc);
-    assert_eq!(rt; run_lines(alloc, &mut terminal, &mut output), Ok(()));
+    assert_eq!(rt; run(alloc, &mut terminal, &mut output), Ok(()));
     assert_eq!(rt; output.as_slice(), two_answers(alloc)?.as_slice());
     assert!(rt; terminal.ended);
     assert_eq!(rt; terminal.reads_after_end, 0);
@@ -127,7 +137,7 @@ fn line_in_a_thousand_pieces(rt: HostRuntime) -> Result<(), Fail> {
     line.push(b'\n')?;
     let mut terminal = Terminal::new(line.as_slice(), 1, true);
     let mut output = Vec::new(alloc);
-    assert_eq!(rt; run_lines(alloc, &mut terminal, &mut output), Ok(()));
+    assert_eq!(rt; run(alloc, &mut terminal, &mut output), Ok(()));
     assert_eq!(rt; output.as_slice(), b"{\"ok\":\"open\"}\n".as_slice());
     assert_eq!(rt; terminal.reads, 1_001);
     Ok(())
@@ -138,7 +148,7 @@ fn line_in_a_thousand_pieces(rt: HostRuntime) -> Result<(), Fail> {
 fn writer_that_takes_no_byte(rt: HostRuntime) -> Result<(), Fail> {
     let input = two_lines(rt.alloc(), true)?;
     let mut writer = Full { writes: 0 };
-    let ran = run_lines(rt.alloc(), input.as_slice(), &mut writer);
+    let ran = run(rt.alloc(), input.as_slice(), &mut writer);
     assert_eq!(rt; ran, Err(EngineFault::WriteFailed));
     assert_eq!(rt; writer.writes, 1);
     Ok(())

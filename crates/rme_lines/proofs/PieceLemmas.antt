@@ -5,7 +5,7 @@ use Rattle.std.proofs.lemmas.List.{drop-drop, drop-take, length-take, length-tak
 use Rattle.std.proofs.Math.Seq.{take-nil}
 use Rattle.std.specs.Io.KnownBytes.{Consumes, IsAtEnd, Keeps, prepend_known}
 use Rattle.rme_lines.specs.declared.cut.Cut.TheVariants.{End}
-use Rattle.rme_lines.specs.Pieces.{IsPiece, Takes, ended, kept, line_of, lines_of, pieces}
+use Rattle.rme_lines.specs.Pieces.{IsPiece, Takes, TakesPiece, TakesWhole, ended, kept, line_of, lines_of, pieces, whole_lines_of, whole_pieces}
 use Rattle.rme_lines.specs.Cuts.{Cuts, CutsKnown, cut_of, last_cut_of}
 
 -- ---- pieces
@@ -175,3 +175,54 @@ pub saw_taken : (before now after : Option (List ℕ)) (line longer : List ℕ) 
     → Saw 65537 before after longer
 saw_taken before now after line longer found s (piece, p, c, e) is =
     let P : Bool → Type 0 = λ b. Consumes now after (ended b piece) in saw_more 65537 before now after line piece longer s p (subst P is c) e
+
+-- ---- what a line's bytes were
+
+-- the line that was begun has no newline yet
+pub piece_lost : (before now after : Option (List ℕ)) (line : List ℕ) → Saw 65537 before now line → Keeps now after → TakesPiece before after
+piece_lost None now after line s k = tt
+piece_lost (Some before) None after line s k = absurd s
+piece_lost (Some before) (Some now) None line s k = absurd k
+piece_lost (Some before) (Some now) (Some after) line (seen, e, piece, kept_of) k = (seen, piece, e ∙ ap (λ l. seen ++ l) (sym k))
+
+pub whole_ended : (before now after : Option (List ℕ)) (line piece : List ℕ) → Saw 65537 before now line → IsPiece piece → Consumes now after (piece ++ 10 ∷ []) → TakesWhole before after
+whole_ended None now after line piece s p c = tt
+whole_ended (Some before) None after line piece s p c = absurd s
+whole_ended (Some before) (Some now) None line piece s p c = absurd c
+whole_ended (Some before) (Some now) (Some after) line piece (seen, f, h, g) p c =
+    (seen ++ piece, IsPiece-append seen piece h p, f ∙ ap (λ l. seen ++ l) (c ∙ append_assoc piece (10 ∷ []) after) ∙ sym (append_assoc seen piece (10 ∷ after)))
+
+-- its newline was found
+pub whole_taken : (before now after : Option (List ℕ)) (line longer : List ℕ) (found : Bool) → Saw 65537 before now line → Takes now after found line longer → found ≡ true → TakesWhole before after
+whole_taken before now after line longer found s (piece, p, c, e) is =
+    let P : Bool → Type 0 = λ b. Consumes now after (ended b piece) in whole_ended before now after line piece s p (subst P is c)
+
+-- ---- the lines whose newlines are there
+
+whole_byte : (b : ℕ) (bs seen : List ℕ) → (b == 10) ≡ false → whole_pieces seen (b ∷ bs) ≡ whole_pieces (seen ++ b ∷ []) bs
+unfolding whole_pieces
+whole_byte b bs seen e = rw e refl
+
+whole_piece : (piece seen rest : List ℕ) → IsPiece piece → whole_pieces seen (piece ++ rest) ≡ whole_pieces (seen ++ piece) rest
+whole_piece [] seen rest h = ap (λ s. whole_pieces s rest) (sym (append-nil seen))
+whole_piece (b ∷ bs) seen rest h =
+    whole_byte b (bs ++ rest) seen h.0 ∙ whole_piece bs (seen ++ b ∷ []) rest h.1 ∙ ap (λ s. whole_pieces s rest) (append_assoc seen (b ∷ []) bs)
+
+whole_newline : (seen rest : List ℕ) → whole_pieces seen (10 ∷ rest) ≡ seen ∷ whole_pieces [] rest
+unfolding whole_pieces
+whole_newline seen rest = refl
+
+whole_nil : (seen : List ℕ) → whole_pieces seen [] ≡ []
+unfolding whole_pieces
+whole_nil seen = refl
+
+-- no line is whole in a piece
+pub whole_lines_piece : (piece : List ℕ) → IsPiece piece → whole_lines_of piece ≡ []
+unfolding whole_lines_of
+whole_lines_piece piece h =
+    ap (λ p. map line_of (whole_pieces [] p)) (sym (append-nil piece)) ∙ ap (map line_of) (whole_piece piece [] [] h ∙ whole_nil piece)
+
+-- a piece and its newline are one
+pub whole_lines_ended : (piece rest : List ℕ) → IsPiece piece → whole_lines_of (piece ++ 10 ∷ rest) ≡ line_of piece ∷ whole_lines_of rest
+unfolding whole_lines_of
+whole_lines_ended piece rest h = ap (map line_of) (whole_piece piece [] (10 ∷ rest) h ∙ whole_newline piece rest)

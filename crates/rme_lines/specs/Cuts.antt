@@ -2,7 +2,7 @@
 use Rattle.std.specs.Prelude.{◌≡◌, ℕ, ◌==◌, List, [], ◌∷◌, nat_lt, length, Option, Some, None, if◌then◌else◌}
 use Rattle.rme_lines.specs.declared.cut.Cut.{Cut}
 use Rattle.rme_lines.specs.declared.cut.Cut.TheVariants.{Line, TooLong, End}
-use Rattle.rme_lines.specs.Pieces.{lines_of, text, too_long}
+use Rattle.rme_lines.specs.Pieces.{InputLine, lines_of, text, too_long}
 
 -- the first line was cut off, and copied where it isn't over-long; at the end there was none
 abbrev pub CutsKnown : List ℕ → List ℕ → Cut → List ℕ → Type 0
@@ -23,3 +23,9 @@ cut_of line = if nat_lt 65536 (length line) then TooLong else Line
 -- a line that was read to the end, where a line that is empty is none
 abbrev pub last_cut_of : List ℕ → Cut
 last_cut_of line = if length line == 0 then End else cut_of line
+
+-- the line that was cut
+abbrev pub line_read : Cut → List ℕ → InputLine
+line_read Line bytes = text bytes
+line_read TooLong bytes = too_long
+line_read End bytes = text bytes

@@ -1,5 +1,5 @@
 -- The lines of bytes: a line is the bytes up to a newline, and a last piece without one is a line if it isn't empty.
-use Rattle.std.specs.Prelude.{◌≡◌, ℕ, ◌-◌, ◌==◌, nat_le, List, [], ◌∷◌, ◌++◌, length, map, take, Bool, true, false, if◌then◌else◌, Option}
+use Rattle.std.specs.Prelude.{◌≡◌, ℕ, ◌-◌, ◌==◌, nat_le, List, [], ◌∷◌, ◌++◌, length, map, take, Bool, true, false, if◌then◌else◌, Option, Some, None}
 use Rattle.std.specs.Io.KnownBytes.{Consumes}
 
 -- a line, whose bytes do not matter where it is over-long
@@ -36,3 +36,24 @@ kept most line piece = line ++ take (most - length line) piece
 -- a piece was moved from the front of the bytes to the end of the line, up to a newline where one was found
 abbrev pub Takes : Option (List ℕ) → Option (List ℕ) → Bool → List ℕ → List ℕ → Type 0
 Takes before after found line longer = (piece : List ℕ) × IsPiece piece × Consumes before after (ended found piece) × (longer ≡ kept 65537 line piece)
+
+-- a line was taken from the front of the bytes, with its newline
+abbrev pub TakesWhole : Option (List ℕ) → Option (List ℕ) → Type 0
+TakesWhole None after = Unit {0}
+TakesWhole (Some before) None = ⊥
+TakesWhole (Some before) (Some after) = (piece : List ℕ) × IsPiece piece × (before ≡ piece ++ 10 ∷ after)
+
+-- bytes were taken from the front, none of which is a newline
+abbrev pub TakesPiece : Option (List ℕ) → Option (List ℕ) → Type 0
+TakesPiece None after = Unit {0}
+TakesPiece (Some before) None = ⊥
+TakesPiece (Some before) (Some after) = (piece : List ℕ) × IsPiece piece × (before ≡ piece ++ after)
+
+-- the pieces that end with a newline, the first of which begins with what was seen of it
+unfoldable pub whole_pieces : List ℕ → List ℕ → List (List ℕ)
+whole_pieces seen [] = []
+whole_pieces seen (byte ∷ bytes) = if byte == 10 then seen ∷ whole_pieces [] bytes else whole_pieces (seen ++ byte ∷ []) bytes
+
+-- the lines whose newline is among the bytes
+unfoldable pub whole_lines_of : List ℕ → List InputLine
+whole_lines_of bytes = map line_of (whole_pieces [] bytes)

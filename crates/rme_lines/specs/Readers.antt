@@ -13,6 +13,21 @@ unread true (Some bytes) = Some []
 abbrev pub bytes_left : {R : Type 0} → (R → Option (List ℕ)) → LineReader R → Option (List ℕ)
 bytes_left remaining lines = prepend_known (slice_range lines.chunk.items lines.start lines.end) (unread lines.ended (remaining lines.reader))
 
+-- the bytes that were read and not cut yet
+abbrev pub at_hand : {R : Type 0} → LineReader R → List ℕ
+at_hand lines = slice_range lines.chunk.items lines.start lines.end
+
+-- whether a read gave no byte
+abbrev pub has_ended : {R : Type 0} → LineReader R → Bool
+has_ended lines = lines.ended
+
+abbrev pub HasEnded : {R : Type 0} → LineReader R → Type 0
+HasEnded lines = has_ended lines ≡ true
+
+-- how many reads may still be made
+abbrev pub reads_left : {R : Type 0} → LineReader R → ℕ
+reads_left lines = lines.reads
+
 -- nothing is read, now or later
 pub record ReadsNoMore {R : Type 0} (old new : LineReader R) : Type 0 where
   pub reader : new.reader ≡ old.reader

@@ -40,16 +40,16 @@ fn empty_chunk(alloc: Global) -> Result<Vec<u8>, AllocError>
 }
 
 impl<R: Read + Drop> LineReader<R> {
-    ghost use Rattle.std.specs.Prelude.{◌≡◌, ◌≢◌, ◌<◌, ◌≤◌, IfOk, IfErr, true, false};
+    ghost use Rattle.std.specs.Prelude.{◌≡◌, ◌≢◌, ◌<◌, ◌≤◌, IfOk, IfErr, IfSome, None, OnSome, true, false};
     ghost use Rattle.std.specs.Io.KnownBytes.{IsAtEnd, Keeps};
-    ghost use Rattle.rme_lines.specs.Pieces.{Takes};
+    ghost use Rattle.rme_lines.specs.Pieces.{IsPiece, Takes, TakesPiece, TakesWhole};
     ghost use Rattle.rme_lines.specs.Cuts.{Cuts};
-    ghost use Rattle.rme_lines.specs.Readers.{FailsToRead, ReadsNoMore, TakesOn, bytes_left, most_lines};
+    ghost use Rattle.rme_lines.specs.Readers.{FailsToRead, HasEnded, ReadsNoMore, TakesOn, at_hand, bytes_left, has_ended, most_lines, reads_left};
 
     /// A reader of lines, which makes no read yet and 1,000,000,000 at most.
     pub fn new(alloc: Global, reader: R) -> Result<LineReader<R>, AllocError>
         ensures bytes { IfOk result (λ lines. Keeps (R.remaining reader) (bytes_left R.remaining lines)) }
-        ensures reads { IfOk result (λ lines. lines.reads ≡ 1000000000) }
+        ensures reads { IfOk result (λ lines. reads_left lines ≡ 1000000000) }
     {
         let chunk = empty_chunk(alloc)?;
         Ok(LineReader {
@@ -64,7 +64,7 @@ impl<R: Read + Drop> LineReader<R> {
 
     /// Makes a read where the chunk is used up, and says whether a byte is there or may still come.
     fn fill(&mut self) -> Result<bool, EngineFault>
-        ensures kept { IfOk result (λ _. Keeps (bytes_left R.remaining self.old) (bytes_left R.remaining self.new)) }
+        ensures kept { Keeps (bytes_left R.remaining self.old) (bytes_left R.remaining self.new) }
         ensures end { IfOk result (λ more. more ≡ false → IsAtEnd (bytes_left R.remaining self.new) × (self.new.ended ≡ true)) }
         ensures ended { self.old.ended ≡ true → ReadsNoMore self.old self.new }
         ensures reads { self.new.reads ≤ self.old.reads }
@@ -122,6 +122,30 @@ impl<R: Read + Drop> LineReader<R> {
         }
     }
 
+    /// Cuts the next line off the bytes that were read already, and copies it as `next_line` does. Nothing is read.
+    ///
+    /// `None` says that no whole line is at hand: the reader has to be read for more, or is at its end. An error
+    /// is want of memory for the line's copy, and leaves the line where it is.
+    pub fn take_line(&mut self, line: &mut Vec<u8>) -> Result<Option<Cut>, AllocError>
+        ensures cut { IfOk result (λ taken. IfSome taken (λ cut. Cuts (bytes_left R.remaining self.old) (bytes_left R.remaining self.new) cut line.new.items)) }
+        ensures some { IfOk result (λ taken. IfSome taken (λ cut. cut ≢ Cut.End)) }
+        ensures whole { IfOk result (λ taken. OnSome taken (TakesWhole (bytes_left R.remaining self.old) (bytes_left R.remaining self.new))) }
+        ensures none { IfOk result (λ taken. taken ≡ None → IsPiece (at_hand self.old)) }
+        ensures kept { IfOk result (λ taken. taken ≡ None → Keeps (bytes_left R.remaining self.old) (bytes_left R.remaining self.new)) }
+        ensures on { TakesOn self.old self.new }
+        ensures fewer { IfOk result (λ taken. OnSome taken (most_lines self.new < most_lines self.old)) }
+    {
+        line.clear();
+        let bytes = &self.chunk[self.start..self.end];
+        let Some(at) = memchr(b'\n', bytes) else {
+            return Ok(None);
+        };
+        let taken = at + 1;
+        keep(line, &bytes[..at])?;
+        self.start += taken;
+        Ok(Some(whole(line)))
+    }
+
     /// Cuts the next line and copies it into `line`, whose earlier content is dropped. Of an over-long line
     /// only its front is copied.
     ///
@@ -130,12 +154,14 @@ impl<R: Read + Drop> LineReader<R> {
     /// are then lost. After a read that gave no byte the reader is not read again, however often this is called.
     pub fn next_line(&mut self, line: &mut Vec<u8>) -> Result<Cut, EngineFault>
         ensures cut { IfOk result (λ cut. Cuts (bytes_left R.remaining self.old) (bytes_left R.remaining self.new) cut line.new.items) }
-        ensures end { IfOk result (λ cut. cut ≡ Cut.End → self.new.ended ≡ true) }
-        ensures ended { self.old.ended ≡ true → ReadsNoMore self.old self.new }
-        ensures reads { self.new.reads ≤ self.old.reads }
+        ensures whole { IfOk result (λ _. has_ended self.new ≡ false → TakesWhole (bytes_left R.remaining self.old) (bytes_left R.remaining self.new)) }
+        ensures end { IfOk result (λ cut. cut ≡ Cut.End → HasEnded self.new) }
+        ensures ended { HasEnded self.old → ReadsNoMore self.old self.new }
+        ensures reads { reads_left self.new ≤ reads_left self.old }
         ensures fewer { IfOk result (λ cut. cut ≢ Cut.End → most_lines self.new < most_lines self.old) }
         ensures kind { IfErr result (λ fault. fault ≢ EngineFault.WriteFailed) }
         ensures failed { IfErr result (λ fault. fault ≡ EngineFault.ReadFailed → FailsToRead self.old self.new) }
+        ensures lost { IfErr result (λ fault. fault ≡ EngineFault.ReadFailed → TakesPiece (bytes_left R.remaining self.old) (bytes_left R.remaining self.new)) }
     {
         line.clear();
         loop {

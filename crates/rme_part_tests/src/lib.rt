@@ -5,11 +5,11 @@
 #![tactic(auto)]
 
 #[cfg(test)]
+mod engine;
+#[cfg(test)]
 mod program;
 #[cfg(test)]
 mod script;
-#[cfg(test)]
-mod server;
 #[cfg(test)]
 mod tree;
 #[cfg(test)]

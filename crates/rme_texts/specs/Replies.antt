@@ -9,9 +9,11 @@ use Rattle.rme_words.specs.Refusals.{code_of, name_of}
 use Rattle.rme_texts.specs.declared.answer.Done.{Done}
 use Rattle.rme_texts.specs.declared.answer.Done.TheVariants.{Open, Crash, Restart, Withdraw}
 use Rattle.rme_texts.specs.declared.answer.Report.{Report}
-use Rattle.rme_texts.specs.declared.answer.WalkEnd.{WalkEnd}
-use Rattle.rme_texts.specs.declared.answer.WalkEnd.TheVariants.{Until, Ready, Blocked, Max}
-use Rattle.rme_texts.specs.Texts.{cells_text, entries_text, note_text, receipt_text}
+use Rattle.rme_texts.specs.declared.walked.WalkEnd.{WalkEnd}
+use Rattle.rme_texts.specs.declared.reply.Reply.{Reply}
+use Rattle.rme_texts.specs.declared.reply.Reply.TheVariants as reply
+use Rattle.rme_texts.specs.declared.walked.WalkEnd.TheVariants.{Until, Ready, Blocked, Max}
+use Rattle.rme_texts.specs.Texts.{cells_text, entries_text, note_text, notes_text, receipt_text}
 
 abbrev pub done_text : Done → List ℕ
 done_text Open = codes "{\"ok\":\"open\"}"
@@ -31,12 +33,12 @@ end_word Ready = codes "ready"
 end_word Blocked = codes "blocked"
 end_word Max = codes "max"
 
--- a walk whose end has this word, and whose notes this text
-abbrev pub walk_text : List ℕ → List ℕ → List ℕ
-walk_text end notes = codes "{\"end\":\"" ++ (end ++ (codes "\",\"notes\":[" ++ (notes ++ codes "],\"ok\":\"walk\"}")))
+-- what stands of a walk's answer before its notes, where its end has this word
+abbrev pub walk_front : List ℕ → List ℕ
+walk_front end = codes "{\"end\":\"" ++ (end ++ codes "\",\"notes\":[")
 
-abbrev pub walked_text : WalkEnd → List ℕ → List ℕ
-walked_text end notes = walk_text (end_word end) notes
+abbrev pub walked_text : List (List ℕ) → WalkEnd → List Note → List ℕ
+walked_text names end notes = walk_front (end_word end) ++ (notes_text names notes ++ codes "],\"ok\":\"walk\"}")
 
 abbrev pub owner_text : Option ℕ → List ℕ
 owner_text None = codes "{\"ok\":\"owner\",\"owner\":null}"
@@ -71,3 +73,16 @@ plain_refusal_text code name = codes "{\"code\":" ++ (decimal code ++ (codes ",\
 abbrev pub refusal_text : Refusal → List ℕ
 refusal_text (WrongNumber expected) = codes "{\"code\":16,\"error\":\"WrongNumber\",\"expected\":" ++ (decimal expected ++ codes "}")
 refusal_text other = plain_refusal_text (code_of other) (name_of other)
+
+-- the answer to a command line, with the names of the locks and the history of the world that is open
+abbrev pub reply_text : List (List ℕ) → List Entry → Reply → List ℕ
+reply_text names history (reply.Done word) = done_text word
+reply_text names history (reply.Handed number) = number_text number
+reply_text names history (reply.Stepped note) = stepped_text names note
+reply_text names history (reply.Walked walked) = walked_text names walked.end walked.notes
+reply_text names history (reply.Owner owner) = owner_text owner
+reply_text names history (reply.Cells row settled) = row_text row settled
+reply_text names history (reply.Last receipt) = last_text names receipt
+reply_text names history reply.History = history_text names history
+reply_text names history (reply.Report report) = report_text report
+reply_text names history (reply.Refused refusal) = refusal_text refusal

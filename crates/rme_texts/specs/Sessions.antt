@@ -1,12 +1,12 @@
 -- The texts of the answers of a session, without their newline.
 use Rattle.std.specs.Prelude.{ℕ, List, ◌++◌, codes, decimal}
 use Rattle.rme_program.specs.declared.note.Receipt.{Receipt}
-use Rattle.rme_texts.specs.declared.reply.Outcome.{Outcome}
-use Rattle.rme_texts.specs.declared.reply.Outcome.TheVariants as outcome
-use Rattle.rme_texts.specs.declared.reply.Reply.{Reply}
-use Rattle.rme_texts.specs.declared.reply.Reply.TheVariants.{Attached, Submitted, Resumed, Withdrew, WithdrawFell, Last, CrashPlanned, Detached, Refused}
-use Rattle.rme_texts.specs.declared.reply.Standing.{Standing}
-use Rattle.rme_texts.specs.declared.reply.Standing.TheVariants.{Ready, Climb, Held}
+use Rattle.rme_texts.specs.declared.session.Outcome.{Outcome}
+use Rattle.rme_texts.specs.declared.session.Outcome.TheVariants as outcome
+use Rattle.rme_texts.specs.declared.session.SessionReply.{SessionReply}
+use Rattle.rme_texts.specs.declared.session.SessionReply.TheVariants.{Attached, Submitted, Resumed, Withdrew, WithdrawFell, Last, CrashPlanned, Detached, Refused}
+use Rattle.rme_texts.specs.declared.session.Standing.{Standing}
+use Rattle.rme_texts.specs.declared.session.Standing.TheVariants.{Ready, Climb, Held}
 use Rattle.rme_texts.specs.Texts.{receipt_text}
 use Rattle.rme_texts.specs.Replies.{last_text, refusal_text}
 
@@ -37,13 +37,13 @@ outcome_text names word outcome.Withdrawn = codes "{\"ok\":\"" ++ (word ++ codes
 outcome_text names word outcome.Waiting = codes "{\"ok\":\"" ++ (word ++ codes "\",\"waiting\":true}")
 outcome_text names word outcome.Fell = fell_text word
 
-abbrev pub reply_text : List (List ℕ) → Reply → List ℕ
-reply_text names (Attached number standing) = attached_text number (standing_word standing)
-reply_text names (Submitted became) = outcome_text names (codes "submit") became
-reply_text names (Resumed became) = outcome_text names (codes "resume") became
-reply_text names (Withdrew number) = codes "{\"number\":" ++ (decimal number ++ codes ",\"ok\":\"withdraw\"}")
-reply_text names WithdrawFell = fell_text (codes "withdraw")
-reply_text names (Last last) = last_text names last
-reply_text names CrashPlanned = codes "{\"ok\":\"crash_after\"}"
-reply_text names Detached = codes "{\"ok\":\"detach\"}"
-reply_text names (Refused refusal) = refusal_text refusal
+abbrev pub session_text : List (List ℕ) → SessionReply → List ℕ
+session_text names (Attached number standing) = attached_text number (standing_word standing)
+session_text names (Submitted became) = outcome_text names (codes "submit") became
+session_text names (Resumed became) = outcome_text names (codes "resume") became
+session_text names (Withdrew number) = codes "{\"number\":" ++ (decimal number ++ codes ",\"ok\":\"withdraw\"}")
+session_text names WithdrawFell = fell_text (codes "withdraw")
+session_text names (Last last) = last_text names last
+session_text names CrashPlanned = codes "{\"ok\":\"crash_after\"}"
+session_text names Detached = codes "{\"ok\":\"detach\"}"
+session_text names (Refused refusal) = refusal_text refusal

@@ -73,6 +73,9 @@ entry_text names e = entry_front (name_of names e.receipt.lock) e.receipt ++ (op
 abbrev pub entries_text : List (List ℕ) → List Entry → List ℕ
 entries_text names entries = separated (entry_text names) false entries
 
+abbrev pub notes_text : List (List ℕ) → List Note → List ℕ
+notes_text names notes = separated (note_text names) false notes
+
 abbrev pub cells_text : List ℕ → List ℕ
 cells_text row = separated decimal false row
 

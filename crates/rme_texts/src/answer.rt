@@ -1,41 +1,16 @@
-//! The texts of whole answers, without their newline.
+//! The texts of single answers, without their newline.
 
 ghost use Rattle.std.specs.Prelude.{◌≡◌, ◌++◌, OnOk, string_bytes, slice_index};
 ghost use Rattle.rme_texts.specs.Texts as text;
 ghost use Rattle.rme_texts.specs.Replies as spec;
 
 use crate::names::Names;
-use crate::texts::{push_cells, push_entries, push_note, push_receipt};
+use crate::texts::{push_cells, push_entries, push_note, push_notes, push_receipt};
+use crate::walked::Walked;
 use rme_program::{Entry, Note, Receipt};
 use rme_script::Row;
 use rme_words::Refusal;
 use std::alloc::AllocError;
-
-/// Why a walk ended.
-#[derive(Clone, Copy, Debug, PartialEq, Eq)]
-pub enum WalkEnd {
-    /// The note has the wanted kind.
-    Until,
-    /// The worker is ready.
-    Ready,
-    /// The step was blocked.
-    Blocked,
-    /// As many steps were made as were asked for.
-    Max,
-}
-
-impl WalkEnd {
-    fn word(self) -> &'static str
-        ensures { result.now ≡ spec.end_word self }
-    {
-        match self {
-            WalkEnd::Until => "until",
-            WalkEnd::Ready => "ready",
-            WalkEnd::Blocked => "blocked",
-            WalkEnd::Max => "max",
-        }
-    }
-}
 
 /// An order that is answered by its own word alone.
 #[derive(Clone, Copy, Debug, PartialEq, Eq)]
@@ -75,20 +50,21 @@ pub fn push_stepped(out: &mut String, names: &Names, note: Note) -> Result<(), A
     Ok(())
 }
 
-/// Appends the answer of `walk`, whose notes have this text.
-pub fn push_walked(out: &mut String, end: WalkEnd, notes: &str) -> Result<(), AllocError>
-    ensures { OnOk result (string_bytes out.new ≡ string_bytes out.old ++ spec.walked_text end notes.now) }
+/// Appends the answer of `walk`.
+pub fn push_walked(out: &mut String, names: &Names, walked: &Walked) -> Result<(), AllocError>
+    ensures { OnOk result (string_bytes out.new ≡ string_bytes out.old ++ spec.walked_text names.now walked.now.end walked.now.notes) }
 {
-    push_walk_ended(out, end.word(), notes)
+    push_walk_front(out, walked.end.word())?;
+    push_notes(out, names, walked.notes.as_slice())?;
+    out.push_str("],\"ok\":\"walk\"}")?;
+    Ok(())
 }
 
-fn push_walk_ended(out: &mut String, end: &str, notes: &str) -> Result<(), AllocError>
-    ensures { OnOk result (string_bytes out.new ≡ string_bytes out.old ++ spec.walk_text end.now notes.now) }
+/// Appends what stands of a walk's answer before its notes.
+fn push_walk_front(out: &mut String, end: &str) -> Result<(), AllocError>
+    ensures { OnOk result (string_bytes out.new ≡ string_bytes out.old ++ spec.walk_front end.now) }
 {
-    write!(
-        out,
-        "{{\"end\":\"{end}\",\"notes\":[{notes}],\"ok\":\"walk\"}}"
-    )
+    write!(out, "{{\"end\":\"{end}\",\"notes\":[")
 }
 
 /// Appends the answer of `owner`.

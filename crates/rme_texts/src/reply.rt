@@ -1,135 +1,69 @@
-//! The answers of a session.
+//! The answers to command lines.
 
 ghost use Rattle.std.specs.Prelude.{◌≡◌, ◌++◌, OnOk, string_bytes};
-ghost use Rattle.rme_texts.specs.Sessions as spec;
+ghost use Rattle.rme_texts.specs.Replies as spec;
 
-use crate::answer::{push_last, push_refusal};
+use crate::answer::{
+    Done, Report, push_done, push_history, push_last, push_number, push_owner, push_refusal,
+    push_report, push_row, push_stepped, push_walked,
+};
 use crate::names::Names;
-use crate::texts::push_receipt;
-use rme_program::Receipt;
+use crate::walked::Walked;
+use rme_program::{Entry, Note, Receipt};
+use rme_script::Row;
 use rme_words::Refusal;
 use std::alloc::AllocError;
 
-/// What the worker is found to be at when a session takes it.
-#[derive(Clone, Copy, Debug, PartialEq, Eq)]
-pub enum Standing {
-    /// It may be handed a job.
-    Ready,
-    /// Its job waits for the lock.
-    Climb,
-    /// It owns its job's lock, and the job is not finished.
-    Held,
-}
-
-impl Standing {
-    fn word(self) -> &'static str
-        ensures { result.now ≡ spec.standing_word self }
-    {
-        match self {
-            Standing::Ready => "ready",
-            Standing::Climb => "climb",
-            Standing::Held => "held",
-        }
-    }
-}
-
-/// What became of a job that a session handed over, or went on with.
-#[derive(Clone, Copy, Debug, PartialEq, Eq)]
-pub enum Outcome {
-    /// It is finished.
-    Receipt(Receipt),
-    /// It was given up earlier.
-    Withdrawn,
-    /// It waits for its lock still.
-    Waiting,
-    /// The planned crash came, and the session has no worker any more.
-    Fell,
-}
-
-/// The answer to a line of a session.
-#[derive(Clone, Copy, Debug, PartialEq, Eq)]
+/// The answer to a command line, as plain data.
+///
+/// `History` is the one answer that the reply does not hold: it is as long as sections were finished, and is
+/// written straight from the world's history.
+#[derive(Debug, Drop)]
 pub enum Reply {
-    /// The number of the pending job, or of the last one that is over.
-    Attached(u32, Standing),
-    Submitted(Outcome),
-    Resumed(Outcome),
-    /// The number that was given up.
-    Withdrew(u32),
-    /// The planned crash came while the job was given up.
-    WithdrawFell,
+    /// The order was obeyed, and there is no more to say.
+    Done(Done),
+    /// The number that the job will have.
+    Handed(u32),
+    /// What a step brought about.
+    Stepped(Note),
+    /// How a walk went.
+    Walked(Walked),
+    /// The worker that owns the lock, if one does.
+    Owner(Option<u32>),
+    /// What the cells of the lock hold, and whether they are settled.
+    Cells(Row, bool),
+    /// The worker's last receipt, if it has one.
     Last(Option<Receipt>),
-    CrashPlanned,
-    Detached,
+    /// All finished sections.
+    History,
+    /// The most own steps of one stay in each phase.
+    Report(Report),
+    /// The line was refused, and changed nothing.
     Refused(Refusal),
 }
 
-/// Appends an answer of a session, without its newline.
+/// Appends the answer to a command line, without its newline. The history is that of the world that is open,
+/// which only the answer `History` shows.
 ///
 /// An error is want of memory, and leaves a text that is of no use.
-pub fn push_reply(out: &mut String, names: &Names, reply: Reply) -> Result<(), AllocError>
-    ensures { OnOk result (string_bytes out.new ≡ string_bytes out.old ++ spec.reply_text names.now reply) }
+pub fn push_reply(
+    out: &mut String,
+    names: &Names,
+    history: &[Entry],
+    reply: &Reply,
+) -> Result<(), AllocError>
+    ensures { OnOk result (string_bytes out.new ≡ string_bytes out.old ++ spec.reply_text names.now history.now reply.now) }
 {
     match reply {
-        Reply::Attached(number, standing) => push_attached(out, number, standing.word()),
-        Reply::Submitted(outcome) => push_outcome(out, names, "submit", outcome),
-        Reply::Resumed(outcome) => push_outcome(out, names, "resume", outcome),
-        Reply::Withdrew(number) => write!(out, "{{\"number\":{number},\"ok\":\"withdraw\"}}"),
-        Reply::WithdrawFell => push_fell(out, "withdraw"),
-        Reply::Last(last) => push_last(out, names, last),
-        Reply::CrashPlanned => out.push_str("{\"ok\":\"crash_after\"}"),
-        Reply::Detached => out.push_str("{\"ok\":\"detach\"}"),
-        Reply::Refused(refusal) => push_refusal(out, refusal),
+        Reply::Done(done) => push_done(out, *done),
+        Reply::Handed(number) => push_number(out, *number),
+        Reply::Stepped(note) => push_stepped(out, names, *note),
+        Reply::Walked(walked) => push_walked(out, names, walked),
+        Reply::Owner(owner) => push_owner(out, *owner),
+        Reply::Cells(row, settled) => push_row(out, row, *settled),
+        Reply::Last(last) => push_last(out, names, *last),
+        Reply::History => push_history(out, names, history),
+        Reply::Report(report) => push_report(out, *report),
+        Reply::Refused(refusal) => push_refusal(out, *refusal),
     }
-}
-
-fn push_attached(out: &mut String, number: u32, standing: &str) -> Result<(), AllocError>
-    ensures { OnOk result (string_bytes out.new ≡ string_bytes out.old ++ spec.attached_text number standing.now) }
-{
-    write!(
-        out,
-        "{{\"number\":{number},\"ok\":\"attach\",\"stance\":\"{standing}\"}}"
-    )
-}
-
-/// Appends what became of a job, with the word of the line that asked.
-fn push_outcome(
-    out: &mut String,
-    names: &Names,
-    word: &str,
-    outcome: Outcome,
-) -> Result<(), AllocError>
-    ensures { OnOk result (string_bytes out.new ≡ string_bytes out.old ++ spec.outcome_text names.now word.now outcome) }
-{
-    match outcome {
-        Outcome::Receipt(receipt) => push_receipt_outcome(out, names, word, receipt),
-        Outcome::Withdrawn => write!(out, "{{\"ok\":\"{word}\",\"withdrawn\":true}}"),
-        Outcome::Waiting => write!(out, "{{\"ok\":\"{word}\",\"waiting\":true}}"),
-        Outcome::Fell => push_fell(out, word),
-    }
-}
-
-fn push_fell(out: &mut String, word: &str) -> Result<(), AllocError>
-    ensures { OnOk result (string_bytes out.new ≡ string_bytes out.old ++ spec.fell_text word.now) }
-{
-    write!(out, "{{\"fell\":true,\"ok\":\"{word}\"}}")
-}
-
-fn push_receipt_outcome(
-    out: &mut String,
-    names: &Names,
-    word: &str,
-    receipt: Receipt,
-) -> Result<(), AllocError>
-    ensures { OnOk result (string_bytes out.new ≡ string_bytes out.old ++ spec.receipt_outcome_text names.now word.now receipt) }
-{
-    push_receipt_front(out, word)?;
-    push_receipt(out, names, receipt)?;
-    out.push_str("}")?;
-    Ok(())
-}
-
-fn push_receipt_front(out: &mut String, word: &str) -> Result<(), AllocError>
-    ensures { OnOk result (string_bytes out.new ≡ string_bytes out.old ++ spec.receipt_front word.now) }
-{
-    write!(out, "{{\"ok\":\"{word}\",\"receipt\":")
 }

@@ -75,7 +75,7 @@ pub fn push_receipt(out: &mut String, names: &Names, receipt: Receipt) -> Result
 }
 
 /// Appends a comma where something came earlier.
-pub fn push_comma(out: &mut String, later: bool) -> Result<(), AllocError>
+fn push_comma(out: &mut String, later: bool) -> Result<(), AllocError>
     ensures { OnOk result (string_bytes out.new ≡ string_bytes out.old ++ spec.comma later) }
 {
     if later { out.push_str(",") } else { Ok(()) }
@@ -155,6 +155,19 @@ pub fn push_entries(out: &mut String, names: &Names, entries: &[Entry]) -> Resul
     for entry in entries {
         push_comma(out, later)?;
         push_entry(out, names, entry)?;
+        later = true;
+    }
+    Ok(())
+}
+
+/// Appends notes, separated by commas.
+pub fn push_notes(out: &mut String, names: &Names, notes: &[Note]) -> Result<(), AllocError>
+    ensures { OnOk result (string_bytes out.new ≡ string_bytes out.old ++ spec.notes_text names.now notes.now) }
+{
+    let mut later = false;
+    for note in notes {
+        push_comma(out, later)?;
+        push_note(out, names, *note)?;
         later = true;
     }
     Ok(())

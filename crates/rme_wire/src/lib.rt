@@ -23,7 +23,7 @@ pub use order::{Order, Submission, order_of};
 pub use request::{Request, request_of};
 pub use rme_lines::{Cut, EngineFault, LineReader, put_all};
 pub use rme_texts::{
-    Done, EventLine, Handed, Names, Outcome, Reply, Report, Standing, WalkEnd, is_name, push_comma,
-    push_done, push_event, push_history, push_last, push_note, push_number, push_opening,
-    push_owner, push_refusal, push_reply, push_report, push_row, push_stepped, push_walked,
+    Done, EventLine, Handed, Names, Outcome, Reply, Report, SessionReply, Standing, WalkEnd,
+    WalkNotes, Walked, is_name, push_event, push_note, push_opening, push_reply,
+    push_session_reply,
 };

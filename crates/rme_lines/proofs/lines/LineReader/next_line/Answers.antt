@@ -1,4 +1,4 @@
-use Rattle.rme_lines.proofs.PieceLemmas.{saw_first, saw_same, saw_taken, cuts_taken, cuts_end}
+use Rattle.rme_lines.proofs.PieceLemmas.{saw_first, saw_same, saw_taken, cuts_taken, cuts_end, piece_lost, whole_taken}
 use Rattle.rme_lines.proofs.ReaderLemmas.{came_first, came_more}
 use Rattle.rme_lines.specs.Readers.{bytes_left}
 use Rattle.rme_lines.proofs.lines.LineReader.next_line.Goals as goal
@@ -32,3 +32,14 @@ loop-line-preserved g c =
       came_on = came_more c.args.self.now c.loop-line.self c.fill.new.self c.take_piece.new.self c.loop-line.line.items c.take_piece.new.line.items c.loop-line.invariant.came_on
           c.in-Ok-true.ensures.ended c.in-Ok-true.ensures.reads c.in-Ok-true.ensures.most more c.in-Ok-false-take_piece.ensures.on c.in-Ok-false-take_piece.ensures.used;
     }
+
+pub returns-in-Ok-true-take_piece-clause-whole : goal.returns-in-Ok-true-take_piece-clause-whole
+returns-in-Ok-true-take_piece-clause-whole g c ended =
+    let left = bytes_left g.R.Read.remaining in
+    let saw = saw_same 65537 (left c.args.self.now) _ (left c.fill.new.self) _ c.loop-line.invariant.saw c.in-Ok-true.ensures.kept in
+    whole_taken (left c.args.self.now) _ (left c.take_piece.new.self) c.loop-line.line.items c.take_piece.new.line.items _ saw c.in-Ok-true-take_piece.ensures.takes c.in-Ok-true-take_piece.field-0-test
+
+pub returns-in-Err-clause-lost : goal.returns-in-Err-clause-lost
+returns-in-Err-clause-lost g c failed =
+    let left = bytes_left g.R.Read.remaining in
+    piece_lost (left c.args.self.now) (left c.loop-line.self) (left c.fill.new.self) c.loop-line.line.items c.loop-line.invariant.saw c.in-Err.ensures.kept

@@ -1,0 +1,41 @@
+//! How far supervised workers are, shown while they run.
+
+use rme_supervisor::Gate;
+use std::io::Eprint;
+use std::sync::atomic::{AtomicU64, Ordering};
+
+/// The line is written at most about so often in a run.
+const MOST_LINES: u64 = 1000;
+
+/// Lets all pass, and shows on the standard error how many of the jobs are over.
+#[derive(Drop)]
+pub struct Progress<'a, R> {
+    rt: &'a R,
+    jobs: u64,
+    over: AtomicU64,
+}
+
+impl<'a, R> Progress<'a, R> {
+    pub fn new(rt: &'a R, jobs: u64) -> Progress<'a, R> {
+        Progress {
+            rt,
+            jobs,
+            over: AtomicU64::new(0),
+        }
+    }
+}
+
+impl<R: Eprint> Gate for Progress<'_, R> {
+    fn inside(&self, _worker: u32, _lock: u32) -> bool {
+        true
+    }
+
+    fn over(&self, _worker: u32, _lock: u32, _number: u32) {
+        let over = self.over.fetch_add(1, Ordering::SeqCst).saturating_add(1);
+        let every = (self.jobs / MOST_LINES).max(1);
+        if over % every == 0 || over == self.jobs {
+            // What can't be shown is left out.
+            let _ = eprint!(self.rt; "\r{over} of {} jobs", self.jobs);
+        }
+    }
+}

@@ -1,0 +1,124 @@
+//! `rme threads`: supervised workers that add to one cell.
+
+use crate::fault::Fault;
+use crate::progress::Progress;
+use rme_script::{Job, Op, Script};
+use rme_supervisor::{End, Free, Gate, Report, WorkerPlan, supervise};
+use rme_table::Service;
+use rme_words::{Refusal, Shape};
+use std::alloc::{AllocError, Global};
+use std::fs;
+use std::sync::Wait;
+use std::thread::Threads;
+
+/// What `rme threads` is asked for: so many workers, with so many jobs each, all with the same falls.
+#[derive(Drop)]
+pub struct ThreadsTask {
+    pub workers: u32,
+    pub jobs: u32,
+    pub falls: Vec<u32>,
+    pub is_quiet: bool,
+}
+
+/// More than the blocked sweeps of any job here.
+const MOST_SWEEPS: u32 = 1_000_000_000;
+
+/// Where the system says what the standard error is, and how the names of terminals begin.
+const STANDARD_ERROR: &str = "/proc/self/fd/2";
+
+const TERMINALS: [&str; 3] = ["/dev/pts/", "/dev/tty", "/dev/console"];
+
+/// Runs the workers, prints what their lock then holds, and answers the status.
+pub fn run_threads<R: Threads + Wait + Sync>(
+    rt: &HostRuntime,
+    threads: &R,
+    task: &ThreadsTask,
+) -> Result<u8, Fault> {
+    if task.is_quiet || !is_watched(rt) {
+        return run_with(rt, threads, task, &Free);
+    }
+    let jobs = u64::from(task.workers).saturating_mul(u64::from(task.jobs));
+    let told = run_with(rt, threads, task, &Progress::new(rt, jobs));
+    let _ = eprintln!(rt; "");
+    told
+}
+
+/// Whether the standard error is a terminal.
+fn is_watched(rt: &HostRuntime) -> bool {
+    let Ok(path) = fs::read_link(rt, STANDARD_ERROR) else {
+        return false;
+    };
+    TERMINALS
+        .iter()
+        .any(|start| path.as_str().starts_with(*start))
+}
+
+/// Runs the workers with this gate.
+fn run_with<G: Gate + Sync, R: Threads + Wait + Sync>(
+    rt: &HostRuntime,
+    threads: &R,
+    task: &ThreadsTask,
+    gate: &G,
+) -> Result<u8, Fault> {
+    let Ok(shape) = Shape::new(task.workers, 1, 1, task.jobs) else {
+        return Err(Fault::BadArguments);
+    };
+    let plans = plans_of(rt.alloc(), task)?;
+    let Ok((service, downs)) = Service::new(rt.alloc(), shape) else {
+        return Err(Fault::NoMemory);
+    };
+    match supervise(threads, rt.alloc(), service, downs, plans, gate) {
+        Ok(report) => print_report(rt, task, &report),
+        Err(fault) => match fault.why {
+            Refusal::BadShape => Err(Fault::BadArguments),
+            Refusal::NoWorker => Ok(1),
+            _ => Err(Fault::NoMemory),
+        },
+    }
+}
+
+/// The plan of each worker: its jobs add 1, and it has one life more than falls.
+fn plans_of(alloc: Global, task: &ThreadsTask) -> Result<Vec<WorkerPlan>, AllocError> {
+    let mut plans = Vec::with_capacity(alloc, task.workers as usize)?;
+    for _ in 0..task.workers {
+        plans.push(plan_of(alloc, task)?)?;
+    }
+    Ok(plans)
+}
+
+fn plan_of(alloc: Global, task: &ThreadsTask) -> Result<WorkerPlan, AllocError> {
+    let job = Job {
+        lock: 0,
+        script: Script::of(&[Op::Add(0, 1)]),
+    };
+    let lives = u32::try_from(task.falls.len()).unwrap_or(u32::MAX);
+    Ok(WorkerPlan {
+        jobs: vec![in alloc; job; task.jobs as usize]?,
+        falls: task.falls.clone()?,
+        lives: lives.saturating_add(1),
+        sweeps: MOST_SWEEPS,
+    })
+}
+
+/// Prints the report, and answers the status: 0 where all workers were done.
+fn print_report(rt: &HostRuntime, task: &ThreadsTask, report: &Report) -> Result<u8, Fault> {
+    let done = report
+        .ends
+        .iter()
+        .filter(|end| **end == End::AllDone)
+        .count();
+    let printed = match report.closed.locks.first() {
+        Some(lock) => println!(rt;
+            "workers {}\njobs {}\nall done {done}\ncell {}\nentries {}",
+            task.workers,
+            task.jobs,
+            lock.cells.first().copied().unwrap_or(0),
+            lock.entries.len()
+        ),
+        None => Ok(()),
+    };
+    if printed.is_err() {
+        return Err(Fault::WriteFailed);
+    }
+    Ok(if done == report.ends.len() { 0 } else { 1 })
+}

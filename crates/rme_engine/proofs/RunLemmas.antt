@@ -1,0 +1,288 @@
+-- A run goes on by one line.
+use Rattle.std.proofs.Common.{◌≡◌, ℕ, List, [], ◌∷◌, ◌++◌, length, take, drop, take-append-drop, ◌<◌, ◌≤◌, arith, Bool, true, false, Option, Some, None, refl, sym, ap, subst, ◌∙◌, append_assoc, append-nil}
+use Rattle.std.proofs.lemmas.List.{take_at}
+use Rattle.std.specs.Io.KnownBytes.{Appends}
+use Rattle.std.proofs.KnownBytes.{Appends-nil, Appends-trans}
+use Rattle.rme_lines.specs.declared.cut.Cut.{Cut}
+use Rattle.rme_lines.specs.declared.cut.Cut.TheVariants.{Line, TooLong, End}
+use Rattle.rme_lines.specs.declared.fault.EngineFault.{EngineFault}
+use Rattle.rme_lines.specs.declared.fault.EngineFault.TheVariants.{ReadFailed, WriteFailed, NoMemory}
+use Rattle.rme_lines.specs.Cuts.{Cuts, line_read}
+use Rattle.rme_lines.specs.Pieces.{InputLine, TakesPiece, TakesWhole, line_of, lines_of, whole_lines_of}
+use Rattle.rme_lines.specs.Puts.{AppendsFront}
+use Rattle.rme_lines.specs.declared.lines.LineReader.{LineReader}
+use Rattle.rme_lines.specs.Readers.{FailsToRead, ReadsNoMore, most_lines}
+use Rattle.rme_lines.proofs.ReaderLemmas.{CameOn, came_no_more, came_to_fail}
+use Rattle.rme_lines.proofs.PieceLemmas.{lines_ended, whole_lines_ended, whole_lines_piece}
+use Rattle.rme_engine.specs.Runs.{AreLines, BeginsWith, CutsOff, Gathers, HasNone, Run, Spills, TurnFails, Turns, WereRead, WritesAll, WritesFirst, all_bytes}
+
+-- ---- bytes that are kept back
+
+-- nothing more was gathered, and nothing was written
+pub gathers_none : (held : Option (List ℕ)) (kept : List ℕ) → Gathers held kept [] held kept
+gathers_none held kept = record { front = []; put = Appends-nil held; rest = append-nil kept }
+
+-- all that was kept back was written
+pub gathers_written : (held holds : Option (List ℕ)) (kept keeps : List ℕ) → Appends held holds kept → keeps ≡ [] → Gathers held kept [] holds keeps
+gathers_written held holds kept keeps put none = record { front = kept; put = put; rest = ap (λ l. kept ++ l) (sym none) }
+
+-- bytes are kept back behind the others
+pub gathers_kept : (held : Option (List ℕ)) (kept bytes keeps : List ℕ) → keeps ≡ kept ++ bytes → Gathers held kept bytes held keeps
+gathers_kept held kept bytes keeps e = record { front = []; put = Appends-nil held; rest = sym e }
+
+-- and after all the others were written
+pub gathers_alone : (held holds : Option (List ℕ)) (kept bytes mid keeps : List ℕ) → Appends held holds kept → mid ≡ [] → keeps ≡ mid ++ bytes → Gathers held kept bytes holds keeps
+gathers_alone held holds kept bytes mid keeps put none e =
+    record { front = kept; put = put; rest = ap (λ l. kept ++ l) (sym (e ∙ ap (λ l. l ++ bytes) none)) }
+
+-- all was written
+pub gathers_all : (held mid holds : Option (List ℕ)) (kept bytes keeps : List ℕ) → Appends held mid kept → Appends mid holds bytes → keeps ≡ [] → Gathers held kept bytes holds keeps
+gathers_all held mid holds kept bytes keeps put more none =
+    record { front = kept ++ bytes; put = Appends-trans held mid holds kept bytes put more; rest = sym (append-nil (kept ++ bytes)) ∙ ap (λ l. (kept ++ bytes) ++ l) (sym none) }
+
+-- first some bytes were gathered, and then more
+pub gathers_more : (held mid holds : Option (List ℕ)) (kept keeps last first bytes : List ℕ) → Gathers held kept first mid keeps → Gathers mid keeps bytes holds last
+    → Gathers held kept (first ++ bytes) holds last
+gathers_more held mid holds kept keeps last first bytes a b = record {
+  front = a.front ++ b.front;
+  put = Appends-trans held mid holds a.front b.front a.put b.put;
+  rest = sym (append_assoc kept first bytes) ∙ ap (λ l. l ++ bytes) a.rest ∙ append_assoc a.front keeps bytes ∙ ap (λ l. a.front ++ l) b.rest ∙ sym (append_assoc a.front b.front last);
+}
+
+-- what was written is a front of all
+pub front_is : (held holds : Option (List ℕ)) (front rest all : List ℕ) → front ++ rest ≡ all → Appends held holds front → AppendsFront held holds all
+front_is held holds front rest all e put =
+    let P : List ℕ → Type 0 = λ l. Appends held holds l in
+    let Q : List ℕ → Type 0 = λ l. AppendsFront held holds l in subst Q e (length front, subst P (sym (take_at front rest (length front) refl)) put)
+
+-- a front of the later bytes, after the others
+pub front_after : (held mid holds : Option (List ℕ)) (done bytes all : List ℕ) → Appends held mid done → AppendsFront mid holds bytes → done ++ bytes ≡ all → AppendsFront held holds all
+front_after held mid holds done bytes all put (n, more) e =
+    front_is held holds (done ++ take n bytes) (drop n bytes) all (append_assoc done (take n bytes) (drop n bytes) ∙ ap (λ l. done ++ l) (take-append-drop n bytes) ∙ e)
+    (Appends-trans held mid holds done (take n bytes) put more)
+
+-- a front of the first bytes
+pub front_before : (held holds : Option (List ℕ)) (bytes more : List ℕ) → AppendsFront held holds bytes → AppendsFront held holds (bytes ++ more)
+front_before held holds bytes more (n, put) =
+    front_is held holds (take n bytes) (drop n bytes ++ more) (bytes ++ more) (sym (append_assoc (take n bytes) (drop n bytes) more) ∙ ap (λ l. l ++ more) (take-append-drop n bytes)) put
+
+-- what was gathered, and then all that was kept back, was written
+pub gathered_put : (held mid holds : Option (List ℕ)) (kept keeps : List ℕ) → Gathers held kept [] mid keeps → Appends mid holds keeps → Appends held holds kept
+gathered_put held mid holds kept keeps gathers put =
+    let P : List ℕ → Type 0 = λ l. Appends held holds l in
+    subst P (sym gathers.rest ∙ append-nil kept) (Appends-trans held mid holds gathers.front keeps gathers.put put)
+
+gathered_front : (held mid holds : Option (List ℕ)) (kept keeps : List ℕ) → Gathers held kept [] mid keeps → AppendsFront mid holds keeps → AppendsFront held holds kept
+gathered_front held mid holds kept keeps gathers put = front_after held mid holds gathers.front keeps kept gathers.put put (sym gathers.rest ∙ append-nil kept)
+
+-- ---- the lines of the input
+
+-- the input's lines are those that were taken, and those that are left
+abbrev pub LeftOf : Option (List ℕ) → Option (List ℕ) → List InputLine → Type 0
+LeftOf None left lines = Unit {0}
+LeftOf (Some bytes) None lines = ⊥
+LeftOf (Some bytes) (Some left) lines = lines_of bytes ≡ lines ++ lines_of left
+
+left_first : (input : Option (List ℕ)) → LeftOf input input []
+left_first None = tt
+left_first (Some bytes) = refl
+
+left_more : (input left later : Option (List ℕ)) (lines : List InputLine) (line : InputLine) → LeftOf input left lines → CutsOff left later line → LeftOf input later (lines ++ line ∷ [])
+left_more None left later lines line l c = tt
+left_more (Some bytes) None later lines line l c = absurd l
+left_more (Some bytes) (Some left) None lines line l c = absurd c
+left_more (Some bytes) (Some left) (Some later) lines line l c = l ∙ ap (λ ls. lines ++ ls) c ∙ sym (append_assoc lines (line ∷ []) (lines_of later))
+
+left_none : (input left : Option (List ℕ)) (lines : List InputLine) → LeftOf input left lines → HasNone left → AreLines input lines
+left_none None left lines l n = tt
+left_none (Some bytes) None lines l n = absurd l
+left_none (Some bytes) (Some left) lines l n = l ∙ ap (λ ls. lines ++ ls) n ∙ append-nil lines
+
+left_begins : (input left : Option (List ℕ)) (lines : List InputLine) → LeftOf input left lines → BeginsWith input lines
+left_begins None left lines l = tt
+left_begins (Some bytes) None lines l = absurd l
+left_begins (Some bytes) (Some left) lines l = (lines_of left, l)
+
+left_begins_more : (input left : Option (List ℕ)) (lines more : List InputLine) → LeftOf input left lines → BeginsWith left more → BeginsWith input (lines ++ more)
+left_begins_more None left lines more l b = tt
+left_begins_more (Some bytes) None lines more l b = absurd l
+left_begins_more (Some bytes) (Some left) lines more l (rest, e) = (rest, l ∙ ap (λ ls. lines ++ ls) e ∙ sym (append_assoc lines more rest))
+
+begins_none : (input : Option (List ℕ)) → BeginsWith input []
+begins_none None = tt
+begins_none (Some bytes) = (lines_of bytes, refl)
+
+-- the bytes that were taken are those of whole lines, whatever comes after them
+abbrev pub ReadOff : Option (List ℕ) → Option (List ℕ) → List InputLine → Type 0
+ReadOff None left lines = Unit {0}
+ReadOff (Some bytes) None lines = ⊥
+ReadOff (Some bytes) (Some left) lines =
+    (front : List ℕ) × (bytes ≡ front ++ left) × ((rest : List ℕ) → whole_lines_of (front ++ rest) ≡ lines ++ whole_lines_of rest)
+
+off_first : (input : Option (List ℕ)) → ReadOff input input []
+off_first None = tt
+off_first (Some bytes) = ([], refl, λ rest. refl)
+
+abbrev first_of : List InputLine → InputLine → InputLine
+first_of [] other = other
+first_of (line ∷ lines) other = line
+
+same_line : (line other : InputLine) (lines : List InputLine) → line ∷ lines ≡ other ∷ lines → line ≡ other
+same_line line other lines e = ap (λ (ls : List InputLine). first_of ls line) e
+
+off_more : (input left later : Option (List ℕ)) (lines : List InputLine) (line : InputLine) → ReadOff input left lines → CutsOff left later line → TakesWhole left later
+    → ReadOff input later (lines ++ line ∷ [])
+off_more None left later lines line o c t = tt
+off_more (Some bytes) None later lines line o c t = absurd o
+off_more (Some bytes) (Some left) None lines line o c t = absurd c
+off_more (Some bytes) (Some left) (Some later) lines line (front, e, closes) c (piece, is, f) =
+    let one : line ≡ line_of piece = same_line line (line_of piece) (lines_of later) (sym c ∙ ap lines_of f ∙ lines_ended piece later is) in (
+      front ++ (piece ++ 10 ∷ []),
+      e ∙ ap (λ l. front ++ l) (f ∙ sym (append_assoc piece (10 ∷ []) later)) ∙ sym (append_assoc front (piece ++ 10 ∷ []) later),
+      λ rest.
+          ap whole_lines_of (append_assoc front (piece ++ 10 ∷ []) rest ∙ ap (λ l. front ++ l) (append_assoc piece (10 ∷ []) rest)) ∙ closes (piece ++ 10 ∷ rest)
+          ∙ ap (λ ls. lines ++ ls) (whole_lines_ended piece rest is ∙ ap (λ (l : InputLine). l ∷ whole_lines_of rest) (sym one)) ∙ sym (append_assoc lines (line ∷ []) (whole_lines_of rest)),
+    )
+
+-- the reader failed within a line
+off_failed : (input left later : Option (List ℕ)) (lines : List InputLine) → ReadOff input left lines → TakesPiece left later → WereRead input later lines
+off_failed None left later lines o t = tt
+off_failed (Some bytes) None later lines o t = absurd o
+off_failed (Some bytes) (Some left) None lines o t = absurd t
+off_failed (Some bytes) (Some left) (Some later) lines (front, e, closes) (piece, is, f) =
+    (front ++ piece, e ∙ ap (λ l. front ++ l) f ∙ sym (append_assoc front piece later), closes piece ∙ ap (λ ls. lines ++ ls) (whole_lines_piece piece is) ∙ append-nil lines)
+
+none_read : (input : Option (List ℕ)) → WereRead input input []
+none_read None = tt
+none_read (Some bytes) = ([], refl, whole_lines_piece [] tt)
+
+-- ---- a turn's cut
+
+pub cut_off : (left later : Option (List ℕ)) (cut : Cut) (line : List ℕ) → Cuts left later cut line → (cut ≡ End → ⊥) → CutsOff left later (line_read cut line)
+cut_off None later cut line c ne = tt
+cut_off (Some before) None cut line c ne = absurd c
+cut_off (Some before) (Some after) Line line c ne = c
+cut_off (Some before) (Some after) TooLong line c ne = c
+cut_off (Some before) (Some after) End line c ne = absurd (ne refl)
+
+pub none_left : (left later : Option (List ℕ)) (cut : Cut) (line : List ℕ) → Cuts left later cut line → cut ≡ End → HasNone left
+none_left None later cut line c e = tt
+none_left (Some before) None cut line c e = absurd c
+none_left (Some before) (Some after) cut line c e = let P : Cut → Type 0 = λ x. Cuts (Some before) (Some after) x line in subst P e c
+
+begins_off : (left later : Option (List ℕ)) (line : InputLine) → CutsOff left later line → BeginsWith left (line ∷ [])
+begins_off None later line c = tt
+begins_off (Some before) None line c = absurd c
+begins_off (Some before) (Some after) line c = (lines_of after, c)
+
+-- ---- the run so far
+
+all_bytes-append : (all more : List (List ℕ)) → all_bytes (all ++ more) ≡ all_bytes all ++ all_bytes more
+all_bytes-append [] more = refl
+all_bytes-append (a ∷ all) more = ap (λ l. a ++ l) (all_bytes-append all more) ∙ sym (append_assoc a (all_bytes all) (all_bytes more))
+
+still : (ended ends : Bool) → (ended ≡ true → ends ≡ true) → ends ≡ false → ended ≡ false
+still true ends stays going = let bad : true ≡ false = sym (stays refl) ∙ going in cc
+still false ends stays going = refl
+
+module _ {S : Type 0} (has : S → InputLine → List ℕ → S → Type 0) where
+  run_on : (old mid new : S) (lines more : List InputLine) (all others : List (List ℕ)) → Run has old lines all mid → Run has mid more others new → Run has old (lines ++ more) (all ++ others) new
+  run_on old mid new [] more [] others run rest = let P : S → Type 0 = λ s. Run has s more others new in subst P run rest
+  run_on old mid new [] more (a ∷ all) others run rest = absurd run
+  run_on old mid new (l ∷ lines) more [] others run rest = absurd run
+  run_on old mid new (l ∷ lines) more (a ∷ all) others (next, first, run) rest = (next, first, run_on next mid new lines more all others run rest)
+
+  -- the bytes of the lines before were written, but for those that are kept back; the others are left
+  pub record SoFar (first : S) (input before left : Option (List ℕ)) (ended : Bool) (now : S) (held : Option (List ℕ)) (kept : List ℕ) : Type 0 where
+    pub lines : List InputLine
+    pub all : List (List ℕ)
+    pub run : Run has first lines all now
+    pub front : List ℕ
+    pub put : Appends before held front
+    pub rest : front ++ kept ≡ all_bytes all
+    pub of : LeftOf input left lines
+    pub off : ended ≡ false → ReadOff input left lines
+
+  pub so_far_first : (input held : Option (List ℕ)) (ended : Bool) (first now : S) (kept : List ℕ) → now ≡ first → kept ≡ [] → SoFar first input held input ended now held kept
+  so_far_first input held ended first now kept e none =
+      record { lines = []; all = []; run = e; front = []; put = Appends-nil held; rest = none; of = left_first input; off = λ _. off_first input }
+
+  pub so_far_more : (input before left later held holds : Option (List ℕ)) (ended ends : Bool) (first now new : S) (kept keeps : List ℕ) → SoFar first input before left ended now held kept
+      → (ended ≡ true → ends ≡ true) → Turns has left later ends now new held kept holds keeps true → SoFar first input before later ends new holds keeps
+  so_far_more input before left later held holds ended ends first now new kept keeps so stays (line, bytes, cuts, had, gathers, whole) = record {
+    lines = so.lines ++ line ∷ [];
+    all = so.all ++ bytes ∷ [];
+    run = run_on first now new so.lines (line ∷ []) so.all (bytes ∷ []) so.run (new, had, refl);
+    front = so.front ++ gathers.front;
+    put = Appends-trans before held holds so.front gathers.front so.put gathers.put;
+    rest = append_assoc so.front gathers.front keeps ∙ ap (λ l. so.front ++ l) (sym gathers.rest) ∙ sym (append_assoc so.front kept bytes) ∙ ap (λ l. l ++ bytes) so.rest
+        ∙ sym (all_bytes-append so.all (bytes ∷ []) ∙ ap (λ l. all_bytes so.all ++ l) (append-nil bytes));
+    of = left_more input left later so.lines line so.of cuts;
+    off = λ going. off_more input left later so.lines line (so.off (still ended ends stays going)) cuts (whole going);
+  }
+
+  -- what was kept back was written
+  all_put : (before held holds : Option (List ℕ)) (front kept all : List ℕ) → Appends before held front → front ++ kept ≡ all → Appends held holds kept → Appends before holds all
+  all_put before held holds front kept all put e more =
+      let P : List ℕ → Type 0 = λ l. Appends before holds l in subst P e (Appends-trans before held holds front kept put more)
+
+  pub finished : (input before left later held holds : Option (List ℕ)) (ended ends : Bool) (first now new : S) (kept keeps : List ℕ) → SoFar first input before left ended now held kept
+      → Turns has left later ends now new held kept holds keeps false → WritesAll has first input before holds
+  finished input before left later held holds ended ends first now new kept keeps so (none, more) =
+      (so.lines, so.all, now, so.run, left_none input left so.lines so.of none, all_put before held holds so.front kept (all_bytes so.all) so.put so.rest more)
+
+  pub failed : (fault : EngineFault) (input before left later held holds : Option (List ℕ)) (ended : Bool) (first now : S) (kept : List ℕ) → SoFar first input before left ended now held kept
+      → (fault ≡ ReadFailed → ended ≡ false) → TurnFails has fault left later now held kept holds → WritesFirst has first fault input later before holds
+  failed ReadFailed input before left later held holds ended first now kept so going (piece, more) =
+      (so.lines, so.all, now, so.run, (off_failed input left later so.lines (so.off (going refl)) piece, all_put before held holds so.front kept (all_bytes so.all) so.put so.rest more))
+  failed NoMemory input before left later held holds ended first now kept so going more =
+      (so.lines, so.all, now, so.run, (left_begins input left so.lines so.of, all_put before held holds so.front kept (all_bytes so.all) so.put so.rest more))
+  failed WriteFailed input before left later held holds ended first now kept so going (taken, all, new, run, begins, front) =
+      let e : so.front ++ (kept ++ all_bytes all) ≡ all_bytes (so.all ++ all) =
+      sym (append_assoc so.front kept (all_bytes all)) ∙ ap (λ l. l ++ all_bytes all) so.rest ∙ sym (all_bytes-append so.all all) in (
+        so.lines ++ taken,
+        so.all ++ all,
+        new,
+        run_on first now new so.lines taken so.all all so.run run,
+        (left_begins_more input left so.lines taken so.of begins, front_after before held holds so.front (kept ++ all_bytes all) (all_bytes (so.all ++ all)) so.put front e),
+      )
+
+  -- no memory before the first line
+  pub failed_first : (first : S) (input held : Option (List ℕ)) → WritesFirst has first NoMemory input input held held
+  failed_first first input held = ([], [], first, refl, (begins_none input, Appends-nil held))
+
+  -- no line was to be had
+  pub spilt : (fault : EngineFault) (left later held holds : Option (List ℕ)) (old : S) (kept : List ℕ) → Spills fault left later held kept holds → TurnFails has fault left later old held kept holds
+  spilt ReadFailed left later held holds old kept s = s
+  spilt NoMemory left later held holds old kept s = s
+  spilt WriteFailed left later held holds old kept s =
+      let P : List ℕ → Type 0 = λ l. AppendsFront held holds l in ([], [], old, refl, begins_none left, subst P (sym (append-nil kept)) s)
+
+  -- the line's bytes could not be written
+  pub put_failed : (left later held mid holds : Option (List ℕ)) (old new : S) (line : InputLine) (kept keeps bytes : List ℕ) → CutsOff left later line → has old line bytes new
+      → Gathers held kept [] mid keeps → AppendsFront mid holds (keeps ++ bytes) → TurnFails has WriteFailed left later old held kept holds
+  put_failed left later held mid holds old new line kept keeps bytes cuts had gathers front =
+      let e : gathers.front ++ (keeps ++ bytes) ≡ kept ++ (bytes ++ []) =
+      sym (append_assoc gathers.front keeps bytes) ∙ ap (λ l. l ++ bytes) (sym gathers.rest ∙ append-nil kept) ∙ ap (λ l. kept ++ l) (sym (append-nil bytes)) in
+      (line ∷ [], bytes ∷ [], new, (new, had, refl), begins_off left later line cuts, front_after held mid holds gathers.front (keeps ++ bytes) (kept ++ (bytes ++ [])) gathers.put front e)
+
+  -- memory was refused after the line was cut, and what was kept back was written, or a front of it
+  pub gave_up : (fault : EngineFault) (left later held mid holds : Option (List ℕ)) (old : S) (kept keeps : List ℕ) → Gathers held kept [] mid keeps
+      → (fault ≡ NoMemory → Appends mid holds keeps) → (fault ≡ WriteFailed → AppendsFront mid holds keeps) → (fault ≡ ReadFailed → ⊥) → TurnFails has fault left later old held kept holds
+  gave_up ReadFailed left later held mid holds old kept keeps gathers memory write kind = absurd (kind refl)
+  gave_up NoMemory left later held mid holds old kept keeps gathers memory write kind = gathered_put held mid holds kept keeps gathers (memory refl)
+  gave_up WriteFailed left later held mid holds old kept keeps gathers memory write kind =
+      spilt WriteFailed left later held holds old kept (gathered_front held mid holds kept keeps gathers (write refl))
+
+-- ---- the reader
+
+pub came_turn : {R : Type 0} (old now new : LineReader R) → CameOn old now [] → (now.ended ≡ true → ReadsNoMore now new) → new.reads ≤ now.reads → most_lines new < most_lines now → CameOn old new []
+came_turn old now new came ended reads fewer = record {
+  ended = came_no_more old now new came.ended ended;
+  reads = omega (arith, came.reads, reads);
+  most = omega (arith, came.most, fewer);
+  fewer = λ some. absurd (omega (arith, some));
+}
+
+pub fails_to_read : {R : Type 0} (old now new : LineReader R) → CameOn old now [] → FailsToRead now new → FailsToRead old new
+fails_to_read old now new came failed = came_to_fail old now new [] came failed

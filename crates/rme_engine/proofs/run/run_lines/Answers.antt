@@ -1,0 +1,56 @@
+use Rattle.std.proofs.Common.{Bool, [], refl, subst}
+use Rattle.rme_lines.proofs.ReaderLemmas.{came_first}
+use Rattle.rme_lines.specs.Readers.{bytes_left}
+use Rattle.rme_engine.specs.Engines.{state_of}
+use Rattle.rme_engine.specs.Lines.{IsAnswered}
+use Rattle.rme_engine.specs.Runs.{Turns}
+use Rattle.rme_engine.specs.States.{nothing_open}
+use Rattle.rme_engine.proofs.RunLemmas.{came_turn, failed, failed_first, finished, so_far_first, so_far_more}
+use Rattle.rme_engine.proofs.run.run_lines.Goals as goal
+
+pub returns-in_default-clause-err : goal.returns-in_default-clause-err
+returns-in_default-clause-err g c = failed_first IsAnswered nothing_open (bytes_left g.R.Read.remaining c.args.lines.now) (g.W.Write.contents c.args.writer.now)
+
+pub returns-in_default-new-clause-err : goal.returns-in_default-new-clause-err
+returns-in_default-new-clause-err g c = failed_first IsAnswered nothing_open (bytes_left g.R.Read.remaining c.args.lines.now) (g.W.Write.contents c.args.writer.now)
+
+pub loop-buffers-init : goal.loop-buffers-init
+loop-buffers-init g c = record {
+  so_far = so_far_first IsAnswered (bytes_left g.R.Read.remaining c.args.lines.now) (g.W.Write.contents c.args.writer.now) c.args.lines.now.ended nothing_open (state_of c.in-Ok.engine)
+      c.in-Ok-new.buffers.pending c.in-Ok.ensures c.in-Ok-new.ensures;
+  came_on = came_first c.args.lines.now [] refl;
+}
+
+pub loop-buffers-preserved : goal.loop-buffers-preserved
+loop-buffers-preserved g c =
+    let held = g.W.Write.contents in
+    let left = bytes_left g.R.Read.remaining in
+    let now = c.loop-buffers in
+    let new = c.turn.new in
+    let P : Bool → Type 0 = λ more. Turns IsAnswered (left now.lines) (left new.lines) new.lines.ended (state_of now.engine) (state_of new.engine) (held now.writer) now.buffers.pending (held new.writer)
+    new.buffers.pending more in record {
+      so_far = so_far_more IsAnswered (left c.args.lines.now) (held c.args.writer.now) (left now.lines) (left new.lines) (held now.writer) (held new.writer) now.lines.ended new.lines.ended nothing_open
+          (state_of now.engine) (state_of new.engine) now.buffers.pending new.buffers.pending now.invariant.so_far (λ e. (c.in-Ok-true.ensures.ended e).ended)
+          (subst P c.in-Ok-true.field-0-test c.in-Ok-true.ensures.ok);
+      came_on = came_turn c.args.lines.now now.lines new.lines now.invariant.came_on c.in-Ok-true.ensures.ended c.in-Ok-true.ensures.reads (c.in-Ok-true.ensures.fewer c.in-Ok-true.field-0-test);
+    }
+
+pub returns-in-Ok-false-clause-ok : goal.returns-in-Ok-false-clause-ok
+returns-in-Ok-false-clause-ok g c =
+    let held = g.W.Write.contents in
+    let left = bytes_left g.R.Read.remaining in
+    let now = c.loop-buffers in
+    let new = c.turn.new in
+    let P : Bool → Type 0 = λ more. Turns IsAnswered (left now.lines) (left new.lines) new.lines.ended (state_of now.engine) (state_of new.engine) (held now.writer) now.buffers.pending (held new.writer)
+    new.buffers.pending more in
+    finished IsAnswered (left c.args.lines.now) (held c.args.writer.now) (left now.lines) (left new.lines) (held now.writer) (held new.writer) now.lines.ended new.lines.ended nothing_open
+    (state_of now.engine) (state_of new.engine) now.buffers.pending new.buffers.pending now.invariant.so_far (subst P c.in-Ok-false.field-0-test c.in-Ok-false.ensures.ok)
+
+pub returns-in-Err-clause-err : goal.returns-in-Err-clause-err
+returns-in-Err-clause-err g c =
+    let held = g.W.Write.contents in
+    let left = bytes_left g.R.Read.remaining in
+    let now = c.loop-buffers in
+    let new = c.turn.new in
+    failed IsAnswered c.in-Err.fault (left c.args.lines.now) (held c.args.writer.now) (left now.lines) (left new.lines) (held now.writer) (held new.writer) now.lines.ended nothing_open
+    (state_of now.engine) now.buffers.pending now.invariant.so_far (λ e. (c.in-Err.ensures.failed e).going) c.in-Err.ensures.err

@@ -1,0 +1,20 @@
+-- The bytes of the lines before were written, but for those that are kept back, and the others are left; and the reader was
+-- read as it may be.
+use Rattle.std.proofs.Common.{[]}
+use Rattle.rme_lines.specs.Readers.{bytes_left, most_lines}
+use Rattle.rme_lines.proofs.ReaderLemmas.{CameOn}
+use Rattle.rme_engine.specs.Engines.{state_of}
+use Rattle.rme_engine.specs.Lines.{IsAnswered}
+use Rattle.rme_engine.specs.States.{nothing_open}
+use Rattle.rme_engine.proofs.RunLemmas.{SoFar}
+use Rattle.rme_engine.proofs.run.run_lines.Given as goal
+
+abbrev pub invariant-loop-buffers : goal.invariant-loop-buffers
+invariant-loop-buffers g l = record {
+  so_far : SoFar IsAnswered nothing_open (bytes_left g.R.Read.remaining l.fn.lines) (g.W.Write.contents l.fn.writer) (bytes_left g.R.Read.remaining l.lines) l.lines.ended (state_of l.engine)
+      (g.W.Write.contents l.writer) l.buffers.pending;
+  came_on : CameOn l.fn.lines l.lines [];
+}
+
+abbrev pub decreases-loop-buffers : goal.decreases-loop-buffers
+decreases-loop-buffers g l = most_lines l.lines

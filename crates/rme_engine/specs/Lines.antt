@@ -1,0 +1,71 @@
+-- What each line is answered, and what it leaves open.
+use Rattle.std.specs.Prelude.{◌≡◌, ℕ, List, [], ◌∷◌, ◌++◌, length, Option, Some, None, true, Result, Ok, Err}
+use Rattle.rme_words.specs.declared.refusal.Refusal.{Refusal}
+use Rattle.rme_words.specs.declared.refusal.Refusal.TheVariants.{BadLine, LineTooLong, NotOpen, AlreadyOpen, BadShape, NoMemory}
+use Rattle.rme_words.specs.declared.shape.Shape.{Shape}
+use Rattle.rme_words.specs.Shapes.{IsWithinLimits}
+use Rattle.rme_texts.specs.declared.answer.Done.TheVariants as word
+use Rattle.rme_texts.specs.declared.reply.Reply.{Reply}
+use Rattle.rme_texts.specs.declared.reply.Reply.TheVariants.{Done, Refused}
+use Rattle.rme_wire.specs.declared.command.Command.{Command}
+use Rattle.rme_wire.specs.declared.request.Request.{Request}
+use Rattle.rme_wire.specs.declared.request.Request.TheVariants.{Open, World}
+use Rattle.rme_wire.specs.declared.opening.Opening.{Opening}
+use Rattle.rme_wire.specs.Openings.{are_names}
+use Rattle.rme_wire.specs.Requests.{request_of_line}
+use Rattle.rme_lines.specs.Pieces.{InputLine, text, too_long}
+use Rattle.rme_engine.specs.declared.tallied.TalliedWorld.{TalliedWorld}
+use Rattle.rme_engine.specs.States.{State, text_of}
+use Rattle.rme_engine.specs.Tallies.{tallied_opening}
+use Rattle.rme_engine.specs.Commands.{Does}
+
+-- names and numbers within the limits, as many locks as names
+abbrev pub IsGood : Opening → Type 0
+IsGood given = (are_names given.locks ≡ true) × IsWithinLimits given.workers (length given.locks) given.cells given.jobs
+
+-- the shape has the numbers of the line
+abbrev pub IsAsGiven : Opening → Shape → Type 0
+IsAsGiven given shape = (shape.workers ≡ given.workers) × (shape.locks ≡ length given.locks) × (shape.cells ≡ given.cells) × (shape.jobs ≡ given.jobs)
+
+-- what opening is refused with: the names and the numbers first, want of memory last
+abbrev pub MayRefuse : Opening → Refusal → Type 0
+MayRefuse given BadShape = IsGood given → ⊥
+MayRefuse given NoMemory = IsGood given
+MayRefuse given other = ⊥
+
+-- a world is opened, or its opening is refused
+abbrev pub OpensBy : State → Opening → Result Shape Refusal → Reply → State → Type 0
+OpensBy old given (Ok shape) reply new = IsGood given × IsAsGiven given shape × (reply ≡ Done word.Open) × (new ≡ record { names = given.locks; world = Some (tallied_opening shape) })
+OpensBy old given (Err refusal) reply new = MayRefuse given refusal × (reply ≡ Refused refusal) × (new ≡ old)
+
+-- `open` opens a world where none is open
+abbrev pub OpensIn : Option TalliedWorld → State → Opening → Reply → State → Type 0
+OpensIn (Some world) old given reply new = (reply ≡ Refused AlreadyOpen) × (new ≡ old)
+OpensIn None old given reply new = (result : Result Shape Refusal) × OpensBy old given result reply new
+
+-- a command needs a world that is open
+abbrev pub DoesIn : Option TalliedWorld → State → Command → Reply → State → Type 0
+DoesIn None old command reply new = (reply ≡ Refused NotOpen) × (new ≡ old)
+DoesIn (Some world) old command reply new = (after : TalliedWorld) × Does world command reply after × (new ≡ record { names = old.names; world = Some after })
+
+abbrev pub Obeys : State → Option Request → Reply → State → Type 0
+Obeys old None reply new = (reply ≡ Refused BadLine) × (new ≡ old)
+Obeys old (Some (Open given)) reply new = OpensIn old.world old given reply new
+Obeys old (Some (World command)) reply new = DoesIn old.world old command reply new
+
+-- the reply to a line
+abbrev pub Replies : State → InputLine → Reply → State → Type 0
+Replies old too_long reply new = (reply ≡ Refused LineTooLong) × (new ≡ old)
+Replies old (text bytes) reply new = Obeys old (request_of_line old.names bytes) reply new
+
+-- the answer to a line: the text of its reply, without the newline
+abbrev pub Answers : State → InputLine → List ℕ → State → Type 0
+Answers old line answer new = (reply : Reply) × Replies old line reply new × (answer ≡ text_of new reply)
+
+-- an answer and its newline
+abbrev pub written : List ℕ → List ℕ
+written answer = answer ++ 10 ∷ []
+
+-- the bytes that a line is answered by
+abbrev pub IsAnswered : State → InputLine → List ℕ → State → Type 0
+IsAnswered old line bytes new = (answer : List ℕ) × Answers old line answer new × (bytes ≡ written answer)

@@ -1,0 +1,81 @@
+//! What each command does to a world, and what it is answered.
+
+ghost use Rattle.std.specs.Prelude.{◌≡◌};
+ghost use Rattle.rme_texts.specs.declared.reply.Reply.TheVariants as reply;
+ghost use Rattle.rme_engine.specs.States as spec;
+
+use crate::tallied::TalliedWorld;
+use rme_history::Tally;
+use rme_wire::{Command, Done, Reply, Report};
+use rme_words::Refusal;
+
+impl TalliedWorld {
+    ghost use Rattle.rme_engine.specs.Commands.{Does};
+
+    /// Obeys a command, and answers it as plain data. A refused command changes nothing.
+    pub fn obey(&mut self, command: Command) -> Reply
+        ensures { Does self.old command result self.new }
+    {
+        match command {
+            Command::Submit(worker, job) => match self.world.submit(worker, job) {
+                Ok(number) => Reply::Handed(number),
+                Err(refusal) => Reply::Refused(refusal),
+            },
+            Command::Step(worker) => match self.step(worker) {
+                Ok(note) => Reply::Stepped(note),
+                Err(refusal) => Reply::Refused(refusal),
+            },
+            Command::Walk(walk) => match self.walk(walk) {
+                Ok(walked) => Reply::Walked(walked),
+                Err(refusal) => Reply::Refused(refusal),
+            },
+            Command::Crash(worker) => done(self.world.crash(worker), Done::Crash),
+            Command::Restart(worker) => done(self.world.restart(worker), Done::Restart),
+            Command::Withdraw(worker) => done(self.world.withdraw(worker), Done::Withdraw),
+            Command::Owner(lock) => match self.world.owner(lock) {
+                Ok(owner) => Reply::Owner(owner),
+                Err(refusal) => Reply::Refused(refusal),
+            },
+            Command::Cells(lock) => match self.world.cells(lock) {
+                Ok((row, settled)) => Reply::Cells(row, settled),
+                Err(refusal) => Reply::Refused(refusal),
+            },
+            Command::Last(worker) => match self.world.last(worker) {
+                Ok(last) => Reply::Last(last),
+                Err(refusal) => Reply::Refused(refusal),
+            },
+            Command::History => Reply::History,
+            Command::Report => Reply::Report(report_of(self.tally)),
+        }
+    }
+}
+
+/// The answer of a command that is answered by its word.
+fn done(obeyed: Result<(), Refusal>, word: Done) -> Reply
+    ensures { result ≡ spec.reply_by (λ _. reply.Done word) obeyed }
+{
+    match obeyed {
+        Ok(()) => Reply::Done(word),
+        Err(refusal) => Reply::Refused(refusal),
+    }
+}
+
+/// The five numbers of a tally.
+fn report_of(tally: Tally) -> Report
+    ensures { result ≡ spec.report_of tally }
+{
+    let Tally {
+        recover,
+        post,
+        enter,
+        section,
+        exit,
+    } = tally;
+    Report {
+        recover,
+        post,
+        enter,
+        section,
+        exit,
+    }
+}
