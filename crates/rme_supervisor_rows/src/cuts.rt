@@ -27,6 +27,7 @@ fn cut_everywhere(rt: HostRuntime) -> Result<(), Fail> {
             "{steps}"
         );
         assert_eq!(rt; report.lives.as_slice(), [2].as_slice(), "{steps}");
+        assert_eq!(rt; report.closed.locks.len(), 1);
         assert!(rt;
             lock_is(
                 &report.closed.locks[0],

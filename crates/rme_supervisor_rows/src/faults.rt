@@ -1,13 +1,7 @@
-//! Runs that are not made, and a run that begins with jobs done.
+//! Runs that are not made.
 
-ghost use Rattle.std.specs.Prelude.{◌≡◌};
-ghost use Rattle.rme_seats.specs.Closing.{AreOf};
-ghost use Rattle.rme_supervisor.specs.Supervised.{AreAll};
-
-use crate::values::{job, lock_is, open, plan};
-use rme_script::{Job, Op};
-use rme_supervisor::{End, Free, WorkerPlan, supervise};
-use rme_table::{Down, Never, Posted, Service, Stance};
+use crate::values::{job, open, plan};
+use rme_supervisor::{Free, WorkerPlan, supervise};
 use std::alloc::Global;
 use std::process::Abort;
 use std::sync::Wait;

@@ -19,6 +19,7 @@ fn gate(rt: HostRuntime) -> Result<(), Fail> {
         [End::AllDone, End::AllDone].as_slice()
     );
     assert_eq!(rt; report.lives.as_slice(), [1, 1].as_slice());
+    assert_eq!(rt; report.closed.locks.len(), 2);
     assert!(rt;
         lock_is(
             &report.closed.locks[0],
@@ -51,6 +52,7 @@ fn dead_owner(rt: HostRuntime) -> Result<(), Fail> {
         report.ends.as_slice(),
         [End::OutOfLives, End::Stalled].as_slice()
     );
+    assert_eq!(rt; report.closed.locks.len(), 2);
     assert!(rt; lock_is(&report.closed.locks[0], &[0], false, &[]));
     assert!(rt;
         lock_is(
@@ -75,6 +77,7 @@ fn threads_program(rt: HostRuntime) -> Result<(), Fail> {
     let report = report_of(&rt, rt.alloc(), (8, 1, 1, 100), plans, &gate)?;
     assert_eq!(rt; report.ends.as_slice(), [End::AllDone; 8].as_slice());
     assert_eq!(rt; report.lives.as_slice(), [4; 8].as_slice());
+    assert_eq!(rt; report.closed.locks.len(), 1);
     let lock = &report.closed.locks[0];
     assert_eq!(rt; lock.cells.as_slice(), [800].as_slice());
     assert_eq!(rt; lock.entries.len(), 800);
@@ -92,6 +95,7 @@ fn shut_gate(rt: HostRuntime) -> Result<(), Fail> {
     assert_eq!(rt; report.ends.as_slice(), [End::Stalled].as_slice());
     assert_eq!(rt; report.lives.as_slice(), [1].as_slice());
     assert_eq!(rt; gate.counts(), (1, 0));
+    assert_eq!(rt; report.closed.locks.len(), 1);
     assert!(rt; lock_is(&report.closed.locks[0], &[0], false, &[]));
     Ok(())
 }
@@ -108,6 +112,7 @@ fn refused_job(rt: HostRuntime) -> Result<(), Fail> {
         [End::Refused(Refusal::NoLock)].as_slice()
     );
     let told = [((0, 0, 1, 0, 5), [Op::Add(0, 5)].as_slice())];
+    assert_eq!(rt; report.closed.locks.len(), 1);
     assert!(rt; lock_is(&report.closed.locks[0], &[5], true, &told));
     Ok(())
 }
