@@ -4,4 +4,6 @@ pub mod Tallying
 pub mod NoteLemmas
 pub mod WalkLemmas
 pub mod EngineLemmas
+pub mod ToldLemmas
+pub mod JudgeLemmas
 pub mod RunLemmas

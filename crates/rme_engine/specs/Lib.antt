@@ -1,10 +1,15 @@
 -- In reading order: what the lines so far have opened, what each call of a world answers, what a tally sees of a step,
--- what a walk and each command do, what each line is answered and what its tally has seen, and what a run of lines writes.
+-- what a walk and each command do, what each line is answered and what its tally has seen, what a transcript tells of it,
+-- what a run of lines writes, and what a transcript is found to be.
 pub mod States
 pub mod Tallies
 pub mod Walks
 pub mod Commands
 pub mod Lines
 pub mod Laws
+pub mod Transcripts
+pub mod Outputs
 pub mod Runs
+pub mod Verdicts
+pub mod Judging
 pub mod Engines

@@ -2,10 +2,20 @@
 
 use crate::opened::open_world;
 use crate::tallied::TalliedWorld;
+use crate::told::{push_events, push_opened};
 use rme_program::Entry;
 use rme_wire::{Cut, Done, EngineFault, Names, Opening, Reply, Request, push_reply, request_of};
 use rme_words::{NoMemory, Refusal};
 use std::alloc::{AllocError, Global};
+
+/// What a run writes of each line.
+#[derive(Clone, Copy, Debug, PartialEq, Eq)]
+pub enum Output {
+    /// Its answer.
+    Answers,
+    /// The events that the world took, and their answers.
+    Transcript,
+}
 
 /// The world that the lines opened, if one did, with its tally, and the names of its locks.
 #[derive(Drop)]
@@ -16,10 +26,12 @@ pub struct Engine {
 }
 
 impl Engine {
-    ghost use Rattle.std.specs.Prelude.{◌≡◌, ◌++◌, IfOk, IfErr, OnOk, string_bytes};
+    ghost use Rattle.std.specs.Prelude.{◌≡◌, ◌++◌, Some, IfOk, IfErr, OnOk, string_bytes};
     ghost use Rattle.rme_lines.specs.Cuts.{line_read};
     ghost use Rattle.rme_engine.specs.States.{history_of, nothing_open, text_of};
     ghost use Rattle.rme_engine.specs.Lines.{IsAnswered, Obeys, OpensIn, Replies, written};
+    ghost use Rattle.rme_engine.specs.Transcripts.{IsTold, request_text};
+    ghost use Rattle.rme_engine.specs.Outputs.{Tells};
     ghost use Rattle.rme_engine.specs.Engines.{state_of};
 
     /// Nothing is open.
@@ -34,10 +46,27 @@ impl Engine {
         })
     }
 
-    /// Obeys the line that was cut, and puts its answer and a newline in the place of what `out` held.
+    /// Obeys the line that was cut, and puts what is to be written of it in the place of what `out` held.
     ///
-    /// `NoMemory` says that there was no room for the line's value or for the text of the answer.
-    pub fn answer(&mut self, cut: Cut, line: &[u8], out: &mut String) -> Result<(), EngineFault>
+    /// `NoMemory` says that there was no room for the line's value or for the text.
+    pub fn tell(
+        &mut self,
+        output: Output,
+        cut: Cut,
+        line: &[u8],
+        out: &mut String,
+    ) -> Result<(), EngineFault>
+        ensures told { OnOk result (Tells output (state_of self.old) (line_read cut line.now) (string_bytes out.new) (state_of self.new)) }
+        ensures kind { IfErr result (λ fault. fault ≡ EngineFault.NoMemory) }
+    {
+        match output {
+            Output::Answers => self.answer(cut, line, out),
+            Output::Transcript => self.record(cut, line, out),
+        }
+    }
+
+    /// Obeys the line that was cut, and puts its answer and a newline in the place of what `out` held.
+    fn answer(&mut self, cut: Cut, line: &[u8], out: &mut String) -> Result<(), EngineFault>
         ensures told { OnOk result (IsAnswered (state_of self.old) (line_read cut line.now) (string_bytes out.new) (state_of self.new)) }
         ensures kind { IfErr result (λ fault. fault ≡ EngineFault.NoMemory) }
     {
@@ -48,6 +77,41 @@ impl Engine {
         match self.push_answer(out, &reply) {
             Ok(()) => Ok(()),
             Err(_) => Err(EngineFault::NoMemory),
+        }
+    }
+
+    /// Obeys the line that was cut, and puts the lines of its events in the place of what `out` held.
+    fn record(&mut self, cut: Cut, line: &[u8], out: &mut String) -> Result<(), EngineFault>
+        ensures told { OnOk result (IsTold (state_of self.old) (line_read cut line.now) (string_bytes out.new) (state_of self.new)) }
+        ensures kind { IfErr result (λ fault. fault ≡ EngineFault.NoMemory) }
+    {
+        out.clear();
+        if cut == Cut::TooLong {
+            return Ok(());
+        }
+        let Ok(request) = request_of(self.alloc, &self.names, line) else {
+            return Err(EngineFault::NoMemory);
+        };
+        let reply = self.obey(&request);
+        match self.push_told(out, &request, &reply) {
+            Ok(()) => Ok(()),
+            Err(_) => Err(EngineFault::NoMemory),
+        }
+    }
+
+    /// Appends the lines that tell of a request, by its reply.
+    fn push_told(
+        &self,
+        out: &mut String,
+        request: &Option<Request>,
+        reply: &Reply,
+    ) -> Result<(), AllocError>
+        ensures { OnOk result (string_bytes out.new ≡ string_bytes out.old ++ request_text (state_of self.now) request.now reply.now) }
+    {
+        match request {
+            None => Ok(()),
+            Some(Request::Open(_)) => push_opened(out, &self.names, &self.world, reply),
+            Some(Request::World(command)) => push_events(out, &self.names, *command, reply),
         }
     }
 
@@ -77,21 +141,29 @@ impl Engine {
             return Ok(Reply::Refused(Refusal::LineTooLong));
         }
         match request_of(self.alloc, &self.names, line) {
-            Ok(request) => Ok(self.obey(request)),
+            Ok(request) => Ok(self.obey(&request)),
             Err(_) => Err(NoMemory),
         }
     }
 
     /// Obeys the request of a line, if it has one.
-    fn obey(&mut self, request: Option<Request>) -> Reply
-        ensures { Obeys (state_of self.old) request result (state_of self.new) }
+    fn obey(&mut self, request: &Option<Request>) -> Reply
+        ensures { Obeys (state_of self.old) request.now result (state_of self.new) }
     {
         match request {
             None => Reply::Refused(Refusal::BadLine),
-            Some(Request::Open(opening)) => self.open(&opening),
-            Some(Request::World(command)) => match &mut self.world {
+            Some(request) => self.obey_request(request),
+        }
+    }
+
+    fn obey_request(&mut self, request: &Request) -> Reply
+        ensures { Obeys (state_of self.old) (Some request.now) result (state_of self.new) }
+    {
+        match request {
+            Request::Open(opening) => self.open(opening),
+            Request::World(command) => match &mut self.world {
                 None => Reply::Refused(Refusal::NotOpen),
-                Some(world) => world.obey(command),
+                Some(world) => world.obey(*command),
             },
         }
     }

@@ -8,14 +8,18 @@
 //! what each command does.
 #![tactic(auto)]
 
+mod check;
 mod engine;
+mod judge;
 pub mod laws;
 mod obey;
 mod opened;
 mod pending;
 mod run;
 mod tallied;
+mod told;
 mod walk;
 
-pub use run::run_lines;
+pub use check::{Verdict, check_lines};
+pub use run::{run_lines, transcript_lines};
 pub use tallied::TalliedWorld;

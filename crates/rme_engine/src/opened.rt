@@ -18,11 +18,10 @@ pub struct Opened {
     pub world: TalliedWorld,
 }
 
-/// The world and the names of an opening. `BadShape` comes where the names or the numbers are outside the
-/// limits, and `NoMemory` last.
-pub fn open_world(alloc: Global, opening: &Opening) -> Result<Opened, Refusal>
-    ensures ok { IfOk result (λ opened. IsGood opening.now × (opened.names ≡ opening.now.locks)
-        × ((shape : Shape) × IsAsGiven opening.now shape × (opened.world ≡ tallied_opening shape))) }
+/// The names and the shape of an opening. `BadShape` comes where the names or the numbers are outside the limits,
+/// and `NoMemory` last.
+pub fn names_and_shape(alloc: Global, opening: &Opening) -> Result<(Names, Shape), Refusal>
+    ensures ok { IfOk result (λ given. IsGood opening.now × (given.0 ≡ opening.now.locks) × IsAsGiven opening.now given.1) }
     ensures err { IfErr result (MayRefuse opening.now) }
 {
     if !opening.locks.are_names() {
@@ -33,8 +32,22 @@ pub fn open_world(alloc: Global, opening: &Opening) -> Result<Opened, Refusal>
         Ok(shape) => shape,
         Err(refusal) => return Err(refusal),
     };
-    let Ok(names) = opening.locks.names(alloc) else {
-        return Err(Refusal::NoMemory);
+    match opening.locks.names(alloc) {
+        Ok(names) => Ok((names, shape)),
+        Err(_) => Err(Refusal::NoMemory),
+    }
+}
+
+/// The world and the names of an opening. `BadShape` comes where the names or the numbers are outside the
+/// limits, and `NoMemory` last.
+pub fn open_world(alloc: Global, opening: &Opening) -> Result<Opened, Refusal>
+    ensures ok { IfOk result (λ opened. IsGood opening.now × (opened.names ≡ opening.now.locks)
+        × ((shape : Shape) × IsAsGiven opening.now shape × (opened.world ≡ tallied_opening shape))) }
+    ensures err { IfErr result (MayRefuse opening.now) }
+{
+    let (names, shape) = match names_and_shape(alloc, opening) {
+        Ok(given) => given,
+        Err(refusal) => return Err(refusal),
     };
     let Ok(world) = World::new(alloc, shape) else {
         return Err(Refusal::NoMemory);

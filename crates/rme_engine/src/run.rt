@@ -8,10 +8,12 @@ ghost use Rattle.rme_lines.specs.Puts.{AppendsFront};
 ghost use Rattle.rme_lines.specs.Readers.{FailsToRead, HasEnded, ReadsNoMore, bytes_left, has_ended, most_lines, reads_left};
 ghost use Rattle.rme_engine.specs.Engines.{state_of};
 ghost use Rattle.rme_engine.specs.Lines.{IsAnswered};
+ghost use Rattle.rme_engine.specs.Outputs.{Tells};
+ghost use Rattle.rme_engine.specs.Transcripts.{IsTold};
 ghost use Rattle.rme_engine.specs.Runs.{Gathers, Spills, TurnFails, Turns, WritesAll, WritesFirst};
 ghost use Rattle.rme_engine.specs.States.{nothing_open};
 
-use crate::engine::Engine;
+use crate::engine::{Engine, Output};
 use crate::pending::Pending;
 use rme_wire::{Cut, EngineFault, LineReader};
 use std::alloc::{AllocError, Global};
@@ -23,11 +25,11 @@ const REFUSAL_ROOM: usize = 128;
 /// The memory of an answer that is longer than this is given back.
 const LONG_ANSWER: usize = 1_048_576;
 
-/// The line that was cut, its answer, and the answers that were not written yet.
+/// The line that was cut, what is to be written of it, and what was not written yet of the lines before.
 #[derive(Drop)]
 struct Buffers {
     line: Vec<u8>,
-    answer: String,
+    text: String,
     pending: Pending,
 }
 
@@ -48,6 +50,44 @@ pub fn run_lines<R: Read + Drop, W: Write>(
     ensures ended { HasEnded lines.old → ReadsNoMore lines.old lines.new }
     ensures failed { IfErr result (λ fault. fault ≡ EngineFault.ReadFailed → FailsToRead lines.old lines.new) }
 {
+    run(alloc, Output::Answers, lines, writer)
+}
+
+/// Obeys each line of the reader, as `run_lines` does, and writes a transcript: for each event that the world took
+/// one line with the event and its answer, in order. Of a refused command, of a look-up and of a step that brought
+/// nothing about it tells nothing.
+///
+/// Lines are written together, as answers are. An error ends the run, and the world with it: the events of all
+/// lines that were taken were written whole, and after `WriteFailed` a front of them was.
+pub fn transcript_lines<R: Read + Drop, W: Write>(
+    alloc: Global,
+    lines: &mut LineReader<R>,
+    writer: &mut W,
+) -> Result<(), EngineFault>
+    ensures ok { OnOk result (WritesAll IsTold nothing_open (bytes_left R.remaining lines.old) (W.contents writer.old) (W.contents writer.new)) }
+    ensures err { IfErr result (λ fault. WritesFirst IsTold nothing_open fault (bytes_left R.remaining lines.old) (bytes_left R.remaining lines.new)
+        (W.contents writer.old) (W.contents writer.new)) }
+    ensures end { OnOk result (HasEnded lines.new) }
+    ensures ended { HasEnded lines.old → ReadsNoMore lines.old lines.new }
+    ensures failed { IfErr result (λ fault. fault ≡ EngineFault.ReadFailed → FailsToRead lines.old lines.new) }
+{
+    run(alloc, Output::Transcript, lines, writer)
+}
+
+/// Obeys each line of the reader, and writes of it what is asked for.
+fn run<R: Read + Drop, W: Write>(
+    alloc: Global,
+    output: Output,
+    lines: &mut LineReader<R>,
+    writer: &mut W,
+) -> Result<(), EngineFault>
+    ensures ok { OnOk result (WritesAll (Tells output) nothing_open (bytes_left R.remaining lines.old) (W.contents writer.old) (W.contents writer.new)) }
+    ensures err { IfErr result (λ fault. WritesFirst (Tells output) nothing_open fault (bytes_left R.remaining lines.old) (bytes_left R.remaining lines.new)
+        (W.contents writer.old) (W.contents writer.new)) }
+    ensures end { OnOk result (HasEnded lines.new) }
+    ensures ended { HasEnded lines.old → ReadsNoMore lines.old lines.new }
+    ensures failed { IfErr result (λ fault. fault ≡ EngineFault.ReadFailed → FailsToRead lines.old lines.new) }
+{
     let Ok(mut engine) = Engine::new(alloc) else {
         return Err(EngineFault::NoMemory);
     };
@@ -55,7 +95,7 @@ pub fn run_lines<R: Read + Drop, W: Write>(
         return Err(EngineFault::NoMemory);
     };
     loop {
-        match turn(lines, &mut engine, &mut buffers, writer) {
+        match turn(output, lines, &mut engine, &mut buffers, writer) {
             Ok(true) => {}
             Ok(false) => return Ok(()),
             Err(fault) => return Err(fault),
@@ -70,23 +110,24 @@ impl Buffers {
     {
         Ok(Buffers {
             line: Vec::new(alloc),
-            answer: String::with_capacity(alloc, REFUSAL_ROOM)?,
+            text: String::with_capacity(alloc, REFUSAL_ROOM)?,
             pending: Pending::new(alloc)?,
         })
     }
 }
 
-/// Takes the next line, obeys it and gathers its answer, and says whether there was a line. Where there was none,
-/// all is written.
+/// Takes the next line, obeys it and gathers what is to be written of it, and says whether there was a line. Where
+/// there was none, all is written.
 fn turn<R: Read + Drop, W: Write>(
+    output: Output,
     lines: &mut LineReader<R>,
     engine: &mut Engine,
     buffers: &mut Buffers,
     writer: &mut W,
 ) -> Result<bool, EngineFault>
-    ensures ok { IfOk result (Turns IsAnswered (bytes_left R.remaining lines.old) (bytes_left R.remaining lines.new) (has_ended lines.new) (state_of engine.old) (state_of engine.new)
+    ensures ok { IfOk result (Turns (Tells output) (bytes_left R.remaining lines.old) (bytes_left R.remaining lines.new) (has_ended lines.new) (state_of engine.old) (state_of engine.new)
         (W.contents writer.old) buffers.old.pending (W.contents writer.new) buffers.new.pending) }
-    ensures err { IfErr result (λ fault. TurnFails IsAnswered fault (bytes_left R.remaining lines.old) (bytes_left R.remaining lines.new) (state_of engine.old)
+    ensures err { IfErr result (λ fault. TurnFails (Tells output) fault (bytes_left R.remaining lines.old) (bytes_left R.remaining lines.new) (state_of engine.old)
         (W.contents writer.old) buffers.old.pending (W.contents writer.new)) }
     ensures fewer { IfOk result (λ more. more ≡ true → most_lines lines.new < most_lines lines.old) }
     ensures end { IfOk result (λ more. more ≡ false → HasEnded lines.new) }
@@ -101,15 +142,15 @@ fn turn<R: Read + Drop, W: Write>(
     if cut == Cut::End {
         return Ok(false);
     }
-    match engine.answer(cut, buffers.line.as_slice(), &mut buffers.answer) {
+    match engine.tell(output, cut, buffers.line.as_slice(), &mut buffers.text) {
         Ok(()) => {}
         Err(_) => return Err(give_up(&mut buffers.pending, writer)),
     }
-    match buffers.pending.gather(buffers.answer.as_bytes(), writer) {
+    match buffers.pending.gather(buffers.text.as_bytes(), writer) {
         Ok(()) => {}
         Err(fault) => return Err(fault),
     }
-    give_back(&mut buffers.answer);
+    give_back(&mut buffers.text);
     Ok(true)
 }
 
@@ -178,11 +219,11 @@ fn give_up<W: Write>(pending: &mut Pending, writer: &mut W) -> EngineFault
 }
 
 /// Empties the text, and gives its memory back where that is much.
-fn give_back(answer: &mut String)
-    ensures { string_bytes answer.new ≡ [] }
+fn give_back(text: &mut String)
+    ensures { string_bytes text.new ≡ [] }
 {
-    answer.clear();
-    if answer.capacity() > LONG_ANSWER {
-        answer.shrink_to(REFUSAL_ROOM);
+    text.clear();
+    if text.capacity() > LONG_ANSWER {
+        text.shrink_to(REFUSAL_ROOM);
     }
 }

@@ -29,7 +29,7 @@ pub struct LineReader<R> {
     reads: u32,
     /// Whether a read gave no byte.
     ended: bool,
-    ghost within: { (start ≤ end) × (end ≤ vec_len chunk) × (vec_len chunk ≡ 65536) },
+    ghost within: { (start ≤ end) × (end ≤ vec_len chunk) × (vec_len chunk ≡ 65536) × (reads ≤ 1000000000) },
 }
 
 /// The buffer that reads fill.

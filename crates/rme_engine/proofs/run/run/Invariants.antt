@@ -4,14 +4,14 @@ use Rattle.std.proofs.Common.{[]}
 use Rattle.rme_lines.specs.Readers.{bytes_left, most_lines}
 use Rattle.rme_lines.proofs.ReaderLemmas.{CameOn}
 use Rattle.rme_engine.specs.Engines.{state_of}
-use Rattle.rme_engine.specs.Lines.{IsAnswered}
+use Rattle.rme_engine.specs.Outputs.{Tells}
 use Rattle.rme_engine.specs.States.{nothing_open}
 use Rattle.rme_engine.proofs.RunLemmas.{SoFar}
-use Rattle.rme_engine.proofs.run.run_lines.Given as goal
+use Rattle.rme_engine.proofs.run.run.Given as goal
 
 abbrev pub invariant-loop-buffers : goal.invariant-loop-buffers
 invariant-loop-buffers g l = record {
-  so_far : SoFar IsAnswered nothing_open (bytes_left g.R.Read.remaining l.fn.lines) (g.W.Write.contents l.fn.writer) (bytes_left g.R.Read.remaining l.lines) l.lines.ended (state_of l.engine)
+  so_far : SoFar (Tells l.fn.output) nothing_open (bytes_left g.R.Read.remaining l.fn.lines) (g.W.Write.contents l.fn.writer) (bytes_left g.R.Read.remaining l.lines) l.lines.ended (state_of l.engine)
       (g.W.Write.contents l.writer) l.buffers.pending;
   came_on : CameOn l.fn.lines l.lines [];
 }

@@ -1,0 +1,53 @@
+-- The notes of a worker are told one after another.
+use Rattle.std.proofs.Common.{◌≡◌, ◌≢◌, ℕ, List, [], ◌∷◌, ◌++◌, refl, sym, ap, ◌∙◌, append_assoc, append-nil, map}
+use Rattle.rme_words.specs.declared.refusal.Refusal.TheVariants.{LineTooLong}
+use Rattle.rme_lines.specs.declared.cut.Cut.{Cut}
+use Rattle.rme_lines.specs.declared.cut.Cut.TheVariants.{Line, TooLong, End}
+use Rattle.rme_lines.specs.Cuts.{line_read}
+use Rattle.rme_program.specs.declared.note.Note.{Note}
+use Rattle.rme_program.specs.declared.note.Note.TheVariants.{Quiet, Asked, Blocked, Entered, Reentered, Finished, Left, Ready, Withdrew}
+use Rattle.rme_texts.specs.declared.event.EventLine.TheVariants as line
+use Rattle.rme_texts.specs.declared.reply.Reply.TheVariants.{Refused}
+use Rattle.rme_texts.specs.Events.{event_text}
+use Rattle.rme_engine.specs.Lines.{written}
+use Rattle.rme_engine.specs.States.{State}
+use Rattle.rme_engine.specs.Transcripts.{IsTold, events_text, noted}
+use Rattle.rme_engine.specs.Walks.{shown}
+
+-- what was written, and what is to be told of the rest, is what is to be told of all
+abbrev pub Told : List (List ℕ) → ℕ → List ℕ → List Note → List ℕ → List Note → Type 0
+Told names worker start all out rest = out ++ events_text names (noted worker rest) ≡ start ++ events_text names (noted worker all)
+
+-- every note but a quiet one is shown
+pub shown_loud : (note : Note) → note ≢ Quiet → shown note ≡ note ∷ []
+shown_loud Quiet loud = absurd (loud refl)
+shown_loud (Asked number) loud = refl
+shown_loud Blocked loud = refl
+shown_loud (Entered lock) loud = refl
+shown_loud (Reentered lock) loud = refl
+shown_loud (Finished receipt) loud = refl
+shown_loud (Left lock) loud = refl
+shown_loud Ready loud = refl
+shown_loud (Withdrew number) loud = refl
+
+-- a quiet note is not told
+pub told_quiet : (names : List (List ℕ)) (worker : ℕ) (start : List ℕ) (all : List Note) (out : List ℕ) (note : Note) (rest : List Note) → note ≡ Quiet
+    → Told names worker start all out (note ∷ rest) → Told names worker start all out rest
+told_quiet names worker start all out note rest quiet so_far = ap (λ (n : Note). out ++ events_text names (noted worker (n ∷ rest))) (sym quiet) ∙ so_far
+
+-- any other is
+pub told_note : (names : List (List ℕ)) (worker : ℕ) (start : List ℕ) (all : List Note) (out after : List ℕ) (note : Note) (rest : List Note) → shown note ≡ note ∷ []
+    → after ≡ out ++ written (event_text names (line.Note worker note)) → Told names worker start all out (note ∷ rest) → Told names worker start all after rest
+told_note names worker start all out after note rest is_shown e so_far =
+    ap (λ l. l ++ events_text names (noted worker rest)) e ∙ append_assoc out (written (event_text names (line.Note worker note))) (events_text names (noted worker rest))
+    ∙ ap (λ (ns : List Note). out ++ events_text names (map (line.Note worker) ns ++ noted worker rest)) (sym is_shown) ∙ so_far
+
+-- nothing is told of an over-long line
+pub told_too_long : (old : State) (cut : Cut) (line bytes : List ℕ) → cut ≡ TooLong → bytes ≡ [] → IsTold old (line_read cut line) bytes old
+told_too_long old Line line bytes e none = absurd (let bad : Line ≡ TooLong = e in cc)
+told_too_long old TooLong line bytes e none = (Refused LineTooLong, (refl, refl), none)
+told_too_long old End line bytes e none = absurd (let bad : End ≡ TooLong = e in cc)
+
+-- none is left
+pub told_all : (names : List (List ℕ)) (worker : ℕ) (start : List ℕ) (all : List Note) (out : List ℕ) → Told names worker start all out [] → out ≡ start ++ events_text names (noted worker all)
+told_all names worker start all out so_far = sym (append-nil out) ∙ so_far

@@ -1,0 +1,29 @@
+use Rattle.std.proofs.Common.{◌≢◌, Option, subst, rules}
+use Rattle.rme_lines.specs.declared.cut.Cut.TheVariants.{End}
+use Rattle.rme_lines.specs.Cuts.{line_read}
+use Rattle.rme_lines.specs.Readers.{bytes_left}
+use Rattle.rme_engine.specs.declared.judge.Judge.{Judge}
+use Rattle.rme_engine.specs.Judging.{HasOpened}
+use Rattle.rme_engine.proofs.JudgeLemmas.{found_by, found_closed}
+use Rattle.rme_engine.proofs.RunLemmas.{cut_off}
+use Rattle.rme_engine.proofs.check.check_lines.Goals as goal
+
+pub returns-in-Ok-None-clause-verdict : goal.returns-in-Ok-None-clause-verdict
+returns-in-Ok-None-clause-verdict g c =
+    let left = bytes_left g.R.Read.remaining in
+    let line = line_read c.in-Ok.cut c.as_slice.result.now in
+    let cuts = rw (← c.as_slice.ensures.value) at c.in-Ok.ensures.cut in
+    let more : c.in-Ok.cut ≢ End = search rules in
+    let off = cut_off (left c.args.lines.now) (left c.next_line.new.self) c.in-Ok.cut c.as_slice.result.now cuts more in
+    let P : Option Judge → Type 0 = λ j. HasOpened line j in
+    found_closed (left c.args.lines.now) (left c.next_line.new.self) line off (subst P c.in-Ok-None.field-0-is c.in-Ok-None.ensures)
+
+pub returns-clause-verdict : goal.returns-clause-verdict
+returns-clause-verdict g c =
+    let left = bytes_left g.R.Read.remaining in
+    let line = line_read c.in-Ok.cut c.as_slice.result.now in
+    let cuts = rw (← c.as_slice.ensures.value) at c.in-Ok.ensures.cut in
+    let more : c.in-Ok.cut ≢ End = search rules in
+    let off = cut_off (left c.args.lines.now) (left c.next_line.new.self) c.in-Ok.cut c.as_slice.result.now cuts more in
+    let P : Option Judge → Type 0 = λ j. HasOpened line j in
+    found_by (left c.args.lines.now) (left c.next_line.new.self) line c.in-Ok-Some.judge c.judge_lines.result off (subst P c.in-Ok-Some.field-0-is c.in-Ok-Some.ensures) c.judge_lines.ensures.verdict

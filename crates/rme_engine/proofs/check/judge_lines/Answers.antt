@@ -1,0 +1,63 @@
+use Rattle.std.proofs.Common.{◌≡◌, ◌≢◌, refl, subst, arith, rules}
+use Rattle.rme_lines.specs.declared.cut.Cut.TheVariants.{End}
+use Rattle.rme_lines.specs.Cuts.{line_read}
+use Rattle.rme_lines.specs.Readers.{bytes_left}
+use Rattle.rme_engine.specs.declared.check.Verdict.TheVariants.{Yes, No, Bad}
+use Rattle.rme_engine.specs.declared.judge.Found.{Found}
+use Rattle.rme_engine.specs.Judging.{IsFound}
+use Rattle.rme_engine.proofs.JudgeLemmas.{judged_all, judged_bad, judged_no, leads_more}
+use Rattle.rme_engine.proofs.RunLemmas.{came_turn, cut_off, none_left}
+use Rattle.rme_engine.proofs.check.judge_lines.Goals as goal
+
+pub returns-then-eq-clause-verdict : goal.returns-then-eq-clause-verdict
+returns-then-eq-clause-verdict g c =
+    let left = bytes_left g.R.Read.remaining in
+    let now = c.loop-cut in
+    let over : c.in-Ok.cut ≡ End = search rules in
+    now.invariant.leads Yes
+    (judged_all now.judge.names now.judge.machine now.number (left now.lines) (none_left (left now.lines) (left c.next_line.new.self) c.in-Ok.cut c.next_line.new.line.items c.in-Ok.ensures.cut over))
+
+pub overflow_add-number : goal.overflow_add-number
+overflow_add-number g c = let first = c.args.lines.now.within in let now = c.loop-cut.invariant.counted in omega (arith, now, first.0, first.1, first.2, first.3)
+
+pub loop-cut-preserved : goal.loop-cut-preserved
+loop-cut-preserved g c =
+    let left = bytes_left g.R.Read.remaining in
+    let now = c.loop-cut in
+    let new = c.next_line.new.self in
+    let line = line_read c.in-Ok.cut c.as_slice.result.now in
+    let cuts = rw (← c.as_slice.ensures.value) at c.in-Ok.ensures.cut in
+    let more : c.in-Ok.cut ≢ End = search rules in
+    let off = cut_off (left now.lines) (left new) c.in-Ok.cut c.as_slice.result.now cuts more in
+    let P : Found → Type 0 = λ f. IsFound now.judge.names now.judge.machine line f c.finds.new.self.machine in
+    let found = subst P c.in-Ok-Step.field-0-is c.in-Ok-Step.ensures.found in
+    let fewer = c.in-Ok.ensures.fewer more in record {
+      leads = leads_more c.args.judge.now.names now.judge.names c.finds.new.self.names c.args.judge.now.machine now.judge.machine c.finds.new.self.machine now.number _ (left c.args.lines.now) (left now.lines)
+          (left new) line now.invariant.leads off found c.in-Ok-Step.ensures.names refl;
+      came_on = came_turn c.args.lines.now now.lines new now.invariant.came_on c.in-Ok.ensures.ended c.in-Ok.ensures.reads fewer;
+      counted = omega (arith, now.invariant.counted, fewer);
+    }
+
+pub returns-in-Ok-NoStep-clause-verdict : goal.returns-in-Ok-NoStep-clause-verdict
+returns-in-Ok-NoStep-clause-verdict g c =
+    let left = bytes_left g.R.Read.remaining in
+    let now = c.loop-cut in
+    let line = line_read c.in-Ok.cut c.as_slice.result.now in
+    let cuts = rw (← c.as_slice.ensures.value) at c.in-Ok.ensures.cut in
+    let more : c.in-Ok.cut ≢ End = search rules in
+    let off = cut_off (left now.lines) (left c.next_line.new.self) c.in-Ok.cut c.as_slice.result.now cuts more in
+    let P : Found → Type 0 = λ f. IsFound now.judge.names now.judge.machine line f c.finds.new.self.machine in
+    now.invariant.leads (No now.number)
+    (judged_no now.judge.names now.judge.machine c.finds.new.self.machine now.number (left now.lines) (left c.next_line.new.self) line off (subst P c.in-Ok-NoStep.field-0-is c.in-Ok-NoStep.ensures.found))
+
+pub returns-in-Ok-NoEvent-clause-verdict : goal.returns-in-Ok-NoEvent-clause-verdict
+returns-in-Ok-NoEvent-clause-verdict g c =
+    let left = bytes_left g.R.Read.remaining in
+    let now = c.loop-cut in
+    let line = line_read c.in-Ok.cut c.as_slice.result.now in
+    let cuts = rw (← c.as_slice.ensures.value) at c.in-Ok.ensures.cut in
+    let more : c.in-Ok.cut ≢ End = search rules in
+    let off = cut_off (left now.lines) (left c.next_line.new.self) c.in-Ok.cut c.as_slice.result.now cuts more in
+    let P : Found → Type 0 = λ f. IsFound now.judge.names now.judge.machine line f c.finds.new.self.machine in
+    now.invariant.leads (Bad now.number)
+    (judged_bad now.judge.names now.judge.machine c.finds.new.self.machine now.number (left now.lines) (left c.next_line.new.self) line off (subst P c.in-Ok-NoEvent.field-0-is c.in-Ok-NoEvent.ensures.found))

@@ -1,0 +1,92 @@
+//! The abstract machine, which judges one line of a transcript after another.
+
+ghost use Rattle.std.specs.Prelude.{◌≡◌, IfOk};
+ghost use Rattle.rme_lines.specs.Cuts.{line_read};
+ghost use Rattle.rme_engine.specs.Judging.{HasOpened, IsDecided, IsFound, IsJudge};
+
+use crate::opened::names_and_shape;
+use rme_checker::Machine;
+use rme_wire::{Cut, EventLine, Names, Opening, Request, event_of, request_of};
+use rme_words::{NoMemory, Refusal};
+use std::alloc::Global;
+
+/// What one line is found to be.
+#[derive(Clone, Copy, Debug, PartialEq, Eq)]
+pub enum Found {
+    /// A step of the machine, which it took.
+    Step,
+    /// An event with an answer that the machine does not have.
+    NoStep,
+    /// No event line.
+    NoEvent,
+}
+
+/// The machine that a transcript has opened, and the names of its locks.
+#[derive(Drop)]
+pub struct Judge {
+    alloc: Global,
+    pub names: Names,
+    pub machine: Machine,
+}
+
+impl Judge {
+    /// The judge that a first line opens, if it opens a good shape.
+    pub fn of_line(alloc: Global, cut: Cut, line: &[u8]) -> Result<Option<Judge>, NoMemory>
+        ensures { IfOk result (HasOpened (line_read cut line.now)) }
+    {
+        if cut == Cut::TooLong {
+            return Ok(None);
+        }
+        let names = Names::new(alloc)?;
+        match request_of(alloc, &names, line)? {
+            Some(Request::Open(opening)) => Judge::of_opening(alloc, &opening),
+            _ => Ok(None),
+        }
+    }
+
+    /// The judge of an opening, if its shape is good.
+    fn of_opening(alloc: Global, opening: &Opening) -> Result<Option<Judge>, NoMemory>
+        ensures { IfOk result (IsJudge opening.now) }
+    {
+        match names_and_shape(alloc, opening) {
+            Ok((names, shape)) => {
+                let machine = Machine::new(alloc, shape)?;
+                Ok(Some(Judge {
+                    alloc,
+                    names,
+                    machine,
+                }))
+            }
+            Err(Refusal::NoMemory) => Err(NoMemory),
+            Err(_) => Ok(None),
+        }
+    }
+
+    /// What a further line is found to be.
+    pub fn finds(&mut self, cut: Cut, line: &[u8]) -> Result<Found, NoMemory>
+        ensures found { IfOk result (λ found. IsFound self.old.names self.old.machine (line_read cut line.now) found self.new.machine) }
+        ensures names { self.new.names ≡ self.old.names }
+    {
+        if cut == Cut::TooLong {
+            return Ok(Found::NoEvent);
+        }
+        match event_of(self.alloc, &self.names, line)? {
+            None => Ok(Found::NoEvent),
+            Some(told) => self.decides(&told),
+        }
+    }
+
+    /// Whether the machine has the step of an event line, which it takes then.
+    fn decides(&mut self, line: &EventLine) -> Result<Found, NoMemory>
+        ensures found { IfOk result (λ found. IsDecided self.old.machine line.now found self.new.machine) }
+        ensures names { self.new.names ≡ self.old.names }
+    {
+        let event = line.event();
+        let answer = line.answer();
+        if self.machine.admits(&event, &answer)? {
+            Ok(Found::Step)
+        } else {
+            Ok(Found::NoStep)
+        }
+    }
+}
