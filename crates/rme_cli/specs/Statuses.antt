@@ -6,6 +6,8 @@ use Rattle.clap.specs.declared.error.kind.ErrorKind as clap
 use Rattle.clap.specs.declared.error.kind.ErrorKind.TheVariants as words
 use Rattle.rme_lines.specs.declared.fault.EngineFault.{EngineFault}
 use Rattle.rme_lines.specs.declared.fault.EngineFault.TheVariants as engine
+use Rattle.rme_engine.specs.declared.check.Verdict.{Verdict}
+use Rattle.rme_engine.specs.declared.check.Verdict.TheVariants.{Yes}
 use Rattle.rme_cli.specs.declared.fault.Fault.{Fault}
 use Rattle.rme_cli.specs.declared.fault.Fault.TheVariants.{BadArguments, ReadFailed, WriteFailed, NoMemory}
 
@@ -37,3 +39,8 @@ told words.OutOfMemory _ = Err NoMemory
 told words.DisplayHelp is_printed = shown is_printed
 told words.DisplayVersion is_printed = shown is_printed
 told _ _ = Ok 2
+
+-- the end after the verdict on a transcript
+abbrev pub status_of_verdict : Verdict → ℕ
+status_of_verdict Yes = 0
+status_of_verdict _ = 1

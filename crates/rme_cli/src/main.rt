@@ -1,6 +1,6 @@
 //! The program `rme`: a recoverable mutual exclusion lock service over lines, and over threads.
 //!
-//! It stands on rme_engine, whose engine it runs on its standard streams, and on rme_supervisor, by which
+//! It stands on rme_engine, whose engines it runs on its standard streams, and on rme_supervisor, by which
 //! `threads.rt` runs workers in threads. The words of the command line are read in `words.rt`, and `told.rt` says
 //! what becomes of those that give no task; what went wrong has its text and its status in `fault.rt`. Begin with
 //! `main`.
@@ -10,18 +10,20 @@ ghost use Rattle.std.specs.Prelude.{◌≡◌, Bool};
 ghost use Rattle.clap.specs.Values.{kind_of};
 ghost use Rattle.rme_cli.specs.Statuses.{told};
 
+mod check;
 mod fault;
 mod progress;
 mod threads;
 mod told;
 mod words;
 
+use crate::check::check;
 use crate::fault::Fault;
 use crate::threads::run_threads;
 use crate::told::answer_of;
 use crate::words::{Task, task_of};
 use clap::error::ErrorKind;
-use rme_engine::run_lines;
+use rme_engine::{run_lines, transcript_lines};
 use rme_wire::LineReader;
 use std::process::ExitCode;
 use std::sync::Wait;
@@ -47,6 +49,12 @@ fn perform<R: Threads + Wait + Sync>(rt: &HostRuntime, threads: &R) -> Result<u8
             run_lines(rt.alloc(), &mut lines, &mut io::writer(rt))?;
             Ok(0)
         }
+        Ok(Task::Transcript) => {
+            let mut lines = LineReader::new(rt.alloc(), rt.stdin())?;
+            transcript_lines(rt.alloc(), &mut lines, &mut io::writer(rt))?;
+            Ok(0)
+        }
+        Ok(Task::Check) => check(rt),
         Ok(Task::Threads(task)) => run_threads(rt, threads, &task),
         Err(error) => explain(rt, &error),
     }

@@ -9,6 +9,10 @@ use std::alloc::Global;
 pub enum Task {
     /// Answer the lines of the standard input.
     Run,
+    /// Obey the lines of the standard input, and write a transcript.
+    Transcript,
+    /// Check the transcript on the standard input.
+    Check,
     /// Supervise workers that add to one cell.
     Threads(ThreadsTask),
 }
@@ -33,6 +37,30 @@ Try it: a worker asks for a lock, enters, crashes inside, and goes on where it f
 
 const RUN_ABOUT: &str =
     "Answers each line of the standard input by one line of the standard output";
+
+const TRANSCRIPT_HELP: &str =
+    "Writes what happened in the place of answers: each event that the world took, for `rme check`";
+
+const CHECK_ABOUT: &str =
+    "Checks a transcript on the standard input: whether the abstract machine has each of its steps";
+
+const CHECK_LINES: &str = "\
+A transcript is what `rme run --transcript` writes, or another program in its form: a first line that
+opens a world, and then one line for each event, as
+
+  {\"do\":\"submit\",\"lock\":NAME,\"number\":N,\"script\":[OP,..],\"worker\":W}
+  {\"do\":\"crash\",\"worker\":W}      or \"restart\", or \"withdraw\"
+  {\"do\":\"note\",\"note\":NOTE,\"worker\":W}
+                                 a step of a worker, with its note: [\"asked\",k] [\"blocked\"]
+                                 [\"entered\",NAME] [\"reentered\",NAME] [\"left\",NAME] [\"ready\"]
+                                 [\"withdrew\",k] [\"finished\",NAME,number,place,reply] [\"quiet\"]
+
+It prints one line: yes, where the abstract machine has all these steps in turn; no LINE for the first
+line whose step it does not have there; bad LINE for the first line that is no event line, or for the
+first of all where it opens no world.
+
+Status: 0 after yes, 1 after no and bad, 2 for words that are refused, 3 where reading failed, 4 where
+writing failed, 5 where memory ran out.";
 
 const RUN_LINES: &str = "\
 Each line is one JSON object; its keys may come in any order. A world must be open first.
@@ -114,9 +142,18 @@ fn threads_command<'a>(alloc: Global) -> Result<Command<'a>, Error> {
 
 /// The command line of the program.
 fn command<'a>(alloc: Global) -> Result<Command<'a>, Error> {
+    let transcript = Arg::new(alloc, "transcript")
+        .long("transcript")
+        .short('t')
+        .action(ArgAction::SetTrue)
+        .help(TRANSCRIPT_HELP);
     let run = Command::new(alloc, "run")
         .about(RUN_ABOUT)
-        .after_help(RUN_LINES);
+        .after_help(RUN_LINES)
+        .arg(transcript)?;
+    let check = Command::new(alloc, "check")
+        .about(CHECK_ABOUT)
+        .after_help(CHECK_LINES);
     let threads = threads_command(alloc)?;
     let program = Command::new(alloc, "rme")
         .bin_name("rme")?
@@ -126,6 +163,7 @@ fn command<'a>(alloc: Global) -> Result<Command<'a>, Error> {
         .subcommand_required(true)
         .arg_required_else_help(true)
         .subcommand(run)?
+        .subcommand(check)?
         .subcommand(threads)?;
     Ok(program)
 }
@@ -135,9 +173,13 @@ fn command<'a>(alloc: Global) -> Result<Command<'a>, Error> {
 /// An error holds what is to be printed: help, the version or what is wrong; or its kind is `OutOfMemory`.
 pub fn task_of(alloc: Global, words: &[String]) -> Result<Task, Error> {
     let found = command(alloc)?.try_get_matches_from(words)?;
-    match found.subcommand_matches("threads") {
-        Some(threads) => Ok(Task::Threads(threads_task(alloc, threads)?)),
-        None => Ok(Task::Run),
+    if let Some(threads) = found.subcommand_matches("threads") {
+        return Ok(Task::Threads(threads_task(alloc, threads)?));
+    }
+    match found.subcommand_matches("run") {
+        None => Ok(Task::Check),
+        Some(run) if run.get_flag("transcript") => Ok(Task::Transcript),
+        Some(_) => Ok(Task::Run),
     }
 }
 
