@@ -103,7 +103,7 @@ fn longest_line(rt: HostRuntime) -> Result<(), Fail> {
 fn each_front(rt: HostRuntime) -> Result<(), Fail> {
     for count in 1..=TRANSCRIPT.len() {
         let mut text = text_of(rt.alloc(), &TRANSCRIPT[..count])?;
-        text.truncate(text.len() - 1);
+        assert_eq!(rt; text.pop(), Some(b'\n'));
         assert_eq!(rt;
             verdict(rt.alloc(), text.as_slice())?,
             Verdict::Yes,
