@@ -1,0 +1,3 @@
+pub mod Appends
+pub mod Loops
+pub mod Masks

@@ -123,8 +123,8 @@ HasOldMasks shape words = (lock : ℕ) → lock < shape.locks → read shape wor
 -- that they are those that it stands for.
 pub record Spells (version : ℕ) (bytes : List ℕ) (shape : Shape) (words : List ℕ) (entries : List Entry) : Type 0 where
   pub counted : length words ≡ word_count shape
-  pub words : All (λ (w : ℕ). w < 2 ^ 64) words
+  pub small : All (λ (w : ℕ). w < 2 ^ 64) words
   pub few : length entries < 2 ^ 32
-  pub entries : All IsSmallEntry entries
+  pub fitting : All IsSmallEntry entries
   pub masks : version ≡ 1 → HasOldMasks shape words
   pub spelled : bytes ≡ image_of version shape words entries

@@ -32,7 +32,8 @@ fn put_header(out: &mut Vec<u8>, shape: Shape) -> Result<(), NoMemory>
     put(out, &(shape.workers as u16).to_be_bytes())?;
     put(out, &(shape.locks as u8).to_be_bytes())?;
     put(out, &(shape.cells as u8).to_be_bytes())?;
-    put(out, &shape.jobs.to_be_bytes())
+    put(out, &shape.jobs.to_be_bytes())?;
+    Ok(())
 }
 
 /// Writes all words.
@@ -53,7 +54,8 @@ fn put_op(out: &mut Vec<u8>, op: Op) -> Result<(), NoMemory>
     let [kind, first, second] = op_words(op);
     put(out, &(kind as u8).to_be_bytes())?;
     put(out, &(first as u8).to_be_bytes())?;
-    put(out, &second.to_be_bytes())
+    put(out, &second.to_be_bytes())?;
+    Ok(())
 }
 
 /// Writes a script.
@@ -78,7 +80,8 @@ fn put_receipt(out: &mut Vec<u8>, receipt: Receipt) -> Result<(), NoMemory>
     put(out, &receipt.number.to_be_bytes())?;
     put(out, &(receipt.lock as u8).to_be_bytes())?;
     put(out, &receipt.place.to_be_bytes())?;
-    put(out, &receipt.reply.to_be_bytes())
+    put(out, &receipt.reply.to_be_bytes())?;
+    Ok(())
 }
 
 /// Writes all entries behind their number.

@@ -1,6 +1,6 @@
 //! The header of an image: its version and the sizes of its world.
 
-ghost use Rattle.std.specs.Prelude.{◌≡◌, ◌<◌, ◌^◌, IfSome, IfNone, option_map};
+ghost use Rattle.std.specs.Prelude.{◌≡◌, ℕ, IfSome, IfNone, option_map};
 ghost use Rattle.rme_words.specs.declared.shape.Shape.{Shape};
 ghost use Rattle.rme_image.specs.Images.{IsVersion, header_of};
 ghost use Rattle.rme_image.specs.Reading.{header_at};

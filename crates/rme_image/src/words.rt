@@ -1,6 +1,6 @@
 //! The words of an image.
 
-ghost use Rattle.std.specs.Prelude.{◌≡◌, ◌<◌, ◌≤◌, ◌^◌, [], length, IfOk, option_map};
+ghost use Rattle.std.specs.Prelude.{◌≡◌, ◌<◌, ◌≤◌, ◌+◌, ◌*◌, [], length, IfOk, option_map};
 ghost use Rattle.rme_words.specs.Words.{word_count};
 ghost use Rattle.rme_image.specs.Images.{is_mask, skips};
 ghost use Rattle.rme_image.specs.Reading.{told_mask, word_at, many_at};
@@ -44,7 +44,6 @@ fn told_mask(shape: Shape, earlier: &[u64]) -> u64
 /// The next word after these, and what follows it.
 #[tactic(auto, unfolding(crate::specs::Reading::word_at))]
 fn read_word<'a>(version: u8, shape: Shape, earlier: &[u64], bytes: &'a [u8]) -> Option<(u64, &'a [u8])>
-    requires { length earlier.now < word_count shape }
     ensures { word_at version shape earlier.now bytes.now ≡ option_map (λ x. (x.0, x.1.now)) result }
 {
     if skips(version, shape, earlier.len()) {
