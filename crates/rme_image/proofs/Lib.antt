@@ -6,3 +6,6 @@ pub mod Many
 pub mod HeaderBytes
 pub mod ReceiptBytes
 pub mod EntryBytes
+pub mod WordBytes
+pub mod Shapes
+pub mod Spelling
