@@ -1,5 +1,5 @@
 -- What was written part by part is the whole, and words that leave none out are all of them.
-use Rattle.std.proofs.Common.{◌≡◌, ℕ, suc, ◌+◌, ◌%◌, ◌<◌, List, [], ◌∷◌, ◌++◌, take, slice_get, Some, append_assoc, refl, ap, ◌∙◌, arith}
+use Rattle.std.proofs.Common.{◌≡◌, ℕ, suc, ◌+◌, ◌%◌, ◌<◌, List, [], ◌∷◌, ◌++◌, take, slice_get, Some, append_assoc, refl, ap, arith}
 use Rattle.std.specs.List.{flat_map}
 use Rattle.std.specs.Int.{w8, w64, to_be_bytes}
 use Rattle.std.proofs.lemmas.List.{flat_map_more}

@@ -1,5 +1,5 @@
 -- Operations, scripts and entries that are read are spelled so, and what is spelled so is read.
-use Rattle.std.proofs.Common.{◌≡◌, ℕ, suc, ◌*◌, ◌^◌, ◌<◌, ◌≤◌, Bool, true, false, cond, ltb, nat_lt, ◌==◌, List, [], ◌∷◌, ◌++◌, length, Option, Some, None, refl, sym, ap, subst, ◌∙◌, append_assoc, arith}
+use Rattle.std.proofs.Common.{◌≡◌, ℕ, ◌^◌, ◌<◌, ◌≤◌, Bool, true, false, cond, nat_lt, ◌==◌, List, [], ◌∷◌, ◌++◌, length, Option, Some, None, refl, sym, ap, subst, ◌∙◌, append_assoc, arith}
 use Rattle.std.specs.List.{All, flat_map}
 use Rattle.std.specs.Int.{w8, w32, w64, to_be_bytes}
 use Rattle.std.proofs.lemmas.Bool.{ltb-false, le-ltb, lt-ltb, eqb-true}
@@ -14,9 +14,9 @@ use Rattle.rme_script.specs.Slates.{op_words, op_of}
 use Rattle.rme_script.proofs.Slates.{words_back}
 use Rattle.rme_program.specs.declared.note.Receipt.{Receipt}
 use Rattle.rme_program.specs.declared.note.Entry.{Entry}
-use Rattle.rme_image.specs.Images.{triple_bytes, op_bytes, script_bytes, receipt_bytes, entry_bytes, entries_bytes, IsSmallOp, IsSmallScript, IsSmallReceipt, IsSmallEntry}
+use Rattle.rme_image.specs.Images.{triple_bytes, op_bytes, script_bytes, receipt_bytes, entry_bytes, entries_bytes, IsSmallOp, IsSmallScript, IsSmallEntry}
 use Rattle.rme_image.specs.Reading.{◌>>=◌, number_at, many_at, op_at, script_at, receipt_at, entry_at, entries_at}
-use Rattle.rme_image.proofs.Fields.{IsBytes, Takes, Takes-then, bind_some, guard_some, some_is, wide8, wide32, wide64, number_takes, number_again}
+use Rattle.rme_image.proofs.Fields.{IsBytes, Takes, Takes-then, bind_some, some_is, wide8, wide32, wide64, number_takes, number_again}
 use Rattle.rme_image.proofs.Many.{list_takes, list_again}
 use Rattle.rme_image.proofs.ReceiptBytes.{receipt_takes, receipt_again}
 
@@ -124,7 +124,7 @@ script_again x rest small =
     let ops : List ℕ = flat_map op_bytes x.ops ++ rest in
     let short : nat_lt 8 x.n ≡ false = le-ltb 8 x.n small.few in
     let many : many_at (λ _. op_at) x.n [] ops ≡ Some (x.ops, rest) =
-        ap (λ (n : ℕ). many_at (λ _. op_at) n [] ops) (sym small.counted) ∙ list_again op_at op_bytes IsSmallOp op_again x.ops rest small.ops in
+    ap (λ (n : ℕ). many_at (λ _. op_at) n [] ops) (sym small.counted) ∙ list_again op_at op_bytes IsSmallOp op_again x.ops rest small.ops in
     ap script_at (append_assoc (to_be_bytes w8 x.n) (flat_map op_bytes x.ops) rest)
     ∙ rw (number_again w8 (2 ^ 8) wide8 x.n ops (omega (arith, small.few)), short, many) refl
 
@@ -176,7 +176,7 @@ entries_take bytes xs fits e =
     let tm = list_takes entry_at entry_bytes IsSmallEntry entry_takes n.0.0 n.0.1 m.0 tn.0.rest_fits m.1 in
     let both = Takes-then bytes (to_be_bytes w32 n.0.0) n.0.1 (flat_map entry_bytes m.0.0) m.0.1 tn.0 tm.0 in
     let whole : bytes ≡ to_be_bytes w32 n.0.0 ++ flat_map entry_bytes m.0.0 =
-        both.parts ∙ ap (λ (rest : List ℕ). (to_be_bytes w32 n.0.0 ++ flat_map entry_bytes m.0.0) ++ rest) ended ∙ append-nil (to_be_bytes w32 n.0.0 ++ flat_map entry_bytes m.0.0) in
+    both.parts ∙ ap (λ (rest : List ℕ). (to_be_bytes w32 n.0.0 ++ flat_map entry_bytes m.0.0) ++ rest) ended ∙ append-nil (to_be_bytes w32 n.0.0 ++ flat_map entry_bytes m.0.0) in
     let counted : bytes ≡ entries_bytes m.0.0 = whole ∙ ap (λ (k : ℕ). to_be_bytes w32 k ++ flat_map entry_bytes m.0.0) (sym tm.1) in
     subst (λ (ys : List Entry). AreSpelled bytes ys) g.1 (record { spelled = counted; few = rw tm.1 tn.1; small = tm.2 })
 
@@ -184,5 +184,5 @@ pub entries_again : (xs : List Entry) → length xs < 2 ^ 32 → All IsSmallEntr
 unfolding entries_at
 entries_again xs few small =
     let many : many_at (λ _. entry_at) (length xs) [] (flat_map entry_bytes xs) ≡ Some (xs, []) =
-        ap (λ (text : List ℕ). many_at (λ _. entry_at) (length xs) [] text) (sym (append-nil (flat_map entry_bytes xs))) ∙ list_again entry_at entry_bytes IsSmallEntry entry_again xs [] small in
+    ap (λ (text : List ℕ). many_at (λ _. entry_at) (length xs) [] text) (sym (append-nil (flat_map entry_bytes xs))) ∙ list_again entry_at entry_bytes IsSmallEntry entry_again xs [] small in
     rw (number_again w32 (2 ^ 32) wide32 (length xs) (flat_map entry_bytes xs) few, many) refl

@@ -1,12 +1,12 @@
 -- A header that is read is spelled so, and what is spelled so is read. A shape is told by its header.
-use Rattle.std.proofs.Common.{◌≡◌, ℕ, ◌^◌, ◌<◌, ◌≤◌, Bool, true, false, cond, ◌==◌, List, [], ◌∷◌, ◌++◌, Option, Some, None, refl, sym, ap, subst, ◌∙◌, append_assoc, arith}
-use Rattle.std.specs.Int.{w8, w16, w32, w64, to_be_bytes}
+use Rattle.std.proofs.Common.{◌≡◌, ℕ, ◌^◌, ◌<◌, cond, ◌==◌, List, ◌++◌, Option, Some, None, refl, ap, subst, ◌∙◌, append_assoc, arith}
+use Rattle.std.specs.Int.{w8, w16, w32, to_be_bytes}
 use Rattle.std.proofs.lemmas.Bool.{eqb-true}
 use Rattle.std.proofs.lemmas.Option.{cond_some}
 use Rattle.rme_image.specs.declared.header.Header.{Header}
 use Rattle.rme_image.specs.Images.{header_bytes}
 use Rattle.rme_image.specs.Reading.{◌>>=◌, number_at, header_at}
-use Rattle.rme_image.proofs.Fields.{IsBytes, Takes, Takes-then, bind_some, some_is, wide8, wide16, wide32, number_takes, number_again}
+use Rattle.rme_image.proofs.Fields.{IsBytes, Takes, Takes-then, bind_some, wide8, wide16, wide32, number_takes, number_again}
 
 -- The header's numbers fit their bytes.
 pub record IsSmallHeader (header : Header) : Type 0 where

@@ -1,9 +1,9 @@
 -- Items that are read one after another are spelled one after another, and what was spelled so is read again.
-use Rattle.std.proofs.Common.{◌≡◌, ℕ, zero, suc, List, [], ◌∷◌, ◌++◌, length, Option, Some, None, refl, sym, ap, subst, ◌∙◌, append_assoc}
+use Rattle.std.proofs.Common.{◌≡◌, ℕ, zero, suc, List, [], ◌∷◌, ◌++◌, length, Option, Some, refl, sym, ap, subst, ◌∙◌, append_assoc}
 use Rattle.std.specs.List.{All, AllByRecursion, flat_map}
 use Rattle.std.proofs.lemmas.List.{append-nil}
 use Rattle.std.proofs.lemmas.List.Elements.{All-from_recursion, recursion_from_All}
-use Rattle.rme_image.specs.Reading.{◌>>=◌, many_at}
+use Rattle.rme_image.specs.Reading.{many_at}
 use Rattle.rme_image.proofs.Fields.{IsBytes, Takes, Takes-then, bind_some, some_is}
 
 -- The bytes of some items, where those of an item may go by the items before it.
@@ -47,7 +47,7 @@ module _ {A : Type 0} (read : List A → List ℕ → Option (A × List ℕ)) (s
   many_again again earlier (x ∷ xs) rest small =
       let behind : List ℕ = spell_after spell (earlier ++ x ∷ []) xs ++ rest in
       let here : read earlier (spell_after spell earlier (x ∷ xs) ++ rest) ≡ Some (x, behind) =
-          ap (λ (bytes : List ℕ). read earlier bytes) (append_assoc (spell earlier x) (spell_after spell (earlier ++ x ∷ []) xs) rest) ∙ again earlier x behind small.0 in
+      ap (λ (bytes : List ℕ). read earlier bytes) (append_assoc (spell earlier x) (spell_after spell (earlier ++ x ∷ []) xs) rest) ∙ again earlier x behind small.0 in
       rw here (many_again again (earlier ++ x ∷ []) xs rest small.1 ∙ ap (λ (all : List A). Some (all, rest)) (append_assoc earlier (x ∷ []) xs))
 
 -- ---- items that do not go by those before them

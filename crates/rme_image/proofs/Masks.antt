@@ -1,6 +1,6 @@
 -- Where the masks stand among the words, and that a mask that the words before it tell is the one that version 1
 -- stands for.
-use Rattle.std.proofs.Common.{◌≡◌, ℕ, ◌+◌, ◌-◌, ◌*◌, ◌/◌, ◌%◌, ◌^◌, ◌<◌, ◌≤◌, Bool, true, false, cond, nat_lt, ◌==◌, List, length, take, get_or, refl, sym, ap, ◌∙◌, arith}
+use Rattle.std.proofs.Common.{◌≡◌, ℕ, ◌+◌, ◌-◌, ◌*◌, ◌/◌, ◌%◌, ◌^◌, ◌<◌, ◌≤◌, true, cond, nat_lt, ◌==◌, List, length, take, refl, sym, ap, ◌∙◌, arith}
 use Rattle.std.specs.Prelude.{slice_index}
 use Rattle.std.proofs.lemmas.Bool.{and_parts, and_from, eqb-true, eq-eqb, leb-true, le-leb, lt-ltb}
 use Rattle.std.proofs.lemmas.Nat.{mod-mul-add, div-add-mod', div_below, mul-add-lt}
@@ -42,7 +42,7 @@ unfolding is_mask
 mask_told shape lock =
     let short : lock_block shape - 1 < lock_block shape = omega arith in
     let last : (word shape (Mask lock) - 31 * shape.workers) % lock_block shape ≡ lock_block shape - 1 =
-        ap (λ (n : ℕ). n % lock_block shape) (offset (31 * shape.workers) (lock * lock_block shape) shape.leaves shape.cells) ∙ mod-mul-add lock (lock_block shape) (lock_block shape - 1) short in
+    ap (λ (n : ℕ). n % lock_block shape) (offset (31 * shape.workers) (lock * lock_block shape) shape.leaves shape.cells) ∙ mod-mul-add lock (lock_block shape) (lock_block shape - 1) short in
     and_from _ _ (le-leb _ _ (behind (31 * shape.workers) (lock * lock_block shape) shape.leaves shape.cells)) (eq-eqb _ _ last)
 
 pub mask_found : (shape : Shape) (i : ℕ) → i < word_count shape → is_mask shape i ≡ true → (lock : ℕ) × (lock < shape.locks) × (i ≡ word shape (Mask lock))
@@ -83,9 +83,9 @@ told_is_old shape words lock below counted =
     let fits : i < word_count shape = mask_within shape lock below in
     let long : length (take i words) ≡ i = length-take-le i words (omega (arith, fits, counted)) in
     let place : length (take i words) - (2 + 2 * shape.cells) ≡ j =
-        ap (λ (n : ℕ). n - (2 + 2 * shape.cells)) long ∙ turn_place (31 * shape.workers) (lock * lock_block shape) shape.leaves shape.cells (some_leaf shape) in
+    ap (λ (n : ℕ). n - (2 + 2 * shape.cells)) long ∙ turn_place (31 * shape.workers) (lock * lock_block shape) shape.leaves shape.cells (some_leaf shape) in
     let turn : slice_index (take i words) (length (take i words) - (2 + 2 * shape.cells)) ≡ read shape words (Turn lock) =
-        ap (λ (n : ℕ). slice_index (take i words) n) place
-        ∙ get_or-take i words j 0 (turn_first (31 * shape.workers) (lock * lock_block shape) shape.leaves shape.cells (some_leaf shape))
-        ∙ sym (read_turn shape words lock below) in
+    ap (λ (n : ℕ). slice_index (take i words) n) place
+    ∙ get_or-take i words j 0 (turn_first (31 * shape.workers) (lock * lock_block shape) shape.leaves shape.cells (some_leaf shape))
+    ∙ sym (read_turn shape words lock below) in
     ap (λ (n : ℕ). cond (n % 2 == 1) (2 ^ shape.cells - 1) 0) turn

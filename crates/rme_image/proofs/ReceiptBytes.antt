@@ -1,5 +1,5 @@
 -- A receipt that is read is spelled so, and what is spelled so is read.
-use Rattle.std.proofs.Common.{◌≡◌, ℕ, ◌^◌, ◌<◌, List, [], ◌∷◌, ◌++◌, Option, Some, None, refl, sym, ap, subst, ◌∙◌, append_assoc}
+use Rattle.std.proofs.Common.{◌≡◌, ℕ, ◌^◌, List, ◌++◌, Option, Some, refl, ap, subst, ◌∙◌, append_assoc}
 use Rattle.std.specs.Int.{w8, w16, w32, w64, to_be_bytes}
 use Rattle.rme_program.specs.declared.note.Receipt.{Receipt}
 use Rattle.rme_image.specs.Images.{receipt_bytes, IsSmallReceipt}

@@ -1,19 +1,19 @@
 -- Words that are read are spelled so, and what is spelled so is read. In version 1 the masks are those that it stands
 -- for, and in no other way.
-use Rattle.std.proofs.Common.{◌≡◌, ℕ, zero, suc, ◌+◌, ◌-◌, ◌*◌, ◌^◌, ◌<◌, ◌≤◌, Bool, true, false, cond, ◌==◌, List, [], ◌∷◌, ◌++◌, length, take, get_or, Option, Some, None, refl, sym, ap, subst, ◌∙◌, append_assoc, arith}
+use Rattle.std.proofs.Common.{◌≡◌, ℕ, zero, suc, ◌-◌, ◌^◌, ◌<◌, Bool, true, false, cond, List, [], ◌∷◌, ◌++◌, length, take, get_or, Some, refl, sym, ap, subst, ◌∙◌, append_assoc, arith}
 use Rattle.std.specs.List.{All}
 use Rattle.std.specs.Int.{w64, to_be_bytes}
 use Rattle.std.proofs.lemmas.Bool.{and_parts, and_from, eqb-true, eq-eqb}
 use Rattle.std.proofs.lemmas.List.{append-nil, length-append, length-take-le}
 use Rattle.std.proofs.lemmas.Nat.{pow_below}
-use Rattle.std.proofs.lemmas.List.Elements.{All-from_get_or, All-get_or}
+use Rattle.std.proofs.lemmas.List.Elements.{All-from_get_or}
 use Rattle.rme_words.specs.declared.shape.Shape.{Shape}
 use Rattle.rme_words.specs.declared.address.Address.TheVariants.{Mask}
 use Rattle.rme_words.specs.Words.{word_count, word}
 use Rattle.rme_image.specs.Images.{skips, words_bytes, HasOldMasks}
 use Rattle.rme_image.specs.Reading.{number_at, told_mask, word_at, many_at}
 use Rattle.rme_image.proofs.Fields.{IsBytes, Takes, takes_none, some_is, wide64, number_takes, number_again}
-use Rattle.rme_image.proofs.Many.{spell_after, AllAfter, TookMany, many_take, many_again}
+use Rattle.rme_image.proofs.Many.{spell_after, AllAfter, many_take, many_again}
 use Rattle.rme_image.proofs.Masks.{mask_told, mask_found, mask_within, read_mask, told_is_old}
 
 -- The bytes of a word behind others: none if the version leaves it out.
@@ -73,11 +73,10 @@ after_at {A = A} Small earlier (x ∷ xs) (suc i) d h inside =
 
 after_from : {A : Type 0} (Small : List A → A → Type 0) (earlier xs : List A) (d : A) → ((i : ℕ) → i < length xs → Small (earlier ++ take i xs) (get_or xs i d)) → AllAfter Small earlier xs
 after_from Small earlier [] d h = tt
-after_from {A = A} Small earlier (x ∷ xs) d h =
-    (
-      subst (λ (ys : List A). Small ys x) (append-nil earlier) (h 0 (omega arith)),
-      after_from Small (earlier ++ x ∷ []) xs d (λ i inside. subst (λ (ys : List A). Small ys (get_or xs i d)) (sym (append_assoc earlier (x ∷ []) (take i xs))) (h (suc i) (omega (arith, inside)))),
-    )
+after_from {A = A} Small earlier (x ∷ xs) d h = (
+  subst (λ (ys : List A). Small ys x) (append-nil earlier) (h 0 (omega arith)),
+  after_from Small (earlier ++ x ∷ []) xs d (λ i inside. subst (λ (ys : List A). Small ys (get_or xs i d)) (sym (append_assoc earlier (x ∷ []) (take i xs))) (h (suc i) (omega (arith, inside)))),
+)
 
 -- ---- the masks
 

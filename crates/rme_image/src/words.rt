@@ -43,7 +43,12 @@ fn told_mask(shape: Shape, earlier: &[u64]) -> u64
 
 /// The next word after these, and what follows it.
 #[tactic(auto, unfolding(crate::specs::Reading::word_at))]
-fn read_word<'a>(version: u8, shape: Shape, earlier: &[u64], bytes: &'a [u8]) -> Option<(u64, &'a [u8])>
+fn read_word<'a>(
+    version: u8,
+    shape: Shape,
+    earlier: &[u64],
+    bytes: &'a [u8],
+) -> Option<(u64, &'a [u8])>
     ensures { word_at version shape earlier.now bytes.now ≡ option_map (λ x. (x.0, x.1.now)) result }
 {
     if skips(version, shape, earlier.len()) {

@@ -1,6 +1,4 @@
-use Rattle.std.proofs.Common.{ap, ◌∙◌, ◌≡◌, ◌++◌, take, List, ℕ, arith}
-use Rattle.std.specs.List.{flat_map}
-use Rattle.std.specs.Int.{w64, to_be_bytes}
+use Rattle.std.proofs.Common.{◌≡◌, take}
 use Rattle.std.proofs.lemmas.List.{take_all}
 use Rattle.rme_image.proofs.Appends.{words_skip_none}
 use Rattle.rme_image.proofs.encoding.put_words.Goals as goal

@@ -1,8 +1,7 @@
-use Rattle.std.proofs.Common.{◌≡◌, ◌-◌, ◌+◌, ◌<◌, [], ◌++◌, ◌∷◌, take, length, List, sym, ap, ◌∙◌, arith}
-use Rattle.std.specs.Prelude.{slice_set}
+use Rattle.std.proofs.Common.{◌<◌, [], take, length, ◌∙◌, arith}
 use Rattle.std.proofs.lemmas.List.{take_more_set, length-set}
 use Rattle.rme_image.specs.Reading.{op_at, many_at}
-use Rattle.rme_image.proofs.Loops.{many_more, many_ends, many_done}
+use Rattle.rme_image.proofs.Loops.{many_more}
 use Rattle.rme_image.proofs.entries.read_operations.Goals as goal
 
 pub loop-i-preserved : goal.loop-i-preserved

@@ -1,6 +1,6 @@
-use Rattle.std.proofs.Common.{◌≡◌, ◌-◌, [], ◌++◌, ◌∷◌}
+use Rattle.std.proofs.Common.{[]}
 use Rattle.rme_image.specs.Reading.{entry_at, many_at}
-use Rattle.rme_image.proofs.Loops.{many_more, many_ends, many_done}
+use Rattle.rme_image.proofs.Loops.{many_more, many_ends}
 use Rattle.rme_image.proofs.entries.read_some.Goals as goal
 
 pub returns-in_default : goal.returns-in_default

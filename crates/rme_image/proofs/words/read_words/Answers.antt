@@ -1,6 +1,6 @@
-use Rattle.std.proofs.Common.{◌≡◌, ◌-◌, [], ◌++◌, ◌∷◌}
+use Rattle.std.proofs.Common.{[]}
 use Rattle.rme_image.specs.Reading.{word_at, many_at}
-use Rattle.rme_image.proofs.Loops.{many_more, many_ends, many_done}
+use Rattle.rme_image.proofs.Loops.{many_more}
 use Rattle.rme_image.proofs.words.read_words.Goals as goal
 
 pub loop-preserved : goal.loop-preserved
