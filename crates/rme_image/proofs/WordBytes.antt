@@ -87,7 +87,7 @@ masks_told version shape words counted told old = λ lock below.
     let inside : i < length words = omega (arith, mask_within shape lock below, counted) in
     let long : length (take i words) ≡ i = length-take-le i words (omega (arith, inside)) in
     let one : IsTold version shape (take i words) (get_or words i 0) = after_at (IsTold version shape) [] words i 0 told inside in
-    let left_out : skips version shape (length (take i words)) ≡ true = ap (λ (n : ℕ). skips version shape n) long ∙ and_from _ _ (eq-eqb version 1 old) (mask_told shape lock) in
+    let left_out : skips version shape (length (take i words)) ≡ true = ap (λ (n : ℕ). skips version shape n) long ∙ and_from _ _ (eq-eqb version 1 old) (mask_told shape lock below) in
     read_mask shape words lock below ∙ one.told left_out ∙ told_is_old shape words lock below counted
 
 words_told : (version : ℕ) (shape : Shape) (words : List ℕ) → length words ≡ word_count shape → All (λ (w : ℕ). w < 2 ^ 64) words → (version ≡ 1 → HasOldMasks shape words) → AllAfter (IsTold version shape) [] words
@@ -101,7 +101,7 @@ words_told version shape words counted small masks = after_from (IsTold version 
     told i inside e =
         let long : length (take i words) ≡ i = length-take-le i words (omega (arith, inside)) in
         let parts = and_parts _ _ (ap (λ (n : ℕ). skips version shape n) (sym long) ∙ e) in
-        let found = mask_found shape i (omega (arith, inside, counted)) parts.1 in
+        let found = mask_found shape i parts.1 in
         subst (λ (n : ℕ). get_or words n 0 ≡ told_mask shape (take n words)) (sym found.2) (of_mask found.0 found.1 (eqb-true version 1 parts.0))
 
 -- ---- all words

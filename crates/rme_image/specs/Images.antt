@@ -1,10 +1,10 @@
 -- `image`: the bytes of a saved world, in version 2 and in the older version 1. All numbers are big-endian.
 use Rattle.std.specs.Prelude.{◌≡◌, ◌⊎◌, ℕ, suc, ◌-◌, ◌*◌, ◌%◌, ◌^◌, ◌<◌, ◌≤◌, Bool, ◌&&◌, nat_le, ◌==◌, List, [], ◌∷◌, ◌++◌, length, if◌then◌else◌}
-use Rattle.std.specs.List.{All, flat_map}
+use Rattle.std.specs.List.{All, flat_map, list_any, range_with_len}
 use Rattle.std.specs.Int.{w8, w16, w32, w64, to_be_bytes}
 use Rattle.rme_words.specs.declared.shape.Shape.{Shape}
 use Rattle.rme_words.specs.declared.address.Address.TheVariants.{Turn, Mask}
-use Rattle.rme_words.specs.Words.{lock_block, word_count, read}
+use Rattle.rme_words.specs.Words.{word_count, word, read}
 use Rattle.rme_script.specs.declared.op.Op.{Op}
 use Rattle.rme_script.specs.declared.op.Op.TheVariants.{Get, Set, Add, Copy, Swap}
 use Rattle.rme_script.specs.Slates.{op_words}
@@ -34,9 +34,9 @@ IsVersion version shape = (version ≡ 2) ⊎ ((version ≡ 1) × (shape.workers
 
 -- ---- the words: eight bytes each, in order of their numbers
 
--- The word with this number is a lock's `Mask`: the last word of that lock's block.
+-- The word with this number is the `Mask` of some lock.
 unfoldable pub is_mask : Shape → ℕ → Bool
-is_mask shape i = nat_le (31 * shape.workers) i && ((i - 31 * shape.workers) % lock_block shape == lock_block shape - 1)
+is_mask shape i = list_any (λ (lock : ℕ). word shape (Mask lock) == i) (range_with_len 0 shape.locks)
 
 -- The words that an image of this version leaves out: version 1 has no masks.
 unfoldable pub skips : ℕ → Shape → ℕ → Bool

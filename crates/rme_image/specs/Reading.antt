@@ -1,8 +1,9 @@
 -- Reading from left to right, as functions on lists: what was read and the bytes after it, or none. No public
 -- contract cites these: `found` and `only` of `parse` say what they come to.
-use Rattle.std.specs.Prelude.{ℕ, zero, suc, ◌+◌, ◌-◌, ◌*◌, ◌%◌, ◌^◌, List, [], ◌∷◌, ◌++◌, length, take, drop, slice_index, Option, Some, None, nat_lt, ◌==◌, if◌then◌else◌}
+use Rattle.std.specs.Prelude.{ℕ, zero, suc, ◌+◌, ◌-◌, ◌*◌, ◌%◌, ◌^◌, Bool, ◌&&◌, nat_le, List, [], ◌∷◌, ◌++◌, length, take, drop, slice_index, Option, Some, None, nat_lt, ◌==◌, if◌then◌else◌}
 use Rattle.std.specs.Int.{Width, w8, w16, w32, w64, byte_len, from_be_bytes}
 use Rattle.rme_words.specs.declared.shape.Shape.{Shape}
+use Rattle.rme_words.specs.Words.{lock_block}
 use Rattle.rme_script.specs.declared.op.Op.{Op}
 use Rattle.rme_script.specs.Slates.{op_of}
 use Rattle.rme_script.specs.Programs.{Program}
@@ -34,6 +35,10 @@ header_at bytes = do
   cells ← number_at w8 locks.1
   jobs ← number_at w32 cells.1
   if magic.0 == 1380795721 then Some (record { version = version.0; workers = workers.0; locks = locks.0; cells = cells.0; jobs = jobs.0 }, jobs.1) else None
+
+-- The word with this number is the last of a lock's block.
+unfoldable pub ends_block : Shape → ℕ → Bool
+ends_block shape i = nat_le (31 * shape.workers) i && ((i - 31 * shape.workers) % lock_block shape == lock_block shape - 1)
 
 -- The mask that the turn tells, which stands 2 + 2C words before it.
 unfoldable pub told_mask : Shape → List ℕ → ℕ

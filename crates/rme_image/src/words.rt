@@ -2,18 +2,18 @@
 
 ghost use Rattle.std.specs.Prelude.{◌≡◌, ◌<◌, ◌≤◌, ◌+◌, ◌*◌, [], length, IfOk, option_map};
 ghost use Rattle.rme_words.specs.Words.{word_count};
-ghost use Rattle.rme_image.specs.Images.{is_mask, skips};
-ghost use Rattle.rme_image.specs.Reading.{told_mask, word_at, many_at};
+ghost use Rattle.rme_image.specs.Images.{skips};
+ghost use Rattle.rme_image.specs.Reading.{ends_block, told_mask, word_at, many_at};
 
 use crate::header::OLD_VERSION;
 use crate::numbers::number64;
 use rme_words::{NoMemory, Shape};
 use std::alloc::Global;
 
-/// The word with this number is a lock's mask.
-#[tactic(auto, unfolding(crate::specs::Images::is_mask))]
-fn is_mask(shape: Shape, number: usize) -> bool
-    ensures { result ≡ is_mask shape number }
+/// The word with this number is the last of a lock's block, which is the lock's mask.
+#[tactic(auto, unfolding(crate::specs::Reading::ends_block))]
+fn ends_block(shape: Shape, number: usize) -> bool
+    ensures { result ≡ ends_block shape number }
 {
     let start = 31 * shape.workers as usize;
     let block = shape.leaves as usize + 2 + 2 * shape.cells as usize;
@@ -21,11 +21,11 @@ fn is_mask(shape: Shape, number: usize) -> bool
 }
 
 /// An image of this version leaves out the word with this number.
-#[tactic(auto, unfolding(crate::specs::Images::skips))]
 fn skips(version: u8, shape: Shape, number: usize) -> bool
+    requires { number < word_count shape }
     ensures { result ≡ skips version shape number }
 {
-    version == OLD_VERSION && is_mask(shape, number)
+    version == OLD_VERSION && ends_block(shape, number)
 }
 
 /// The mask that follows these words, as their turn tells it: all cells while it is odd, else none.
@@ -49,6 +49,7 @@ fn read_word<'a>(
     earlier: &[u64],
     bytes: &'a [u8],
 ) -> Option<(u64, &'a [u8])>
+    requires { length earlier.now < word_count shape }
     ensures { word_at version shape earlier.now bytes.now ≡ option_map (λ x. (x.0, x.1.now)) result }
 {
     if skips(version, shape, earlier.len()) {
