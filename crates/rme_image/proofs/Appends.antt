@@ -1,0 +1,26 @@
+-- What was written part by part is the whole, and words that leave none out are all of them.
+use Rattle.std.proofs.Common.{◌≡◌, ℕ, suc, ◌+◌, ◌%◌, ◌<◌, List, [], ◌∷◌, ◌++◌, take, slice_get, Some, append_assoc, refl, ap, arith}
+use Rattle.std.specs.List.{flat_map}
+use Rattle.std.specs.Int.{w8, w64, to_be_bytes}
+use Rattle.std.proofs.lemmas.List.{flat_map_more}
+use Rattle.rme_script.proofs.Lists.{take_next}
+use Rattle.rme_words.specs.declared.shape.Shape.{Shape}
+use Rattle.rme_image.specs.Images.{skips, words_bytes}
+
+pub five_parts : (o p q r s t a b c d e : List ℕ) → p ≡ o ++ a → q ≡ p ++ b → r ≡ q ++ c → s ≡ r ++ d → t ≡ s ++ e → t ≡ o ++ (a ++ (b ++ (c ++ (d ++ e))))
+five_parts o p q r s t a b c d e f g h i j = rw (j, i, h, g, f) (simp append_assoc)
+
+pub six_parts : (o p q r s t u a b c d e f : List ℕ) → p ≡ o ++ a → q ≡ p ++ b → r ≡ q ++ c → s ≡ r ++ d → t ≡ s ++ e → u ≡ t ++ f → u ≡ o ++ (a ++ (b ++ (c ++ (d ++ (e ++ f)))))
+six_parts o p q r s t u a b c d e f g h i j k l = rw (l, k, j, i, h, g) (simp append_assoc)
+
+-- A number that fits one byte is that byte.
+pub byte_whole : (n : ℕ) → n < 256 → n ∷ [] ≡ to_be_bytes w8 n
+byte_whole n fits = let e : n % 256 ≡ n = omega (arith, fits) in rw e refl
+
+pub items_more : {A : Type 0} (f : A → List ℕ) (o p q : List ℕ) (items : List A) (i : ℕ) (x : A) → slice_get items i ≡ Some x → p ≡ o ++ flat_map f (take i items) → q ≡ p ++ f x → q ≡ o ++ flat_map f (take (i + 1) items)
+items_more f o p q items i x at so_far put = rw (take_next items i x at, put, so_far) (flat_map_more f o (take i items) x)
+
+pub words_skip_none : (shape : Shape) (i : ℕ) (words : List ℕ) → words_bytes (skips 2 shape) i words ≡ flat_map (to_be_bytes w64) words
+unfolding skips
+words_skip_none shape i [] = refl
+words_skip_none shape i (w ∷ ws) = ap (λ (rest : List ℕ). to_be_bytes w64 w ++ rest) (words_skip_none shape (suc i) ws)

@@ -1,0 +1,11 @@
+pub mod Appends
+pub mod Loops
+pub mod Masks
+pub mod Fields
+pub mod Many
+pub mod HeaderBytes
+pub mod ReceiptBytes
+pub mod EntryBytes
+pub mod WordBytes
+pub mod Shapes
+pub mod Spelling

@@ -1,0 +1,121 @@
+//! Writing an image.
+
+ghost use Rattle.std.specs.Prelude.{◌≡◌, ◌<◌, ◌^◌, ◌++◌, length, OnOk, IfOk};
+ghost use Rattle.std.specs.List.{All, flat_map};
+ghost use Rattle.std.specs.Int.{w8, w32, to_be_bytes};
+ghost use Rattle.rme_words.specs.Words.{word_count};
+ghost use Rattle.rme_script.specs.Scripts.{IsScript};
+ghost use Rattle.rme_image.specs.Images.{IsSmallOp, IsSmallScript, IsSmallReceipt, IsSmallEntry, Spells, header_bytes, header_of, skips, words_bytes, op_bytes, script_bytes, receipt_bytes, entry_bytes, entries_bytes, image_of};
+
+use crate::header::{MAGIC, VERSION};
+use rme_program::{Entry, Receipt};
+use rme_script::{Op, Script, op_words};
+use rme_words::{NoMemory, Shape};
+use std::alloc::Global;
+
+/// Writes some bytes behind the others.
+fn put(out: &mut Vec<u8>, bytes: &[u8]) -> Result<(), NoMemory>
+    ensures { OnOk result (out.new.items ≡ out.old.items ++ bytes.now) }
+{
+    match out.extend_from_slice(bytes) {
+        Ok(()) => Ok(()),
+        Err(_) => Err(NoMemory),
+    }
+}
+
+/// Writes the header of an image of the newest version.
+fn put_header(out: &mut Vec<u8>, shape: Shape) -> Result<(), NoMemory>
+    ensures { OnOk result (out.new.items ≡ out.old.items ++ header_bytes (header_of 2 shape)) }
+{
+    put(out, &MAGIC.to_be_bytes())?;
+    put(out, &VERSION.to_be_bytes())?;
+    put(out, &(shape.workers as u16).to_be_bytes())?;
+    put(out, &(shape.locks as u8).to_be_bytes())?;
+    put(out, &(shape.cells as u8).to_be_bytes())?;
+    put(out, &shape.jobs.to_be_bytes())?;
+    Ok(())
+}
+
+/// Writes all words.
+fn put_words(out: &mut Vec<u8>, shape: Shape, words: &[u64]) -> Result<(), NoMemory>
+    ensures { OnOk result (out.new.items ≡ out.old.items ++ words_bytes (skips 2 shape) 0 words.now) }
+{
+    for word in words {
+        put(out, &word.to_be_bytes())?;
+    }
+    Ok(())
+}
+
+/// Writes an operation.
+fn put_op(out: &mut Vec<u8>, op: Op) -> Result<(), NoMemory>
+    requires { IsSmallOp op }
+    ensures { OnOk result (out.new.items ≡ out.old.items ++ op_bytes op) }
+{
+    let [kind, first, second] = op_words(op);
+    put(out, &(kind as u8).to_be_bytes())?;
+    put(out, &(first as u8).to_be_bytes())?;
+    put(out, &second.to_be_bytes())?;
+    Ok(())
+}
+
+/// Writes a script.
+fn put_script(out: &mut Vec<u8>, script: &Script) -> Result<(), NoMemory>
+    requires { IsSmallScript script.now }
+    ensures { OnOk result (out.new.items ≡ out.old.items ++ script_bytes script.now) }
+{
+    let count = script.n();
+    put(out, &(count as u8).to_be_bytes())?;
+    for i in 0..count {
+        put_op(out, script.op(i))?;
+    }
+    Ok(())
+}
+
+/// Writes a receipt.
+fn put_receipt(out: &mut Vec<u8>, receipt: Receipt) -> Result<(), NoMemory>
+    requires { IsSmallReceipt receipt }
+    ensures { OnOk result (out.new.items ≡ out.old.items ++ receipt_bytes receipt) }
+{
+    put(out, &(receipt.worker as u16).to_be_bytes())?;
+    put(out, &receipt.number.to_be_bytes())?;
+    put(out, &(receipt.lock as u8).to_be_bytes())?;
+    put(out, &receipt.place.to_be_bytes())?;
+    put(out, &receipt.reply.to_be_bytes())?;
+    Ok(())
+}
+
+/// Writes all entries behind their number.
+fn put_entries(out: &mut Vec<u8>, entries: &[Entry]) -> Result<(), NoMemory>
+    requires few { length entries.now < 2 ^ 32 }
+    requires small { All IsSmallEntry entries.now }
+    ensures { OnOk result (out.new.items ≡ out.old.items ++ entries_bytes entries.now) }
+{
+    put(out, &(entries.len() as u32).to_be_bytes())?;
+    for entry in entries {
+        put_receipt(out, entry.receipt)?;
+        put_script(out, &entry.script)?;
+    }
+    Ok(())
+}
+
+/// The image of these words and entries, in version 2.
+///
+/// The words are those of the shape, in order of their numbers. Takes memory for the image; `NoMemory` where it was
+/// refused.
+pub fn encode(
+    alloc: Global,
+    shape: Shape,
+    words: &[u64],
+    entries: &[Entry],
+) -> Result<Vec<u8>, NoMemory>
+    requires few { length entries.now < 2 ^ 32 }
+    requires small { All IsSmallEntry entries.now }
+    ensures image { IfOk result (λ bytes. bytes.items ≡ image_of 2 shape words.now entries.now) }
+    ensures spelled { length words.now ≡ word_count shape → IfOk result (λ bytes. Spells 2 bytes.items shape words.now entries.now) }
+{
+    let mut out = Vec::new(alloc);
+    put_header(&mut out, shape)?;
+    put_words(&mut out, shape, words)?;
+    put_entries(&mut out, entries)?;
+    Ok(out)
+}
