@@ -1,6 +1,6 @@
 //! The last entry of each worker and of each lock.
 
-ghost use Rattle.std.specs.Prelude.{◌≡◌, ℕ, ◌+◌, ◌<◌, [], IfOk, IsOk, OnOk, MatchOption, length, take, map, None};
+ghost use Rattle.std.specs.Prelude.{◌≡◌, ◌^◌, ◌≤◌, ℕ, ◌+◌, ◌<◌, [], IfOk, MatchOption, length, take, map, None};
 ghost use Rattle.std.specs.Bool.{MatchBool};
 ghost use Rattle.std.specs.List.{range_with_len};
 ghost use Rattle.rme_program.specs.declared.note.Entry.{Entry};
@@ -40,7 +40,7 @@ pub fn last_number(last: &Option<Entry>) -> u32
 /// The place of a lock's next section, by its last entry.
 pub fn next_place(last: &Option<Entry>) -> u64
     ensures place { result ≡ next_place last.now }
-    ensures small { result < 4294967297 }
+    ensures small { result ≤ 2 ^ 32 }
 {
     match last {
         None => 0,

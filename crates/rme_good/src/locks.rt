@@ -1,14 +1,15 @@
 //! Whether the words of each lock are what its owner and its entries let them be.
 
-ghost use Rattle.std.specs.Prelude.{◌≡◌, ◌<◌, ◌↔◌, ◌⊎◌, IsTrue, ℕ, length, Option};
+ghost use Rattle.std.specs.Prelude.{◌≡◌, ◌^◌, ◌≤◌, ◌<◌, ◌↔◌, ◌⊎◌, IsTrue, ℕ, length, Option};
 ghost use Rattle.rme_words.specs.Words.{memory_of};
 ghost use Rattle.rme_tree.specs.Nodes.{owner_in};
 ghost use Rattle.rme_script.specs.Scripts.{IsScript};
-ghost use Rattle.rme_machine.specs.Views.{worker_words, lock_words, slate_job};
+ghost use Rattle.rme_machine.specs.Views.{slate_job};
 ghost use Rattle.rme_machine.specs.Fact.{IsSettled, IsLogged, IsOver};
+ghost use Rattle.rme_good.specs.Reads.{own_of, lock_of};
 ghost use Rattle.rme_good.specs.Lasts.{next_place};
 ghost use Rattle.rme_good.specs.Accounts.{HasPending};
-ghost use Rattle.rme_good.specs.Standings.{IsLastOf, StandsFor, StandsBy, HasScript, CanStand, AllStand};
+ghost use Rattle.rme_good.specs.Standings.{IsLastOf, StandsBy, HasScript, CanStand, AllStand};
 
 use crate::lasts::next_place;
 use crate::shadows::{has_cells, has_mixed_cells, is_shadow_of};
@@ -22,8 +23,8 @@ use rme_words::{Address, Bank};
 fn is_settled(bank: &Bank, lock: u32, row: &Row, place: u64) -> bool
     requires lock { lock < bank.now.shape.locks }
     requires row { length row.now ≡ bank.now.shape.cells }
-    requires place { place < 4294967297 }
-    ensures { IsTrue result ↔ IsSettled (lock_words bank.now.shape (memory_of bank.now) lock) row.now place }
+    requires place { place ≤ 2 ^ 32 }
+    ensures { IsTrue result ↔ IsSettled (lock_of bank.now lock) row.now place }
 {
     if bank.load(Address::Turn(lock)) != 2 * place {
         return false;
@@ -36,9 +37,9 @@ fn is_settled(bank: &Bank, lock: u32, row: &Row, place: u64) -> bool
 fn is_logged(bank: &Bank, lock: u32, row: &Row, place: u64, script: &Script) -> bool
     requires lock { lock < bank.now.shape.locks }
     requires row { length row.now ≡ bank.now.shape.cells }
-    requires place { place < 4294967297 }
+    requires place { place ≤ 2 ^ 32 }
     requires script { IsScript bank.now.shape.cells script.now }
-    ensures { IsTrue result ↔ IsLogged bank.now.shape (lock_words bank.now.shape (memory_of bank.now) lock) row.now place script.now }
+    ensures { IsTrue result ↔ IsLogged bank.now.shape (lock_of bank.now lock) row.now place script.now }
 {
     if bank.load(Address::Turn(lock)) != 2 * place + 1 {
         return false;
@@ -55,9 +56,9 @@ fn is_logged(bank: &Bank, lock: u32, row: &Row, place: u64, script: &Script) -> 
 fn is_over(bank: &Bank, lock: u32, row: &Row, place: u64, last: &Entry) -> bool
     requires lock { lock < bank.now.shape.locks }
     requires row { length row.now ≡ bank.now.shape.cells }
-    requires place { place < 4294967297 }
+    requires place { place ≤ 2 ^ 32 }
     requires script { IsScript bank.now.shape.cells last.now.script }
-    ensures { IsTrue result ↔ IsOver bank.now.shape (lock_words bank.now.shape (memory_of bank.now) lock) row.now place last.now }
+    ensures { IsTrue result ↔ IsOver bank.now.shape (lock_of bank.now lock) row.now place last.now }
 {
     if place == 0 {
         return false;
@@ -75,11 +76,11 @@ fn is_over(bank: &Bank, lock: u32, row: &Row, place: u64, last: &Entry) -> bool
 fn stands_inside(bank: &Bank, lock: u32, row: &Row, place: u64, worker: u32) -> bool
     requires lock { lock < bank.now.shape.locks }
     requires row { length row.now ≡ bank.now.shape.cells }
-    requires place { place < 4294967297 }
+    requires place { place ≤ 2 ^ 32 }
     requires worker { worker < bank.now.shape.workers }
-    requires script { IsScript bank.now.shape.cells (slate_job (worker_words (memory_of bank.now) worker)).script }
-    ensures { IsTrue result ↔ (IsSettled (lock_words bank.now.shape (memory_of bank.now) lock) row.now place
-        ⊎ IsLogged bank.now.shape (lock_words bank.now.shape (memory_of bank.now) lock) row.now place (slate_job (worker_words (memory_of bank.now) worker)).script) }
+    requires script { IsScript bank.now.shape.cells (slate_job (own_of bank.now worker)).script }
+    ensures { IsTrue result ↔ (IsSettled (lock_of bank.now lock) row.now place
+        ⊎ IsLogged bank.now.shape (lock_of bank.now lock) row.now place (slate_job (own_of bank.now worker)).script) }
 {
     if is_settled(bank, lock, row, place) {
         return true;
@@ -90,7 +91,7 @@ fn stands_inside(bank: &Bank, lock: u32, row: &Row, place: u64, worker: u32) -> 
 /// An entry is the last job of a worker.
 fn is_last_of(bank: &Bank, last: &Entry, worker: u32) -> bool
     requires { worker < bank.now.shape.workers }
-    ensures { IsTrue result ↔ IsLastOf last.now worker (worker_words (memory_of bank.now) worker) }
+    ensures { IsTrue result ↔ IsLastOf last.now worker (own_of bank.now worker) }
 {
     if last.receipt.worker != worker {
         return false;
@@ -102,12 +103,12 @@ fn is_last_of(bank: &Bank, last: &Entry, worker: u32) -> bool
 fn stands_finished(bank: &Bank, lock: u32, row: &Row, place: u64, last: &Entry, worker: u32) -> bool
     requires lock { lock < bank.now.shape.locks }
     requires row { length row.now ≡ bank.now.shape.cells }
-    requires place { place < 4294967297 }
+    requires place { place ≤ 2 ^ 32 }
     requires worker { worker < bank.now.shape.workers }
     requires script { IsScript bank.now.shape.cells last.now.script }
-    ensures { IsTrue result ↔ (IsLastOf last.now worker (worker_words (memory_of bank.now) worker)
-        × (IsSettled (lock_words bank.now.shape (memory_of bank.now) lock) row.now place
-        ⊎ IsOver bank.now.shape (lock_words bank.now.shape (memory_of bank.now) lock) row.now place last.now)) }
+    ensures { IsTrue result ↔ (IsLastOf last.now worker (own_of bank.now worker)
+        × (IsSettled (lock_of bank.now lock) row.now place
+        ⊎ IsOver bank.now.shape (lock_of bank.now lock) row.now place last.now)) }
 {
     if !is_last_of(bank, last, worker) {
         return false;
@@ -124,8 +125,8 @@ fn stands_for(bank: &Bank, lock: u32, row: &Row, last: &Option<Entry>, worker: u
     requires row { length row.now ≡ bank.now.shape.cells }
     requires worker { worker < bank.now.shape.workers }
     requires script { HasScript bank.now.shape last.now }
-    requires pending { HasPending bank.now.shape (worker_words (memory_of bank.now) worker) }
-    ensures { IsTrue result ↔ StandsBy bank.now.shape (lock_words bank.now.shape (memory_of bank.now) lock) row.now (next_place last.now) last.now (Option.Some worker) (worker_words (memory_of bank.now)) }
+    requires pending { HasPending bank.now.shape (own_of bank.now worker) }
+    ensures { IsTrue result ↔ StandsBy bank.now.shape (lock_of bank.now lock) row.now (next_place last.now) last.now (Option.Some worker) (own_of bank.now) }
 {
     let place = next_place(last);
     if is_pending(bank, worker) {
@@ -142,8 +143,8 @@ fn stands(bank: &Bank, lock: u32, row: &Row, last: &Option<Entry>) -> bool
     requires lock { lock < bank.now.shape.locks }
     requires row { length row.now ≡ bank.now.shape.cells }
     requires script { HasScript bank.now.shape last.now }
-    requires pending { (worker : ℕ) → worker < bank.now.shape.workers → HasPending bank.now.shape (worker_words (memory_of bank.now) worker) }
-    ensures { IsTrue result ↔ StandsBy bank.now.shape (lock_words bank.now.shape (memory_of bank.now) lock) row.now (next_place last.now) last.now (owner_in bank.now.shape (memory_of bank.now) lock) (worker_words (memory_of bank.now)) }
+    requires pending { (worker : ℕ) → worker < bank.now.shape.workers → HasPending bank.now.shape (own_of bank.now worker) }
+    ensures { IsTrue result ↔ StandsBy bank.now.shape (lock_of bank.now lock) row.now (next_place last.now) last.now (owner_in bank.now.shape (memory_of bank.now) lock) (own_of bank.now) }
 {
     match owner(bank, lock) {
         None => is_settled(bank, lock, row, next_place(last)),

@@ -1,8 +1,7 @@
 //! Whether a worker's receipt words are those of its last number.
 
 ghost use Rattle.std.specs.Prelude.{◌≡◌, ◌<◌, ◌≤◌, ◌↔◌, IsTrue};
-ghost use Rattle.rme_words.specs.Words.{memory_of};
-ghost use Rattle.rme_machine.specs.Views.{worker_words};
+ghost use Rattle.rme_good.specs.Reads.{own_of};
 ghost use Rattle.rme_good.specs.Accounts.{IsReceiptOf, AgreesWith, IsGivenUp, IsBlank, HasReceipt};
 
 use crate::lasts::last_number;
@@ -13,7 +12,7 @@ use rme_words::{Address, Bank};
 /// The receipt words are those of an entry.
 fn is_receipt_of(bank: &Bank, worker: u32, entry: &Entry) -> bool
     requires { worker < bank.now.shape.workers }
-    ensures { IsTrue result ↔ IsReceiptOf (worker_words (memory_of bank.now) worker) entry.now }
+    ensures { IsTrue result ↔ IsReceiptOf (own_of bank.now worker) entry.now }
 {
     let receipt = entry.receipt;
     if bank.load(Address::Done(worker)) != u64::from(receipt.number) {
@@ -31,7 +30,7 @@ fn is_receipt_of(bank: &Bank, worker: u32, entry: &Entry) -> bool
 /// The receipt words are those of the last entry, and there is one.
 fn agrees(bank: &Bank, worker: u32, last: &Option<Entry>) -> bool
     requires { worker < bank.now.shape.workers }
-    ensures { IsTrue result ↔ AgreesWith (worker_words (memory_of bank.now) worker) last.now }
+    ensures { IsTrue result ↔ AgreesWith (own_of bank.now worker) last.now }
 {
     match last {
         None => false,
@@ -42,7 +41,7 @@ fn agrees(bank: &Bank, worker: u32, last: &Option<Entry>) -> bool
 /// The receipt words are those of a withdrawn number, which is not the last entry's.
 fn is_given_up(bank: &Bank, worker: u32, last: &Option<Entry>) -> bool
     requires { worker < bank.now.shape.workers }
-    ensures { IsTrue result ↔ IsGivenUp bank.now.shape (worker_words (memory_of bank.now) worker) last.now }
+    ensures { IsTrue result ↔ IsGivenUp bank.now.shape (own_of bank.now worker) last.now }
 {
     if bank.load(Address::Done(worker)) == u64::from(last_number(last)) {
         return false;
@@ -56,7 +55,7 @@ fn is_given_up(bank: &Bank, worker: u32, last: &Option<Entry>) -> bool
 /// The receipt words are 0.
 fn is_blank(bank: &Bank, worker: u32) -> bool
     requires { worker < bank.now.shape.workers }
-    ensures { IsTrue result ↔ IsBlank (worker_words (memory_of bank.now) worker) }
+    ensures { IsTrue result ↔ IsBlank (own_of bank.now worker) }
 {
     if bank.load(Address::Reply(worker)) != 0 {
         return false;
@@ -70,7 +69,7 @@ fn is_blank(bank: &Bank, worker: u32) -> bool
 /// The receipt words are what the worker's last entry lets them be.
 pub fn has_receipt(bank: &Bank, worker: u32, last: &Option<Entry>) -> bool
     requires { worker < bank.now.shape.workers }
-    ensures { IsTrue result ↔ HasReceipt bank.now.shape (worker_words (memory_of bank.now) worker) last.now }
+    ensures { IsTrue result ↔ HasReceipt bank.now.shape (own_of bank.now worker) last.now }
 {
     if u64::from(last_number(last)) > bank.load(Address::Done(worker)) {
         return false;

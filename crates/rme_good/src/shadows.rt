@@ -1,11 +1,10 @@
 //! The cells and the shadow words of a lock, against a row.
 
 ghost use Rattle.std.specs.Prelude.{◌≡◌, ℕ, ◌<◌, ◌↔◌, ◌⊎◌, IsTrue, true, length, slice_index};
-ghost use Rattle.rme_words.specs.Words.{memory_of};
 ghost use Rattle.rme_script.specs.Cells.{has};
 ghost use Rattle.rme_script.specs.Scripts.{IsScript};
-ghost use Rattle.rme_machine.specs.Views.{lock_words};
 ghost use Rattle.rme_machine.specs.Fact.{Covers};
+ghost use Rattle.rme_good.specs.Reads.{lock_of};
 ghost use Rattle.rme_good.specs.Standings.{IsShadowOf};
 
 use rme_script::{Row, Script, named};
@@ -42,7 +41,7 @@ fn has_shadows(bank: &Bank, lock: u32, mask: u64, row: &Row) -> bool
     requires lock { lock < bank.now.shape.locks }
     requires row { length row.now ≡ bank.now.shape.cells }
     ensures { IsTrue result ↔ ((c : ℕ) → c < bank.now.shape.cells → has mask c ≡ true
-        → slice_index (lock_words bank.now.shape (memory_of bank.now) lock).shadows c ≡ slice_index row.now c) }
+        → slice_index (lock_of bank.now lock).shadows c ≡ slice_index row.now c) }
 {
     for c in 0..bank.shape().cells {
         if has_cell(mask, c) && bank.load(Address::Shadow(lock, c)) != row.get(c) {
@@ -57,7 +56,7 @@ pub fn is_shadow_of(bank: &Bank, lock: u32, script: &Script, row: &Row, reply: u
     requires lock { lock < bank.now.shape.locks }
     requires script { IsScript bank.now.shape.cells script.now }
     requires row { length row.now ≡ bank.now.shape.cells }
-    ensures { IsTrue result ↔ IsShadowOf bank.now.shape (lock_words bank.now.shape (memory_of bank.now) lock) script.now.ops row.now reply }
+    ensures { IsTrue result ↔ IsShadowOf bank.now.shape (lock_of bank.now lock) script.now.ops row.now reply }
 {
     let mask = bank.load(Address::Mask(lock));
     if !covers(bank.shape(), mask, script) {
@@ -73,7 +72,7 @@ pub fn is_shadow_of(bank: &Bank, lock: u32, script: &Script, row: &Row, reply: u
 pub fn has_cells(bank: &Bank, lock: u32, row: &Row) -> bool
     requires lock { lock < bank.now.shape.locks }
     requires row { length row.now ≡ bank.now.shape.cells }
-    ensures { IsTrue result ↔ ((lock_words bank.now.shape (memory_of bank.now) lock).cells ≡ row.now) }
+    ensures { IsTrue result ↔ ((lock_of bank.now lock).cells ≡ row.now) }
 {
     for c in 0..bank.shape().cells {
         if bank.load(Address::Cell(lock, c)) != row.get(c) {
@@ -89,8 +88,8 @@ pub fn has_mixed_cells(bank: &Bank, lock: u32, before: &Row, after: &Row) -> boo
     requires before { length before.now ≡ bank.now.shape.cells }
     requires after { length after.now ≡ bank.now.shape.cells }
     ensures { IsTrue result ↔ ((c : ℕ) → c < bank.now.shape.cells
-        → (slice_index (lock_words bank.now.shape (memory_of bank.now) lock).cells c ≡ slice_index before.now c)
-        ⊎ (slice_index (lock_words bank.now.shape (memory_of bank.now) lock).cells c ≡ slice_index after.now c)) }
+        → (slice_index (lock_of bank.now lock).cells c ≡ slice_index before.now c)
+        ⊎ (slice_index (lock_of bank.now lock).cells c ≡ slice_index after.now c)) }
 {
     for c in 0..bank.shape().cells {
         let cell = bank.load(Address::Cell(lock, c));

@@ -2,8 +2,9 @@
 
 ghost use Rattle.std.specs.Prelude.{◌≡◌, ◌<◌, ◌≤◌, ◌↔◌, IsTrue, take};
 ghost use Rattle.rme_words.specs.Words.{memory_of};
-ghost use Rattle.rme_machine.specs.Views.{worker_words, slate_at, slate_script, slate_job, is_pending, site_of};
+ghost use Rattle.rme_machine.specs.Views.{slate_at, slate_script, slate_job, is_pending, site_of};
 ghost use Rattle.rme_machine.specs.Fact.{HasJob};
+ghost use Rattle.rme_good.specs.Reads.{own_of};
 
 use rme_script::{Script, from_slate};
 use rme_words::{Address, Bank};
@@ -24,7 +25,7 @@ fn slate_words(bank: &Bank, worker: u32, count: u32) -> [u64; 24]
 /// The script of a worker's slate, if it is one.
 fn slate_script(bank: &Bank, worker: u32) -> Option<Script>
     requires { worker < bank.now.shape.workers }
-    ensures { result ≡ slate_script (worker_words (memory_of bank.now) worker) }
+    ensures { result ≡ slate_script (own_of bank.now worker) }
 {
     let n = bank.load(Address::SlateLen(worker));
     if n > 8 {
@@ -36,7 +37,7 @@ fn slate_script(bank: &Bank, worker: u32) -> Option<Script>
 /// The script of a worker's slate; an empty one where the slate is none.
 pub fn slate(bank: &Bank, worker: u32) -> Script
     requires { worker < bank.now.shape.workers }
-    ensures { result ≡ (slate_job (worker_words (memory_of bank.now) worker)).script }
+    ensures { result ≡ (slate_job (own_of bank.now worker)).script }
 {
     match slate_script(bank, worker) {
         Some(script) => script,
@@ -47,7 +48,7 @@ pub fn slate(bank: &Bank, worker: u32) -> Script
 /// A worker's slate has a job of the shape.
 pub fn has_job(bank: &Bank, worker: u32) -> bool
     requires { worker < bank.now.shape.workers }
-    ensures { IsTrue result ↔ HasJob bank.now.shape (worker_words (memory_of bank.now) worker) }
+    ensures { IsTrue result ↔ HasJob bank.now.shape (own_of bank.now worker) }
 {
     let shape = bank.shape();
     if bank.load(Address::SlateLock(worker)) >= u64::from(shape.locks) {
@@ -62,7 +63,7 @@ pub fn has_job(bank: &Bank, worker: u32) -> bool
 /// A worker's last job is begun and not done.
 pub fn is_pending(bank: &Bank, worker: u32) -> bool
     requires { worker < bank.now.shape.workers }
-    ensures { result ≡ is_pending (worker_words (memory_of bank.now) worker) }
+    ensures { result ≡ is_pending (own_of bank.now worker) }
 {
     bank.load(Address::Done(worker)) < bank.load(Address::Begun(worker))
 }
@@ -70,7 +71,7 @@ pub fn is_pending(bank: &Bank, worker: u32) -> bool
 /// The lock that a worker is at: its slate's while a job is pending, and else that of its last receipt.
 pub fn site(bank: &Bank, worker: u32) -> u64
     requires { worker < bank.now.shape.workers }
-    ensures { result ≡ site_of (worker_words (memory_of bank.now) worker) }
+    ensures { result ≡ site_of (own_of bank.now worker) }
 {
     if is_pending(bank, worker) {
         return bank.load(Address::SlateLock(worker));

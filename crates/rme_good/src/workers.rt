@@ -2,8 +2,7 @@
 
 ghost use Rattle.std.specs.Prelude.{◌≡◌, ◌<◌, ◌≤◌, ◌↔◌, IsTrue, length};
 ghost use Rattle.rme_words.specs.Words.{memory_of};
-ghost use Rattle.rme_tree.specs.Nodes.{held_in};
-ghost use Rattle.rme_machine.specs.Views.{worker_words};
+ghost use Rattle.rme_good.specs.Reads.{own_of, held_of};
 ghost use Rattle.rme_good.specs.Accounts.{IsCounted, HasStake, HasStakes, HasPending, IsAccounted, AreAccounted};
 
 use crate::receipts::has_receipt;
@@ -15,7 +14,7 @@ use rme_words::{Address, Bank};
 /// At most one job is begun and not done, and no more are begun than the shape has.
 fn is_counted(bank: &Bank, worker: u32) -> bool
     requires { worker < bank.now.shape.workers }
-    ensures { IsTrue result ↔ IsCounted bank.now.shape (worker_words (memory_of bank.now) worker) }
+    ensures { IsTrue result ↔ IsCounted bank.now.shape (own_of bank.now worker) }
 {
     let begun = bank.load(Address::Begun(worker));
     let done = bank.load(Address::Done(worker));
@@ -32,7 +31,7 @@ fn is_counted(bank: &Bank, worker: u32) -> bool
 fn has_stake(bank: &Bank, worker: u32, lock: u32) -> bool
     requires worker { worker < bank.now.shape.workers }
     requires lock { lock < bank.now.shape.locks }
-    ensures { IsTrue result ↔ HasStake (worker_words (memory_of bank.now) worker) (held_in bank.now.shape (memory_of bank.now) worker) lock }
+    ensures { IsTrue result ↔ HasStake (own_of bank.now worker) (held_of bank.now worker) lock }
 {
     if held(bank, lock, worker) == 0 {
         return true;
@@ -46,7 +45,7 @@ fn has_stake(bank: &Bank, worker: u32, lock: u32) -> bool
 /// It is so for each lock.
 fn has_stakes(bank: &Bank, worker: u32) -> bool
     requires { worker < bank.now.shape.workers }
-    ensures { IsTrue result ↔ HasStakes bank.now.shape (worker_words (memory_of bank.now) worker) (held_in bank.now.shape (memory_of bank.now) worker) }
+    ensures { IsTrue result ↔ HasStakes bank.now.shape (own_of bank.now worker) (held_of bank.now worker) }
 {
     let shape = bank.shape();
     for lock in 0..shape.locks {
@@ -60,7 +59,7 @@ fn has_stakes(bank: &Bank, worker: u32) -> bool
 /// While a job is pending its slate has one of the shape.
 fn has_pending(bank: &Bank, worker: u32) -> bool
     requires { worker < bank.now.shape.workers }
-    ensures { IsTrue result ↔ HasPending bank.now.shape (worker_words (memory_of bank.now) worker) }
+    ensures { IsTrue result ↔ HasPending bank.now.shape (own_of bank.now worker) }
 {
     if !is_pending(bank, worker) {
         return true;
@@ -71,7 +70,7 @@ fn has_pending(bank: &Bank, worker: u32) -> bool
 /// The words of one worker are what its nodes and its last entry let them be.
 fn is_accounted(bank: &Bank, worker: u32, last: &Option<Entry>) -> bool
     requires { worker < bank.now.shape.workers }
-    ensures { IsTrue result ↔ IsAccounted bank.now.shape (worker_words (memory_of bank.now) worker) (held_in bank.now.shape (memory_of bank.now) worker) last.now }
+    ensures { IsTrue result ↔ IsAccounted bank.now.shape (own_of bank.now worker) (held_of bank.now worker) last.now }
 {
     if !is_counted(bank, worker) {
         return false;
