@@ -9,7 +9,7 @@ use Rattle.rme_machine.specs.Views.{WorkerWords, is_pending}
 use Rattle.rme_machine.specs.Fact.{Account, IsReceipt, IsWithdrawn}
 use Rattle.rme_machine.proofs.Historical.{rises_wider}
 use Rattle.rme_good.specs.Lasts.{last_number, DoRise}
-use Rattle.rme_good.specs.Accounts.{IsAccounted, AgreesWith, IsGivenUp}
+use Rattle.rme_good.specs.Accounts.{IsAccounted, AgreesWith, SaysWithdrawn}
 use Rattle.rme_good.proofs.Rising.{last_most, last_there, none_above, do_rise}
 
 module _ (s : Shape) (own : WorkerWords) (held : ℕ → ℕ) (es : List Entry) (w : ℕ) where
@@ -30,7 +30,7 @@ module _ (s : Shape) (own : WorkerWords) (held : ℕ → ℕ) (es : List Entry) 
 
     pub accounted : IsAccounted s own held (last_by es w)
     accounted = record {
-      counted = record { done = account.done; begun = account.begun; few = account.few };
+      numbers = record { done = account.done; begun = account.begun; few = account.few };
       stakes = account.stake;
       pending = account.slate;
       receipt = record {
@@ -56,14 +56,14 @@ module _ (s : Shape) (own : WorkerWords) (held : ℕ → ℕ) (es : List Entry) 
 
     pub account_told : Account s own held es w
     account_told = record {
-      done = is.counted.done;
-      begun = is.counted.begun;
-      few = is.counted.few;
+      done = is.numbers.done;
+      begun = is.numbers.begun;
+      few = is.numbers.few;
       stake = is.stakes;
       slate = is.pending;
       numbered = rises_wider 0 (last_number (last_by es w)) own.done (numbers_by es w) is.receipt.numbered rises;
       withdrawn = λ past some gone.
-          let given : IsGivenUp s own (last_by es w) = is.receipt.withdrawn past some gone in
+          let given : SaysWithdrawn s own (last_by es w) = is.receipt.withdrawn past some gone in
           let numbered = is.receipt.numbered in
           let apart = given.no_entry in
           record { no_entry = none_above es w 0 (last_number (last_by es w)) own.done (omega (arith, numbered, apart)) rises; reply = given.reply; at = given.at };

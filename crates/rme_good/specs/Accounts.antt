@@ -10,7 +10,7 @@ use Rattle.rme_machine.specs.Fact.{HasJob}
 use Rattle.rme_good.specs.Lasts.{last_number}
 
 -- At most one job is begun and not done, and no more are begun than the shape has.
-pub record IsCounted (shape : Shape) (own : WorkerWords) : Type 0 where
+pub record HasOwnNumbers (shape : Shape) (own : WorkerWords) : Type 0 where
   pub done : own.done ≤ own.begun
   pub begun : own.begun ≤ own.done + 1
   pub few : own.begun ≤ shape.jobs
@@ -38,7 +38,7 @@ AgreesWith own None = ⊥
 AgreesWith own (Some e) = IsReceiptOf own e
 
 -- A withdrawn number is not that of the last entry, and the other receipt words say a lock and no reply.
-pub record IsGivenUp (shape : Shape) (own : WorkerWords) (last : Option Entry) : Type 0 where
+pub record SaysWithdrawn (shape : Shape) (own : WorkerWords) (last : Option Entry) : Type 0 where
   pub no_entry : last_number last ≢ own.done
   pub reply : own.reply ≡ 0
   pub at : own.at < shape.locks
@@ -50,18 +50,18 @@ pub record IsBlank (own : WorkerWords) : Type 0 where
   pub at : own.at ≡ 0
 
 -- The receipt words, by the worker's last entry. They may be any while a job is pending.
-pub record HasReceipt (shape : Shape) (own : WorkerWords) (last : Option Entry) : Type 0 where
+pub record HasReceiptWords (shape : Shape) (own : WorkerWords) (last : Option Entry) : Type 0 where
   pub numbered : last_number last ≤ own.done
-  pub withdrawn : is_pending own ≡ false → 0 < own.begun → own.place ≡ withdrawn_place → IsGivenUp shape own last
+  pub withdrawn : is_pending own ≡ false → 0 < own.begun → own.place ≡ withdrawn_place → SaysWithdrawn shape own last
   pub receipt : is_pending own ≡ false → 0 < own.begun → own.place ≢ withdrawn_place → AgreesWith own last
   pub blank : own.begun ≡ 0 → IsBlank own
 
 -- All this. With the numbers of its entries rising up to that of the last it is what the one fact asks.
 pub record IsAccounted (shape : Shape) (own : WorkerWords) (held : ℕ → ℕ) (last : Option Entry) : Type 0 where
-  pub counted : IsCounted shape own
+  pub numbers : HasOwnNumbers shape own
   pub stakes : HasStakes shape own held
   pub pending : HasPending shape own
-  pub receipt : HasReceipt shape own last
+  pub receipt : HasReceiptWords shape own last
 
 -- All workers are accounted for, by the list of their last entries.
 abbrev pub AreAccounted : Shape → (Address → ℕ) → List (Option Entry) → Type 0

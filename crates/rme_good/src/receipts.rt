@@ -2,7 +2,7 @@
 
 ghost use Rattle.std.specs.Prelude.{◌≡◌, ◌<◌, ◌≤◌, ◌↔◌, IsTrue};
 ghost use Rattle.rme_good.specs.Reads.{own_of};
-ghost use Rattle.rme_good.specs.Accounts.{IsReceiptOf, AgreesWith, IsGivenUp, IsBlank, HasReceipt};
+ghost use Rattle.rme_good.specs.Accounts.{IsReceiptOf, AgreesWith, SaysWithdrawn, IsBlank, HasReceiptWords};
 
 use crate::lasts::last_number;
 use crate::slates::is_pending;
@@ -39,9 +39,9 @@ fn agrees(bank: &Bank, worker: u32, last: &Option<Entry>) -> bool
 }
 
 /// The receipt words are those of a withdrawn number, which is not the last entry's.
-fn is_given_up(bank: &Bank, worker: u32, last: &Option<Entry>) -> bool
+fn says_withdrawn(bank: &Bank, worker: u32, last: &Option<Entry>) -> bool
     requires { worker < bank.now.shape.workers }
-    ensures { IsTrue result ↔ IsGivenUp bank.now.shape (own_of bank.now worker) last.now }
+    ensures { IsTrue result ↔ SaysWithdrawn bank.now.shape (own_of bank.now worker) last.now }
 {
     if bank.load(Address::Done(worker)) == u64::from(last_number(last)) {
         return false;
@@ -67,9 +67,9 @@ fn is_blank(bank: &Bank, worker: u32) -> bool
 }
 
 /// The receipt words are what the worker's last entry lets them be.
-pub fn has_receipt(bank: &Bank, worker: u32, last: &Option<Entry>) -> bool
+pub fn has_receipt_words(bank: &Bank, worker: u32, last: &Option<Entry>) -> bool
     requires { worker < bank.now.shape.workers }
-    ensures { IsTrue result ↔ HasReceipt bank.now.shape (own_of bank.now worker) last.now }
+    ensures { IsTrue result ↔ HasReceiptWords bank.now.shape (own_of bank.now worker) last.now }
 {
     if u64::from(last_number(last)) > bank.load(Address::Done(worker)) {
         return false;
@@ -81,7 +81,7 @@ pub fn has_receipt(bank: &Bank, worker: u32, last: &Option<Entry>) -> bool
         return true;
     }
     if bank.load(Address::Place(worker)) == WITHDRAWN_PLACE {
-        return is_given_up(bank, worker, last);
+        return says_withdrawn(bank, worker, last);
     }
     agrees(bank, worker, last)
 }

@@ -3,18 +3,18 @@
 ghost use Rattle.std.specs.Prelude.{◌≡◌, ◌<◌, ◌≤◌, ◌↔◌, IsTrue, length};
 ghost use Rattle.rme_words.specs.Words.{memory_of};
 ghost use Rattle.rme_good.specs.Reads.{own_of, held_of};
-ghost use Rattle.rme_good.specs.Accounts.{IsCounted, HasStake, HasStakes, HasPending, IsAccounted, AreAccounted};
+ghost use Rattle.rme_good.specs.Accounts.{HasOwnNumbers, HasStake, HasStakes, HasPending, IsAccounted, AreAccounted};
 
-use crate::receipts::has_receipt;
+use crate::receipts::has_receipt_words;
 use crate::slates::{has_job, is_pending, site};
 use rme_program::Entry;
 use rme_tree::held;
 use rme_words::{Address, Bank};
 
 /// At most one job is begun and not done, and no more are begun than the shape has.
-fn is_counted(bank: &Bank, worker: u32) -> bool
+fn has_own_numbers(bank: &Bank, worker: u32) -> bool
     requires { worker < bank.now.shape.workers }
-    ensures { IsTrue result ↔ IsCounted bank.now.shape (own_of bank.now worker) }
+    ensures { IsTrue result ↔ HasOwnNumbers bank.now.shape (own_of bank.now worker) }
 {
     let begun = bank.load(Address::Begun(worker));
     let done = bank.load(Address::Done(worker));
@@ -72,7 +72,7 @@ fn is_accounted(bank: &Bank, worker: u32, last: &Option<Entry>) -> bool
     requires { worker < bank.now.shape.workers }
     ensures { IsTrue result ↔ IsAccounted bank.now.shape (own_of bank.now worker) (held_of bank.now worker) last.now }
 {
-    if !is_counted(bank, worker) {
+    if !has_own_numbers(bank, worker) {
         return false;
     }
     if !has_stakes(bank, worker) {
@@ -81,7 +81,7 @@ fn is_accounted(bank: &Bank, worker: u32, last: &Option<Entry>) -> bool
     if !has_pending(bank, worker) {
         return false;
     }
-    has_receipt(bank, worker, last)
+    has_receipt_words(bank, worker, last)
 }
 
 /// Those of all workers are.
