@@ -1,0 +1,40 @@
+//! Whether words and a history show a world with all workers down.
+
+ghost use Rattle.std.specs.Prelude.{◌≡◌, ◌↔◌, IsTrue, IfOk};
+ghost use Rattle.rme_words.specs.Words.{memory_of};
+ghost use Rattle.rme_machine.specs.Clauses.{IsGood};
+
+use crate::lasts::Lasts;
+use crate::locks::all_stand;
+use crate::trees::has_nodes;
+use crate::workers::all_accounted;
+use rme_history::{ReplayFault, replay};
+use rme_program::Entry;
+use rme_words::{Bank, NoMemory};
+use std::alloc::Global;
+
+/// Whether these words and these entries show a world with all workers down: each clause of an image from that
+/// on nodes to that on entries holds.
+///
+/// It goes over the entries and over the words once each. Takes memory for the rows and the last entries;
+/// `NoMemory` where it was refused.
+pub fn is_good(alloc: Global, bank: &Bank, entries: &[Entry]) -> Result<bool, NoMemory>
+    ensures { IfOk result (λ good. IsTrue good ↔ IsGood bank.now.shape (memory_of bank.now) entries.now) }
+{
+    let shape = bank.shape();
+    let rows = match replay(alloc, shape, entries) {
+        Ok(rows) => rows,
+        Err(ReplayFault::Broken(_)) => return Ok(false),
+        Err(ReplayFault::NoMemory) => return Err(NoMemory),
+    };
+    let Some(lasts) = Lasts::of(alloc, shape, entries)? else {
+        return Ok(false);
+    };
+    if !has_nodes(bank) {
+        return Ok(false);
+    }
+    if !all_accounted(bank, &lasts.by_worker) {
+        return Ok(false);
+    }
+    Ok(all_stand(bank, &rows, &lasts.at_lock))
+}
