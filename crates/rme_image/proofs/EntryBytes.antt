@@ -24,13 +24,13 @@ use Rattle.rme_image.proofs.ReceiptBytes.{receipt_takes, receipt_again}
 
 -- The three words are those of the operation.
 record IsTriple (kind first second : ℕ) (o : Op) : Type 0 where
-  words : op_words o ≡ kind ∷ first ∷ second ∷ []
+  words : kind ∷ first ∷ second ∷ [] ≡ op_words o
   within : IsWithin (2 ^ 32) o
 
 op_told : (kind first second : ℕ) (o : Op) → op_of kind first second ≡ Some o → IsTriple kind first second o
 op_told kind first second o e =
     let r = words_back 1 (kind ∷ first ∷ second ∷ []) (o ∷ []) (rw e refl) in
-    record { words = sym (r.words ∙ append-nil (op_words o)); within = All-head (IsWithin (2 ^ 32)) o [] r.within }
+    record { words = r.words ∙ append-nil (op_words o); within = All-head (IsWithin (2 ^ 32)) o [] r.within }
 
 triple_small : (kind first second : ℕ) (o : Op) → IsTriple kind first second o → first < 256 → second < 2 ^ 64 → IsSmallOp o
 triple_small kind first second (Get c) t small wide = let e : c ≡ first = cc in rw e small
@@ -64,8 +64,8 @@ op_takes bytes x rest fits e =
     let efs = Takes-then k.0.1 (to_be_bytes w8 f.0.0) f.0.1 (to_be_bytes w64 s.0.0) s.0.1 tf.0 ts.0 in
     let eks = Takes-then bytes (to_be_bytes w8 k.0.0) k.0.1 (to_be_bytes w8 f.0.0 ++ to_be_bytes w64 s.0.0) s.0.1 tk.0 efs in
     let told = op_told k.0.0 f.0.0 s.0.0 o.0 o.1 in
-    let spelled : Takes bytes (op_bytes o.0) s.0.1 = subst (λ (words : List ℕ). Takes bytes (triple_bytes words) s.0.1) (sym told.words) eks in
-    subst (λ (y : Op × List ℕ). Takes bytes (op_bytes y.0) y.1 × IsSmallOp y.0) (some_is (o.0, s.0.1) (x, rest) o.2) (spelled, triple_small k.0.0 f.0.0 s.0.0 o.0 told tf.1 ts.1)
+    let spelled : Takes bytes (op_bytes o.0) s.0.1 = subst (λ (words : List ℕ). Takes bytes (triple_bytes words) s.0.1) {y = op_words o.0} told.words eks in
+    subst (λ (y : Op × List ℕ). Takes bytes (op_bytes y.0) y.1 × IsSmallOp y.0) {x = (o.0, s.0.1)} (some_is (o.0, s.0.1) (x, rest) o.2) (spelled, triple_small k.0.0 f.0.0 s.0.0 o.0 told tf.1 ts.1)
 
 three_more : (a b c rest : List ℕ) → (a ++ (b ++ c)) ++ rest ≡ a ++ (b ++ (c ++ rest))
 three_more a b c rest = simp append_assoc
@@ -116,7 +116,7 @@ script_takes bytes x rest fits e =
     let to = list_takes op_at op_bytes IsSmallOp op_takes n.0.0 n.0.1 o.0 tn.0.rest_fits o.1 in
     let both = Takes-then bytes (to_be_bytes w8 n.0.0) n.0.1 (flat_map op_bytes o.0.0) o.0.1 tn.0 to.0 in
     let made : Program × List ℕ = (record { n = n.0.0; ops = o.0.0 }, o.0.1) in
-    subst (λ (y : Program × List ℕ). Takes bytes (script_bytes y.0) y.1 × IsSmallScript y.0) (some_is made (x, rest) o.2) (both, record { few = few; counted = to.1; ops = to.2 })
+    subst (λ (y : Program × List ℕ). Takes bytes (script_bytes y.0) y.1 × IsSmallScript y.0) {x = made} (some_is made (x, rest) o.2) (both, record { few = few; counted = to.1; ops = to.2 })
 
 pub script_again : (x : Program) (rest : List ℕ) → IsSmallScript x → script_at (script_bytes x ++ rest) ≡ Some (x, rest)
 unfolding script_at
@@ -145,7 +145,7 @@ entry_takes bytes x rest fits e =
     let ts = script_takes r.0.1 s.0.0 s.0.1 tr.0.rest_fits s.1 in
     let both = Takes-then bytes (receipt_bytes r.0.0) r.0.1 (script_bytes s.0.0) s.0.1 tr.0 ts.0 in
     let made : Entry × List ℕ = (record { receipt = r.0.0; script = s.0.0 }, s.0.1) in
-    subst (λ (y : Entry × List ℕ). Takes bytes (entry_bytes y.0) y.1 × IsSmallEntry y.0) (some_is made (x, rest) s.2) (both, record { receipt = tr.1; script = ts.1 })
+    subst (λ (y : Entry × List ℕ). Takes bytes (entry_bytes y.0) y.1 × IsSmallEntry y.0) {x = made} (some_is made (x, rest) s.2) (both, record { receipt = tr.1; script = ts.1 })
 
 pub entry_again : (x : Entry) (rest : List ℕ) → IsSmallEntry x → entry_at (entry_bytes x ++ rest) ≡ Some (x, rest)
 unfolding entry_at
@@ -178,7 +178,7 @@ entries_take bytes xs fits e =
     let whole : bytes ≡ to_be_bytes w32 n.0.0 ++ flat_map entry_bytes m.0.0 =
     both.parts ∙ ap (λ (rest : List ℕ). (to_be_bytes w32 n.0.0 ++ flat_map entry_bytes m.0.0) ++ rest) ended ∙ append-nil (to_be_bytes w32 n.0.0 ++ flat_map entry_bytes m.0.0) in
     let counted : bytes ≡ entries_bytes m.0.0 = whole ∙ ap (λ (k : ℕ). to_be_bytes w32 k ++ flat_map entry_bytes m.0.0) (sym tm.1) in
-    subst (λ (ys : List Entry). AreSpelled bytes ys) g.1 (record { spelled = counted; few = rw tm.1 tn.1; small = tm.2 })
+    subst (λ (ys : List Entry). AreSpelled bytes ys) {x = m.0.0} g.1 (record { spelled = counted; few = rw tm.1 tn.1; small = tm.2 })
 
 pub entries_again : (xs : List Entry) → length xs < 2 ^ 32 → All IsSmallEntry xs → entries_at (entries_bytes xs) ≡ Some xs
 unfolding entries_at

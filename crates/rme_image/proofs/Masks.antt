@@ -67,7 +67,7 @@ unfolding ends_block
 ends_told shape lock =
     let short : lock_block shape - 1 < lock_block shape = omega arith in
     let last : (word shape (Mask lock) - 31 * shape.workers) % lock_block shape ≡ lock_block shape - 1 =
-        ap (λ (n : ℕ). n % lock_block shape) (offset (31 * shape.workers) (lock * lock_block shape) shape.leaves shape.cells) ∙ mod-mul-add lock (lock_block shape) (lock_block shape - 1) short in
+    ap (λ (n : ℕ). n % lock_block shape) (offset (31 * shape.workers) (lock * lock_block shape) shape.leaves shape.cells) ∙ mod-mul-add lock (lock_block shape) (lock_block shape - 1) short in
     and_from _ _ (le-leb _ _ (behind (31 * shape.workers) (lock * lock_block shape) shape.leaves shape.cells)) (eq-eqb _ _ last)
 
 ends_found : (shape : Shape) (i : ℕ) → i < word_count shape → ends_block shape i ≡ true → (lock : ℕ) × (lock < shape.locks) × (i ≡ word shape (Mask lock))

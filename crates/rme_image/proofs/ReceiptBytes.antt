@@ -40,7 +40,7 @@ receipt_takes bytes x rest fits e =
     let ebf = Takes-then a.0.1 (to_be_bytes w32 b.0.0) b.0.1 (to_be_bytes w8 c.0.0 ++ (to_be_bytes w32 d.0.0 ++ to_be_bytes w64 f.0.0)) f.0.1 tb.0 ecf in
     let eaf = Takes-then bytes (to_be_bytes w16 a.0.0) a.0.1 (to_be_bytes w32 b.0.0 ++ (to_be_bytes w8 c.0.0 ++ (to_be_bytes w32 d.0.0 ++ to_be_bytes w64 f.0.0))) f.0.1 ta.0 ebf in
     let made : Receipt × List ℕ = (record { worker = a.0.0; lock = c.0.0; number = b.0.0; place = d.0.0; reply = f.0.0 }, f.0.1) in
-    subst (λ (y : Receipt × List ℕ). Takes bytes (receipt_bytes y.0) y.1 × IsSmallReceipt y.0) (some_is made (x, rest) f.2) (eaf, record { worker = ta.1; number = tb.1; lock = tc.1; place = td.1; reply = tf.1 })
+    subst (λ (y : Receipt × List ℕ). Takes bytes (receipt_bytes y.0) y.1 × IsSmallReceipt y.0) {x = made} (some_is made (x, rest) f.2) (eaf, record { worker = ta.1; number = tb.1; lock = tc.1; place = td.1; reply = tf.1 })
 
 five_more : (a b c d e rest : List ℕ) → (a ++ (b ++ (c ++ (d ++ e)))) ++ rest ≡ a ++ (b ++ (c ++ (d ++ (e ++ rest))))
 five_more a b c d e rest = simp append_assoc

@@ -36,7 +36,7 @@ told_small shape earlier = mask_small shape _
 by_test_takes : (b : Bool) (fill : ℕ) (bytes : List ℕ) (w : ℕ) (rest : List ℕ) → fill < 2 ^ 64 → IsBytes bytes → cond b (Some (fill, bytes)) (number_at w64 bytes) ≡ Some (w, rest)
     → Takes bytes (cond b [] (to_be_bytes w64 w)) rest × (w < 2 ^ 64) × (b ≡ true → w ≡ fill)
 by_test_takes true fill bytes w rest small fits e =
-    subst (λ (y : ℕ × List ℕ). Takes bytes [] y.1 × (y.0 < 2 ^ 64) × (true ≡ true → y.0 ≡ fill)) (some_is (fill, bytes) (w, rest) e) (takes_none bytes fits, small, λ _. refl)
+    subst (λ (y : ℕ × List ℕ). Takes bytes [] y.1 × (y.0 < 2 ^ 64) × (true ≡ true → y.0 ≡ fill)) {x = (fill, bytes)} (some_is (fill, bytes) (w, rest) e) (takes_none bytes fits, small, λ _. refl)
 by_test_takes false fill bytes w rest small fits e =
     let t = number_takes w64 (2 ^ 64) wide64 bytes w rest fits e in
     (t.0, t.1, λ no. absurd cc)

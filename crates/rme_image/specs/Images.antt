@@ -1,5 +1,5 @@
 -- `image`: the bytes of a saved world, in version 2 and in the older version 1. All numbers are big-endian.
-use Rattle.std.specs.Prelude.{◌≡◌, ◌⊎◌, ℕ, suc, ◌-◌, ◌*◌, ◌%◌, ◌^◌, ◌<◌, ◌≤◌, Bool, ◌&&◌, nat_le, ◌==◌, List, [], ◌∷◌, ◌++◌, length, if◌then◌else◌}
+use Rattle.std.specs.Prelude.{◌≡◌, ◌⊎◌, ℕ, suc, ◌-◌, ◌%◌, ◌^◌, ◌<◌, ◌≤◌, Bool, ◌&&◌, ◌==◌, List, [], ◌∷◌, ◌++◌, length, if◌then◌else◌}
 use Rattle.std.specs.List.{All, flat_map, list_any, range_with_len}
 use Rattle.std.specs.Int.{w8, w16, w32, w64, to_be_bytes}
 use Rattle.rme_words.specs.declared.shape.Shape.{Shape}
@@ -13,11 +13,12 @@ use Rattle.rme_program.specs.declared.note.Receipt.{Receipt}
 use Rattle.rme_program.specs.declared.note.Entry.{Entry}
 use Rattle.rme_image.specs.declared.header.Header.{Header}
 
--- ---- the header: "RMEI", the version, and the sizes
+-- ---- the header
 
+-- 52 4d 45 49 ("RMEI"), the version and the sizes.
 abbrev pub header_bytes : Header → List ℕ
 header_bytes header =
-    to_be_bytes w32 1380795721
+    to_be_bytes w32 0x524d4549
     ++ to_be_bytes w8 header.version
     ++ to_be_bytes w16 header.workers
     ++ to_be_bytes w8 header.locks
@@ -54,6 +55,7 @@ abbrev pub triple_bytes : List ℕ → List ℕ
 triple_bytes (kind ∷ first ∷ second ∷ words) = to_be_bytes w8 kind ++ to_be_bytes w8 first ++ to_be_bytes w64 second
 triple_bytes words = []
 
+-- The bytes of its three words.
 abbrev pub op_bytes : Op → List ℕ
 op_bytes op = triple_bytes (op_words op)
 
@@ -61,6 +63,7 @@ op_bytes op = triple_bytes (op_words op)
 abbrev pub script_bytes : Program → List ℕ
 script_bytes script = to_be_bytes w8 script.n ++ flat_map op_bytes script.ops
 
+-- Who did what where, and the reply.
 abbrev pub receipt_bytes : Receipt → List ℕ
 receipt_bytes receipt =
     to_be_bytes w16 receipt.worker
@@ -69,6 +72,7 @@ receipt_bytes receipt =
     ++ to_be_bytes w32 receipt.place
     ++ to_be_bytes w64 receipt.reply
 
+-- An entry: its receipt, then its script.
 abbrev pub entry_bytes : Entry → List ℕ
 entry_bytes entry = receipt_bytes entry.receipt ++ script_bytes entry.script
 
@@ -93,11 +97,13 @@ IsSmallOp (Add c v) = (c < 256) × (v < 2 ^ 64)
 IsSmallOp (Copy a b) = (a < 256) × (b < 2 ^ 32)
 IsSmallOp (Swap a b) = (a < 256) × (b < 2 ^ 32)
 
+-- At most eight operations, each of which fits.
 pub record IsSmallScript (script : Program) : Type 0 where
   pub few : script.n ≤ 8
   pub counted : length script.ops ≡ script.n
   pub ops : All IsSmallOp script.ops
 
+-- Each number fits the bytes that `receipt_bytes` gives it.
 pub record IsSmallReceipt (receipt : Receipt) : Type 0 where
   pub worker : receipt.worker < 2 ^ 16
   pub number : receipt.number < 2 ^ 32
@@ -112,10 +118,11 @@ pub record IsSmallEntry (entry : Entry) : Type 0 where
 
 -- ---- what bytes spell
 
--- The masks that version 1 stands for: all cells of a lock whose turn is odd, else none.
+-- The mask of a lock that version 1 stands for: all cells where the lock's turn is odd, else none.
 abbrev pub old_mask : Shape → List ℕ → ℕ → ℕ
 old_mask shape words lock = if read shape words (Turn lock) % 2 == 1 then 2 ^ shape.cells - 1 else 0
 
+-- All masks are those.
 abbrev pub HasOldMasks : Shape → List ℕ → Type 0
 HasOldMasks shape words = (lock : ℕ) → lock < shape.locks → read shape words (Mask lock) ≡ old_mask shape words lock
 

@@ -34,7 +34,7 @@ header_at bytes = do
   locks ← number_at w8 workers.1
   cells ← number_at w8 locks.1
   jobs ← number_at w32 cells.1
-  if magic.0 == 1380795721 then Some (record { version = version.0; workers = workers.0; locks = locks.0; cells = cells.0; jobs = jobs.0 }, jobs.1) else None
+  if magic.0 == 0x524d4549 then Some (record { version = version.0; workers = workers.0; locks = locks.0; cells = cells.0; jobs = jobs.0 }, jobs.1) else None
 
 -- The word with this number is the last of a lock's block.
 unfoldable pub ends_block : Shape → ℕ → Bool

@@ -1,10 +1,8 @@
 //! Writing an image.
 
 ghost use Rattle.std.specs.Prelude.{◌≡◌, ◌<◌, ◌^◌, ◌++◌, length, OnOk, IfOk};
-ghost use Rattle.std.specs.List.{All, flat_map};
-ghost use Rattle.std.specs.Int.{w8, w32, to_be_bytes};
+ghost use Rattle.std.specs.List.{All};
 ghost use Rattle.rme_words.specs.Words.{word_count};
-ghost use Rattle.rme_script.specs.Scripts.{IsScript};
 ghost use Rattle.rme_image.specs.Images.{IsSmallOp, IsSmallScript, IsSmallReceipt, IsSmallEntry, Spells, header_bytes, header_of, skips, words_bytes, op_bytes, script_bytes, receipt_bytes, entry_bytes, entries_bytes, image_of};
 
 use crate::header::{MAGIC, VERSION};
@@ -100,7 +98,8 @@ fn put_entries(out: &mut Vec<u8>, entries: &[Entry]) -> Result<(), NoMemory>
 
 /// The image of these words and entries, in version 2.
 ///
-/// The words are those of the shape, in order of their numbers. Takes memory for the image; `NoMemory` where it was
+/// The words are all of the shape's, in order of their numbers. There are fewer than 2^32 entries, and each number of
+/// an entry fits its bytes, as those of a world's entries do. Takes memory for the image; `NoMemory` where it was
 /// refused.
 pub fn encode(
     alloc: Global,

@@ -16,4 +16,4 @@ returns c =
     let u = rw c.to_be_bytes-6.ensures at c.in_ok-put-6.ensures in
     let shape = c.args.shape in
     six_parts c.args.out.now.items c.put.new.out.items c.put-2.new.out.items c.put-3.new.out.items c.put-4.new.out.items c.put-5.new.out.items c.put-6.new.out.items
-    (to_be_bytes w32 1380795721) (to_be_bytes w8 2) (to_be_bytes w16 shape.workers) (to_be_bytes w8 shape.locks) (to_be_bytes w8 shape.cells) (to_be_bytes w32 shape.jobs) p q r s t u
+    (to_be_bytes w32 0x524d4549) (to_be_bytes w8 2) (to_be_bytes w16 shape.workers) (to_be_bytes w8 shape.locks) (to_be_bytes w8 shape.cells) (to_be_bytes w32 shape.jobs) p q r s t u

@@ -1,4 +1,4 @@
-use Rattle.std.proofs.Common.{◌+◌, ◌≡◌, ◌∷◌, ◌++◌, [], length, ◌∙◌, ap, arith}
+use Rattle.std.proofs.Common.{◌+◌, ◌≡◌, ◌∷◌, ◌++◌, [], length, arith}
 use Rattle.std.proofs.lemmas.List.{length-append}
 use Rattle.rme_image.specs.Reading.{word_at, many_at}
 use Rattle.rme_image.proofs.Loops.{many_more, many_ends}
