@@ -1,11 +1,13 @@
-//! The engine that answers lines over a world.
+//! The engines over lines: the answers and the transcript of a world, and the check of a transcript.
 //!
 //! The crate stands on rme_wire, which cuts lines, reads their orders and writes texts, on rme_world, whose
-//! calls obey them, and on rme_history, whose tally `report` shows. The one contract that the program uses is
-//! that of `run_lines`: what is written is, for the lines that were read, the answer of each in order and
-//! nothing else (`specs/Runs.antt`). A caller without lines has `TalliedWorld`, whose `obey` answers a command
-//! and whose `walk` takes many steps. Begin with `run.rt`, then `engine.rt`, and then `obey.rt`, which says
-//! what each command does.
+//! calls obey them, on rme_history, whose tally `report` shows, and on rme_checker, whose machine judges a
+//! transcript. The program uses three contracts. `run_lines` writes, for the lines that were read, the answer of
+//! each in order and nothing else (`specs/Runs.antt`); `transcript_lines` writes the events of each in the place
+//! of its answer (`specs/Transcripts.antt`); `check_lines` says whether the abstract machine has all events of a
+//! transcript in turn (`specs/Verdicts.antt`). A caller without lines has `TalliedWorld`, whose `obey` answers a
+//! command and whose `walk` takes many steps. Begin with `run.rt`, then `engine.rt`, and then `obey.rt`, which
+//! says what each command does; for the check with `check.rt`.
 #![tactic(auto)]
 
 mod check;
