@@ -9,6 +9,7 @@ use Rattle.rme_script.specs.declared.op.Op.{Op}
 use Rattle.rme_script.specs.declared.op.Op.TheVariants.{Get, Set, Add, Copy, Swap}
 use Rattle.rme_script.specs.Slates.{op_words}
 use Rattle.rme_script.specs.Programs.{Program}
+use Rattle.rme_script.specs.Scripts.{IsScript}
 use Rattle.rme_program.specs.declared.note.Receipt.{Receipt}
 use Rattle.rme_program.specs.declared.note.Entry.{Entry}
 use Rattle.rme_image.specs.declared.header.Header.{Header}
@@ -115,6 +116,12 @@ pub record IsSmallReceipt (receipt : Receipt) : Type 0 where
 pub record IsSmallEntry (entry : Entry) : Type 0 where
   pub receipt : IsSmallReceipt entry.receipt
   pub script : IsSmallScript entry.script
+
+-- An entry whose worker, lock and cells fit the bytes that they have here. The rest of it always fits, by its type.
+pub record IsWithinBytes (entry : Entry) : Type 0 where
+  pub worker : entry.receipt.worker < 2 ^ 16
+  pub lock : entry.receipt.lock < 2 ^ 8
+  pub script : IsScript 256 entry.script
 
 -- ---- what bytes spell
 

@@ -3,7 +3,8 @@
 ghost use Rattle.std.specs.Prelude.{◌≡◌, ◌<◌, ◌^◌, ◌++◌, length, OnOk, IfOk};
 ghost use Rattle.std.specs.List.{All};
 ghost use Rattle.rme_words.specs.Words.{word_count};
-ghost use Rattle.rme_image.specs.Images.{IsSmallOp, IsSmallScript, IsSmallReceipt, IsSmallEntry, Spells, header_bytes, header_of, skips, words_bytes, op_bytes, script_bytes, receipt_bytes, entry_bytes, entries_bytes, image_of};
+ghost use Rattle.rme_script.specs.Scripts.{IsScript, IsWithin};
+ghost use Rattle.rme_image.specs.Images.{IsSmallOp, IsSmallScript, IsSmallReceipt, IsSmallEntry, IsWithinBytes, Spells, header_bytes, header_of, skips, words_bytes, op_bytes, script_bytes, receipt_bytes, entry_bytes, entries_bytes, image_of};
 
 use crate::header::{MAGIC, VERSION};
 use rme_program::{Entry, Receipt};
@@ -46,8 +47,9 @@ fn put_words(out: &mut Vec<u8>, shape: Shape, words: &[u64]) -> Result<(), NoMem
 
 /// Writes an operation.
 fn put_op(out: &mut Vec<u8>, op: Op) -> Result<(), NoMemory>
-    requires { IsSmallOp op }
-    ensures { OnOk result (out.new.items ≡ out.old.items ++ op_bytes op) }
+    requires { IsWithin 256 op }
+    ensures put { OnOk result (out.new.items ≡ out.old.items ++ op_bytes op) }
+    ensures small { OnOk result (IsSmallOp op) }
 {
     let [kind, first, second] = op_words(op);
     put(out, &(kind as u8).to_be_bytes())?;
@@ -58,8 +60,9 @@ fn put_op(out: &mut Vec<u8>, op: Op) -> Result<(), NoMemory>
 
 /// Writes a script.
 fn put_script(out: &mut Vec<u8>, script: &Script) -> Result<(), NoMemory>
-    requires { IsSmallScript script.now }
-    ensures { OnOk result (out.new.items ≡ out.old.items ++ script_bytes script.now) }
+    requires { IsScript 256 script.now }
+    ensures put { OnOk result (out.new.items ≡ out.old.items ++ script_bytes script.now) }
+    ensures small { OnOk result (IsSmallScript script.now) }
 {
     let count = script.n();
     put(out, &(count as u8).to_be_bytes())?;
@@ -71,8 +74,10 @@ fn put_script(out: &mut Vec<u8>, script: &Script) -> Result<(), NoMemory>
 
 /// Writes a receipt.
 fn put_receipt(out: &mut Vec<u8>, receipt: Receipt) -> Result<(), NoMemory>
-    requires { IsSmallReceipt receipt }
-    ensures { OnOk result (out.new.items ≡ out.old.items ++ receipt_bytes receipt) }
+    requires worker { receipt.worker < 2 ^ 16 }
+    requires lock { receipt.lock < 2 ^ 8 }
+    ensures put { OnOk result (out.new.items ≡ out.old.items ++ receipt_bytes receipt) }
+    ensures small { OnOk result (IsSmallReceipt receipt) }
 {
     put(out, &(receipt.worker as u16).to_be_bytes())?;
     put(out, &receipt.number.to_be_bytes())?;
@@ -85,8 +90,9 @@ fn put_receipt(out: &mut Vec<u8>, receipt: Receipt) -> Result<(), NoMemory>
 /// Writes all entries behind their number.
 fn put_entries(out: &mut Vec<u8>, entries: &[Entry]) -> Result<(), NoMemory>
     requires few { length entries.now < 2 ^ 32 }
-    requires small { All IsSmallEntry entries.now }
-    ensures { OnOk result (out.new.items ≡ out.old.items ++ entries_bytes entries.now) }
+    requires within { All IsWithinBytes entries.now }
+    ensures put { OnOk result (out.new.items ≡ out.old.items ++ entries_bytes entries.now) }
+    ensures small { OnOk result (All IsSmallEntry entries.now) }
 {
     put(out, &(entries.len() as u32).to_be_bytes())?;
     for entry in entries {
@@ -98,8 +104,8 @@ fn put_entries(out: &mut Vec<u8>, entries: &[Entry]) -> Result<(), NoMemory>
 
 /// The image of these words and entries, in version 2.
 ///
-/// The words are all of the shape's, in order of their numbers. There are fewer than 2^32 entries, and each number of
-/// an entry fits its bytes, as those of a world's entries do. Takes memory for the image; `NoMemory` where it was
+/// The words are all of the shape's, in order of their numbers. There are fewer than 2^32 entries, and the worker, the
+/// lock and the cells of each fit their bytes, as those of a world's entries do. Takes memory for the image; `NoMemory` where it was
 /// refused.
 pub fn encode(
     alloc: Global,
@@ -108,7 +114,7 @@ pub fn encode(
     entries: &[Entry],
 ) -> Result<Vec<u8>, NoMemory>
     requires few { length entries.now < 2 ^ 32 }
-    requires small { All IsSmallEntry entries.now }
+    requires within { All IsWithinBytes entries.now }
     ensures image { IfOk result (λ bytes. bytes.items ≡ image_of 2 shape words.now entries.now) }
     ensures spelled { length words.now ≡ word_count shape → IfOk result (λ bytes. Spells 2 bytes.items shape words.now entries.now) }
 {
