@@ -56,7 +56,8 @@ impl Bank {
 
     /// The words, each at the number that the shape gives its address.
     pub fn words(&self) -> &[u64]
-        ensures { result.now ≡ self.now.words }
+        ensures words { result.now ≡ self.now.words }
+        ensures whole { length result.now ≡ word_count self.now.shape }
     {
         &self.words
     }

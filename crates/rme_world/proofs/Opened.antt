@@ -53,7 +53,7 @@ nothing_owed : (n : ℕ) → owed (replicate n opening_worker) ≡ 0
 nothing_owed zero = refl
 nothing_owed (suc n) = omega (arith, nothing_owed n)
 
-counts_at : (n worker : ℕ) → unwrap_or (slice_get (replicate n no_counts) worker) no_counts ≡ no_counts
+pub counts_at : (n worker : ℕ) → unwrap_or (slice_get (replicate n no_counts) worker) no_counts ≡ no_counts
 counts_at n worker = unwrap_or-slice_get (replicate n no_counts) worker no_counts ∙ same_at no_counts n worker
 
 pub opening_kept : (shape : Shape) (room : ℕ) → IsKept (with_room shape room)

@@ -1,5 +1,5 @@
 -- In reading order: the counts of steps, what contracts see of a world, the world at opening, when each event is
--- refused, what each changes, what steps and look-ups show, the headline, what each call promises, and a list of events.
+-- refused, what each changes, what steps and look-ups show, the headline, what each call promises, a list of events, and saved worlds.
 pub mod Counting
 pub mod Seen
 pub mod Opening
@@ -9,3 +9,4 @@ pub mod Looks
 pub mod Running
 pub mod Calls
 pub mod EventLists
+pub mod Images

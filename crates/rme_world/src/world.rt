@@ -17,7 +17,7 @@ use std::marker::Model;
 /// Workers and locks, with the words that survive a crash.
 ///
 /// A caller decides which worker steps when, and which one crashes; the world does one own step, or one
-/// other event, a call. No call but `new`, `submit` and `run` takes memory.
+/// other event, a call. No call but `new`, `submit`, `run`, `save` and `load` takes memory.
 #[derive(Drop)]
 pub struct World {
     pub(crate) bank: Bank,
@@ -77,7 +77,7 @@ fn ready_workers(alloc: Global, shape: Shape) -> Result<Vec<Option<Private>>, No
 }
 
 /// The counts of all workers at opening.
-fn no_counts(alloc: Global, shape: Shape) -> Result<Vec<Counts>, NoMemory>
+pub(crate) fn no_counts(alloc: Global, shape: Shape) -> Result<Vec<Counts>, NoMemory>
     ensures { IfOk result (λ counts. counts.items ≡ replicate shape.workers no_counts) }
 {
     match vec![in alloc; Counts::ZERO; shape.workers as usize] {

@@ -1,0 +1,78 @@
+//! Saved worlds.
+
+ghost use Rattle.std.specs.Prelude.{◌≡◌, ℕ, IfOk, map, Option, None};
+ghost use Rattle.std.specs.List.{range_with_len};
+ghost use Rattle.rme_program.specs.declared.private.Private.{Private};
+
+use crate::world::{World, no_counts};
+use rme_good::is_good;
+use rme_image::{encode, parse};
+use rme_program::Private;
+use rme_words::{Bank, NoMemory, Refusal};
+use std::alloc::Global;
+
+impl World {
+    ghost use Rattle.rme_world.specs.Images.{Loaded, Saved};
+
+    /// The image of the world, in version 2: its sizes, its words and its history. Private states and counts are not in
+    /// it, so that the world that `load` makes of it is this one after a crash of every worker that is up.
+    ///
+    /// Takes memory for the image; `NoMemory` where it was refused.
+    pub fn save(&self) -> Result<Vec<u8>, NoMemory>
+        ensures { IfOk result (λ bytes. Saved self.now bytes.items) }
+    {
+        let alloc = *self.history.allocator();
+        encode(
+            alloc,
+            self.shape(),
+            self.bank.words(),
+            self.history.as_slice(),
+        )
+    }
+
+    /// The world of an image, of version 2 or of the older version 1. All its workers are down, and no steps are
+    /// counted.
+    ///
+    /// Refused by `BadImage` where the bytes are no image, or one that breaks a clause of good images, and by
+    /// `NoMemory`. Memory is taken as the bytes are read, never by a number that they only tell of, and time is linear in
+    /// the bytes.
+    pub fn load(alloc: Global, image: &[u8]) -> Result<World, Refusal>
+        ensures { Loaded image.now result }
+    {
+        let parsed = parse(alloc, image)?;
+        let shape = parsed.shape;
+        let bank = Bank::of(shape, parsed.words);
+        let mut history = parsed.entries;
+        match is_good(alloc, &bank, history.as_slice()) {
+            Ok(true) => {}
+            Ok(false) => return Err(Refusal::BadImage),
+            Err(_) => return Err(Refusal::NoMemory),
+        }
+        match history.reserve(shape.workers as usize) {
+            Ok(()) => {}
+            Err(_) => return Err(Refusal::NoMemory),
+        }
+        let Ok(privates) = all_down(alloc, shape.workers) else {
+            return Err(Refusal::NoMemory);
+        };
+        let Ok(counts) = no_counts(alloc, shape) else {
+            return Err(Refusal::NoMemory);
+        };
+        Ok(World {
+            bank,
+            privates,
+            history,
+            counts,
+        })
+    }
+}
+
+/// No private state for any worker.
+fn all_down(alloc: Global, workers: u32) -> Result<Vec<Option<Private>>, NoMemory>
+    ensures { IfOk result (λ privates. privates.items ≡ map (λ (worker : ℕ). None) (range_with_len 0 workers)) }
+{
+    match (0..workers).map(|_| None).collect(alloc) {
+        Ok(privates) => Ok(privates),
+        Err(_) => Err(NoMemory),
+    }
+}
