@@ -174,11 +174,8 @@ static FORMS: [(&str, bool); 22] = [
     ("{}", false),
     ("\r", false),
     ("{\"do\":\"report\",\"lock\":\"bank\"}", false),
-    ("{\"do\":\"save\"}", false),
-    (
-        "{\"do\":\"load\",\"image\":\"\",\"locks\":[\"bank\"]}",
-        false,
-    ),
+    ("{\"do\":\"save\",\"lock\":\"bank\"}", false),
+    ("{\"do\":\"load\",\"image\":\"\"}", false),
     (
         "{\"cells\":1,\"do\":\"open\",\"jobs\":4294967296,\"locks\":[\"a\"],\"workers\":1}",
         false,

@@ -13,4 +13,6 @@ mod script;
 #[cfg(test)]
 mod tree;
 #[cfg(test)]
+mod wire;
+#[cfg(test)]
 mod words;

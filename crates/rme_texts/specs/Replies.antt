@@ -7,16 +7,17 @@ use Rattle.rme_words.specs.declared.refusal.Refusal.{Refusal}
 use Rattle.rme_words.specs.declared.refusal.Refusal.TheVariants.{WrongNumber}
 use Rattle.rme_words.specs.Refusals.{code_of, name_of}
 use Rattle.rme_texts.specs.declared.answer.Done.{Done}
-use Rattle.rme_texts.specs.declared.answer.Done.TheVariants.{Open, Crash, Restart, Withdraw}
+use Rattle.rme_texts.specs.declared.answer.Done.TheVariants.{Open, Load, Crash, Restart, Withdraw}
 use Rattle.rme_texts.specs.declared.answer.Report.{Report}
 use Rattle.rme_texts.specs.declared.walked.WalkEnd.{WalkEnd}
 use Rattle.rme_texts.specs.declared.reply.Reply.{Reply}
 use Rattle.rme_texts.specs.declared.reply.Reply.TheVariants as reply
 use Rattle.rme_texts.specs.declared.walked.WalkEnd.TheVariants.{Until, Ready, Blocked, Max}
-use Rattle.rme_texts.specs.Texts.{cells_text, entries_text, note_text, notes_text, receipt_text}
+use Rattle.rme_texts.specs.Texts.{cells_text, entries_text, hex_text, note_text, notes_text, receipt_text}
 
 abbrev pub done_text : Done → List ℕ
 done_text Open = codes "{\"ok\":\"open\"}"
+done_text Load = codes "{\"ok\":\"load\"}"
 done_text Crash = codes "{\"ok\":\"crash\"}"
 done_text Restart = codes "{\"ok\":\"restart\"}"
 done_text Withdraw = codes "{\"ok\":\"withdraw\"}"
@@ -66,6 +67,9 @@ report_text r =
     codes "{\"enter\":" ++ (decimal r.enter ++ (codes ",\"exit\":" ++ (decimal r.exit ++ (codes ",\"ok\":\"report\",\"post\":" ++ (decimal r.post
     ++ (codes ",\"recover\":" ++ (decimal r.recover ++ (codes ",\"section\":" ++ (decimal r.section ++ codes "}")))))))))
 
+abbrev pub image_text : List ℕ → List ℕ
+image_text bytes = codes "{\"image\":\"" ++ (hex_text bytes ++ codes "\",\"ok\":\"save\"}")
+
 abbrev pub plain_refusal_text : ℕ → List ℕ → List ℕ
 plain_refusal_text code name = codes "{\"code\":" ++ (decimal code ++ (codes ",\"error\":\"" ++ (name ++ codes "\"}")))
 
@@ -85,4 +89,5 @@ reply_text names history (reply.Cells row settled) = row_text row settled
 reply_text names history (reply.Last receipt) = last_text names receipt
 reply_text names history reply.History = history_text names history
 reply_text names history (reply.Report report) = report_text report
+reply_text names history (reply.Image image) = image_text image
 reply_text names history (reply.Refused refusal) = refusal_text refusal

@@ -1,6 +1,7 @@
 -- The texts of answers: compact JSON with sorted keys.
 use Rattle.std.specs.Prelude.{ℕ, List, [], ◌∷◌, ◌++◌, Bool, true, false, codes, slice_index_or, if◌then◌else◌}
 use Rattle.std.specs.Fmt.{decimal}
+use Rattle.hex.specs.Hex.{encode_lower}
 use Rattle.rme_script.specs.declared.op.Op.{Op}
 use Rattle.rme_script.specs.declared.op.Op.TheVariants.{Get, Set, Add, Copy, Swap}
 use Rattle.rme_program.specs.declared.note.Entry.{Entry}
@@ -85,3 +86,7 @@ quoted text = codes "\"" ++ (text ++ codes "\"")
 
 abbrev pub names_text : List (List ℕ) → List ℕ
 names_text names = separated quoted false names
+
+-- bytes, each as two lower-case hexadecimal digits, the high four bits first
+abbrev pub hex_text : List ℕ → List ℕ
+hex_text bytes = encode_lower bytes

@@ -4,6 +4,7 @@ ghost use Rattle.std.specs.Prelude.{◌≡◌, ◌++◌, OnOk, string_bytes, sli
 ghost use Rattle.rme_texts.specs.Texts as text;
 ghost use Rattle.rme_texts.specs.Replies as spec;
 
+use crate::image::Image;
 use crate::names::Names;
 use crate::texts::{push_cells, push_entries, push_note, push_notes, push_receipt};
 use crate::walked::Walked;
@@ -16,6 +17,7 @@ use std::alloc::AllocError;
 #[derive(Clone, Copy, Debug, PartialEq, Eq)]
 pub enum Done {
     Open,
+    Load,
     Crash,
     Restart,
     Withdraw,
@@ -27,6 +29,7 @@ pub fn push_done(out: &mut String, done: Done) -> Result<(), AllocError>
 {
     match done {
         Done::Open => out.push_str("{\"ok\":\"open\"}"),
+        Done::Load => out.push_str("{\"ok\":\"load\"}"),
         Done::Crash => out.push_str("{\"ok\":\"crash\"}"),
         Done::Restart => out.push_str("{\"ok\":\"restart\"}"),
         Done::Withdraw => out.push_str("{\"ok\":\"withdraw\"}"),
@@ -150,6 +153,14 @@ pub fn push_report(out: &mut String, report: Report) -> Result<(), AllocError>
         out,
         "{{\"enter\":{enter},\"exit\":{exit},\"ok\":\"report\",\"post\":{post},\"recover\":{recover},\"section\":{section}}}"
     )
+}
+
+/// Appends the answer of `save`.
+pub fn push_image(out: &mut String, image: &Image) -> Result<(), AllocError>
+    ensures { OnOk result (string_bytes out.new ≡ string_bytes out.old ++ spec.image_text image.now) }
+{
+    let digits = hex::encode(*out.allocator(), image.as_slice())?;
+    write!(out, "{{\"image\":\"{digits}\",\"ok\":\"save\"}}")
 }
 
 /// Appends the answer of a refused line.

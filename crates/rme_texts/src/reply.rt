@@ -4,9 +4,10 @@ ghost use Rattle.std.specs.Prelude.{◌≡◌, ◌++◌, OnOk, string_bytes};
 ghost use Rattle.rme_texts.specs.Replies as spec;
 
 use crate::answer::{
-    Done, Report, push_done, push_history, push_last, push_number, push_owner, push_refusal,
-    push_report, push_row, push_stepped, push_walked,
+    Done, Report, push_done, push_history, push_image, push_last, push_number, push_owner,
+    push_refusal, push_report, push_row, push_stepped, push_walked,
 };
+use crate::image::Image;
 use crate::names::Names;
 use crate::walked::Walked;
 use rme_program::{Entry, Note, Receipt};
@@ -38,6 +39,8 @@ pub enum Reply {
     History,
     /// The most own steps of one stay in each phase.
     Report(Report),
+    /// The bytes of the saved world.
+    Image(Image),
     /// The line was refused, and changed nothing.
     Refused(Refusal),
 }
@@ -64,6 +67,7 @@ pub fn push_reply(
         Reply::Last(last) => push_last(out, names, *last),
         Reply::History => push_history(out, names, history),
         Reply::Report(report) => push_report(out, *report),
+        Reply::Image(image) => push_image(out, image),
         Reply::Refused(refusal) => push_refusal(out, *refusal),
     }
 }

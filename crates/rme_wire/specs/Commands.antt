@@ -3,7 +3,7 @@ use Rattle.std.specs.Prelude.{ℕ, ◌+◌, ◌==◌, ◌&&◌, ◌||◌, nat_le
 use Rattle.serde_json.specs.Data.{Data}
 use Rattle.serde_json.specs.Find.{get, as_str}
 use Rattle.rme_wire.specs.declared.command.Command.{Command}
-use Rattle.rme_wire.specs.declared.command.Command.TheVariants.{Submit, Step, Walk, Crash, Restart, Withdraw, Owner, Cells, Last, History, Report}
+use Rattle.rme_wire.specs.declared.command.Command.TheVariants.{Submit, Step, Walk, Crash, Restart, Withdraw, Owner, Cells, Last, History, Report, Save}
 use Rattle.rme_wire.specs.declared.command.Until.{Until}
 use Rattle.rme_wire.specs.declared.command.Until.TheVariants.{Asked, Entered, Reentered, Finished, Left, Ready, Withdrew}
 use Rattle.rme_texts.specs.Names.{number_of}
@@ -94,7 +94,8 @@ abbrev pub world_command : List ℕ → Option Command
 world_command word =
     if bytes_eq word (codes "history") then Some History
     else (if bytes_eq word (codes "report") then Some Report
-    else None)
+    else (if bytes_eq word (codes "save") then Some Save
+    else None))
 
 unfoldable pub of_world : List ℕ → ℕ → Option Command
 of_world word count = if count == 1 then world_command word else None
@@ -104,6 +105,6 @@ unfoldable pub command_named : List (List ℕ) → List ℕ → ℕ → Data →
 command_named names word count d =
     if bytes_eq word (codes "submit") then submit_of names count d
     else (if bytes_eq word (codes "walk") then walk_of count d
-    else (if bytes_eq word (codes "history") || bytes_eq word (codes "report") then of_world word count
+    else (if bytes_eq word (codes "history") || bytes_eq word (codes "report") || bytes_eq word (codes "save") then of_world word count
     else (if bytes_eq word (codes "owner") || bytes_eq word (codes "cells") then of_lock names word count d
     else of_worker word count d)))

@@ -11,6 +11,7 @@ pub use Rattle.rme_texts.specs.Sessions
 pub mod Values
 pub mod Operations
 pub mod Openings
+pub mod Loadings
 pub mod Commands
 pub mod Requests
 pub mod EventLines

@@ -4,22 +4,32 @@ use Rattle.serde_json.specs.Data.{Data}
 use Rattle.serde_json.specs.Events.{members_len}
 use Rattle.serde_json.specs.Find.{as_object}
 use Rattle.rme_wire.specs.declared.request.Request.{Request}
-use Rattle.rme_wire.specs.declared.request.Request.TheVariants.{Open, World}
+use Rattle.rme_wire.specs.declared.request.Request.TheVariants.{Open, Load, World}
 use Rattle.rme_wire.specs.Values.{value_of, word_of}
 use Rattle.rme_wire.specs.Commands.{command_named}
 use Rattle.rme_wire.specs.Openings.{opening_of}
+use Rattle.rme_wire.specs.Loadings.{loading_of}
 
 abbrev pub open_request : ℕ → Data → Option Request
 open_request count d = option_map Open (opening_of count d)
 
+abbrev pub load_request : ℕ → Data → Option Request
+load_request count d = option_map Load (loading_of count d)
+
 abbrev pub world_request : List (List ℕ) → List ℕ → ℕ → Data → Option Request
 world_request names word count d = option_map World (command_named names word count d)
+
+-- the request of an object with so many keys, whose `do` is this word
+abbrev pub request_named : List (List ℕ) → List ℕ → ℕ → Data → Option Request
+request_named names word count d =
+    if bytes_eq word (codes "open") then open_request count d
+    else (if bytes_eq word (codes "load") then load_request count d
+    else world_request names word count d)
 
 -- the request of a value, an object with a member `do`
 unfoldable pub request_of : List (List ℕ) → Data → Option Request
 request_of names d =
-    option_and_then (λ members. option_and_then (λ word. if bytes_eq word (codes "open") then open_request (members_len members) d else world_request names word (members_len members) d)
-    (word_of d)) (as_object d)
+    option_and_then (λ members. option_and_then (λ word. request_named names word (members_len members) d) (word_of d)) (as_object d)
 
 abbrev pub request_of_line : List (List ℕ) → List ℕ → Option Request
 request_of_line names bytes = option_and_then (request_of names) (value_of bytes)

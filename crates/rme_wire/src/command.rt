@@ -50,6 +50,7 @@ pub enum Command {
     Last(u32),
     History,
     Report,
+    Save,
 }
 
 /// The number of a lock's name, or the number of names where there is no such name.
@@ -215,6 +216,9 @@ fn of_world(word: &str, count: usize) -> Option<Command>
     if word == "report" {
         return Some(Command::Report);
     }
+    if word == "save" {
+        return Some(Command::Save);
+    }
     None
 }
 
@@ -229,7 +233,7 @@ pub fn command_named(names: &Names, word: &str, count: usize, value: &Value) -> 
     if word == "walk" {
         return walk_of(count, value);
     }
-    if word == "history" || word == "report" {
+    if word == "history" || word == "report" || word == "save" {
         return of_world(word, count);
     }
     if word == "owner" || word == "cells" {

@@ -73,7 +73,7 @@ fn texts_of(alloc: Global, items: &[Value]) -> Result<Option<GivenNames>, AllocE
 
 /// The member `locks`, a list of texts.
 #[tactic(auto, unfolding(crate::specs::Openings::locks_of))]
-fn locks_of(alloc: Global, value: &Value) -> Result<Option<GivenNames>, AllocError>
+pub fn locks_of(alloc: Global, value: &Value) -> Result<Option<GivenNames>, AllocError>
     ensures { IfOk result (λ given. given ≡ spec.locks_of (view value.now)) }
 {
     let Some(list) = value.get("locks") else {

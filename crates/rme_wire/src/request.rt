@@ -5,6 +5,7 @@ ghost use Rattle.serde_json.specs.View.{view};
 ghost use Rattle.rme_wire.specs.Requests as spec;
 
 use crate::command::{Command, command_named};
+use crate::loading::{Loading, loading_of};
 use crate::opening::{Opening, opening_of};
 use crate::value::{key_count, read_value, word_of};
 use rme_texts::Names;
@@ -17,6 +18,8 @@ use std::alloc::{AllocError, Global};
 pub enum Request {
     /// To open a world.
     Open(Opening),
+    /// To load a saved world in the place of the one that is open, if one is.
+    Load(Loading),
     /// To do something to the world that is open.
     World(Command),
 }
@@ -24,7 +27,7 @@ pub enum Request {
 /// The request of a command line, or `None` where the line is no command.
 ///
 /// The names are those of the open world, and none where no world is open. `NoMemory` says that there was no
-/// room for the line's value or for a copy of the names in it.
+/// room for the line's value or for a copy of the names and the image in it.
 pub fn request_of(alloc: Global, names: &Names, line: &[u8]) -> Result<Option<Request>, NoMemory>
     ensures { IfOk result (λ request. request ≡ spec.request_of_line names.now line.now) }
 {
@@ -54,6 +57,9 @@ fn request_of_value(
     if word == "open" {
         return open_request(alloc, count, value);
     }
+    if word == "load" {
+        return load_request(alloc, count, value);
+    }
     Ok(world_request(names, word, count, value))
 }
 
@@ -64,6 +70,15 @@ fn open_request(alloc: Global, count: usize, value: &Value) -> Result<Option<Req
         return Ok(None);
     };
     Ok(Some(Request::Open(opening)))
+}
+
+fn load_request(alloc: Global, count: usize, value: &Value) -> Result<Option<Request>, AllocError>
+    ensures { IfOk result (λ request. request ≡ spec.load_request count (view value.now)) }
+{
+    let Some(loading) = loading_of(alloc, count, value)? else {
+        return Ok(None);
+    };
+    Ok(Some(Request::Load(loading)))
 }
 
 fn world_request(names: &Names, word: &str, count: usize, value: &Value) -> Option<Request>

@@ -1,0 +1,74 @@
+//! The line that loads a saved world.
+
+ghost use Rattle.std.specs.Prelude.{◌≡◌, IfOk, option_map, option_and_then};
+ghost use Rattle.std.specs.List.{list_all};
+ghost use Rattle.serde_json.specs.View.{view};
+ghost use Rattle.rme_wire.specs.Loadings as spec;
+
+use crate::opening::{GivenNames, locks_of};
+use hex::FromHexError;
+use rme_texts::Image;
+use serde_json::Value;
+use std::alloc::{AllocError, Global};
+
+/// What a line asks of `load`.
+#[derive(Drop)]
+pub struct Loading {
+    /// `None` where the line's text is no lower-case hexadecimal of even length.
+    pub image: Option<Image>,
+    pub locks: GivenNames,
+}
+
+fn is_digit(byte: u8) -> bool
+    ensures { result ≡ spec.is_digit byte }
+{
+    matches!(byte, b'0'..=b'9' | b'a'..=b'f')
+}
+
+/// Whether each byte is a lower-case hexadecimal digit.
+fn are_digits(bytes: &[u8]) -> bool
+    ensures { result ≡ list_all spec.is_digit bytes.now }
+{
+    bytes.iter().all(|byte| is_digit(*byte))
+}
+
+/// The image that a text spells in lower-case hexadecimal, if it spells one.
+#[tactic(auto, unfolding(crate::specs::Loadings::image_bytes))]
+fn image_of(alloc: Global, text: &str) -> Result<Option<Image>, AllocError>
+    ensures { IfOk result (λ image. image ≡ spec.image_bytes text.now) }
+{
+    if !are_digits(text.as_bytes()) {
+        return Ok(None);
+    }
+    match hex::decode(alloc, text) {
+        Ok(bytes) => Ok(Some(Image::new(bytes))),
+        Err(FromHexError::OutOfMemory) => Err(AllocError),
+        Err(_) => Ok(None),
+    }
+}
+
+/// The member `image`, a text.
+#[tactic(auto, unfolding(crate::specs::Loadings::digits_of))]
+fn digits_of(value: &Value) -> Option<&str>
+    ensures { option_map (λ digits. digits.now) result ≡ spec.digits_of (view value.now) }
+{
+    value.get("image")?.as_str()
+}
+
+/// The loading that a value is, where it has so many members.
+#[tactic(auto, unfolding(crate::specs::Loadings::loading_of))]
+pub fn loading_of(alloc: Global, count: usize, value: &Value) -> Result<Option<Loading>, AllocError>
+    ensures { IfOk result (λ loading. loading ≡ spec.loading_of count (view value.now)) }
+{
+    if count != 3 {
+        return Ok(None);
+    }
+    let Some(digits) = digits_of(value) else {
+        return Ok(None);
+    };
+    let Some(locks) = locks_of(alloc, value)? else {
+        return Ok(None);
+    };
+    let image = image_of(alloc, digits)?;
+    Ok(Some(Loading { image, locks }))
+}
