@@ -2,6 +2,8 @@
 use Rattle.std.proofs.Common.{◌≡◌, ℕ, ◌+◌, ◌*◌, ◌/◌, ◌%◌, ◌<◌, ◌≤◌, List, length, take, sym, ◌∙◌, ap, subst, arith}
 use Rattle.std.specs.Prelude.{Some, map, slice_set}
 use Rattle.std.specs.List.{range_with_len}
+use Rattle.std.proofs.lemmas.List.{take_all}
+use Rattle.std.proofs.lemmas.List.FromFn.{length-map-range_with_len}
 use Rattle.rme_words.specs.declared.address.Address.{Address}
 use Rattle.rme_words.specs.declared.address.Address.TheVariants.{SlateLen, SlateWord}
 use Rattle.rme_script.specs.Slates.{script_of}
@@ -15,6 +17,11 @@ pub filled_next : {A : Type 0} (f : ℕ → A) (n : ℕ) (xs : List A) (i : ℕ)
     → take i xs ≡ take i (map f (range_with_len 0 n)) → take (i + 1) (slice_set xs i x) ≡ take (i + 1) (map f (range_with_len 0 n))
 filled_next {A = A} f n xs i x long within is same =
     take_stored xs (map f (range_with_len 0 n)) i x (omega (arith, long, within)) (made_get f n i within ∙ ap (λ (y : A). Some y) (sym is)) same
+
+-- All of it.
+pub filled_whole : {A : Type 0} (f : ℕ → A) (n : ℕ) (xs : List A) → length xs ≡ n → take n xs ≡ take n (map f (range_with_len 0 n)) → xs ≡ map f (range_with_len 0 n)
+filled_whole f n xs long same =
+    sym (take_all n xs (omega (arith, long))) ∙ same ∙ take_all n (map f (range_with_len 0 n)) (omega (arith, length-map-range_with_len f 0 n))
 
 -- A worker's slate, word by word.
 pub slate_next : (memory : Address → ℕ) (worker : ℕ) (words : List ℕ) (i x : ℕ) → length words ≡ 24 → i < 24 → x ≡ memory (SlateWord worker (i / 3) (i % 3))

@@ -7,16 +7,8 @@ ghost use Rattle.rme_machine.specs.Fact.{Covers};
 ghost use Rattle.rme_good.specs.Reads.{lock_of};
 ghost use Rattle.rme_good.specs.Standings.{IsShadowOf};
 
-use rme_script::{Row, Script, named};
+use rme_script::{Row, Script, has_cell, named};
 use rme_words::{Address, Bank, Shape};
-
-/// A mask has a cell.
-fn has_cell(mask: u64, c: u32) -> bool
-    requires { c < 64 }
-    ensures { result ≡ has mask c }
-{
-    (mask >> c) & 1 == 1
-}
 
 /// The mask has cells of the lock alone, and among them all that the script names.
 fn covers(shape: Shape, mask: u64, script: &Script) -> bool

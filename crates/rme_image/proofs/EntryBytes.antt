@@ -5,13 +5,11 @@ use Rattle.std.specs.Int.{w8, w32, w64, to_be_bytes}
 use Rattle.std.proofs.lemmas.Bool.{ltb-false, le-ltb, lt-ltb, eqb-true}
 use Rattle.std.proofs.lemmas.Option.{cond_some}
 use Rattle.std.proofs.lemmas.List.{append-nil, nil_from_length}
-use Rattle.std.proofs.lemmas.List.Elements.{All-head}
 use Rattle.rme_script.specs.declared.op.Op.{Op}
 use Rattle.rme_script.specs.declared.op.Op.TheVariants.{Get, Set, Add, Copy, Swap}
 use Rattle.rme_script.specs.Programs.{Program}
-use Rattle.rme_script.specs.Scripts.{IsWithin}
 use Rattle.rme_script.specs.Slates.{op_words, op_of}
-use Rattle.rme_script.proofs.Slates.{words_back}
+use Rattle.rme_script.proofs.Slates.{IsTriple, op_told}
 use Rattle.rme_program.specs.declared.note.Receipt.{Receipt}
 use Rattle.rme_program.specs.declared.note.Entry.{Entry}
 use Rattle.rme_image.specs.Images.{triple_bytes, op_bytes, script_bytes, receipt_bytes, entry_bytes, entries_bytes, IsSmallOp, IsSmallScript, IsSmallEntry}
@@ -21,16 +19,6 @@ use Rattle.rme_image.proofs.Many.{list_takes, list_again}
 use Rattle.rme_image.proofs.ReceiptBytes.{receipt_takes, receipt_again}
 
 -- ---- operations
-
--- The three words are those of the operation.
-record IsTriple (kind first second : ℕ) (o : Op) : Type 0 where
-  words : kind ∷ first ∷ second ∷ [] ≡ op_words o
-  within : IsWithin (2 ^ 32) o
-
-op_told : (kind first second : ℕ) (o : Op) → op_of kind first second ≡ Some o → IsTriple kind first second o
-op_told kind first second o e =
-    let r = words_back 1 (kind ∷ first ∷ second ∷ []) (o ∷ []) (rw e refl) in
-    record { words = r.words ∙ append-nil (op_words o); within = All-head (IsWithin (2 ^ 32)) o [] r.within }
 
 triple_small : (kind first second : ℕ) (o : Op) → IsTriple kind first second o → first < 256 → second < 2 ^ 64 → IsSmallOp o
 triple_small kind first second (Get c) t small wide = let e : c ≡ first = cc in rw e small

@@ -7,5 +7,4 @@ pub mod HeaderBytes
 pub mod ReceiptBytes
 pub mod EntryBytes
 pub mod WordBytes
-pub mod Shapes
 pub mod Spelling

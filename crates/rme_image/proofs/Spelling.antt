@@ -11,7 +11,7 @@ use Rattle.rme_image.proofs.Fields.{IsBytes}
 use Rattle.rme_image.proofs.HeaderBytes.{IsSmallHeader, header_takes, header_again}
 use Rattle.rme_image.proofs.WordBytes.{words_take, words_again}
 use Rattle.rme_image.proofs.EntryBytes.{entries_take, entries_again}
-use Rattle.rme_image.proofs.Shapes.{same_shape}
+use Rattle.rme_words.proofs.Shapes.{same_shape}
 
 abbrev pub ReadsHeader : List ℕ → Header → List ℕ → Type 0
 ReadsHeader bytes header rest = header_at bytes ≡ Some (header, rest)

@@ -1,8 +1,8 @@
 //! Values worked out by hand.
 
 use rme_script::{
-    Job, Op, Row, Script, cell_count, eval, from_slate, named, next_cell, op_of, op_words,
-    read_slate, slate_word, slate_words,
+    Job, Op, Row, Script, cell_count, eval, from_slate, has_cell, named, next_cell, op_of,
+    op_words, read_slate, slate_word, slate_words,
 };
 use rme_words::{Refusal, Shape};
 use std::test::Fail;
@@ -99,6 +99,8 @@ fn names_two_of_sixteen_cells(rt: HostRuntime) -> Result<(), Fail> {
     script.check(shape)?;
     let mask = named(&script);
     assert_eq!(rt; mask, 136);
+    assert!(rt; has_cell(mask, 3));
+    assert!(rt; !has_cell(mask, 4));
     assert_eq!(rt; cell_count(mask, 16), 2);
     assert_eq!(rt; cell_count(mask, 7), 1);
     assert_eq!(rt; next_cell(mask, 0, 16), Some(3));

@@ -3,7 +3,7 @@ use Rattle.std.proofs.Common.{◌≡◌, ℕ, zero, suc, ◌-◌, ◌*◌, ◌^�
 use Rattle.std.specs.List.{All}
 use Rattle.std.proofs.lemmas.Bool.{cases_lt, ltb-true, lt-ltb, le-ltb, eqb-true, ne_eqb}
 use Rattle.std.proofs.lemmas.Option.{none-some, same_Some}
-use Rattle.std.proofs.lemmas.List.{append_assoc, take-append-drop}
+use Rattle.std.proofs.lemmas.List.{append-nil, append_assoc, take-append-drop}
 use Rattle.std.proofs.lemmas.List.Elements.{All-nil, All-cons, All-head, All-tail}
 use Rattle.rme_script.specs.declared.op.Op.{Op}
 use Rattle.rme_script.specs.declared.op.Op.TheVariants.{Get, Set, Add, Copy, Swap}
@@ -181,3 +181,13 @@ same_script n ws vs same =
     by_answers None None f g = refl
     by_answers None (Some p) f g = g p refl
     by_answers (Some p) b f g = sym (f p refl)
+
+-- The three words are those of the operation.
+pub record IsTriple (kind first second : ℕ) (o : Op) : Type 0 where
+  pub words : kind ∷ first ∷ second ∷ [] ≡ op_words o
+  pub within : IsWithin (2 ^ 32) o
+
+pub op_told : (kind first second : ℕ) (o : Op) → op_of kind first second ≡ Some o → IsTriple kind first second o
+op_told kind first second o e =
+    let r = words_back 1 (kind ∷ first ∷ second ∷ []) (o ∷ []) (rw e refl) in
+    record { words = r.words ∙ append-nil (op_words o); within = All-head (IsWithin (2 ^ 32)) o [] r.within }

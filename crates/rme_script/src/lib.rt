@@ -21,7 +21,7 @@ mod slate;
 
 pub use job::Job;
 pub use limits::{MOST_OPERATIONS, OPERATION_WORDS, SLATE_WORDS};
-pub use mask::{cell_count, named, next_cell};
+pub use mask::{cell_count, has_cell, named, next_cell};
 pub use op::Op;
 pub use row::Row;
 pub use run::eval;

@@ -43,7 +43,7 @@ pub fn named(script: &Script) -> u64
 }
 
 /// A mask has a cell.
-fn has_cell(mask: u64, c: u32) -> bool
+pub fn has_cell(mask: u64, c: u32) -> bool
     requires { c < 64 }
     ensures { result ≡ has mask c }
 {

@@ -1,3 +1,4 @@
 pub mod Growth
 pub mod Places
+pub mod Shapes
 pub mod Loads

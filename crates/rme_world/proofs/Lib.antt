@@ -5,7 +5,6 @@ pub mod Refusing
 pub mod Happening
 pub mod Headline
 pub mod Calls
-pub mod Filling
 pub mod Going
 pub mod Telling
 pub mod Opened

@@ -4,7 +4,7 @@ use Rattle.std.specs.Prelude.{◌↔◌, IsTrue, Some, None, slice_get, slice_se
 use Rattle.std.proofs.lemmas.Bool.{le-ltb, eqb-true}
 use Rattle.std.proofs.Math.Nat.{mul-le-mul}
 use Rattle.rme_words.specs.declared.address.Address.TheVariants.{Cell}
-use Rattle.rme_world.proofs.Filling.{filled_next, filled_whole}
+use Rattle.rme_good.proofs.Filling.{filled_next, filled_whole}
 use Rattle.std.proofs.lemmas.List.{length-set}
 use Rattle.std.proofs.lemmas.Option.{same_Some}
 use Rattle.rme_program.specs.declared.stage.Stage.TheVariants.{Resting}

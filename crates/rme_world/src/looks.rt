@@ -4,6 +4,7 @@ ghost use Rattle.std.specs.Prelude.{◌≡◌, ◌<◌, ◌^◌, ◌↔◌, IsTr
 ghost use Rattle.rme_program.specs.declared.stage.Stage.{Stage};
 
 use crate::world::World;
+use rme_good::is_pending;
 use rme_program::{Entry, Phase, Private, Receipt, Stage, WITHDRAWN_PLACE};
 use rme_script::Row;
 use rme_tree::owner;
@@ -12,9 +13,8 @@ use rme_words::{Address, Refusal};
 impl World {
     ghost use Rattle.std.specs.Prelude.{◌≡◌, ◌<◌, slice_get};
     ghost use Rattle.rme_machine.specs.ShownCells.{ShownCells, is_settled};
-    ghost use Rattle.rme_machine.specs.Views.{lock_words, is_pending};
+    ghost use Rattle.rme_machine.specs.Views.{lock_words};
     ghost use Rattle.rme_world.specs.Seen.{IsKept, memory_seen, shown_by};
-    ghost use Rattle.rme_world.specs.Looks.{words_seen};
     ghost use Rattle.rme_world.specs.Calls.{Owned, ShowsCells, ShowsReady, ShowsLast, ShowsSteps};
 
     /// The worker that owns a lock, if one does. `NoLock` where there is no such lock.
@@ -59,16 +59,8 @@ impl World {
     {
         match owner(&self.bank, lock) {
             None => true,
-            Some(worker) => !self.is_pending(worker),
+            Some(worker) => !is_pending(&self.bank, worker),
         }
-    }
-
-    /// A worker's last job is begun and not done.
-    fn is_pending(&self, worker: u32) -> bool
-        requires { worker < self.now.shape.workers }
-        ensures { result ≡ is_pending (words_seen self.now worker) }
-    {
-        self.bank.load(Address::Done(worker)) < self.bank.load(Address::Begun(worker))
     }
 
     /// The finished sections of all locks, in order of finishing.

@@ -1,17 +1,16 @@
 //! One own step of one worker.
 
-ghost use Rattle.std.specs.Prelude.{◌≡◌, ◌<◌, ◌≤◌, take, vec_len, vec_capacity};
+ghost use Rattle.std.specs.Prelude.{◌≡◌, ◌<◌, ◌≤◌, vec_len, vec_capacity};
 ghost use Rattle.rme_program.specs.declared.note.Note.{Note};
 ghost use Rattle.rme_program.specs.declared.note.Receipt.{Receipt};
 ghost use Rattle.rme_machine.specs.Changes.{history_after};
 ghost use Rattle.rme_words.specs.Words.{memory_of};
-ghost use Rattle.rme_machine.specs.Views.{worker_words, slate_at, slate_job};
 
 use crate::perform::perform;
 use crate::world::World;
+use rme_good::slate;
 use rme_program::{Entry, Note, Stage, after, next, phase};
-use rme_script::{Script, from_slate};
-use rme_words::{Address, Bank, Refusal};
+use rme_words::{Bank, Refusal};
 
 impl World {
     ghost use Rattle.std.specs.Prelude.{◌≡◌, Some, OnOk, IfErr};
@@ -87,32 +86,4 @@ fn record(history: &mut Vec<Entry>, bank: &Bank, worker: u32, note: Note)
     if history.push(Entry { receipt, script }).is_err() {
         unreachable!();
     }
-}
-
-/// The script of a worker's slate; an empty one where the slate is none.
-fn slate(bank: &Bank, worker: u32) -> Script
-    requires { worker < bank.now.shape.workers }
-    ensures { result ≡ (slate_job (worker_words (memory_of bank.now) worker)).script }
-{
-    let n = bank.load(Address::SlateLen(worker));
-    if n > 8 {
-        return Script::of(&[]);
-    }
-    match from_slate(n, &slate_loaded(bank, worker, 3 * n as u32)) {
-        Some(script) => script,
-        None => Script::of(&[]),
-    }
-}
-
-/// So many words of a worker's slate.
-fn slate_loaded(bank: &Bank, worker: u32, count: u32) -> [u64; 24]
-    requires worker { worker < bank.now.shape.workers }
-    requires count { count ≤ 24 }
-    ensures { take count result ≡ take count (slate_at (memory_of bank.now) worker) }
-{
-    let mut words = [0; 24];
-    for i in 0..count {
-        words[i as usize] = bank.load(Address::SlateWord(worker, i / 3, i % 3));
-    }
-    words
 }

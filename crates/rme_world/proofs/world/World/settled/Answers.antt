@@ -8,4 +8,4 @@ returns-in-None c = rw (← c.self.view_is) (sym (free_settled _ c.args.lock c.s
 
 pub returns-in-Some : goal.returns-in-Some
 returns-in-Some c =
-    rw (← c.self.view_is) (ap not (rw (← c.self.view_is) at c.is_pending.ensures) ∙ sym (owned_settled _ c.args.lock c.in-Some.worker c.self.invariant (rw (← c.self.view_is) at c.requires) (sym c.in-Some.ensures.owner)))
+    rw (← c.self.view_is) (ap not c.is_pending.ensures ∙ sym (owned_settled _ c.args.lock c.in-Some.worker c.self.invariant (rw (← c.self.view_is) at c.requires) (sym c.in-Some.ensures.owner)))
