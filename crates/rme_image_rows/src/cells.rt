@@ -3,8 +3,8 @@
 use crate::images::Change::Word;
 use crate::images::{Change, check_changes};
 use crate::places::{
-    ADD_FIVE, BEGUN, CELL, DONE, DONE_AFTER, ENTERED, LEFT, LOGGED, MASK, NEXT_CELL, NEXT_TURN,
-    NODE, PLACE, REPLY, SHADOW, SHADOW_REPLY, TURN, WITHDRAWN, at_two_locks,
+    ADD_FIVE, BEGUN, CELL, DONE, ENTERED, FINISHED, LEFT, LOGGED, MASK, NEXT_CELL, NEXT_TURN, NODE,
+    PLACE, REPLY, SHADOW, SHADOW_REPLY, TURN, WITHDRAWN, at_two_locks,
 };
 use crate::walks::{job, step_times};
 use std::test::Fail;
@@ -115,7 +115,7 @@ const BROKEN_FINISHED: &[&[Change]] = &[
 /// Clauses `turn`, `shadow` and `cells` of a lock whose owner has finished: 2p-1 or 2p, and the cells are those after.
 #[test]
 fn done(rt: HostRuntime) -> Result<(), Fail> {
-    let world = at_two_locks(rt.alloc(), DONE_AFTER)?;
+    let world = at_two_locks(rt.alloc(), FINISHED)?;
     check_changes(&rt, rt.alloc(), &world, GOOD_FINISHED, BROKEN_FINISHED)
 }
 
@@ -166,6 +166,6 @@ const BROKEN_SECOND: &[&[Change]] = &[
 fn second(rt: HostRuntime) -> Result<(), Fail> {
     let mut world = at_two_locks(rt.alloc(), LEFT)?;
     world.submit(1, job(0, ADD_FIVE))?;
-    step_times(&mut world, 1, DONE_AFTER)?;
+    step_times(&mut world, 1, FINISHED)?;
     check_changes(&rt, rt.alloc(), &world, GOOD_SECOND, BROKEN_SECOND)
 }

@@ -76,6 +76,11 @@ fn put(rt: &impl Abort, image: &mut [u8], offset: usize, bytes: &[u8]) {
     place.copy_from_slice(bytes);
 }
 
+/// What `load` refuses an image by, if it does.
+pub fn refusal_of(alloc: Global, image: &[u8]) -> Option<Refusal> {
+    World::load(alloc, image).err()
+}
+
 /// Whether `load` takes an image of version 2, which `save` then gives back. It refuses none but as a bad image.
 pub fn is_taken(rt: &impl Abort, alloc: Global, image: &[u8]) -> Result<bool, Fail> {
     match World::load(alloc, image) {

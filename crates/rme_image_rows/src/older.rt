@@ -1,6 +1,6 @@
 //! Images of version 1, which have no masks and are still read.
 
-use crate::images::{Change, changed, image};
+use crate::images::{Change, changed, image, refusal_of};
 use crate::layouts::{Layout, with_masks, without_masks};
 use crate::smallest;
 use crate::walks::{check_cells, finished, job, step_times, steps_of, walk};
@@ -60,11 +60,6 @@ const MOST_WORKERS: [u8; 13] = [
 const TOO_MANY_WORKERS: [u8; 13] = [
     0x52, 0x4d, 0x45, 0x49, 0x01, 0x00, 0x41, 0x01, 0x01, 0x00, 0x00, 0x00, 0x01,
 ];
-
-/// What `load` refuses an image by.
-fn refusal_of(alloc: Global, image: &[u8]) -> Option<Refusal> {
-    World::load(alloc, image).err()
-}
 
 /// Row `older image`: the world that it gives, and the image of that.
 #[test]

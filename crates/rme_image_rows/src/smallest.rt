@@ -1,11 +1,10 @@
 //! The smallest image: one worker, one lock, one cell, one job.
 
-use crate::images::{Change, changed, image};
+use crate::images::{Change, changed, image, refusal_of};
 use crate::walks::{check_down, finished, walk};
 use rme_program::Note;
 use rme_words::{Refusal, Shape};
 use rme_world::World;
-use std::alloc::Global;
 use std::test::Fail;
 
 /// Row `smallest image`: what stands before the words.
@@ -15,11 +14,6 @@ pub const HEADER: [u8; 13] = [
 
 /// How many words it has.
 pub const WORDS: u16 = 37;
-
-/// What `load` refuses an image by.
-fn refusal_of(alloc: Global, image: &[u8]) -> Option<Refusal> {
-    World::load(alloc, image).err()
-}
 
 /// Row `smallest image`: the bytes of a world that was just opened, and the world that they give.
 #[test]
