@@ -6,7 +6,7 @@ use Rattle.rme_machine.specs.Machine.{State}
 use Rattle.rme_texts.specs.declared.event.EventLine.{EventLine}
 use Rattle.rme_wire.specs.declared.opening.Opening.{Opening}
 use Rattle.rme_wire.specs.declared.request.Request.{Request}
-use Rattle.rme_wire.specs.declared.request.Request.TheVariants.{Open, World}
+use Rattle.rme_wire.specs.declared.request.Request.TheVariants.{Load, Open, World}
 use Rattle.rme_lines.specs.declared.cut.Cut.{Cut}
 use Rattle.rme_lines.specs.declared.cut.Cut.TheVariants.{Line, TooLong, End}
 use Rattle.rme_lines.specs.declared.fault.EngineFault.{EngineFault}
@@ -27,6 +27,7 @@ use Rattle.rme_engine.specs.Verdicts.{Finds, Judges, Meets, Opens, event_read}
 
 abbrev opening_of : Opening → Option Request → Opening
 opening_of other (Some (Open given)) = given
+opening_of other (Some (Load loading)) = other
 opening_of other (Some (World command)) = other
 opening_of other None = other
 

@@ -14,7 +14,7 @@ use Rattle.rme_lines.specs.declared.lines.LineReader.{LineReader}
 use Rattle.rme_lines.specs.Readers.{FailsToRead, ReadsNoMore, most_lines}
 use Rattle.rme_lines.proofs.ReaderLemmas.{CameOn, came_no_more, came_to_fail}
 use Rattle.rme_lines.proofs.PieceLemmas.{lines_ended, whole_lines_ended, whole_lines_piece}
-use Rattle.rme_engine.specs.Runs.{AreLines, BeginsWith, CutsOff, Gathers, HasNone, Run, Spills, TurnFails, Turns, WereRead, WritesAll, WritesFirst, all_bytes}
+use Rattle.rme_engine.specs.Runs.{AreLines, BeginsWith, CutsOff, Gathers, HasNone, Run, Spills, TurnFails, Turns, WereRead, WritesFirst, WritesTo, all_bytes}
 
 -- ---- bytes that are kept back
 
@@ -227,9 +227,10 @@ module _ {S : Type 0} (has : S → InputLine → List ℕ → S → Type 0) wher
       let P : List ℕ → Type 0 = λ l. Appends before holds l in subst P e (Appends-trans before held holds front kept put more)
 
   pub finished : (input before left later held holds : Option (List ℕ)) (ended ends : Bool) (first now new : S) (kept keeps : List ℕ) → SoFar first input before left ended now held kept
-      → Turns has left later ends now new held kept holds keeps false → WritesAll has first input before holds
-  finished input before left later held holds ended ends first now new kept keeps so (none, more) =
-      (so.lines, so.all, now, so.run, left_none input left so.lines so.of none, all_put before held holds so.front kept (all_bytes so.all) so.put so.rest more)
+      → Turns has left later ends now new held kept holds keeps false → WritesTo has first input before holds new
+  finished input before left later held holds ended ends first now new kept keeps so (none, more, same) =
+      let P : S → Type 0 = λ last. Run has first so.lines so.all last in
+      (so.lines, so.all, subst P (sym same) so.run, left_none input left so.lines so.of none, all_put before held holds so.front kept (all_bytes so.all) so.put so.rest more)
 
   pub failed : (fault : EngineFault) (input before left later held holds : Option (List ℕ)) (ended : Bool) (first now : S) (kept : List ℕ) → SoFar first input before left ended now held kept
       → (fault ≡ ReadFailed → ended ≡ false) → TurnFails has fault left later now held kept holds → WritesFirst has first fault input later before holds

@@ -1,8 +1,9 @@
 -- A tally that is fed with one phase after each step sees all counts.
-use Rattle.std.proofs.Common.{◌≡◌, ◌≢◌, ◌⊎◌, ℕ, zero, suc, ◌+◌, ◌≤◌, List, [], ◌∷◌, max, Option, Some, refl, sym, ap, subst, ◌∙◌, arith, inl, inr, replicate, unwrap_or}
+use Rattle.std.proofs.Common.{◌≡◌, ◌≢◌, ◌⊎◌, ℕ, zero, suc, ◌+◌, ◌≤◌, List, [], ◌∷◌, max, Option, Some, None, Ok, Err, refl, sym, ap, subst, ◌∙◌, arith, inl, inr, replicate, unwrap_or}
 use Rattle.std.specs.Prelude.{slice_get, slice_set}
 use Rattle.std.proofs.lemmas.Bool.{cases_eq}
 use Rattle.std.proofs.Math.Nat.{le-max_left, le-max_right, max-eq_left}
+use Rattle.rme_words.specs.declared.refusal.Refusal.TheVariants.{BadImage}
 use Rattle.rme_words.specs.declared.shape.Shape.{Shape}
 use Rattle.rme_program.specs.declared.kinds.Phase.{Phase}
 use Rattle.rme_program.specs.declared.kinds.Phase.TheVariants.{Recover, Post, Enter, Section, Exit, Ready}
@@ -18,11 +19,13 @@ use Rattle.rme_world.specs.Seen.{Seen, counts_of}
 use Rattle.rme_machine.proofs.Lists.{get_set_other}
 use Rattle.rme_program.proofs.NoteLaws.{cases_phase}
 use Rattle.rme_world.proofs.Stays.{begun_here, count_there, within_limits}
+use Rattle.rme_world.proofs.Opened.{counts_at}
+use Rattle.rme_engine.specs.Lines.{IsReadAs}
 use Rattle.rme_engine.specs.Tallies.{HasSeen, steps_of}
 
 -- ---- the counts of a world of which one worker's were changed
 
-counts_in : List Counts → ℕ → Counts
+abbrev counts_in : List Counts → ℕ → Counts
 counts_in all worker = unwrap_or (slice_get all worker) no_counts
 
 set_cases : (all : List Counts) (i : ℕ) (counts : Counts) → (slice_get (slice_set all i counts) i ≡ slice_get all i) ⊎ (slice_get (slice_set all i counts) i ≡ Some counts)
@@ -51,15 +54,19 @@ zero_counts Section = refl
 zero_counts Exit = refl
 zero_counts Ready = refl
 
-opening_counts : (n u : ℕ) → unwrap_or (slice_get (replicate n no_counts) u) no_counts ≡ no_counts
-opening_counts zero u = refl
-opening_counts (suc n) zero = refl
-opening_counts (suc n) (suc u) = opening_counts n u
+-- every tally has seen a world in which nothing is counted
+uncounted_seen : (tally : Tally) (world : Seen) (n : ℕ) → world.counts ≡ replicate n no_counts → HasSeen tally world
+uncounted_seen tally world n uncounted worker phase =
+    let here : counts_of world worker ≡ no_counts = ap (λ (all : List Counts). counts_in all worker) uncounted ∙ counts_at n worker in
+    let none : steps_of world worker phase ≡ 0 = ap (λ c. count_of c phase) here ∙ zero_counts phase in
+    omega (arith, none)
 
 pub opening_seen : (tally : Tally) (shape : Shape) → HasSeen tally (opening shape)
-opening_seen tally shape worker phase =
-    let none : steps_of (opening shape) worker phase ≡ 0 = ap (λ c. count_of c phase) (opening_counts shape.workers worker) ∙ zero_counts phase in
-    omega (arith, none)
+opening_seen tally shape = uncounted_seen tally (opening shape) shape.workers refl
+
+pub loaded_seen : (tally : Tally) (image : Option (List ℕ)) (world : Seen) → IsReadAs image (Ok world) → HasSeen tally world
+loaded_seen tally None world read = absurd (let bad : Ok world ≡ Err BadImage = read in cc)
+loaded_seen tally (Some bytes) world read = uncounted_seen tally world world.shape.workers (ap (λ (s : Seen). s.counts) read.restored)
 
 module _ (tally : Tally) (old new : Seen) (worker : ℕ) (counts : Counts) (has : HasSeen tally old) (goes : new.counts ≡ slice_set old.counts worker counts) where
   -- other counts of one worker that were seen too

@@ -18,6 +18,7 @@ use Rattle.rme_world.specs.Seen.{Seen, counts_of}
 use Rattle.rme_wire.specs.declared.command.Command.{Command}
 use Rattle.rme_wire.specs.declared.command.Command.TheVariants as command
 use Rattle.rme_wire.specs.declared.command.Until.{Until}
+use Rattle.rme_wire.specs.declared.loading.Loading.{Loading}
 use Rattle.rme_wire.specs.declared.opening.Opening.{Opening}
 use Rattle.rme_wire.specs.declared.request.Request.{Request}
 use Rattle.rme_wire.specs.declared.request.Request.TheVariants as request
@@ -28,11 +29,11 @@ use Rattle.rme_engine.specs.declared.tallied.TalliedWorld.{TalliedWorld}
 use Rattle.rme_world.specs.Calls.{Crashed, Restarted, Submitted, Withdrawn}
 use Rattle.rme_engine.specs.Commands.{Does}
 use Rattle.rme_engine.specs.Laws.{HasSeenAll}
-use Rattle.rme_engine.specs.Lines.{Answers, DoesIn, Obeys, OpensBy, OpensIn, Replies}
+use Rattle.rme_engine.specs.Lines.{Answers, DoesIn, LoadsBy, Obeys, OpensBy, OpensIn, Replies}
 use Rattle.rme_engine.specs.States.{State}
 use Rattle.rme_engine.specs.Tallies.{HasSeen, SeesPhases, StepsTallied, nothing_seen, steps_of}
 use Rattle.rme_engine.specs.Walks.{Follows, Goes, Walks, end_after}
-use Rattle.rme_engine.proofs.Seeing.{begun_seen, none_seen, opening_seen, same_seen, step_phases, step_seen}
+use Rattle.rme_engine.proofs.Seeing.{begun_seen, loaded_seen, none_seen, opening_seen, same_seen, step_phases, step_seen}
 
 abbrev HasSeenIn : TalliedWorld → Type 0
 HasSeenIn tallied = HasSeen tallied.tally tallied.world
@@ -131,6 +132,7 @@ does_kept old new (command.Cells lock) reply has (result, s, e, same) = kept_in 
 does_kept old new (command.Last worker) reply has (result, s, e, same) = kept_in old new same has
 does_kept old new command.History reply has (e, same) = kept_in old new same has
 does_kept old new command.Report reply has (e, same) = kept_in old new same has
+does_kept old new command.Save reply has (saves, same) = kept_in old new same has
 
 stays : (old new : State) → new ≡ old → HasSeenAll old.world → HasSeenAll new.world
 stays old new e has = let P : State → Type 0 = λ s. HasSeenAll s.world in subst P (sym e) has
@@ -149,9 +151,17 @@ opens_in_kept : (world : Option TalliedWorld) (old new : State) (given : Opening
 opens_in_kept (Some world) old new given reply has (e, same) = stays old new same has
 opens_in_kept None old new given reply has (result, opens) = opens_by_kept old new given result reply has opens
 
+loads_by_kept : (old new : State) (given : Loading) (result : Result TalliedWorld Refusal) (reply : Reply) → HasSeenAll old.world → LoadsBy old given result reply new → HasSeenAll new.world
+loads_by_kept old new given (Ok tallied) reply has (loaded, e, opened) =
+    let P : Option TalliedWorld → Type 0 = λ w. HasSeenAll w in
+    let Q : TalliedWorld → Type 0 = λ t. HasSeenIn t in
+    subst P (sym opened) (subst Q (sym loaded.fresh) (loaded_seen nothing_seen given.image tallied.world loaded.read))
+loads_by_kept old new given (Err refusal) reply has (may, e, same) = stays old new same has
+
 obeys_kept : (old new : State) (asked : Option Request) (reply : Reply) → HasSeenAll old.world → Obeys old asked reply new → HasSeenAll new.world
 obeys_kept old new None reply has (e, same) = stays old new same has
 obeys_kept old new (Some (request.Open given)) reply has opens = opens_in_kept old.world old new given reply has opens
+obeys_kept old new (Some (request.Load given)) reply has (result, loads) = loads_by_kept old new given result reply has loads
 obeys_kept old new (Some (request.World given)) reply has does = does_in_kept old.world old new given reply has refl does
 
 replies_kept : (old new : State) (line : InputLine) (reply : Reply) → HasSeenAll old.world → Replies old line reply new → HasSeenAll new.world

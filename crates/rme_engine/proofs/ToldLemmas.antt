@@ -1,13 +1,11 @@
 -- The notes of a worker are told one after another.
 use Rattle.std.proofs.Common.{◌≡◌, ◌≢◌, ℕ, List, [], ◌∷◌, ◌++◌, refl, sym, ap, ◌∙◌, append_assoc, append-nil, map}
-use Rattle.rme_words.specs.declared.refusal.Refusal.TheVariants.{LineTooLong}
 use Rattle.rme_lines.specs.declared.cut.Cut.{Cut}
 use Rattle.rme_lines.specs.declared.cut.Cut.TheVariants.{Line, TooLong, End}
 use Rattle.rme_lines.specs.Cuts.{line_read}
 use Rattle.rme_program.specs.declared.note.Note.{Note}
 use Rattle.rme_program.specs.declared.note.Note.TheVariants.{Quiet, Asked, Blocked, Entered, Reentered, Finished, Left, Ready, Withdrew}
 use Rattle.rme_texts.specs.declared.event.EventLine.TheVariants as line
-use Rattle.rme_texts.specs.declared.reply.Reply.TheVariants.{Refused}
 use Rattle.rme_texts.specs.Events.{event_text}
 use Rattle.rme_engine.specs.Lines.{written}
 use Rattle.rme_engine.specs.States.{State}
@@ -45,7 +43,7 @@ told_note names worker start all out after note rest is_shown e so_far =
 -- nothing is told of an over-long line
 pub told_too_long : (old : State) (cut : Cut) (line bytes : List ℕ) → cut ≡ TooLong → bytes ≡ [] → IsTold old (line_read cut line) bytes old
 told_too_long old Line line bytes e none = absurd (let bad : Line ≡ TooLong = e in cc)
-told_too_long old TooLong line bytes e none = (Refused LineTooLong, (refl, refl), none)
+told_too_long old TooLong line bytes e none = (none, refl)
 told_too_long old End line bytes e none = absurd (let bad : End ≡ TooLong = e in cc)
 
 -- none is left

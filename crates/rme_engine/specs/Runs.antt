@@ -35,10 +35,13 @@ WereRead None left lines = Unit {0}
 WereRead (Some bytes) None lines = ⊥
 WereRead (Some bytes) (Some left) lines = (read : List ℕ) × (bytes ≡ read ++ left) × (whole_lines_of read ≡ lines)
 
--- all lines of the input were taken, and their bytes were written
+-- all lines of the input were taken, and their bytes were written; the last of them left this open
+abbrev pub WritesTo : {S : Type 0} → (S → InputLine → List ℕ → S → Type 0) → S → Option (List ℕ) → Option (List ℕ) → Option (List ℕ) → S → Type 0
+WritesTo has first input before after last =
+    (lines : List InputLine) × (all : List (List ℕ)) × Run has first lines all last × AreLines input lines × Appends before after (all_bytes all)
+
 abbrev pub WritesAll : {S : Type 0} → (S → InputLine → List ℕ → S → Type 0) → S → Option (List ℕ) → Option (List ℕ) → Option (List ℕ) → Type 0
-WritesAll {S = S} has first input before after =
-    (lines : List InputLine) × (all : List (List ℕ)) × (last : S) × Run has first lines all last × AreLines input lines × Appends before after (all_bytes all)
+WritesAll {S = S} has first input before after = (last : S) × WritesTo has first input before after last
 
 -- the lines that were taken when a run gave up, and what was written by then: where the reader failed, the lines whose
 -- newlines had come, and the bytes of all of them; for want of memory the bytes of all lines that were taken; where the
@@ -72,12 +75,12 @@ pub record Gathers (held : Option (List ℕ)) (kept bytes : List ℕ) (holds : O
   pub put : Appends held holds front
   pub rest : kept ++ bytes ≡ front ++ keeps
 
--- a turn that took a line and gathered its bytes, or that found none and wrote all that was kept back; a line was taken
+-- a turn that took a line and gathered its bytes, or that found none, wrote all that was kept back and left all else open as it was; a line was taken
 -- with its newline while the reader has not ended
 abbrev pub Turns : {S : Type 0} → (S → InputLine → List ℕ → S → Type 0) → Option (List ℕ) → Option (List ℕ) → Bool → S → S → Option (List ℕ) → List ℕ → Option (List ℕ) → List ℕ → Bool → Type 0
 Turns has left later ended old new held kept holds keeps true =
     (line : InputLine) × (bytes : List ℕ) × CutsOff left later line × has old line bytes new × Gathers held kept bytes holds keeps × (ended ≡ false → TakesWhole left later)
-Turns has left later ended old new held kept holds keeps false = HasNone left × Appends held holds kept
+Turns has left later ended old new held kept holds keeps false = HasNone left × Appends held holds kept × (new ≡ old)
 
 -- what is cut and written where no line was to be had
 abbrev pub Spills : EngineFault → Option (List ℕ) → Option (List ℕ) → Option (List ℕ) → List ℕ → Option (List ℕ) → Type 0

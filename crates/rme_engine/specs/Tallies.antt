@@ -16,9 +16,13 @@ use Rattle.rme_world.specs.Calls.{Stepped}
 abbrev pub nothing_seen : Tally
 nothing_seen = record { recover = 0; post = 0; enter = 0; section = 0; exit = 0 }
 
+-- a world of which the tally saw nothing yet
+abbrev pub unseen : Seen → TalliedWorld
+unseen world = record { world = world; tally = nothing_seen }
+
 -- a world at opening, of which the tally saw nothing
 abbrev pub tallied_opening : Shape → TalliedWorld
-tallied_opening shape = record { world = opening shape; tally = nothing_seen }
+tallied_opening shape = unseen (opening shape)
 
 -- the own steps of a worker in a phase, which the call `steps` of a world answers
 abbrev pub steps_of : Seen → ℕ → Phase → ℕ

@@ -9,11 +9,11 @@ use Rattle.rme_texts.specs.Events.{event_text, opening_text}
 use Rattle.rme_wire.specs.declared.command.Command.{Command}
 use Rattle.rme_wire.specs.declared.command.Command.TheVariants.{Submit, Step, Walk, Crash, Restart, Withdraw}
 use Rattle.rme_wire.specs.declared.request.Request.{Request}
-use Rattle.rme_wire.specs.declared.request.Request.TheVariants.{Open, World}
+use Rattle.rme_wire.specs.declared.request.Request.TheVariants.{Load, Open, World}
 use Rattle.rme_wire.specs.Requests.{request_of_line}
 use Rattle.rme_lines.specs.Pieces.{InputLine, text, too_long}
 use Rattle.rme_engine.specs.declared.tallied.TalliedWorld.{TalliedWorld}
-use Rattle.rme_engine.specs.Lines.{Replies, written}
+use Rattle.rme_engine.specs.Lines.{Obeys, written}
 use Rattle.rme_engine.specs.States.{State}
 use Rattle.rme_engine.specs.Walks.{shown}
 
@@ -42,9 +42,17 @@ abbrev pub opening_told : List (List ℕ) → Option TalliedWorld → Reply → 
 opening_told names (Some opened) (Done done) = written (opening_text names opened.world.shape)
 opening_told names world reply = []
 
+-- a transcript begins with an opening: `load` is no command of one
+abbrev pub unless_load : Option Request → Option Request
+unless_load None = None
+unless_load (Some (Open given)) = Some (Open given)
+unless_load (Some (Load given)) = None
+unless_load (Some (World command)) = Some (World command)
+
 -- the lines that tell of a request, by its reply and by what is open then
 abbrev pub request_text : State → Option Request → Reply → List ℕ
 request_text new None reply = []
+request_text new (Some (Load given)) reply = []
 request_text new (Some (Open given)) reply = opening_told new.names new.world reply
 request_text new (Some (World command)) reply = events_text new.names (events_of command reply)
 
@@ -53,6 +61,9 @@ abbrev pub request_read : List (List ℕ) → InputLine → Option Request
 request_read names too_long = None
 request_read names (text bytes) = request_of_line names bytes
 
--- the bytes that tell of a line: it is obeyed and replied to as ever, and its events are told
+-- the bytes that tell of a line: its request, which is no loading, is obeyed and replied to as ever, and its events are told;
+-- nothing is told of an over-long line
 abbrev pub IsTold : State → InputLine → List ℕ → State → Type 0
-IsTold old line bytes new = (reply : Reply) × Replies old line reply new × (bytes ≡ request_text new (request_read old.names line) reply)
+IsTold old too_long bytes new = (bytes ≡ []) × (new ≡ old)
+IsTold old (text line) bytes new =
+    (reply : Reply) × Obeys old (unless_load (request_of_line old.names line)) reply new × (bytes ≡ request_text new (unless_load (request_of_line old.names line)) reply)

@@ -1,10 +1,16 @@
 //! What the lines so far have opened.
 
+ghost use Rattle.std.specs.Prelude.{◌≡◌};
+ghost use Rattle.rme_engine.specs.Transcripts as spec;
+
+use crate::loaded::load_world;
 use crate::opened::open_world;
 use crate::tallied::TalliedWorld;
 use crate::told::{push_events, push_opened};
 use rme_program::Entry;
-use rme_wire::{Cut, Done, EngineFault, Names, Opening, Reply, Request, push_reply, request_of};
+use rme_wire::{
+    Cut, Done, EngineFault, Image, Loading, Names, Opening, Reply, Request, push_reply, request_of,
+};
 use rme_words::{NoMemory, Refusal};
 use std::alloc::{AllocError, Global};
 
@@ -18,20 +24,28 @@ pub enum Output {
 }
 
 /// The world that the lines opened, if one did, with its tally, and the names of its locks.
+///
+/// A caller that would begin with a saved world loads it here before the first line, and may save the world that the last
+/// line leaves.
 #[derive(Drop)]
 pub struct Engine {
-    alloc: Global,
-    names: Names,
-    world: Option<TalliedWorld>,
+    pub(crate) alloc: Global,
+    /// The names of the locks, each at its number; none where no world is open.
+    pub names: Names,
+    /// The world that is open, if one is.
+    pub world: Option<TalliedWorld>,
 }
 
 impl Engine {
     ghost use Rattle.std.specs.Prelude.{◌≡◌, ◌++◌, Some, IfOk, IfErr, OnOk, string_bytes};
     ghost use Rattle.rme_lines.specs.Cuts.{line_read};
-    ghost use Rattle.rme_engine.specs.States.{history_of, nothing_open, text_of};
-    ghost use Rattle.rme_engine.specs.Lines.{IsAnswered, Obeys, OpensIn, Replies, written};
+    ghost use Rattle.rme_engine.specs.States.{history_of, nothing_open, reply_by, text_of};
+    ghost use Rattle.rme_engine.specs.Lines.{IsAnswered, Loads, Obeys, OpensIn, Replies, written};
     ghost use Rattle.rme_engine.specs.Transcripts.{IsTold, request_text};
     ghost use Rattle.rme_engine.specs.Outputs.{Tells};
+    ghost use Rattle.rme_texts.specs.declared.answer.Done.TheVariants as word;
+    ghost use Rattle.rme_texts.specs.declared.reply.Reply.TheVariants as reply;
+    ghost use Rattle.rme_engine.specs.Commands.{SavesOpen};
     ghost use Rattle.rme_engine.specs.Engines.{state_of};
 
     /// Nothing is open.
@@ -92,6 +106,7 @@ impl Engine {
         let Ok(request) = request_of(self.alloc, &self.names, line) else {
             return Err(EngineFault::NoMemory);
         };
+        let request = unless_load(request);
         let reply = self.obey(&request);
         match self.push_told(out, &request, &reply) {
             Ok(()) => Ok(()),
@@ -111,6 +126,7 @@ impl Engine {
         match request {
             None => Ok(()),
             Some(Request::Open(_)) => push_opened(out, &self.names, &self.world, reply),
+            Some(Request::Load(_)) => Ok(()),
             Some(Request::World(command)) => push_events(out, &self.names, *command, reply),
         }
     }
@@ -161,6 +177,10 @@ impl Engine {
     {
         match request {
             Request::Open(opening) => self.open(opening),
+            Request::Load(loading) => match self.load(loading) {
+                Ok(()) => Reply::Done(Done::Load),
+                Err(refusal) => Reply::Refused(refusal),
+            },
             Request::World(command) => match &mut self.world {
                 None => Reply::Refused(Refusal::NotOpen),
                 Some(world) => world.obey(*command),
@@ -183,5 +203,42 @@ impl Engine {
                 Reply::Done(Done::Open)
             }
         }
+    }
+
+    /// Loads a world in the place of the one that is open, if one is: its locks have the given names, and its tally
+    /// has seen nothing.
+    ///
+    /// Refused by `BadImage`, then by `BadShape` where the names are outside the limits or not as many as the image has
+    /// locks; `NoMemory` may come before either. A refusal changes nothing.
+    pub fn load(&mut self, loading: &Loading) -> Result<(), Refusal>
+        ensures { Loads (state_of self.old) loading.now (reply_by (λ _. reply.Done word.Load) result) (state_of self.new) }
+    {
+        let loaded = match load_world(self.alloc, loading) {
+            Ok(loaded) => loaded,
+            Err(refusal) => return Err(refusal),
+        };
+        self.names = loaded.names;
+        self.world = Some(loaded.world);
+        Ok(())
+    }
+
+    /// The image of the world that is open, if one is. `NoMemory` where there was no room for it.
+    pub fn save(&self) -> Result<Option<Image>, NoMemory>
+        ensures { IfOk result (SavesOpen (state_of self.now).world) }
+    {
+        match &self.world {
+            None => Ok(None),
+            Some(tallied) => Ok(Some(tallied.image()?)),
+        }
+    }
+}
+
+/// The request, where it is none to load: a transcript begins with an opening.
+fn unless_load(request: Option<Request>) -> Option<Request>
+    ensures { result ≡ spec.unless_load request }
+{
+    match request {
+        Some(Request::Load(_)) => None,
+        other => other,
     }
 }

@@ -2,9 +2,10 @@
 //!
 //! The crate stands on rme_wire, which cuts lines, reads their orders and writes texts, on rme_world, whose
 //! calls obey them, on rme_history, whose tally `report` shows, and on rme_checker, whose machine judges a
-//! transcript. The program uses three contracts. `run_lines` writes, for the lines that were read, the answer of
+//! transcript. The program uses four contracts. `run_lines` writes, for the lines that were read, the answer of
 //! each in order and nothing else (`specs/Runs.antt`); `transcript_lines` writes the events of each in the place
-//! of its answer (`specs/Transcripts.antt`); `check_lines` says whether the abstract machine has all events of a
+//! of its answer (`specs/Transcripts.antt`); `answer_lines` does as `run_lines` over an `Engine`, which may begin with a saved
+//! world and whose world can be saved at the end; `check_lines` says whether the abstract machine has all events of a
 //! transcript in turn (`specs/Verdicts.antt`). A caller without lines has `TalliedWorld`, whose `obey` answers a
 //! command and whose `walk` takes many steps. Begin with `run.rt`, then `engine.rt`, and then `obey.rt`, which
 //! says what each command does; for the check with `check.rt`.
@@ -14,6 +15,7 @@ mod check;
 mod engine;
 mod judge;
 pub mod laws;
+mod loaded;
 mod obey;
 mod opened;
 mod pending;
@@ -23,5 +25,6 @@ mod told;
 mod walk;
 
 pub use check::{Verdict, check_lines};
-pub use run::{run_lines, transcript_lines};
+pub use engine::Engine;
+pub use run::{answer_lines, run_lines, transcript_lines};
 pub use tallied::TalliedWorld;

@@ -6,11 +6,21 @@ ghost use Rattle.rme_engine.specs.States as spec;
 
 use crate::tallied::TalliedWorld;
 use rme_history::Tally;
-use rme_wire::{Command, Done, Reply, Report};
-use rme_words::Refusal;
+use rme_wire::{Command, Done, Image, Reply, Report};
+use rme_words::{NoMemory, Refusal};
 
 impl TalliedWorld {
+    ghost use Rattle.std.specs.Prelude.{IfOk};
+    ghost use Rattle.rme_world.specs.Images.{Saved};
     ghost use Rattle.rme_engine.specs.Commands.{Does};
+
+    /// The image of the world. `NoMemory` where there was no room for it.
+    pub fn image(&self) -> Result<Image, NoMemory>
+        ensures { IfOk result (Saved self.now.world) }
+    {
+        let bytes = self.world.save()?;
+        Ok(Image::new(bytes))
+    }
 
     /// Obeys a command, and answers it as plain data. A refused command changes nothing.
     pub fn obey(&mut self, command: Command) -> Reply
@@ -46,6 +56,10 @@ impl TalliedWorld {
             },
             Command::History => Reply::History,
             Command::Report => Reply::Report(report_of(self.tally)),
+            Command::Save => match self.image() {
+                Ok(image) => Reply::Image(image),
+                Err(_) => Reply::Refused(Refusal::NoMemory),
+            },
         }
     }
 }

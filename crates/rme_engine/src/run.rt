@@ -10,7 +10,7 @@ ghost use Rattle.rme_engine.specs.Engines.{state_of};
 ghost use Rattle.rme_engine.specs.Lines.{IsAnswered};
 ghost use Rattle.rme_engine.specs.Outputs.{Tells};
 ghost use Rattle.rme_engine.specs.Transcripts.{IsTold};
-ghost use Rattle.rme_engine.specs.Runs.{Gathers, Spills, TurnFails, Turns, WritesAll, WritesFirst};
+ghost use Rattle.rme_engine.specs.Runs.{Gathers, Spills, TurnFails, Turns, WritesAll, WritesFirst, WritesTo};
 ghost use Rattle.rme_engine.specs.States.{nothing_open};
 
 use crate::engine::{Engine, Output};
@@ -50,7 +50,7 @@ pub fn run_lines<R: Read + Drop, W: Write>(
     ensures ended { HasEnded lines.old → ReadsNoMore lines.old lines.new }
     ensures failed { IfErr result (λ fault. fault ≡ EngineFault.ReadFailed → FailsToRead lines.old lines.new) }
 {
-    run(alloc, Output::Answers, lines, writer)
+    start(alloc, Output::Answers, lines, writer)
 }
 
 /// Obeys each line of the reader, as `run_lines` does, and writes a transcript: for each event that the world took
@@ -71,11 +71,31 @@ pub fn transcript_lines<R: Read + Drop, W: Write>(
     ensures ended { HasEnded lines.old → ReadsNoMore lines.old lines.new }
     ensures failed { IfErr result (λ fault. fault ≡ EngineFault.ReadFailed → FailsToRead lines.old lines.new) }
 {
-    run(alloc, Output::Transcript, lines, writer)
+    start(alloc, Output::Transcript, lines, writer)
 }
 
-/// Obeys each line of the reader, and writes of it what is asked for.
-fn run<R: Read + Drop, W: Write>(
+/// Answers each line of the reader as `run_lines` does, over what an engine has open, and leaves open what the last line
+/// leaves.
+///
+/// An error ends the run: the answers to all lines that were taken were written whole, and after `WriteFailed` a front of
+/// them was.
+pub fn answer_lines<R: Read + Drop, W: Write>(
+    engine: &mut Engine,
+    lines: &mut LineReader<R>,
+    writer: &mut W,
+) -> Result<(), EngineFault>
+    ensures ok { OnOk result (WritesTo IsAnswered (state_of engine.old) (bytes_left R.remaining lines.old) (W.contents writer.old) (W.contents writer.new) (state_of engine.new)) }
+    ensures err { IfErr result (λ fault. WritesFirst IsAnswered (state_of engine.old) fault (bytes_left R.remaining lines.old) (bytes_left R.remaining lines.new)
+        (W.contents writer.old) (W.contents writer.new)) }
+    ensures end { OnOk result (HasEnded lines.new) }
+    ensures ended { HasEnded lines.old → ReadsNoMore lines.old lines.new }
+    ensures failed { IfErr result (λ fault. fault ≡ EngineFault.ReadFailed → FailsToRead lines.old lines.new) }
+{
+    run(Output::Answers, engine, lines, writer)
+}
+
+/// Obeys each line of the reader, with nothing open at first, and writes of it what is asked for.
+fn start<R: Read + Drop, W: Write>(
     alloc: Global,
     output: Output,
     lines: &mut LineReader<R>,
@@ -91,11 +111,28 @@ fn run<R: Read + Drop, W: Write>(
     let Ok(mut engine) = Engine::new(alloc) else {
         return Err(EngineFault::NoMemory);
     };
-    let Ok(mut buffers) = Buffers::new(alloc) else {
+    run(output, &mut engine, lines, writer)
+}
+
+/// Obeys each line of the reader, over what the engine has open, and writes of it what is asked for.
+fn run<R: Read + Drop, W: Write>(
+    output: Output,
+    engine: &mut Engine,
+    lines: &mut LineReader<R>,
+    writer: &mut W,
+) -> Result<(), EngineFault>
+    ensures ok { OnOk result (WritesTo (Tells output) (state_of engine.old) (bytes_left R.remaining lines.old) (W.contents writer.old) (W.contents writer.new) (state_of engine.new)) }
+    ensures err { IfErr result (λ fault. WritesFirst (Tells output) (state_of engine.old) fault (bytes_left R.remaining lines.old) (bytes_left R.remaining lines.new)
+        (W.contents writer.old) (W.contents writer.new)) }
+    ensures end { OnOk result (HasEnded lines.new) }
+    ensures ended { HasEnded lines.old → ReadsNoMore lines.old lines.new }
+    ensures failed { IfErr result (λ fault. fault ≡ EngineFault.ReadFailed → FailsToRead lines.old lines.new) }
+{
+    let Ok(mut buffers) = Buffers::new(engine.alloc) else {
         return Err(EngineFault::NoMemory);
     };
     loop {
-        match turn(output, lines, &mut engine, &mut buffers, writer) {
+        match turn(output, lines, engine, &mut buffers, writer) {
             Ok(true) => {}
             Ok(false) => return Ok(()),
             Err(fault) => return Err(fault),

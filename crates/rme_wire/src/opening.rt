@@ -158,6 +158,13 @@ fn names_of(alloc: Global, texts: &[String]) -> Result<Names, NoMemory>
 }
 
 impl GivenNames {
+    /// These texts, in order.
+    pub fn of(texts: Vec<String>) -> GivenNames
+        ensures { result ≡ map string_bytes texts.items }
+    {
+        GivenNames { texts }
+    }
+
     /// Whether these may name the locks of a world: 1 to 16 names, each once.
     pub fn are_names(&self) -> bool
         ensures result { result ≡ spec.are_names self.now }

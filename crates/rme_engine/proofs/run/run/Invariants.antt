@@ -5,13 +5,12 @@ use Rattle.rme_lines.specs.Readers.{bytes_left, most_lines}
 use Rattle.rme_lines.proofs.ReaderLemmas.{CameOn}
 use Rattle.rme_engine.specs.Engines.{state_of}
 use Rattle.rme_engine.specs.Outputs.{Tells}
-use Rattle.rme_engine.specs.States.{nothing_open}
 use Rattle.rme_engine.proofs.RunLemmas.{SoFar}
 use Rattle.rme_engine.proofs.run.run.Given as goal
 
 abbrev pub invariant-loop-buffers : goal.invariant-loop-buffers
 invariant-loop-buffers g l = record {
-  so_far : SoFar (Tells l.fn.output) nothing_open (bytes_left g.R.Read.remaining l.fn.lines) (g.W.Write.contents l.fn.writer) (bytes_left g.R.Read.remaining l.lines) l.lines.ended (state_of l.engine)
+  so_far : SoFar (Tells l.fn.output) (state_of l.fn.engine) (bytes_left g.R.Read.remaining l.fn.lines) (g.W.Write.contents l.fn.writer) (bytes_left g.R.Read.remaining l.lines) l.lines.ended (state_of l.engine)
       (g.W.Write.contents l.writer) l.buffers.pending;
   came_on : CameOn l.fn.lines l.lines [];
 }
