@@ -13,6 +13,8 @@ mod corners;
 #[cfg(test)]
 mod event_lines;
 #[cfg(test)]
+mod images;
+#[cfg(test)]
 mod line_cuts;
 #[cfg(test)]
 mod line_readings;

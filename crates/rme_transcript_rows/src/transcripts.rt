@@ -44,7 +44,8 @@ pub const TRANSCRIPT: [&str; 15] = [
     r#"{"do":"note","note":["left","bank"],"worker":1}"#,
 ];
 
-/// A single step at a time, a withdrawal, what is refused and what is looked up; the last line has no newline.
+/// A single step at a time, a withdrawal, what is refused and what is looked up, a good image that is not loaded; the last
+/// line has no newline.
 const BY_STEPS: &str = r#"{"do":"owner","lock":"a"}
 {"cells":1,"do":"open","jobs":3,"locks":["a","b"],"workers":1}
 {"cells":1,"do":"open","jobs":3,"locks":["a","b"],"workers":1}
@@ -53,6 +54,8 @@ const BY_STEPS: &str = r#"{"do":"owner","lock":"a"}
 {"do":"walk","until":"asked","worker":0}
 {"do":"withdraw","worker":0}
 {"do":"history"}
+{"do":"save"}
+{"do":"load","image":"524d4549020001010100000001000000000000000000000000000000000000000000000000000000000000000000000000000000000000000000000000000000000000000000000000000000000000000000000000000000000000000000000000000000000000000000000000000000000000000000000000000000000000000000000000000000000000000000000000000000000000000000000000000000000000000000000000000000000000000000000000000000000000000000000000000000000000000000000000000000000000000000000000000000000000000000000000000000000000000000000000000000000000000000000000000000000000000000000000000000000000000000000000000000000000000000000000000000000000000000000000000000000000000000000000","locks":["a"]}
 {"do":"walk","worker":0}
 {"do":"step","worker":0}
 no command
