@@ -30,13 +30,14 @@ pub fn world(rt: &HostRuntime, shape: Shape) -> io::Result<()> {
     Ok(())
 }
 
-/// Hands over some jobs, then one more by a list of events, and replays what was finished.
+/// Hands over some jobs, then one more by a list of events, replays what was finished, and saves and loads it all.
 fn go_on(rt: &HostRuntime, world: &mut World) -> io::Result<()> {
     for job in 0..JOBS {
         submit(rt, world, job % 2)?;
     }
     run(rt, world)?;
-    replayed(rt, world)
+    replayed(rt, world)?;
+    saved(rt, world)
 }
 
 /// The job of a worker: on the lock of its own number, with an operation on each cell.
@@ -123,4 +124,29 @@ fn cells(rt: &HostRuntime, row: &Row) -> io::Result<()> {
         print!(rt; " {}", row.get(cell))?;
     }
     println!(rt; "")
+}
+
+/// Saves the world, and loads its image.
+fn saved(rt: &HostRuntime, world: &World) -> io::Result<()> {
+    for _ in 0..TRIES {
+        let Ok(image) = world.save() else {
+            println!(rt; "World::save: NoMemory")?;
+            continue;
+        };
+        println!(rt; "World::save: {} bytes", image.len())?;
+        return loaded(rt, image.as_slice());
+    }
+    Ok(())
+}
+
+/// Loads an image.
+fn loaded(rt: &HostRuntime, image: &[u8]) -> io::Result<()> {
+    for _ in 0..TRIES {
+        let Ok(world) = World::load(rt.alloc(), image) else {
+            println!(rt; "World::load: NoMemory")?;
+            continue;
+        };
+        return println!(rt; "World::load: {} entries", world.history().len());
+    }
+    Ok(())
 }
