@@ -1,16 +1,18 @@
 //! What ends the program early.
 
 ghost use Rattle.std.specs.Prelude.{◌≡◌};
-ghost use Rattle.rme_cli.specs.Statuses.{fault_of, fault_of_words, status_of};
+ghost use Rattle.rme_cli.specs.Statuses.{fault_of, fault_of_words, fault_on_file, status_of, status_of_refusal};
 ghost use Rattle.rme_cli.specs.declared.fault.Fault.TheVariants.{NoMemory};
 
 use rme_wire::EngineFault;
+use rme_words::Refusal;
 use std::alloc::AllocError;
+use std::io;
 use std::io::ErrorKind;
 use thiserror::Error;
 
 /// What ended the program early. Its text goes to the standard error.
-#[derive(Clone, Copy, Debug, PartialEq, Eq, Error)]
+#[derive(Debug, Drop, Error)]
 pub enum Fault {
     /// The words of the command line can't be had as text, or ask for what can't be.
     #[error("bad arguments")]
@@ -21,18 +23,38 @@ pub enum Fault {
     WriteFailed,
     #[error("no memory")]
     NoMemory,
+    /// The words after `--locks` may name no world's locks.
+    #[error("--locks takes 1 to 16 names, each once, of 1 to 32 of a-z 0-9 _ and -, with commas between")]
+    BadNames,
+    /// The file to begin with is there and can't be read.
+    #[error("the image {0} can't be read: {1}")]
+    ImageUnread(String, io::Error),
+    /// The file to begin with holds no image of a world.
+    #[error("the image {0} is broken: it is the image of no world")]
+    BadImage(String),
+    /// The world of the file has more locks than there are names, or fewer.
+    #[error("the world of the image {0} has not as many locks as --locks has names: {1}")]
+    OtherLocks(String, usize),
+    /// The file for the world that is left can't be written.
+    #[error("the image {0} can't be written: {1}")]
+    ImageUnwritten(String, io::Error),
 }
 
 impl Fault {
     /// The status of the program.
-    pub fn status(self) -> u8
-        ensures { result ≡ status_of self }
+    pub fn status(&self) -> u8
+        ensures { result ≡ status_of self.now }
     {
         match self {
             Fault::BadArguments => 2,
             Fault::ReadFailed => 3,
             Fault::WriteFailed => 4,
             Fault::NoMemory => 5,
+            Fault::BadNames => 2,
+            Fault::ImageUnread(_, _) => 3,
+            Fault::BadImage(_) => 2,
+            Fault::OtherLocks(_, _) => 2,
+            Fault::ImageUnwritten(_, _) => 4,
         }
     }
 
@@ -43,6 +65,27 @@ impl Fault {
         match kind {
             ErrorKind::OutOfMemory => Fault::NoMemory,
             _ => Fault::BadArguments,
+        }
+    }
+
+    /// The fault where a file is not read or written for a reason of this kind: want of memory, or else the given one.
+    pub fn on_file(kind: ErrorKind, other: Fault) -> Fault
+        ensures { result ≡ fault_on_file kind other }
+    {
+        if kind == ErrorKind::OutOfMemory {
+            return Fault::NoMemory;
+        }
+        other
+    }
+
+    /// The fault where the image of a file is not loaded under so many names.
+    pub fn of_loading(refusal: Refusal, file: String, names: usize) -> Fault
+        ensures { status_of result ≡ status_of_refusal refusal }
+    {
+        match refusal {
+            Refusal::NoMemory => Fault::NoMemory,
+            Refusal::BadShape => Fault::OtherLocks(file, names),
+            _ => Fault::BadImage(file),
         }
     }
 }
@@ -63,6 +106,14 @@ impl From<AllocError> for Fault {
     ghost from_gives = { λ _ fault. fault ≡ NoMemory };
 
     fn from(_refused: AllocError) -> Fault {
+        Fault::NoMemory
+    }
+}
+
+impl From<rme_words::NoMemory> for Fault {
+    ghost from_gives = { λ _ fault. fault ≡ NoMemory };
+
+    fn from(_refused: rme_words::NoMemory) -> Fault {
         Fault::NoMemory
     }
 }

@@ -1,9 +1,9 @@
 //! The program `rme`: a recoverable mutual exclusion lock service over lines, and over threads.
 //!
 //! It stands on rme_engine, whose engines it runs on its standard streams, and on rme_supervisor, by which
-//! `threads.rt` runs workers in threads. The words of the command line are read in `words.rt`, and `told.rt` says
-//! what becomes of those that give no task; what went wrong has its text and its status in `fault.rt`. Begin with
-//! `main`.
+//! `threads.rt` runs workers in threads. A run that begins or ends with a saved world is in `image.rt`. The words of
+//! the command line are read in `words.rt`, and `told.rt` says what becomes of those that give no task; what went
+//! wrong has its text and its status in `fault.rt`. Begin with `main`.
 #![tactic(auto)]
 
 ghost use Rattle.std.specs.Prelude.{◌≡◌, Bool};
@@ -12,6 +12,7 @@ ghost use Rattle.rme_cli.specs.Statuses.{told};
 
 mod check;
 mod fault;
+mod image;
 mod progress;
 mod threads;
 mod told;
@@ -19,6 +20,7 @@ mod words;
 
 use crate::check::check;
 use crate::fault::Fault;
+use crate::image::run_images;
 use crate::threads::run_threads;
 use crate::told::answer_of;
 use crate::words::{Task, task_of};
@@ -49,6 +51,7 @@ fn perform<R: Threads + Wait + Sync>(rt: &HostRuntime, threads: &R) -> Result<u8
             run_lines(rt.alloc(), &mut lines, &mut io::writer(rt))?;
             Ok(0)
         }
+        Ok(Task::Images(images)) => run_images(rt, images),
         Ok(Task::Transcript) => {
             let mut lines = LineReader::new(rt.alloc(), rt.stdin())?;
             transcript_lines(rt.alloc(), &mut lines, &mut io::writer(rt))?;

@@ -1,14 +1,18 @@
 //! The words of the command line.
 
+use crate::image::Images;
 use crate::threads::ThreadsTask;
 use clap::{Arg, ArgAction, ArgMatches, Command, Error, value_parser};
-use std::alloc::Global;
+use rme_wire::GivenNames;
+use std::alloc::{AllocError, Global};
 
 /// What the words ask for.
 #[derive(Drop)]
 pub enum Task {
     /// Answer the lines of the standard input.
     Run,
+    /// Answer them over a saved world, save the world that they leave, or both.
+    Images(Images),
     /// Obey the lines of the standard input, and write a transcript.
     Transcript,
     /// Check the transcript on the standard input.
@@ -40,6 +44,14 @@ const RUN_ABOUT: &str =
 
 const TRANSCRIPT_HELP: &str =
     "Writes what happened in the place of answers: each event that the world took, for `rme check`";
+
+const IMAGE_HELP: &str =
+    "Begins with the world that was saved in this file; with nothing, where the file is not there";
+
+const LOCKS_HELP: &str =
+    "Names the locks of that world, in order and with commas between: an image has no names";
+
+const SAVE_HELP: &str = "Saves the world that is open at the end of the input in this file";
 
 const CHECK_ABOUT: &str =
     "Checks a transcript on the standard input: whether the abstract machine has each of its steps";
@@ -83,11 +95,22 @@ Each line is one JSON object; its keys may come in any order. A world must be op
   {\"do\":\"last\",\"worker\":W}       the receipt of the worker's last job
   {\"do\":\"history\"}               all finished jobs, in order
   {\"do\":\"report\"}                the most steps of one stay in each phase, over all workers
+  {\"do\":\"save\"}                  the image of the world, in hexadecimal
+  {\"do\":\"load\",\"image\":HEX,\"locks\":[NAME,..]}
+                                 goes on with the world of an image, in the place of one that is open; its
+                                 locks have the given names, and all its workers are down
 
 A line that is refused is answered {\"code\":N,\"error\":NAME} and changes nothing.
 
-Status: 0 at the end of the input, 2 for words that are refused, 3 where reading failed, 4 where writing
-failed, 5 where memory ran out.";
+A run that begins with the world that the last run left, also where the machine stopped between them:
+
+  rme run --image bank.rme --locks bank --save bank.rme
+
+It saves at the end of the input alone; a run that a fault ends leaves the file as it was, and so does a
+crash. Where no world is open at the end, nothing is saved. The image is written to bank.rme.new first.
+
+Status: 0 at the end of the input, 2 for words that are refused, for an image that is broken and for
+--locks that don't fit it, 3 where reading failed, 4 where writing failed, 5 where memory ran out.";
 
 const THREADS_ABOUT: &str =
     "Supervises workers in threads, which fall and go on, and prints what their lock then holds";
@@ -140,17 +163,46 @@ fn threads_command<'a>(alloc: Global) -> Result<Command<'a>, Error> {
     Ok(threads)
 }
 
-/// The command line of the program.
-fn command<'a>(alloc: Global) -> Result<Command<'a>, Error> {
+/// The words after `run`.
+fn run_command<'a>(alloc: Global) -> Result<Command<'a>, Error> {
     let transcript = Arg::new(alloc, "transcript")
         .long("transcript")
         .short('t')
         .action(ArgAction::SetTrue)
+        .conflicts_with("image")?
+        .conflicts_with("save")?
         .help(TRANSCRIPT_HELP);
+    let image = Arg::new(alloc, "image")
+        .long("image")
+        .value_name("FILE")
+        .action(ArgAction::Set)
+        .requires_arg("locks")?
+        .help(IMAGE_HELP);
+    let locks = Arg::new(alloc, "locks")
+        .long("locks")
+        .value_name("NAMES")
+        .action(ArgAction::Set)
+        .value_delimiter(',')
+        .requires_arg("image")?
+        .help(LOCKS_HELP);
+    let save = Arg::new(alloc, "save")
+        .long("save")
+        .value_name("FILE")
+        .action(ArgAction::Set)
+        .help(SAVE_HELP);
     let run = Command::new(alloc, "run")
         .about(RUN_ABOUT)
         .after_help(RUN_LINES)
-        .arg(transcript)?;
+        .arg(transcript)?
+        .arg(image)?
+        .arg(locks)?
+        .arg(save)?;
+    Ok(run)
+}
+
+/// The command line of the program.
+fn command<'a>(alloc: Global) -> Result<Command<'a>, Error> {
+    let run = run_command(alloc)?;
     let check = Command::new(alloc, "check")
         .about(CHECK_ABOUT)
         .after_help(CHECK_LINES);
@@ -178,8 +230,40 @@ pub fn task_of(alloc: Global, words: &[String]) -> Result<Task, Error> {
     }
     match found.subcommand_matches("run") {
         None => Ok(Task::Check),
-        Some(run) if run.get_flag("transcript") => Ok(Task::Transcript),
-        Some(_) => Ok(Task::Run),
+        Some(run) => Ok(run_task(alloc, run)?),
+    }
+}
+
+/// What the words after `run` ask for.
+fn run_task(alloc: Global, found: &ArgMatches<'_>) -> Result<Task, AllocError> {
+    if found.get_flag("transcript") {
+        return Ok(Task::Transcript);
+    }
+    let load = text_of(alloc, found, "image")?;
+    let save = text_of(alloc, found, "save")?;
+    if load.is_none() && save.is_none() {
+        return Ok(Task::Run);
+    }
+    let mut locks = Vec::new(alloc);
+    for name in found.get_strs("locks").unwrap_or(&[]) {
+        locks.push(name.to_string(alloc)?)?;
+    }
+    Ok(Task::Images(Images {
+        load,
+        locks: GivenNames::of(locks),
+        save,
+    }))
+}
+
+/// The text of an option, if it was given.
+fn text_of(
+    alloc: Global,
+    found: &ArgMatches<'_>,
+    option: &str,
+) -> Result<Option<String>, AllocError> {
+    match found.get_str(option) {
+        None => Ok(None),
+        Some(text) => Ok(Some(text.to_string(alloc)?)),
     }
 }
 
