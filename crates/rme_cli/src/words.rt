@@ -75,7 +75,7 @@ Status: 0 after yes, 1 after no and bad, 2 for words that are refused, 3 where r
 writing failed, 5 where memory ran out.";
 
 const RUN_LINES: &str = "\
-Each line is one JSON object; its keys may come in any order. A world must be open first.
+Each line is one JSON object; its keys may come in any order. A world must be open or loaded first.
 
   {\"do\":\"open\",\"workers\":N,\"locks\":[NAME,..],\"cells\":N,\"jobs\":N}
                                  opens a world: 1 to 256 workers, 1 to 16 locks of 1 to 16 cells each, at
@@ -102,12 +102,12 @@ Each line is one JSON object; its keys may come in any order. A world must be op
 
 A line that is refused is answered {\"code\":N,\"error\":NAME} and changes nothing.
 
-A run that begins with the world that the last run left, also where the machine stopped between them:
+A run that begins with the world that the last one left, and leaves its own:
 
   rme run --image bank.rme --locks bank --save bank.rme
 
-It saves at the end of the input alone; a run that a fault ends leaves the file as it was, and so does a
-crash. Where no world is open at the end, nothing is saved. The image is written to bank.rme.new first.
+A world is saved at the end of the input alone: a run that ends early leaves bank.rme as it was, and so does
+one that ends with no world open. bank.rme.new is written first, and then put in the place of bank.rme.
 
 Status: 0 at the end of the input, 2 for words that are refused, for an image that is broken and for
 --locks that don't fit it, 3 where reading failed, 4 where writing failed, 5 where memory ran out.";
