@@ -3,6 +3,7 @@
 
 use std::fs::{self, File};
 use std::io::Write;
+use std::path::Path;
 use std::process::exit;
 
 const WORKER_WORDS: usize = 31;
@@ -326,7 +327,10 @@ fn replace(file: &str, bytes: &[u8]) -> std::io::Result<()> {
     written.write_all(bytes)?;
     written.sync_all()?;
     fs::rename(&unfinished, file)?;
-    let folder = std::path::Path::new(file).parent().unwrap_or("/".as_ref());
+    let folder = match Path::new(file).parent() {
+        Some(parent) if parent != Path::new("") => parent,
+        _ => Path::new("."),
+    };
     File::open(folder)?.sync_all()
 }
 
