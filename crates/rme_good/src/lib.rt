@@ -3,9 +3,8 @@
 //! The crate stands on rme_history, whose `replay` decides the entries of each lock, and on rme_machine, whose
 //! `IsGood` it decides. `is_good` answers yes exactly where each clause of an image, from that on nodes to that on
 //! entries, holds: a reader of images asks it of what the bytes say. `slate` and `is_pending` read what the words say of
-//! one worker's job. Begin
-//! with `good.rt`, and then with `specs/Accounts.antt` and `specs/Standings.antt`, which say what is asked of one
-//! worker and of one lock.
+//! one worker's job. Begin with `good.rt`, and then with `specs/Accounts.antt` and `specs/Standings.antt`, which say
+//! what is asked of one worker and of one lock.
 #![tactic(auto)]
 
 mod good;

@@ -3,9 +3,9 @@
 //!
 //! The crate stands on rme_lines and rme_texts, whose public names it passes on, on rme_program and
 //! rme_script, whose jobs the lines name, on serde_json, which reads a line into a value, and on hex, which
-//! reads the bytes of an image. It knows no world and obeys nothing. The one contract that the crates above use is that of `request_of`: the request of
-//! a line is the one that `specs/Requests.antt` reads off its value. Begin with `request.rt`, then
-//! `command.rt`.
+//! reads the bytes of an image. It knows no world and obeys nothing. The one contract that the crates above
+//! use is that of `request_of`: the request of a line is the one that `specs/Requests.antt` reads off its
+//! value. Begin with `request.rt`, then `command.rt`.
 #![tactic(auto)]
 
 mod command;
