@@ -9,71 +9,13 @@ use Rattle.rme_lines.specs.declared.fault.EngineFault.{EngineFault}
 use Rattle.rme_lines.specs.declared.fault.EngineFault.TheVariants.{ReadFailed, WriteFailed, NoMemory}
 use Rattle.rme_lines.specs.Cuts.{Cuts, line_read}
 use Rattle.rme_lines.specs.Pieces.{InputLine, TakesPiece, TakesWhole, line_of, lines_of, whole_lines_of}
-use Rattle.rme_lines.specs.Puts.{AppendsFront}
+use Rattle.rme_lines.specs.Puts.{AppendsFront, Gathers}
 use Rattle.rme_lines.specs.declared.lines.LineReader.{LineReader}
 use Rattle.rme_lines.specs.Readers.{FailsToRead, ReadsNoMore, most_lines}
+use Rattle.rme_lines.proofs.PutLemmas.{front_after, front_before, gathered_front, gathered_put}
 use Rattle.rme_lines.proofs.ReaderLemmas.{CameOn, came_no_more, came_to_fail}
 use Rattle.rme_lines.proofs.PieceLemmas.{lines_ended, whole_lines_ended, whole_lines_piece}
-use Rattle.rme_engine.specs.Runs.{AreLines, BeginsWith, CutsOff, Gathers, HasNone, Run, Spills, TurnFails, Turns, WereRead, WritesFirst, WritesTo, all_bytes}
-
--- ---- bytes that are kept back
-
--- nothing more was gathered, and nothing was written
-pub gathers_none : (held : Option (List ℕ)) (kept : List ℕ) → Gathers held kept [] held kept
-gathers_none held kept = record { front = []; put = Appends-nil held; rest = append-nil kept }
-
--- all that was kept back was written
-pub gathers_written : (held holds : Option (List ℕ)) (kept keeps : List ℕ) → Appends held holds kept → keeps ≡ [] → Gathers held kept [] holds keeps
-gathers_written held holds kept keeps put none = record { front = kept; put = put; rest = ap (λ l. kept ++ l) (sym none) }
-
--- bytes are kept back behind the others
-pub gathers_kept : (held : Option (List ℕ)) (kept bytes keeps : List ℕ) → keeps ≡ kept ++ bytes → Gathers held kept bytes held keeps
-gathers_kept held kept bytes keeps e = record { front = []; put = Appends-nil held; rest = sym e }
-
--- and after all the others were written
-pub gathers_alone : (held holds : Option (List ℕ)) (kept bytes mid keeps : List ℕ) → Appends held holds kept → mid ≡ [] → keeps ≡ mid ++ bytes → Gathers held kept bytes holds keeps
-gathers_alone held holds kept bytes mid keeps put none e =
-    record { front = kept; put = put; rest = ap (λ l. kept ++ l) (sym (e ∙ ap (λ l. l ++ bytes) none)) }
-
--- all was written
-pub gathers_all : (held mid holds : Option (List ℕ)) (kept bytes keeps : List ℕ) → Appends held mid kept → Appends mid holds bytes → keeps ≡ [] → Gathers held kept bytes holds keeps
-gathers_all held mid holds kept bytes keeps put more none =
-    record { front = kept ++ bytes; put = Appends-trans held mid holds kept bytes put more; rest = sym (append-nil (kept ++ bytes)) ∙ ap (λ l. (kept ++ bytes) ++ l) (sym none) }
-
--- first some bytes were gathered, and then more
-pub gathers_more : (held mid holds : Option (List ℕ)) (kept keeps last first bytes : List ℕ) → Gathers held kept first mid keeps → Gathers mid keeps bytes holds last
-    → Gathers held kept (first ++ bytes) holds last
-gathers_more held mid holds kept keeps last first bytes a b = record {
-  front = a.front ++ b.front;
-  put = Appends-trans held mid holds a.front b.front a.put b.put;
-  rest = sym (append_assoc kept first bytes) ∙ ap (λ l. l ++ bytes) a.rest ∙ append_assoc a.front keeps bytes ∙ ap (λ l. a.front ++ l) b.rest ∙ sym (append_assoc a.front b.front last);
-}
-
--- what was written is a front of all
-pub front_is : (held holds : Option (List ℕ)) (front rest all : List ℕ) → front ++ rest ≡ all → Appends held holds front → AppendsFront held holds all
-front_is held holds front rest all e put =
-    let P : List ℕ → Type 0 = λ l. Appends held holds l in
-    let Q : List ℕ → Type 0 = λ l. AppendsFront held holds l in subst Q e (length front, subst P (sym (take_at front rest (length front) refl)) put)
-
--- a front of the later bytes, after the others
-pub front_after : (held mid holds : Option (List ℕ)) (done bytes all : List ℕ) → Appends held mid done → AppendsFront mid holds bytes → done ++ bytes ≡ all → AppendsFront held holds all
-front_after held mid holds done bytes all put (n, more) e =
-    front_is held holds (done ++ take n bytes) (drop n bytes) all (append_assoc done (take n bytes) (drop n bytes) ∙ ap (λ l. done ++ l) (take-append-drop n bytes) ∙ e)
-    (Appends-trans held mid holds done (take n bytes) put more)
-
--- a front of the first bytes
-pub front_before : (held holds : Option (List ℕ)) (bytes more : List ℕ) → AppendsFront held holds bytes → AppendsFront held holds (bytes ++ more)
-front_before held holds bytes more (n, put) =
-    front_is held holds (take n bytes) (drop n bytes ++ more) (bytes ++ more) (sym (append_assoc (take n bytes) (drop n bytes) more) ∙ ap (λ l. l ++ more) (take-append-drop n bytes)) put
-
--- what was gathered, and then all that was kept back, was written
-pub gathered_put : (held mid holds : Option (List ℕ)) (kept keeps : List ℕ) → Gathers held kept [] mid keeps → Appends mid holds keeps → Appends held holds kept
-gathered_put held mid holds kept keeps gathers put =
-    let P : List ℕ → Type 0 = λ l. Appends held holds l in
-    subst P (sym gathers.rest ∙ append-nil kept) (Appends-trans held mid holds gathers.front keeps gathers.put put)
-
-gathered_front : (held mid holds : Option (List ℕ)) (kept keeps : List ℕ) → Gathers held kept [] mid keeps → AppendsFront mid holds keeps → AppendsFront held holds kept
-gathered_front held mid holds kept keeps gathers put = front_after held mid holds gathers.front keeps kept gathers.put put (sym gathers.rest ∙ append-nil kept)
+use Rattle.rme_engine.specs.Runs.{AreLines, BeginsWith, CutsOff, HasNone, Run, Spills, TurnFails, Turns, WereRead, WritesFirst, WritesTo, all_bytes}
 
 -- ---- the lines of the input
 

@@ -5,7 +5,7 @@ use Rattle.std.specs.Io.KnownBytes.{Appends}
 use Rattle.rme_lines.specs.declared.fault.EngineFault.{EngineFault}
 use Rattle.rme_lines.specs.declared.fault.EngineFault.TheVariants.{ReadFailed, WriteFailed, NoMemory}
 use Rattle.rme_lines.specs.Pieces.{InputLine, TakesPiece, TakesWhole, lines_of, whole_lines_of}
-use Rattle.rme_lines.specs.Puts.{AppendsFront}
+use Rattle.rme_lines.specs.Puts.{AppendsFront, Gathers}
 
 -- each line has its bytes, in what the line before left open
 abbrev pub Run : {S : Type 0} → (S → InputLine → List ℕ → S → Type 0) → S → List InputLine → List (List ℕ) → S → Type 0
@@ -68,12 +68,6 @@ CutsOff (Some before) (Some after) line = lines_of before ≡ line ∷ lines_of 
 abbrev pub HasNone : Option (List ℕ) → Type 0
 HasNone None = Unit {0}
 HasNone (Some bytes) = lines_of bytes ≡ []
-
--- Bytes were gathered behind those that were kept back, and a front of all of them was written: the others are kept back.
-pub record Gathers (held : Option (List ℕ)) (kept bytes : List ℕ) (holds : Option (List ℕ)) (keeps : List ℕ) : Type 0 where
-  pub front : List ℕ
-  pub put : Appends held holds front
-  pub rest : kept ++ bytes ≡ front ++ keeps
 
 -- a turn that took a line and gathered its bytes, or that found none, wrote all that was kept back and left all else open as it was; a line was taken
 -- with its newline while the reader has not ended

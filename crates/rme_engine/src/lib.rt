@@ -18,7 +18,6 @@ pub mod laws;
 mod loaded;
 mod obey;
 mod opened;
-mod pending;
 mod run;
 mod tallied;
 mod told;

@@ -4,18 +4,17 @@ ghost use Rattle.std.specs.Prelude.{◌≡◌, ◌≢◌, ◌≤◌, ◌<◌, []
 ghost use Rattle.std.specs.Io.KnownBytes.{Appends};
 ghost use Rattle.rme_lines.specs.Cuts.{Cuts};
 ghost use Rattle.rme_lines.specs.Pieces.{TakesPiece, TakesWhole};
-ghost use Rattle.rme_lines.specs.Puts.{AppendsFront};
+ghost use Rattle.rme_lines.specs.Puts.{AppendsFront, Gathers};
 ghost use Rattle.rme_lines.specs.Readers.{FailsToRead, HasEnded, ReadsNoMore, bytes_left, has_ended, most_lines, reads_left};
 ghost use Rattle.rme_engine.specs.Engines.{state_of};
 ghost use Rattle.rme_engine.specs.Lines.{IsAnswered};
 ghost use Rattle.rme_engine.specs.Outputs.{Tells};
 ghost use Rattle.rme_engine.specs.Transcripts.{IsTold};
-ghost use Rattle.rme_engine.specs.Runs.{Gathers, Spills, TurnFails, Turns, WritesAll, WritesFirst, WritesTo};
+ghost use Rattle.rme_engine.specs.Runs.{Spills, TurnFails, Turns, WritesAll, WritesFirst, WritesTo};
 ghost use Rattle.rme_engine.specs.States.{nothing_open};
 
 use crate::engine::{Engine, Output};
-use crate::pending::Pending;
-use rme_wire::{Cut, EngineFault, LineReader};
+use rme_wire::{Cut, EngineFault, LineReader, Pending};
 use std::alloc::{AllocError, Global};
 use std::io::{Read, Write};
 

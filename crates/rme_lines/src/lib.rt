@@ -8,9 +8,11 @@
 mod cut;
 mod fault;
 mod lines;
+mod pending;
 mod put;
 
 pub use cut::Cut;
 pub use fault::EngineFault;
 pub use lines::LineReader;
+pub use pending::Pending;
 pub use put::put_all;

@@ -1,6 +1,8 @@
--- In reading order: the slots, in which workers wait; the crash that a client plans; what a session holds; and which orders
--- it refuses.
+-- In reading order: the slots, in which workers wait; the crash that a client plans; what a session holds; which orders it
+-- refuses; what becomes of a job; and what each order does.
 pub mod Slots
 pub mod Plans
 pub mod Stands
 pub mod Refusals
+pub mod Works
+pub mod Obeyed

@@ -1,5 +1,5 @@
 -- Why a session refuses an order.
-use Rattle.std.specs.Prelude.{◌≡◌, ◌≢◌, ℕ, ◌+◌, ◌==◌, min, nat_lt, if◌then◌else◌, Option, Some, None}
+use Rattle.std.specs.Prelude.{◌≡◌, ◌≢◌, ℕ, ◌+◌, ◌==◌, nat_lt, if◌then◌else◌, Option, Some, None}
 use Rattle.rme_words.specs.declared.shape.Shape.{Shape}
 use Rattle.rme_words.specs.declared.refusal.Refusal.{Refusal}
 use Rattle.rme_words.specs.declared.refusal.Refusal.TheVariants.{NoWorker, Busy, Idle, WrongNumber, Differs, NotAttached, NotWaiting}
@@ -21,19 +21,15 @@ attach_refusal shape worker value = if nat_lt worker shape.workers then busy_ref
 
 -- SUBMIT
 
--- The number after the last, in 32 bits.
-abbrev pub next_after : ℕ → ℕ
-next_after last = min (last + 1) 4294967295
-
 -- Where no job is pending, the last number is answered again, but 0 is not.
 abbrev pub repeat_refusal : ℕ → ℕ → Option Refusal
 repeat_refusal last number =
-    if nat_lt 0 number then (if number == last then None else Some (WrongNumber (next_after last))) else Some (WrongNumber (next_after last))
+    if nat_lt 0 number then (if number == last then None else Some (WrongNumber (last + 1))) else Some (WrongNumber (last + 1))
 
 -- And the next number's job may be posted or not.
 abbrev pub posting_refusal : Shape → ℕ → Submission → Option Refusal
 posting_refusal shape last its =
-    if its.number == next_after last then post_refusal shape last its.job else repeat_refusal last its.number
+    if its.number == last + 1 then post_refusal shape last its.job else repeat_refusal last its.number
 
 -- Where a job is pending, the submission has its number and is the same job; or it has its number and is another; or it has
 -- another number.

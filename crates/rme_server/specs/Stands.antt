@@ -19,13 +19,6 @@ MayHold ident count (Ready ready) = HasSlot ident count ready
 MayHold ident count (Climb climb) = HasSlot ident count climb
 MayHold ident count (Held held) = HasSlot ident count held × (is_over held.part.private.stage ≡ false)
 
--- It holds this worker of this service; one that is inside has not finished its job.
-abbrev pub HoldsOf : Ident → ℕ → Holding → Type 0
-HoldsOf ident worker Empty = ⊥
-HoldsOf ident worker (Ready ready) = IsOf ident worker ready
-HoldsOf ident worker (Climb climb) = IsOf ident worker climb
-HoldsOf ident worker (Held held) = IsOf ident worker held × (is_over held.part.private.stage ≡ false)
-
 -- The worker that is held.
 abbrev pub held_by : Holding → Option Stand
 held_by Empty = None

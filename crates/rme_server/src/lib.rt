@@ -9,6 +9,7 @@
 //! `stand.rt`, and then `orders.rt`, which says what each order does.
 #![tactic(auto)]
 
+mod buffers;
 mod fault;
 mod orders;
 mod planned;

@@ -1,10 +1,16 @@
 //! What each order of a session does, and what it is answered.
 
-ghost use Rattle.std.specs.Prelude.{◌≡◌, ℕ, None};
+ghost use Rattle.std.specs.Prelude.{◌≡◌, ℕ, Option, None};
+ghost use Rattle.rme_program.specs.declared.note.Receipt.{Receipt};
+ghost use Rattle.rme_texts.specs.declared.session.SessionReply.TheVariants as reply;
+ghost use Rattle.rme_texts.specs.declared.session.Standing.TheVariants as at;
+ghost use Rattle.rme_wire.specs.declared.order.Order.TheVariants as order;
 ghost use Rattle.rme_server.specs.Slots.{IsOf};
-ghost use Rattle.rme_server.specs.Stands.{HoldsOf, MayHold, MayWork};
+ghost use Rattle.rme_server.specs.Stands.{MayHold, MayWork};
 ghost use Rattle.rme_server.specs.declared.stand.Holding.TheVariants as spec;
-ghost use Rattle.rme_server.specs.Refusals.{Refuses, withdraw_refusal, last_refusal};
+ghost use Rattle.rme_server.specs.declared.planned.Planned.TheVariants as planned;
+ghost use Rattle.rme_server.specs.Refusals.{Refuses, SubmitRefuses, attach_refusal, resume_refusal, withdraw_refusal, last_refusal};
+ghost use Rattle.rme_server.specs.Obeyed.{AnswersOf, IsLeft, Lasts, Obeys, Resumes, Settles, Submits};
 
 use crate::planned::Planned;
 use crate::refusal::refusal;
@@ -12,7 +18,7 @@ use crate::slots::Slots;
 use crate::stand::{Holding, Stand};
 use crate::work::{Worked, resume, submit};
 use rme_table::{Climb, Down, Held, Leave, Never, Ready, Service, Stance, Tag};
-use rme_wire::{Order, Outcome, SessionReply, Standing};
+use rme_wire::{Order, Outcome, SessionReply, Standing, Submission};
 use std::sync::Wait;
 
 /// Obeys an order, and answers it as plain data. A refused order changes nothing.
@@ -26,6 +32,7 @@ pub fn obey<K: Tag, R: Wait>(
     requires service { service.now ≡ K.ident }
     requires ours { MayHold K.ident slots.now stand.value }
     ensures ours { MayHold K.ident slots.now result.0.value }
+    ensures obeys { Obeys K.ident slots.now stand order result.0 result.1 }
 {
     let Stand { mut value, planned } = stand;
     match refusal(&mut value, &order, service) {
@@ -55,29 +62,64 @@ fn carry_out<K: Tag, R: Wait>(
     requires ours { MayHold K.ident slots.now stand.value }
     requires allowed { Refuses service.now.shape stand.value order None }
     ensures ours { MayHold K.ident slots.now result.0.value }
+    ensures obeys { Obeys K.ident slots.now stand order result.0 result.1 }
 {
     match order {
         Order::Attach(worker) => attach(rt, stand, worker, service, slots),
         Order::Submit(submission) => {
-            let Stand { value, mut planned } = stand;
-            let worked = submit(value, &submission, &mut planned, service);
-            let (stand, outcome) = settle(rt, worked, planned, slots);
+            let (stand, outcome) = hand_over(rt, stand, &submission, service, slots);
             (stand, SessionReply::Submitted(outcome))
         }
         Order::Resume(tries) => {
-            let Stand { value, mut planned } = stand;
-            let worked = resume(value, tries, &mut planned, service);
-            let (stand, outcome) = settle(rt, worked, planned, slots);
+            let (stand, outcome) = go_on(rt, stand, tries, service, slots);
             (stand, SessionReply::Resumed(outcome))
         }
         Order::Withdraw => withdraw(rt, stand, service, slots),
         Order::Last => last(stand, service),
-        Order::CrashAfter(steps) => plan(stand, steps),
+        Order::CrashAfter(steps) => (plan(stand, steps), SessionReply::CrashPlanned),
         Order::Detach => {
             let_go(rt, stand, slots);
             (Stand::empty(), SessionReply::Detached)
         }
     }
+}
+
+/// Hands the worker a job, or goes on with the one that it has.
+fn hand_over<K: Tag, R: Wait>(
+    rt: &R,
+    stand: Stand,
+    submission: &Submission,
+    service: &Service,
+    slots: &Slots<K>,
+) -> (Stand, Outcome)
+    requires service { service.now ≡ K.ident }
+    requires ours { MayHold K.ident slots.now stand.value }
+    requires allowed { SubmitRefuses service.now.shape stand.value submission.now None }
+    ensures ours { MayHold K.ident slots.now result.0.value }
+    ensures did { Submits service.now.shape stand.value submission.now result.0.value result.1 × IsLeft result.0 result.1 }
+{
+    let Stand { value, mut planned } = stand;
+    let worked = submit(value, submission, &mut planned, service);
+    settle(rt, worked, planned, slots)
+}
+
+/// Goes on with the job that the worker has.
+fn go_on<K: Tag, R: Wait>(
+    rt: &R,
+    stand: Stand,
+    tries: u32,
+    service: &Service,
+    slots: &Slots<K>,
+) -> (Stand, Outcome)
+    requires service { service.now ≡ K.ident }
+    requires ours { MayHold K.ident slots.now stand.value }
+    requires allowed { resume_refusal stand.value ≡ None }
+    ensures ours { MayHold K.ident slots.now result.0.value }
+    ensures did { Resumes stand.value result.0.value result.1 × IsLeft result.0 result.1 }
+{
+    let Stand { value, mut planned } = stand;
+    let worked = resume(value, tries, &mut planned, service);
+    settle(rt, worked, planned, slots)
 }
 
 /// Where the session stands after work: a worker that fell is back in its slot, and its plan is used up.
@@ -89,6 +131,7 @@ fn settle<K: Tag, R: Wait>(
 ) -> (Stand, Outcome)
     requires ours { MayWork K.ident slots.now worked }
     ensures ours { MayHold K.ident slots.now result.0.value }
+    ensures settles { Settles worked result.0 result.1 }
 {
     match worked {
         Ok((value, outcome)) => (Stand { value, planned }, outcome),
@@ -109,7 +152,9 @@ fn attach<K: Tag, R: Wait>(
 ) -> (Stand, SessionReply)
     requires service { service.now ≡ K.ident }
     requires ours { MayHold K.ident slots.now stand.value }
+    requires allowed { attach_refusal service.now.shape worker stand.value ≡ None }
     ensures ours { MayHold K.ident slots.now result.0.value }
+    ensures obeys { Obeys K.ident slots.now stand (order.Attach worker) result.0 result.1 }
 {
     let down = match slots.take(rt, worker) {
         Ok(down) => down,
@@ -128,7 +173,7 @@ fn attach<K: Tag, R: Wait>(
 }
 
 fn attached(ready: Ready) -> (Holding, SessionReply)
-    ensures { result.0 ≡ spec.Ready ready }
+    ensures { (result.0 ≡ spec.Ready ready) × (result.1 ≡ reply.Attached ready.part.private.begun at.Ready) }
 {
     let number = ready.number();
     (
@@ -138,7 +183,7 @@ fn attached(ready: Ready) -> (Holding, SessionReply)
 }
 
 fn attached_waiting(climb: Climb) -> (Holding, SessionReply)
-    ensures { result.0 ≡ spec.Climb climb }
+    ensures { (result.0 ≡ spec.Climb climb) × (result.1 ≡ reply.Attached climb.part.private.begun at.Climb) }
 {
     let number = climb.number();
     (
@@ -150,7 +195,7 @@ fn attached_waiting(climb: Climb) -> (Holding, SessionReply)
 /// A worker whose job was finished before its fall is brought to readiness at once.
 fn attached_inside(held: Held, service: &Service) -> (Holding, SessionReply)
     requires ours { held.ident ≡ service.now }
-    ensures { HoldsOf held.ident held.part.worker result.0 }
+    ensures { AnswersOf held.ident held.part.worker result.0 result.1 }
 {
     if held.finished() {
         return attached(come_out(held, service));
@@ -195,6 +240,7 @@ fn withdraw<K: Tag, R: Wait>(
     requires ours { MayHold K.ident slots.now stand.value }
     requires allowed { withdraw_refusal stand.value ≡ None }
     ensures ours { MayHold K.ident slots.now result.0.value }
+    ensures obeys { Obeys K.ident slots.now stand order.Withdraw result.0 result.1 }
 {
     let Stand { value, mut planned } = stand;
     let climb = match value {
@@ -218,7 +264,8 @@ fn withdraw<K: Tag, R: Wait>(
 fn last(stand: Stand, service: &Service) -> (Stand, SessionReply)
     requires ours { (count : ℕ) × MayHold service.now count stand.value }
     requires allowed { last_refusal stand.value ≡ None }
-    ensures { result.0.value ≡ stand.value }
+    ensures same { result.0 ≡ stand }
+    ensures last { (receipt : Option Receipt) × (result.1 ≡ reply.Last receipt) × Lasts service.now.shape stand.value receipt }
 {
     let Stand { value, planned } = stand;
     let mut ready = match value {
@@ -231,10 +278,10 @@ fn last(stand: Stand, service: &Service) -> (Stand, SessionReply)
 }
 
 /// Plans a crash, in the place of one that was planned before.
-fn plan(stand: Stand, steps: u32) -> (Stand, SessionReply)
-    ensures { result.0.value ≡ stand.value }
+fn plan(stand: Stand, steps: u32) -> Stand
+    ensures { result ≡ record { value = stand.value; planned = planned.After steps } }
 {
     let Stand { value, planned: _ } = stand;
     let planned = Planned::After(steps);
-    (Stand { value, planned }, SessionReply::CrashPlanned)
+    Stand { value, planned }
 }

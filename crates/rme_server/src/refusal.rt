@@ -1,13 +1,12 @@
 //! Which orders a session refuses.
 
-ghost use Rattle.std.specs.Prelude.{◌≡◌, ℕ, Some};
-ghost use Rattle.rme_table.specs.Calls.{post_refusal};
+ghost use Rattle.std.specs.Prelude.{◌≡◌, ◌≤◌, ◌+◌, ℕ, Some};
 ghost use Rattle.rme_server.specs.Stands.{MayHold};
 ghost use Rattle.rme_server.specs.Refusals as spec;
 
 use crate::stand::Holding;
 use rme_script::Job;
-use rme_table::Service;
+use rme_table::{Ready, Service};
 use rme_wire::{Order, Submission};
 use rme_words::{Refusal, Shape};
 
@@ -56,7 +55,7 @@ fn submit_refusal(
 {
     match value {
         Holding::Empty => Some(Refusal::NotAttached),
-        Holding::Ready(ready) => posting_refusal(ready.number(), submission, service.shape()),
+        Holding::Ready(ready) => posting_refusal(ready, submission, service),
         Holding::Climb(climb) => {
             let job = climb.job(service);
             pending_refusal(climb.number(), &job, submission)
@@ -70,12 +69,18 @@ fn submit_refusal(
 
 /// Why a worker that is ready refuses a submission: its number is the next and the job may not be posted, or it
 /// is neither the next nor the last.
-fn posting_refusal(last: u32, submission: &Submission, shape: Shape) -> Option<Refusal>
-    ensures { result ≡ spec.posting_refusal shape last submission.now }
+fn posting_refusal(ready: &Ready, submission: &Submission, service: &Service) -> Option<Refusal>
+    requires ours { ready.now.ident ≡ service.now }
+    ensures { result ≡ spec.posting_refusal service.now.shape ready.now.part.private.begun submission.now }
 {
-    let next = last.saturating_add(1);
+    let shape = service.shape();
+    let last = ready.number();
+    let next = next_after(last, shape);
     if submission.number == next {
-        return job_refusal(&submission.job, last, shape);
+        return match ready.may_post(service, &submission.job) {
+            Ok(()) => None,
+            Err(why) => Some(why),
+        };
     }
     if submission.number > 0 && submission.number == last {
         return None;
@@ -83,20 +88,13 @@ fn posting_refusal(last: u32, submission: &Submission, shape: Shape) -> Option<R
     Some(Refusal::WrongNumber(next))
 }
 
-/// Why a job may not be posted by a worker that has begun so many.
-fn job_refusal(job: &Job, begun: u32, shape: Shape) -> Option<Refusal>
-    ensures { result ≡ post_refusal shape begun job.now }
+/// The number after one of a job, which is at most as many as there are.
+fn next_after(last: u32, shape: Shape) -> u32
+    requires few { last ≤ shape.jobs }
+    ensures { result ≡ last + 1 }
 {
-    if job.lock >= shape.locks() {
-        return Some(Refusal::NoLock);
-    }
-    if let Err(why) = job.script.check(shape) {
-        return Some(why);
-    }
-    if begun >= shape.jobs() {
-        return Some(Refusal::TooManyJobs);
-    }
-    None
+    let _most = shape.jobs();
+    last + 1
 }
 
 /// Why a worker with a pending job refuses a submission: it is of another number, or another job.

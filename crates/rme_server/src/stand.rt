@@ -24,11 +24,11 @@ pub struct Stand {
 impl Stand {
     ghost use Rattle.std.specs.Prelude.{◌≡◌};
     ghost use Rattle.rme_server.specs.Stands.{held_by};
-    ghost use Rattle.rme_server.specs.declared.stand.Holding.TheVariants.{Empty};
+    ghost use Rattle.rme_server.specs.Obeyed.{nobody};
 
     /// No worker, and nothing planned.
     pub fn empty() -> Stand
-        ensures { result.value ≡ Empty }
+        ensures { result ≡ nobody }
     {
         Stand {
             value: Holding::Empty,

@@ -3,20 +3,18 @@
 ghost use Rattle.std.specs.Prelude.{◌≡◌};
 ghost use Rattle.rme_server.specs.Stands.{MayHold};
 
+use crate::buffers::Buffers;
 use crate::orders::{let_go, obey};
 use crate::slots::Slots;
 use crate::stand::Stand;
 use rme_table::{Service, Tag};
 use rme_wire::{
-    Cut, EngineFault, LineReader, Names, Order, SessionReply, order_of, push_session_reply, put_all,
+    Cut, EngineFault, LineReader, Names, Order, Outcome, SessionReply, Submission, order_of,
 };
 use rme_words::{NoMemory, Refusal};
-use std::alloc::{AllocError, Global};
+use std::alloc::Global;
 use std::io::{Read, Write};
 use std::sync::Wait;
-
-/// Room for the answer of most orders.
-const USUAL_ROOM: usize = 256;
 
 /// What all sessions of a service share.
 #[derive(Drop)]
@@ -27,18 +25,12 @@ struct Shared<'a, K: Tag> {
     names: &'a Names,
 }
 
-/// The line that was cut, and its answer.
-#[derive(Drop)]
-struct Buffers {
-    line: Vec<u8>,
-    text: String,
-}
-
 /// Obeys each line of the reader as an order, with no worker at first, and answers it by one line of the writer.
 ///
-/// However the session ends, a worker that it has falls then, and its Down is back in its slot before the session
-/// answers. An error ends it: the answers to earlier lines were written whole, and after `WriteFailed` a front of
-/// the last.
+/// Answers to lines that came together are written together: all before the reader is read again, and before an
+/// order waits for its lock. However the session ends, a worker that it has falls then, and its Down is back in
+/// its slot before the session answers. An error ends it: the answers to earlier lines were written whole, and
+/// after `WriteFailed` a front of them.
 pub fn session<K: Tag, R: Wait, I: Read + Drop, O: Write>(
     rt: &R,
     alloc: Global,
@@ -64,15 +56,9 @@ pub fn session<K: Tag, R: Wait, I: Read + Drop, O: Write>(
     };
     let (stand, ended) = converse(rt, &mut lines, &mut buffers, writer, &shared);
     let_go(rt, stand, slots);
-    ended
-}
-
-impl Buffers {
-    fn new(alloc: Global) -> Result<Buffers, AllocError> {
-        Ok(Buffers {
-            line: Vec::new(alloc),
-            text: String::with_capacity(alloc, USUAL_ROOM)?,
-        })
+    match ended {
+        Ok(()) => Ok(()),
+        Err(fault) => Err(buffers.give_up(fault, writer)),
     }
 }
 
@@ -99,7 +85,7 @@ fn converse<K: Tag, R: Wait, I: Read + Drop, O: Write>(
     unreachable!()
 }
 
-/// Takes the next line, obeys it and writes its answer, and says whether there was a line.
+/// Takes the next line, obeys it and answers it, and says whether there was a line.
 fn turn<K: Tag, R: Wait, I: Read + Drop, O: Write>(
     rt: &R,
     stand: Stand,
@@ -112,20 +98,24 @@ fn turn<K: Tag, R: Wait, I: Read + Drop, O: Write>(
     requires stand { MayHold K.ident shared.now.slots.now stand.value }
     ensures { MayHold K.ident shared.now.slots.now result.0.value }
 {
-    let cut = match lines.next_line(&mut buffers.line) {
+    let cut = match buffers.next_cut(lines, writer) {
         Ok(Cut::End) => return (stand, Ok(false)),
         Ok(cut) => cut,
         Err(fault) => return (stand, Err(fault)),
     };
-    let (stand, reply) = match order_in(cut, buffers.line.as_slice(), shared.alloc, shared.names) {
-        Ok(Ok(order)) => obey(rt, stand, order, shared.service, shared.slots),
-        Ok(Err(why)) => (stand, SessionReply::Refused(why)),
-        Err(_) => return (stand, Err(EngineFault::NoMemory)),
+    let (stand, replied) = match order_in(cut, buffers.line.as_slice(), shared.alloc, shared.names) {
+        Ok(Ok(order)) => obey_in_time(rt, stand, order, buffers, writer, shared),
+        Ok(Err(why)) => (stand, Ok(SessionReply::Refused(why))),
+        Err(_) => (stand, Err(EngineFault::NoMemory)),
     };
-    (
-        stand,
-        answer(reply, &mut buffers.text, writer, shared.names),
-    )
+    let answered = match replied {
+        Ok(reply) => buffers.answer(shared.names, reply, writer),
+        Err(fault) => Err(fault),
+    };
+    match answered {
+        Ok(()) => (stand, Ok(true)),
+        Err(fault) => (stand, Err(fault)),
+    }
 }
 
 /// The order of the line that was cut, or why the line is none.
@@ -145,25 +135,63 @@ fn order_in(
     }
 }
 
-/// Writes an answer and its newline.
-fn answer<O: Write>(
-    reply: SessionReply,
-    text: &mut String,
+/// Obeys an order. Where answers are kept back it makes one try alone; if the job waits then, they are written
+/// before the others are made, so that no client waits for an answer that is there.
+fn obey_in_time<K: Tag, R: Wait, O: Write>(
+    rt: &R,
+    stand: Stand,
+    order: Order,
+    buffers: &mut Buffers,
     writer: &mut O,
-    names: &Names,
-) -> Result<bool, EngineFault> {
-    text.clear();
-    match push_line(text, names, reply) {
-        Ok(()) => {}
-        Err(_) => return Err(EngineFault::NoMemory),
+    shared: &Shared<'_, K>,
+) -> (Stand, Result<SessionReply, EngineFault>)
+    requires ours { shared.now.service.now ≡ K.ident }
+    requires stand { MayHold K.ident shared.now.slots.now stand.value }
+    ensures { MayHold K.ident shared.now.slots.now result.0.value }
+{
+    let (first, tries) = if buffers.keeps_back() {
+        first_try(order)
+    } else {
+        (order, 0)
+    };
+    let (stand, reply) = obey(rt, stand, first, shared.service, shared.slots);
+    if tries == 0 || !is_waiting(reply) {
+        return (stand, Ok(reply));
     }
-    match put_all(writer, text.as_bytes()) {
-        Ok(()) => Ok(true),
-        Err(fault) => Err(fault),
+    if let Err(fault) = buffers.write(writer) {
+        return (stand, Err(fault));
+    }
+    let (stand, last) = obey(rt, stand, Order::Resume(tries), shared.service, shared.slots);
+    (stand, Ok(as_answer_to(reply, last)))
+}
+
+/// The order with one try of its tries, and how many are left.
+fn first_try(order: Order) -> (Order, u32) {
+    match order {
+        Order::Submit(submission) => (
+            Order::Submit(Submission {
+                tries: 1,
+                ..submission
+            }),
+            submission.tries.saturating_sub(1),
+        ),
+        Order::Resume(tries) => (Order::Resume(1), tries.saturating_sub(1)),
+        other => (other, 0),
     }
 }
 
-fn push_line(text: &mut String, names: &Names, reply: SessionReply) -> Result<(), AllocError> {
-    push_session_reply(text, names, reply)?;
-    text.push_str("\n")
+/// Whether the job waits for its lock still.
+fn is_waiting(reply: SessionReply) -> bool {
+    reply == SessionReply::Submitted(Outcome::Waiting)
+        || reply == SessionReply::Resumed(Outcome::Waiting)
+}
+
+/// What became of the job in the end, as an answer to the order that was given.
+fn as_answer_to(first: SessionReply, last: SessionReply) -> SessionReply {
+    match (first, last) {
+        (SessionReply::Submitted(_), SessionReply::Resumed(outcome)) => {
+            SessionReply::Submitted(outcome)
+        }
+        (_, last) => last,
+    }
 }

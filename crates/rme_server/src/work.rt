@@ -1,9 +1,12 @@
 //! What a session's worker does of its job, up to the end of the order.
 
-ghost use Rattle.std.specs.Prelude.{◌≡◌, ◌≢◌, ℕ, false, None};
+ghost use Rattle.std.specs.Prelude.{◌≡◌, ◌==◌, ℕ, false, None};
 ghost use Rattle.rme_table.specs.Calls.{is_over};
 ghost use Rattle.rme_server.specs.Stands.{HasSlot, MayHold, MayWork};
 ghost use Rattle.rme_server.specs.Refusals.{SubmitRefuses, posting_refusal, resume_refusal};
+ghost use Rattle.rme_server.specs.Works.{Ends, GoesOn, Hands, Repeats};
+ghost use Rattle.rme_server.specs.Obeyed.{Resumes, Submits};
+ghost use Rattle.rme_server.specs.declared.stand.Holding.TheVariants as spec;
 
 use crate::planned::Planned;
 use crate::stand::Holding;
@@ -23,7 +26,8 @@ pub(crate) fn submit(
 ) -> Result<Worked, Down>
     requires ours { (count : ℕ) × MayHold service.now count value }
     requires allowed { SubmitRefuses service.now.shape value submission.now None }
-    ensures { (count : ℕ) → MayHold service.now count value → MayWork service.now count result }
+    ensures ours { (count : ℕ) → MayHold service.now count value → MayWork service.now count result }
+    ensures did { Ends result (Submits service.now.shape value submission.now) }
 {
     match value {
         Holding::Ready(ready) => submit_to(ready, submission, planned, service),
@@ -42,7 +46,8 @@ pub(crate) fn resume(
 ) -> Result<Worked, Down>
     requires ours { (count : ℕ) × MayHold service.now count value }
     requires allowed { resume_refusal value ≡ None }
-    ensures { (count : ℕ) → MayHold service.now count value → MayWork service.now count result }
+    ensures ours { (count : ℕ) → MayHold service.now count value → MayWork service.now count result }
+    ensures did { Ends result (Resumes value) }
 {
     match value {
         Holding::Climb(climb) => go_in(climb, tries, planned, service),
@@ -60,7 +65,8 @@ fn submit_to(
 ) -> Result<Worked, Down>
     requires ours { ready.ident ≡ service.now }
     requires allowed { posting_refusal service.now.shape ready.part.private.begun submission.now ≡ None }
-    ensures { (count : ℕ) → HasSlot service.now count ready → MayWork service.now count result }
+    ensures ours { (count : ℕ) → HasSlot service.now count ready → MayWork service.now count result }
+    ensures did { Ends result (Hands service.now.shape (submission.now.number == ready.part.private.begun) ready submission.now.job) }
 {
     if submission.number == ready.number() {
         let outcome = last_outcome(&mut ready, service);
@@ -77,6 +83,7 @@ fn submit_to(
 fn last_outcome(ready: &mut Ready, service: &Service) -> Outcome
     requires ours { ready.old.ident ≡ service.now }
     ensures same { ready.new ≡ ready.old }
+    ensures repeats { Repeats service.now.shape ready.old (spec.Ready ready.old) result }
 {
     match ready.last(service) {
         Some(receipt) => Outcome::Receipt(receipt),
@@ -92,7 +99,8 @@ fn go_in(
     service: &Service,
 ) -> Result<Worked, Down>
     requires ours { climb.ident ≡ service.now }
-    ensures { (count : ℕ) → HasSlot service.now count climb → MayWork service.now count result }
+    ensures ours { (count : ℕ) → HasSlot service.now count climb → MayWork service.now count result }
+    ensures did { Ends result (GoesOn climb) }
 {
     let backoff = Backoff::new();
     for _ in 0..tries {
@@ -109,7 +117,9 @@ fn go_in(
 /// From the lock's entry to readiness.
 fn go_on(held: Held, planned: &mut Planned, service: &Service) -> Result<Worked, Down>
     requires ours { held.ident ≡ service.now }
-    ensures { (count : ℕ) → HasSlot service.now count held → MayWork service.now count result }
+    requires pending { is_over held.part.private.stage ≡ false }
+    ensures ours { (count : ℕ) → HasSlot service.now count held → MayWork service.now count result }
+    ensures did { Ends result (GoesOn held) }
 {
     let (leave, receipt) = match held.perform(service, planned) {
         Ok(done) => done,

@@ -104,11 +104,13 @@ Posts shape job start old new (posted.Refused ready refusal) = (post_refusal sha
 
 -- ENTER
 
--- A sweep ends with the lock entered, or with a blocked step, which found another's node.
+-- A sweep ends with the lock entered, and the job is not finished yet; or with a blocked step, which found another's node.
 abbrev pub Sweeps : Shape → Stand → Tally → Tally → Sweep → Type 0
 Sweeps shape start old new (sweep.Got held) =
     ((lock : ℕ) × (held.part.note ≡ Entered lock)) × Made shape onward start held old new 1 shape.height
-Sweeps shape start old new (sweep.Blocked climb) = (climb.part.note ≡ Blocked) × Made shape onward start climb old new 1 shape.height
+    × (held.part.private.begun ≡ start.part.private.begun) × (is_over held.part.private.stage ≡ false)
+Sweeps shape start old new (sweep.Blocked climb) =
+    (climb.part.note ≡ Blocked) × Made shape onward start climb old new 1 shape.height × (climb.part.private.begun ≡ start.part.private.begun)
 Sweeps shape start old new (sweep.Fell down) = Falling shape onward start down old new shape.height
 
 -- SECTION

@@ -73,6 +73,7 @@ impl Climb {
     pub fn withdraw<C: Chance>(self, service: &Service, chance: &mut C) -> Result<Ready, Down>
         requires ours { self.ident ≡ service.now }
         ensures made { MatchResult result (λ ready. Made service.now.shape withdrawing self ready (C.tally chance.old) (C.tally chance.new) 4 (service.now.shape.height + 3)) (λ down. Falling service.now.shape withdrawing self down (C.tally chance.old) (C.tally chance.new) (service.now.shape.height + 3)) }
+        ensures number { MatchResult result (λ ready. ready.part.private.begun ≡ self.part.private.begun) (λ _. Unit {0}) }
         ensures holds_none { MatchResult result (λ ready. HoldsNone service.now.shape ready.part) (λ _. Unit {0}) }
     {
         let Climb {

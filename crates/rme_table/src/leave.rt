@@ -26,7 +26,8 @@ impl Leave {
     /// Releases the worker's nodes, from the root downward, and leaves it ready.
     pub fn exit<C: Chance>(self, service: &Service, chance: &mut C) -> Result<Ready, Down>
         requires ours { self.ident ≡ service.now }
-        ensures { MatchResult result (λ ready. Made service.now.shape onward self ready (C.tally chance.old) (C.tally chance.new) 1 (service.now.shape.height + 2)) (λ down. Falling service.now.shape onward self down (C.tally chance.old) (C.tally chance.new) (service.now.shape.height + 2)) }
+        ensures made { MatchResult result (λ ready. Made service.now.shape onward self ready (C.tally chance.old) (C.tally chance.new) 1 (service.now.shape.height + 2)) (λ down. Falling service.now.shape onward self down (C.tally chance.old) (C.tally chance.new) (service.now.shape.height + 2)) }
+        ensures number { MatchResult result (λ ready. ready.part.private.begun ≡ self.part.private.begun) (λ _. Unit {0}) }
     {
         let Leave {
             mut seat,

@@ -14,7 +14,7 @@ use rme_words::Refusal;
 use std::marker::Brand;
 
 impl Ready {
-    ghost use Rattle.std.specs.Prelude.{◌≡◌, ◌≢◌, ◌+◌, ◌*◌, ◌<◌, MatchResult};
+    ghost use Rattle.std.specs.Prelude.{◌≡◌, ◌≢◌, ◌+◌, ◌*◌, ◌<◌, ◌≤◌, MatchResult};
     ghost use Rattle.rme_program.specs.declared.kinds.Phase.{Phase};
     ghost use Rattle.rme_program.specs.Phases.{phase_of};
     ghost use Rattle.rme_seats.specs.Doing.{Falling};
@@ -35,7 +35,8 @@ impl Ready {
 
     /// The number of the job that was finished or withdrawn last, or 0.
     pub fn number(&self) -> u32
-        ensures { result ≡ self.now.part.private.begun }
+        ensures number { result ≡ self.now.part.private.begun }
+        ensures few { result ≤ self.now.ident.shape.jobs }
     {
         self.begun
     }
@@ -49,14 +50,14 @@ impl Ready {
         requires ours { self.ident ≡ service.now }
         ensures { Posts service.now.shape job self (C.tally chance.old) (C.tally chance.new) result }
     {
-        if let Err(refusal) = self.may_post(service, &job) {
-            return Posted::Refused(self, refusal);
+        match self.may_post(service, &job) {
+            Ok(()) => self.put::<Brand, C>(service, &job, chance),
+            Err(refusal) => Posted::Refused(self, refusal),
         }
-        self.put::<Brand, C>(service, &job, chance)
     }
 
-    /// Whether the job may be posted, or why it may not.
-    fn may_post(&self, service: &Service, job: &Job) -> Result<(), Refusal>
+    /// Whether `post` would take the job, or why it would refuse it.
+    pub fn may_post(&self, service: &Service, job: &Job) -> Result<(), Refusal>
         ensures may { OnOk result (IsJob service.now.shape job.now × (self.now.part.private.begun < service.now.shape.jobs)) }
         ensures none { OnOk result (post_refusal service.now.shape self.now.part.private.begun job.now ≡ None) }
         ensures refused { IfErr result (λ refusal. post_refusal service.now.shape self.now.part.private.begun job.now ≡ Some refusal) }

@@ -4,7 +4,8 @@ use Rattle.rme_lines.specs.Cuts.{line_read}
 use Rattle.rme_lines.specs.Readers.{bytes_left}
 use Rattle.rme_engine.specs.Engines.{state_of}
 use Rattle.rme_engine.specs.Outputs.{Tells}
-use Rattle.rme_engine.proofs.RunLemmas.{cut_off, gathers_more, gave_up, put_failed, spilt}
+use Rattle.rme_lines.proofs.PutLemmas.{gathers_more}
+use Rattle.rme_engine.proofs.RunLemmas.{cut_off, gave_up, put_failed, spilt}
 use Rattle.rme_engine.proofs.run.turn.Goals as goal
 
 pub returns-in-Err-clause-err : goal.returns-in-Err-clause-err

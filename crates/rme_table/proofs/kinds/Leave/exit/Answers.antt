@@ -12,8 +12,8 @@ clear-left-requires-clause-levels g c = clear_levels _ _ _ _ _ _ _ c.self.view_i
 pub clear-left-requires-clause-lock : goal.clear-left-requires-clause-lock
 clear-left-requires-clause-lock g c = clear_lock _ _ _ _ _ _ _ c.self.view_is c.requires.ours c.service.view_is c.self.invariant _ c.in-Partial.is
 
-pub returns-then-is_err : goal.returns-then-is_err
-returns-then-is_err g c = elim c.match-way.branch [
+pub returns-then-is_err-clause-made : goal.returns-then-is_err-clause-made
+returns-then-is_err-clause-made g c = elim c.match-way.branch [
   | in-Whole w ↦ left_fell c.args.self c.match-way.seat c.args.service.now _ _ _ c.match-way.left
       (left_whole _ _ _ _ _ _ _ c.self.view_is c.requires.ours c.service.view_is c.self.invariant _ _ _ _ _ _ _ w.seat-is (ap g.C.Chance.tally w.chance-is) w.left-is w.leave-left.ensures) (sym c.is_err.ensures.value ∙ c.if-is_err.true)
   | in-Partial w ↦ left_fell c.args.self c.match-way.seat c.args.service.now _ _ _ c.match-way.left
@@ -28,8 +28,8 @@ invariant_of-result g c = elim c.match-way.branch [
       (left_level _ _ _ _ _ _ _ c.self.view_is c.requires.ours c.service.view_is c.self.invariant _ _ _ _ _ _ _ w.seat-is (ap g.C.Chance.tally w.chance-is) w.left-is _ w.in-Partial.is w.clear-left.ensures) (sym c.is_err.ensures.value ∙ c.if-is_err.false)
 ]
 
-pub returns : goal.returns
-returns g c = elim c.match-way.branch [
+pub returns-clause-made : goal.returns-clause-made
+returns-clause-made g c = elim c.match-way.branch [
   | in-Whole w ↦ left_made c.args.self c.match-way.seat c.args.service.now _ _ _ c.match-way.left
       (left_whole _ _ _ _ _ _ _ c.self.view_is c.requires.ours c.service.view_is c.self.invariant _ _ _ _ _ _ _ w.seat-is (ap g.C.Chance.tally w.chance-is) w.left-is w.leave-left.ensures) (sym c.is_err.ensures.value ∙ c.if-is_err.false)
   | in-Partial w ↦ left_made c.args.self c.match-way.seat c.args.service.now _ _ _ c.match-way.left

@@ -1,6 +1,6 @@
 use Rattle.std.proofs.Common.{refl, ◌∙◌}
-use Rattle.rme_engine.proofs.RunLemmas.{front_after, front_before, gathers_all}
-use Rattle.rme_engine.proofs.pending.Pending.gather.Goals as goal
+use Rattle.rme_lines.proofs.PutLemmas.{front_after, front_before, gathers_all}
+use Rattle.rme_lines.proofs.pending.Pending.gather.Goals as goal
 
 pub returns-in-Err-clause-front : goal.returns-in-Err-clause-front
 returns-in-Err-clause-front g c =

@@ -2,7 +2,8 @@
 
 ghost use Rattle.std.specs.Prelude.{◌≡◌};
 
-use rme_wire::{EngineFault, put_all};
+use crate::fault::EngineFault;
+use crate::put::put_all;
 use std::alloc::{AllocError, Global};
 use std::io::Write;
 use std::marker::Model;
@@ -25,10 +26,9 @@ impl Model for Pending {
 }
 
 impl Pending {
-    ghost use Rattle.std.specs.Prelude.{◌≡◌, ◌++◌, [], IfOk, IfErr, OnOk, OnErr, IsTrue, IsFalse};
+    ghost use Rattle.std.specs.Prelude.{◌≡◌, ◌≢◌, ◌++◌, [], IfOk, IfErr, OnOk, OnErr, IsTrue, IsFalse};
     ghost use Rattle.std.specs.Io.KnownBytes.{Appends};
-    ghost use Rattle.rme_lines.specs.Puts.{AppendsFront};
-    ghost use Rattle.rme_engine.specs.Runs.{Gathers};
+    ghost use Rattle.rme_lines.specs.Puts.{AppendsFront, Gathers};
 
     /// Nothing is kept back.
     pub fn new(alloc: Global) -> Result<Pending, AllocError>
@@ -36,6 +36,14 @@ impl Pending {
     {
         let bytes = Vec::with_capacity(alloc, MOST_PENDING)?;
         Ok(Pending { bytes })
+    }
+
+    /// Whether nothing is kept back.
+    pub fn is_empty(&self) -> bool
+        ensures none { IsTrue result → self.now ≡ [] }
+        ensures some { IsFalse result → self.now ≢ [] }
+    {
+        self.bytes.is_empty()
     }
 
     /// Writes all that is kept back. After `WriteFailed` a front of it was written.

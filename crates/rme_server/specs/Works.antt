@@ -1,0 +1,88 @@
+-- What becomes of a worker's job within one order.
+use Rattle.std.specs.Prelude.{◌≡◌, ℕ, ◌+◌, Bool, true, false, List, [], ◌∷◌, ◌++◌, Some, None, Result, Ok, Err, MatchResult}
+use Rattle.rme_words.specs.declared.shape.Shape.{Shape}
+use Rattle.rme_script.specs.declared.job.Job.{Job}
+use Rattle.rme_program.specs.declared.note.Entry.{Entry}
+use Rattle.rme_seats.specs.Stands.{Stand}
+use Rattle.rme_table.specs.Calls.{IsLast, last_receipt}
+use Rattle.rme_texts.specs.declared.session.Outcome.{Outcome}
+use Rattle.rme_texts.specs.declared.session.Outcome.TheVariants as outcome
+use Rattle.rme_wire.specs.declared.order.Submission.{Submission}
+use Rattle.rme_server.specs.declared.stand.Holding.{Holding}
+use Rattle.rme_server.specs.declared.stand.Holding.TheVariants.{Empty, Ready, Climb, Held}
+
+-- A worker's job, which is pending or is posted now, with its number.
+pub record Task : Type 0 where
+  pub worker : ℕ
+  pub number : ℕ
+  pub job : Job
+
+-- The entry is that of this job.
+pub record IsEntryOf (task : Task) (entry : Entry) : Type 0 where
+  pub by : entry.receipt.worker ≡ task.worker
+  pub number : entry.receipt.number ≡ task.number
+  pub lock : entry.receipt.lock ≡ task.job.lock
+  pub script : entry.script ≡ task.job.script
+
+-- The worker finished the job: its entries are those before and, behind them, the one of the job.
+pub record HasFinished (task : Task) (before : List Entry) (ready : Stand) (entry : Entry) : Type 0 where
+  pub is_of : IsEntryOf task entry
+  pub entries : ready.part.entries ≡ before ++ entry ∷ []
+  pub own : ready.part.worker ≡ task.worker
+  pub number : ready.part.private.begun ≡ task.number
+
+-- The worker waits with the job, and its entries are those before.
+pub record Awaits (task : Task) (before : List Entry) (climb : Stand) : Type 0 where
+  pub draft : climb.part.draft ≡ Some task.job
+  pub entries : climb.part.entries ≡ before
+  pub own : climb.part.worker ≡ task.worker
+  pub number : climb.part.private.begun ≡ task.number
+
+-- The session worked at the job of a worker with these entries: it is finished, and the receipt of its entry is answered; or
+-- it waits still; or the worker fell, and the session has none.
+abbrev pub Works : Task → List Entry → Holding → Outcome → Type 0
+Works task before (Ready ready) (outcome.Receipt receipt) = (entry : Entry) × HasFinished task before ready entry × (entry.receipt ≡ receipt)
+Works task before (Climb climb) outcome.Waiting = Awaits task before climb
+Works task before Empty outcome.Fell = Unit {0}
+Works task before value its = ⊥
+
+-- The job that a worker has, and the next one.
+abbrev pub its_task : Stand → Job → Task
+its_task start job = record { worker = start.part.worker; number = start.part.private.begun; job = job }
+
+abbrev pub next_task : Stand → Job → Task
+next_task start job = record { worker = start.part.worker; number = start.part.private.begun + 1; job = job }
+
+-- The worker waits with the job that it had.
+pub record StillAwaits (start climb : Stand) : Type 0 where
+  pub draft : climb.part.draft ≡ start.part.draft
+  pub entries : climb.part.entries ≡ start.part.entries
+  pub own : climb.part.worker ≡ start.part.worker
+  pub number : climb.part.private.begun ≡ start.part.private.begun
+
+-- The worker went on with the job that it had.
+abbrev pub GoesOn : Stand → Holding → Outcome → Type 0
+GoesOn start (Ready ready) (outcome.Receipt receipt) =
+    (job : Job) × (start.part.draft ≡ Some job) × Works (its_task start job) start.part.entries (Ready ready) (outcome.Receipt receipt)
+GoesOn start (Climb climb) outcome.Waiting = StillAwaits start climb
+GoesOn start Empty outcome.Fell = Unit {0}
+GoesOn start value its = ⊥
+
+-- The last number is answered again, by its receipt or that it was withdrawn, and the worker is as it was.
+abbrev pub Repeats : Shape → Stand → Holding → Outcome → Type 0
+Repeats shape start value (outcome.Receipt receipt) = (value ≡ Ready start) × (last_receipt start.part.entries ≡ Some receipt) × IsLast shape start.part (Some receipt)
+Repeats shape start value outcome.Withdrawn = (value ≡ Ready start) × IsLast shape start.part None
+Repeats shape start value its = ⊥
+
+-- A worker that is ready is handed a job: it is a repetition, or it is posted with the next number.
+abbrev pub Hands : Shape → Bool → Stand → Job → Holding → Outcome → Type 0
+Hands shape true start job value its = Repeats shape start value its
+Hands shape false start job value its = Works (next_task start job) start.part.entries value its
+
+-- How work ended, where a fall leaves the session without a worker.
+abbrev pub IsUp : Outcome → Type 0
+IsUp outcome.Fell = ⊥
+IsUp its = Unit {0}
+
+abbrev pub Ends : Result (Holding × Outcome) Stand → (Holding → Outcome → Type 0) → Type 0
+Ends worked Has = MatchResult worked (λ (done : Holding × Outcome). Has done.0 done.1 × IsUp done.1) (λ (down : Stand). Has Empty outcome.Fell)
