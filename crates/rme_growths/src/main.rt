@@ -5,6 +5,7 @@
 //! changed nothing. Begin with `main`.
 #![tactic(auto)]
 
+mod sessions;
 mod threads;
 mod worlds;
 
@@ -25,7 +26,8 @@ fn main(rt: HostRuntime) -> io::Result<()> {
     bank(&rt, shape)?;
     names(&rt)?;
     worlds::world(&rt, shape)?;
-    threads::service(&rt, &rt, shape)
+    threads::service(&rt, &rt, shape)?;
+    sessions::slots(&rt, &rt, shape)
 }
 
 fn bank(rt: &HostRuntime, shape: Shape) -> io::Result<()> {
