@@ -1,0 +1,94 @@
+//! Row `small calls` on the slots, and a session's orders by calls.
+
+ghost use Rattle.std.specs.Prelude.{◌≡◌};
+ghost use Rattle.rme_server.specs.Stands.{MayHold};
+
+use crate::desk::{Desk, Trial, at_desk, take};
+use rme_program::Receipt;
+use rme_script::{Job, Op, Script};
+use rme_server::{Stand, obey};
+use rme_table::Tag;
+use rme_wire::{Order, Outcome, SessionReply, Standing, Submission};
+use rme_words::Refusal;
+use std::process::Abort;
+use std::sync::Wait;
+use std::test::Fail;
+use std::thread::Threads;
+
+/// Takes what is there, and what is not.
+pub fn take_twice<K: Tag, R: Abort + Wait>(rt: &R, desk: &Desk<'_, K>) -> Result<(), Fail> {
+    let down = take(rt, desk, 0);
+    assert_eq!(rt; down.worker(), 0);
+    for (worker, why) in [(0, Refusal::Taken), (2, Refusal::NoWorker)] {
+        match desk.slots.take(rt, worker) {
+            Ok(_) => panic!(rt; "worker {worker} is there"),
+            Err(found) => assert_eq!(rt; found, why),
+        }
+    }
+    desk.slots.give(rt, down);
+    Ok(())
+}
+
+#[test]
+fn small_calls(rt: HostRuntime) -> Result<(), Fail> {
+    let left = at_desk(&rt, rt.alloc(), (2, 10), &Trial::Takes)?;
+    assert_eq!(rt; left, (0, true, 0));
+    Ok(())
+}
+
+/// The order must have this answer.
+fn order<K: Tag, R: Abort + Wait>(
+    rt: &R,
+    desk: &Desk<'_, K>,
+    stand: Stand,
+    order: Order,
+    reply: SessionReply,
+) -> Stand
+    requires ours { MayHold K.ident desk.now.slots.now stand.value }
+    ensures ours { MayHold K.ident desk.now.slots.now result.value }
+{
+    let (stand, found) = obey(rt, stand, order, desk.service, desk.slots);
+    assert_eq!(rt; found, reply);
+    stand
+}
+
+/// Orders by calls, with a worker that is spent by the test.
+pub fn give_orders<K: Tag, R: Abort + Wait>(rt: &R, desk: &Desk<'_, K>) -> Result<(), Fail> {
+    let job = Job {
+        lock: 0,
+        script: Script::of(&[Op::Add(0, 5)]),
+    };
+    let submission = Submission {
+        number: 1,
+        job,
+        tries: 1,
+    };
+    let receipt = Receipt {
+        worker: 0,
+        lock: 0,
+        number: 1,
+        place: 0,
+        reply: 5,
+    };
+    let refused = SessionReply::Refused(Refusal::NotAttached);
+    let stand = order(rt, desk, Stand::empty(), Order::Detach, refused);
+    let ready = SessionReply::Attached(0, Standing::Ready);
+    let stand = order(rt, desk, stand, Order::Attach(0), ready);
+    let made = SessionReply::Submitted(Outcome::Receipt(receipt));
+    let stand = order(rt, desk, stand, Order::Submit(submission), made);
+    let last = SessionReply::Last(Some(receipt));
+    let stand = order(rt, desk, stand, Order::Last, last);
+    match stand.crash() {
+        Some(down) => desk.slots.give(rt, down),
+        None => panic!(rt; "no worker is held"),
+    }
+    assert!(rt; Stand::empty().crash().is_none());
+    Ok(())
+}
+
+#[test]
+fn orders_by_calls(rt: HostRuntime) -> Result<(), Fail> {
+    let left = at_desk(&rt, rt.alloc(), (1, 10), &Trial::Orders)?;
+    assert_eq!(rt; left, (5, true, 1));
+    Ok(())
+}

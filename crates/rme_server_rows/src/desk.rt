@@ -1,0 +1,154 @@
+//! A service with its slots and its lock's name, opened for a test and closed after it.
+
+ghost use Rattle.std.specs.Prelude.{◌≡◌, ◌<◌, IfOk};
+ghost use Rattle.rme_server.specs.Slots.{AreInPlace};
+
+use crate::calls::{give_orders, take_twice};
+use crate::cuts::{cut_session, fall_and_come_up};
+use crate::refusals::say_long_lines;
+use crate::rows::{make_session, make_withdrawal};
+use crate::sockets::{Meeting, Turns, meet};
+use crate::streams::{read_failing, write_failing};
+use crate::talks::{Row, talk};
+use rme_server::Slots;
+use rme_table::{Closed, Down, Service, Tag};
+use rme_wire::Names;
+use rme_words::Shape;
+use std::alloc::Global;
+use std::marker::Brand;
+use std::process::Abort;
+use std::sync::Wait;
+use std::test::Fail;
+use std::thread::Threads;
+
+/// What all sessions of a test share: a service of one lock, `a`, with one cell.
+#[derive(Drop)]
+pub struct Desk<'a, K: Tag> {
+    pub alloc: Global,
+    pub service: &'a Service,
+    pub slots: &'a Slots<K>,
+    pub names: &'a Names,
+    pub ghost ours: { service.now ≡ K.ident },
+}
+
+/// What a test does with a service and its slots. Each Down that it takes is back when it ends.
+#[derive(Drop)]
+pub enum Trial<'a> {
+    /// One session over bytes in memory.
+    Talk(Row<'a>),
+    /// Row `session`, through sockets or in memory.
+    Session(Option<&'a Meeting>),
+    /// Row `withdrawal in a session`, through sockets or in memory.
+    Withdrawal(Option<&'a Meeting>),
+    /// A session of the first so many bytes, and then another.
+    Cut(usize),
+    /// A fall after so many own steps.
+    Fall(u32),
+    LongLines,
+    Takes,
+    Orders,
+    /// A reader that moves so many bytes at a call, and fails after so many calls.
+    FailingReader((usize, usize)),
+    /// A writer of that kind.
+    FailingWriter((usize, usize)),
+    Meeting(&'a Meeting, Turns<'a>),
+}
+
+fn make<K: Tag + Send + Sync, R: Abort + Threads + Wait + Sync>(
+    rt: &R,
+    desk: &Desk<'_, K>,
+    trial: &Trial<'_>,
+) -> Result<(), Fail> {
+    match trial {
+        Trial::Talk(row) => talk(rt, desk, *row),
+        Trial::Session(meeting) => make_session(rt, desk, *meeting),
+        Trial::Withdrawal(meeting) => make_withdrawal(rt, desk, *meeting),
+        Trial::Cut(length) => cut_session(rt, desk, *length),
+        Trial::Fall(steps) => fall_and_come_up(rt, desk, *steps),
+        Trial::LongLines => say_long_lines(rt, desk),
+        Trial::Takes => take_twice(rt, desk),
+        Trial::Orders => give_orders(rt, desk),
+        Trial::FailingReader(limits) => read_failing(rt, desk, *limits),
+        Trial::FailingWriter(limits) => write_failing(rt, desk, *limits),
+        Trial::Meeting(meeting, turns) => meet(rt, desk, *meeting, *turns),
+    }
+}
+
+/// What the lock is in the end: its cell, whether it is settled, and how many jobs were made on it.
+pub type Left = (u64, bool, usize);
+
+/// A new service of these workers and jobs, and its Downs.
+fn open(alloc: Global, workers: u32, jobs: u32) -> Result<(Service, Vec<Down>), Fail>
+    ensures { IfOk result (λ opened. AreInPlace opened.0 opened.1.items) }
+{
+    Ok(Service::new(alloc, Shape::new(workers, 1, 1, jobs)?)?)
+}
+
+/// Makes the trial with a new service of these workers and jobs, and tells what the lock is after it.
+pub fn at_desk<R: Abort + Threads + Wait + Sync>(
+    rt: &R,
+    alloc: Global,
+    (workers, jobs): (u32, u32),
+    trial: &Trial<'_>,
+) -> Result<Left, Fail> {
+    let (service, downs) = open(alloc, workers, jobs)?;
+    let closed = try_out::<Brand, R>(rt, alloc, service, downs, trial)?;
+    assert_eq!(rt; closed.locks.len(), 1);
+    let lock = &closed.locks[0];
+    assert_eq!(rt; lock.cells.len(), 1);
+    Ok((lock.cells[0], lock.settled, lock.entries.len()))
+}
+
+/// Makes the trial with the service that K names, and closes it with the Downs of the slots.
+fn try_out<K: Tag + Send + Sync, R: Abort + Threads + Wait + Sync>(
+    rt: &R,
+    alloc: Global,
+    service: Service,
+    downs: Vec<Down>,
+    trial: &Trial<'_>,
+) -> Result<Closed, Fail>
+    requires named { service ≡ K.ident }
+    requires downs { AreInPlace K.ident downs.items }
+{
+    let mut names = Names::new(alloc)?;
+    names.add("a")?;
+    let slots = match Slots::<K>::new(rt, alloc, downs) {
+        Ok(slots) => slots,
+        Err(_) => panic!(rt; "no room for the slots"),
+    };
+    let desk = Desk {
+        alloc,
+        service: &service,
+        slots: &slots,
+        names: &names,
+    };
+    make(rt, &desk, trial)?;
+    all_are_back(rt, &desk);
+    let downs = match slots.into_downs(rt) {
+        Ok(downs) => downs,
+        Err(_) => panic!(rt; "no room for the Downs"),
+    };
+    match service.close(downs) {
+        Ok(closed) => Ok(closed),
+        Err(unclosed) => panic!(rt; "not closed: {}", unclosed.why.name()),
+    }
+}
+
+/// Takes a worker's Down, which must lie in its slot.
+pub fn take<K: Tag, R: Abort + Wait>(rt: &R, desk: &Desk<'_, K>, worker: u32) -> Down
+    ensures ours { result.ident ≡ K.ident }
+    ensures slot { result.part.worker < desk.now.slots.now }
+{
+    match desk.slots.take(rt, worker) {
+        Ok(down) => down,
+        Err(why) => panic!(rt; "worker {worker} is not there: {}", why.name()),
+    }
+}
+
+/// Each worker's Down must lie in its slot.
+fn all_are_back<K: Tag, R: Abort + Wait>(rt: &R, desk: &Desk<'_, K>) {
+    for worker in 0..desk.service.shape().workers() {
+        let down = take(rt, desk, worker);
+        desk.slots.give(rt, down);
+    }
+}
