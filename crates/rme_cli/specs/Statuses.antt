@@ -1,49 +1,11 @@
--- The status with which the program ends, and the fault that it tells of.
+-- The status with which the program ends, after words that give no task and after a verdict.
 use Rattle.std.specs.Prelude.{ℕ, Bool, true, false, Result, Ok, Err}
-use Rattle.std.specs.declared.io.ErrorKind.{ErrorKind}
-use Rattle.std.specs.declared.io.ErrorKind.TheVariants as reason
 use Rattle.clap.specs.declared.error.kind.ErrorKind as clap
 use Rattle.clap.specs.declared.error.kind.ErrorKind.TheVariants as words
-use Rattle.rme_words.specs.declared.refusal.Refusal.{Refusal}
-use Rattle.rme_words.specs.declared.refusal.Refusal.TheVariants as refusal
-use Rattle.rme_lines.specs.declared.fault.EngineFault.{EngineFault}
-use Rattle.rme_lines.specs.declared.fault.EngineFault.TheVariants as engine
 use Rattle.rme_engine.specs.declared.check.Verdict.{Verdict}
 use Rattle.rme_engine.specs.declared.check.Verdict.TheVariants.{Yes}
-use Rattle.rme_cli.specs.declared.fault.Fault.{Fault}
-use Rattle.rme_cli.specs.declared.fault.Fault.TheVariants.{BadArguments, ReadFailed, WriteFailed, NoMemory, BadNames, ImageUnread, BadImage, OtherLocks, ImageUnwritten}
-
-abbrev pub status_of : Fault → ℕ
-status_of BadArguments = 2
-status_of ReadFailed = 3
-status_of WriteFailed = 4
-status_of NoMemory = 5
-status_of BadNames = 2
-status_of (ImageUnread file why) = 3
-status_of (BadImage file) = 2
-status_of (OtherLocks file names) = 2
-status_of (ImageUnwritten file why) = 4
-
--- the fault of the program that a fault of the engine is
-abbrev pub fault_of : EngineFault → Fault
-fault_of engine.ReadFailed = ReadFailed
-fault_of engine.WriteFailed = WriteFailed
-fault_of engine.NoMemory = NoMemory
-
--- the fault where the words of the command line cannot be had as text, by the kind of the reason
-abbrev pub fault_of_words : ErrorKind → Fault
-fault_of_words reason.OutOfMemory = NoMemory
-fault_of_words _ = BadArguments
-
--- the fault where a file is not read or written, by the kind of the reason and what it is but for want of memory
-abbrev pub fault_on_file : ErrorKind → Fault → Fault
-fault_on_file reason.OutOfMemory other = NoMemory
-fault_on_file _ other = other
-
--- the status where the image to begin with is refused
-abbrev pub status_of_refusal : Refusal → ℕ
-status_of_refusal refusal.NoMemory = 5
-status_of_refusal _ = 2
+use Rattle.rme_faults.specs.declared.fault.Fault.{Fault}
+use Rattle.rme_faults.specs.declared.fault.Fault.TheVariants.{WriteFailed, NoMemory}
 
 -- what was asked for, and whether it was printed
 abbrev pub shown : Bool → Result ℕ Fault

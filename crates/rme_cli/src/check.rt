@@ -3,8 +3,8 @@
 ghost use Rattle.std.specs.Prelude.{◌≡◌};
 ghost use Rattle.rme_cli.specs.Statuses.{status_of_verdict};
 
-use crate::fault::Fault;
 use rme_engine::{Verdict, check_lines};
+use rme_faults::Fault;
 use rme_wire::LineReader;
 
 /// Checks the transcript on the standard input, prints its verdict, and answers the status.

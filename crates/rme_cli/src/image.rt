@@ -1,7 +1,7 @@
 //! `rme run` with images: the world that a run begins with, and the world that it leaves.
 
-use crate::fault::Fault;
 use rme_engine::{Engine, answer_lines};
+use rme_faults::Fault;
 use rme_wire::{GivenNames, Image, LineReader, Loading};
 use std::fs::File;
 use std::io::{ErrorKind, Write};

@@ -1,9 +1,9 @@
 //! The program `rme`: a recoverable mutual exclusion lock service over lines, and over threads.
 //!
-//! It stands on rme_engine, whose engines it runs on its standard streams, and on rme_supervisor, by which
-//! `threads.rt` runs workers in threads. A run that begins or ends with a saved world is in `image.rt`. The words of
-//! the command line are read in `words.rt`, and `told.rt` says what becomes of those that give no task; what went
-//! wrong has its text and its status in `fault.rt`. Begin with `main`.
+//! It stands on rme_engine, whose engines it runs on its standard streams, on rme_supervisor, by which `threads.rt`
+//! runs workers in threads, and on rme_server, by which `serve.rt` serves them to clients. A run that begins or ends
+//! with a saved world is in `image.rt`. The words of the command line are read in `words.rt`, and `told.rt` says what
+//! becomes of those that give no task; what went wrong has its text and its status from rme_faults. Begin with `main`.
 #![tactic(auto)]
 
 ghost use Rattle.std.specs.Prelude.{◌≡◌, Bool};
@@ -11,21 +11,22 @@ ghost use Rattle.clap.specs.Values.{kind_of};
 ghost use Rattle.rme_cli.specs.Statuses.{told};
 
 mod check;
-mod fault;
 mod image;
 mod progress;
+mod serve;
 mod threads;
 mod told;
 mod words;
 
 use crate::check::check;
-use crate::fault::Fault;
 use crate::image::run_images;
+use crate::serve::run_serve;
 use crate::threads::run_threads;
 use crate::told::answer_of;
 use crate::words::{Task, task_of};
 use clap::error::ErrorKind;
 use rme_engine::{run_lines, transcript_lines};
+use rme_faults::Fault;
 use rme_wire::LineReader;
 use std::process::ExitCode;
 use std::sync::Wait;
@@ -59,6 +60,7 @@ fn perform<R: Threads + Wait + Sync>(rt: &HostRuntime, threads: &R) -> Result<u8
         }
         Ok(Task::Check) => check(rt),
         Ok(Task::Threads(task)) => run_threads(rt, threads, &task),
+        Ok(Task::Serve(task)) => run_serve(rt, threads, &task),
         Err(error) => explain(rt, &error),
     }
 }

@@ -1,7 +1,7 @@
 //! `rme threads`: supervised workers that add to one cell.
 
-use crate::fault::Fault;
 use crate::progress::Progress;
+use rme_faults::Fault;
 use rme_script::{Job, Op, Script};
 use rme_supervisor::{End, Free, Gate, Report, WorkerPlan, supervise};
 use rme_table::Service;

@@ -3,8 +3,8 @@
 ghost use Rattle.std.specs.Prelude.{◌≡◌};
 ghost use Rattle.rme_cli.specs.Statuses.{told};
 
-use crate::fault::Fault;
 use clap::error::ErrorKind;
+use rme_faults::Fault;
 
 /// The status after words of this kind, or the fault that ends the program; `is_printed` says whether their
 /// text could be written.

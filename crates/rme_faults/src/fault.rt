@@ -1,10 +1,11 @@
 //! What ends the program early.
 
 ghost use Rattle.std.specs.Prelude.{◌≡◌};
-ghost use Rattle.rme_cli.specs.Statuses.{fault_of, fault_of_words, fault_on_file, status_of, status_of_refusal};
-ghost use Rattle.rme_cli.specs.declared.fault.Fault.TheVariants.{NoMemory};
+ghost use Rattle.rme_faults.specs.Statuses.{fault_of, fault_of_serving, fault_of_words, fault_on_file, status_of, status_of_refusal};
+ghost use Rattle.rme_faults.specs.declared.fault.Fault.TheVariants.{NoMemory};
 
-use rme_wire::EngineFault;
+use rme_lines::EngineFault;
+use rme_server::ServeFault;
 use rme_words::Refusal;
 use std::alloc::AllocError;
 use std::io;
@@ -38,6 +39,12 @@ pub enum Fault {
     /// The file for the world that is left can't be written.
     #[error("the image {0} can't be written: {1}")]
     ImageUnwritten(String, io::Error),
+    /// The server can't listen, or can accept no further connection.
+    #[error("socket failed")]
+    SocketFailed,
+    /// A connection can't have a thread.
+    #[error("no thread")]
+    NoThread,
 }
 
 impl Fault {
@@ -55,6 +62,8 @@ impl Fault {
             Fault::BadImage(_) => 2,
             Fault::OtherLocks(_, _) => 2,
             Fault::ImageUnwritten(_, _) => 4,
+            Fault::SocketFailed => 6,
+            Fault::NoThread => 7,
         }
     }
 
@@ -98,6 +107,18 @@ impl From<EngineFault> for Fault {
             EngineFault::ReadFailed => Fault::ReadFailed,
             EngineFault::WriteFailed => Fault::WriteFailed,
             EngineFault::NoMemory => Fault::NoMemory,
+        }
+    }
+}
+
+impl From<ServeFault> for Fault {
+    ghost from_gives = { λ served fault. fault ≡ fault_of_serving served };
+
+    fn from(fault: ServeFault) -> Fault {
+        match fault {
+            ServeFault::SocketFailed => Fault::SocketFailed,
+            ServeFault::NoThread => Fault::NoThread,
+            ServeFault::NoMemory => Fault::NoMemory,
         }
     }
 }

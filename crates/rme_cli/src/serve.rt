@@ -1,0 +1,146 @@
+//! `rme serve`: sessions over TCP, which share the workers and the locks of one service.
+
+ghost use Rattle.std.specs.Prelude.{◌≡◌, IfOk};
+ghost use Rattle.rme_seats.specs.Closing.{AreOf};
+ghost use Rattle.rme_server.specs.Slots.{AreInPlace};
+
+use log::sink::Console;
+use log::{Level, Logged, info};
+use rme_faults::Fault;
+use rme_server::{Slots, serve};
+use rme_table::{Closed, ClosedLock, Down, Service, Tag};
+use rme_wire::{GivenNames, Names};
+use rme_words::{Refusal, Shape};
+use std::alloc::AllocError;
+use std::fmt::Write;
+use std::io::ErrorKind;
+use std::marker::Brand;
+use std::net::{Ipv4Addr, TcpListener};
+use std::sync::Wait;
+use std::thread::Threads;
+
+/// What `rme serve` is asked for: a service of these sizes with these locks, and so many connections on this port.
+#[derive(Drop)]
+pub struct ServeTask {
+    pub workers: u32,
+    pub cells: u32,
+    pub jobs: u32,
+    pub port: u16,
+    pub connections: u32,
+    pub locks: GivenNames,
+}
+
+/// Serves the connections, prints what the locks then hold, and answers the status.
+pub fn run_serve<R: Threads + Wait + Sync>(
+    rt: &HostRuntime,
+    threads: &R,
+    task: &ServeTask,
+) -> Result<u8, Fault> {
+    if !task.locks.are_names() {
+        return Err(Fault::BadArguments);
+    }
+    let locks = task.locks.len() as u32;
+    let Ok(shape) = Shape::new(task.workers, locks, task.cells, task.jobs) else {
+        return Err(Fault::BadArguments);
+    };
+    let names = task.locks.names(rt.alloc())?;
+    let listener = listen(rt, task.port)?;
+    let (service, downs) = Service::new(rt.alloc(), shape)?;
+    let host = Host {
+        rt,
+        listener: &listener,
+        connections: task.connections,
+        names: &names,
+    };
+    let downs = serve_all::<Brand, R>(threads, &host, &service, downs)?;
+    info!(Logged::new(rt, Level::Info, Console(rt)); target: "rme", "served {}", task.connections);
+    match service.close(downs) {
+        Ok(closed) => print_closed(rt, &names, &closed),
+        Err(unclosed) if unclosed.why == Refusal::NoWorker => Ok(1),
+        Err(_) => Err(Fault::NoMemory),
+    }
+}
+
+/// Where clients come from, how many of them, and how they name the locks.
+#[derive(Drop)]
+struct Host<'a> {
+    rt: &'a HostRuntime,
+    listener: &'a TcpListener,
+    connections: u32,
+    names: &'a Names,
+}
+
+/// Listens on a port of this machine alone.
+fn listen(rt: &HostRuntime, port: u16) -> Result<TcpListener, Fault> {
+    match TcpListener::bind(rt, (Ipv4Addr::LOCALHOST, port)) {
+        Ok(listener) => Ok(listener),
+        Err(error) if error.kind() == ErrorKind::OutOfMemory => Err(Fault::NoMemory),
+        Err(_) => Err(Fault::SocketFailed),
+    }
+}
+
+/// Serves these workers, all of the service, to the sessions of the connections, and gives back those that are
+/// there at the end.
+fn serve_all<K: Tag + Send + Sync, R: Threads + Wait + Sync>(
+    threads: &R,
+    host: &Host<'_>,
+    service: &Service,
+    downs: Vec<Down>,
+) -> Result<Vec<Down>, Fault>
+    requires named { service.now ≡ K.ident }
+    requires all { AreInPlace service.now downs.items }
+    ensures ours { IfOk result (λ downs. AreOf service.now downs.items) }
+{
+    let alloc = host.rt.alloc();
+    let Ok(slots) = Slots::<K>::new(threads, alloc, downs) else {
+        return Err(Fault::NoMemory);
+    };
+    print_port(host.rt, host.listener)?;
+    serve(
+        threads,
+        alloc,
+        host.listener,
+        host.connections,
+        service,
+        &slots,
+        host.names,
+    )?;
+    match slots.into_downs(threads) {
+        Ok(downs) => Ok(downs),
+        Err(_) => Err(Fault::NoMemory),
+    }
+}
+
+/// Prints the port that clients connect to.
+fn print_port(rt: &HostRuntime, listener: &TcpListener) -> Result<(), Fault> {
+    let Ok(address) = listener.local_addr() else {
+        return Err(Fault::SocketFailed);
+    };
+    match println!(rt; "listening {}", address.port()) {
+        Ok(()) => Ok(()),
+        Err(_) => Err(Fault::WriteFailed),
+    }
+}
+
+/// Prints a line for each lock, in their order, and answers the status.
+fn print_closed(rt: &HostRuntime, names: &Names, closed: &Closed) -> Result<u8, Fault> {
+    let mut lines = String::new(rt.alloc());
+    for number in 0..names.len() {
+        if let Some(lock) = closed.locks.get(number as usize) {
+            push_lock(&mut lines, names.name(number), lock)?;
+        }
+    }
+    match print!(rt; "{lines}") {
+        Ok(()) => Ok(0),
+        Err(_) => Err(Fault::WriteFailed),
+    }
+}
+
+/// Adds the line of a lock: its name, what its cells hold, and how many sections were finished.
+fn push_lock(lines: &mut String, name: &str, lock: &ClosedLock) -> Result<(), AllocError> {
+    write!(lines, "lock {name} cells")?;
+    for cell in &lock.cells {
+        write!(lines, " {cell}")?;
+    }
+    writeln!(lines, " entries {}", lock.entries.len())
+}

@@ -1,0 +1,166 @@
+//! The texts of help.
+
+pub const ABOUT: &str = "A recoverable mutual exclusion lock service, over lines of JSON";
+
+pub const EXAMPLE: &str = "\
+Try it: a worker asks for a lock, enters, crashes inside, and goes on where it fell.
+
+  rme run <<'END'
+  {\"do\":\"open\",\"workers\":2,\"locks\":[\"bank\"],\"cells\":1,\"jobs\":10}
+  {\"do\":\"submit\",\"worker\":0,\"lock\":\"bank\",\"script\":[[\"add\",0,5]]}
+  {\"do\":\"walk\",\"worker\":0,\"until\":\"entered\"}
+  {\"do\":\"crash\",\"worker\":0}
+  {\"do\":\"owner\",\"lock\":\"bank\"}
+  {\"do\":\"restart\",\"worker\":0}
+  {\"do\":\"walk\",\"worker\":0}
+  {\"do\":\"cells\",\"lock\":\"bank\"}
+  END
+
+`rme run --help` says what the lines mean.";
+
+pub const RUN_ABOUT: &str =
+    "Answers each line of the standard input by one line of the standard output";
+
+pub const TRANSCRIPT_HELP: &str =
+    "Writes what happened in the place of answers: each event that the world took, for `rme check`";
+
+pub const IMAGE_HELP: &str =
+    "Begins with the world that was saved in this file; with nothing, where the file is not there";
+
+pub const LOCKS_HELP: &str =
+    "Names the locks of that world, in order and with commas between: an image has no names";
+
+pub const SAVE_HELP: &str = "Saves the world that is open at the end of the input in this file";
+
+pub const CHECK_ABOUT: &str =
+    "Checks a transcript on the standard input: whether the abstract machine has each of its steps";
+
+pub const CHECK_LINES: &str = "\
+A transcript is what `rme run --transcript` writes, or another program in its form: a first line that
+opens a world, and then one line for each event, as
+
+  {\"do\":\"submit\",\"lock\":NAME,\"number\":N,\"script\":[OP,..],\"worker\":W}
+  {\"do\":\"crash\",\"worker\":W}      or \"restart\", or \"withdraw\"
+  {\"do\":\"note\",\"note\":NOTE,\"worker\":W}
+                                 a step of a worker, with its note: [\"asked\",k] [\"blocked\"]
+                                 [\"entered\",NAME] [\"reentered\",NAME] [\"left\",NAME] [\"ready\"]
+                                 [\"withdrew\",k] [\"finished\",NAME,number,place,reply] [\"quiet\"]
+
+It prints one line: yes, where the abstract machine has all these steps in turn; no LINE for the first
+line whose step it does not have there; bad LINE for the first line that is no event line, or for the
+first of all where it opens no world.
+
+Status: 0 after yes, 1 after no and bad, 2 for words that are refused, 3 where reading failed, 4 where
+writing failed, 5 where memory ran out.";
+
+pub const RUN_LINES: &str = "\
+Each line is one JSON object; its keys may come in any order. A world must be open or loaded first.
+
+  {\"do\":\"open\",\"workers\":N,\"locks\":[NAME,..],\"cells\":N,\"jobs\":N}
+                                 opens a world: 1 to 256 workers, 1 to 16 locks of 1 to 16 cells each, at
+                                 most 1000000 jobs for each worker; a name has 1 to 32 of a-z 0-9 _ -
+  {\"do\":\"submit\",\"worker\":W,\"lock\":NAME,\"script\":[OP,..]}
+                                 hands a ready worker a job: at most 8 operations on that lock's cells,
+                                 [\"get\",c] [\"set\",c,v] [\"add\",c,v] [\"copy\",a,b] [\"swap\",a,b]
+  {\"do\":\"step\",\"worker\":W}       one step of a worker: one operation on one shared word
+  {\"do\":\"walk\",\"worker\":W}       steps until the worker is ready or blocked; \"until\":KIND ends it at a
+                                 note of that kind (asked entered reentered finished left ready
+                                 withdrew), \"max\":N after 1 to 10000 steps
+  {\"do\":\"crash\",\"worker\":W}      the worker loses all that it alone knows
+  {\"do\":\"restart\",\"worker\":W}    the worker begins to recover
+  {\"do\":\"withdraw\",\"worker\":W}   a waiting worker gives up its job
+  {\"do\":\"owner\",\"lock\":NAME}     who owns the lock
+  {\"do\":\"cells\",\"lock\":NAME}     what its cells hold, and whether no section is half done
+  {\"do\":\"last\",\"worker\":W}       the receipt of the worker's last job
+  {\"do\":\"history\"}               all finished jobs, in order
+  {\"do\":\"report\"}                the most steps of one stay in each phase, over all workers
+  {\"do\":\"save\"}                  the image of the world, in hexadecimal
+  {\"do\":\"load\",\"image\":HEX,\"locks\":[NAME,..]}
+                                 goes on with the world of an image, in the place of one that is open; its
+                                 locks have the given names, and all its workers are down
+
+A line that is refused is answered {\"code\":N,\"error\":NAME} and changes nothing.
+
+A run that begins with the world that the last one left, and leaves its own:
+
+  rme run --image bank.rme --locks bank --save bank.rme
+
+A world is saved at the end of the input alone: a run that ends early leaves bank.rme as it was, and so does
+one that ends with no world open. bank.rme.new is written first, and then put in the place of bank.rme.
+
+Status: 0 at the end of the input, 2 for words that are refused, for an image that is broken and for
+--locks that don't fit it, 3 where reading failed, 4 where writing failed, 5 where memory ran out.";
+
+pub const THREADS_ABOUT: &str =
+    "Supervises workers in threads, which fall and go on, and prints what their lock then holds";
+
+pub const THREADS_LINES: &str = "\
+Each worker makes JOBS jobs, one after another, on one lock with one cell; a job adds 1 to it. Where a
+worker falls its thread ends there and all that it knew is lost, and its next life goes on. Each job
+counts once all the same:
+
+  rme threads 8 100 7 19 40
+
+  workers 8
+  jobs 100
+  all done 8
+  cell 800
+  entries 800
+
+Status: 0 where all workers were done, 1 where one was not, 2 for words that are refused (falls that do
+not rise, or more than 256 workers or 1000000 jobs), 4 where writing failed, 5 where memory ran out.";
+
+pub const SERVE_ABOUT: &str =
+    "Serves a lock service to clients over TCP on 127.0.0.1, a session for each connection";
+
+pub const SERVE_LINES: &str = "\
+It prints `listening PORT` as soon as clients can connect. When all of its connections have ended it logs
+`served n` to the standard error, closes the service, and prints a line for each lock:
+`lock NAME cells V V .. entries E`, with what its cells hold and how many jobs they have seen.
+
+Each line of a client is one JSON object, which is obeyed and answered by one line:
+
+  {\"do\":\"attach\",\"worker\":W}     takes a worker that no other session has, and recovers it:
+                                 {\"number\":N,\"ok\":\"attach\",\"stance\":\"ready\"} with its last number, or the
+                                 stance climb or held with that of the job that it is in
+  {\"do\":\"submit\",\"number\":N,\"lock\":NAME,\"script\":[OP,..]}
+                                 makes the job of the number after the last: {\"ok\":\"submit\",\"receipt\":{..}};
+                                 {\"ok\":\"submit\",\"waiting\":true} where the lock was not had in 1000 tries, or
+                                 in \"tries\":N, 1 to 1000000; {\"fell\":true,\"ok\":\"submit\"} at a planned crash.
+                                 The same line again goes on with the job, or answers its receipt: a job
+                                 counts once. The operations are those of `rme run --help`
+  {\"do\":\"resume\"}                goes on with the job that the worker is in, answered as submit is, with
+                                 \"ok\":\"resume\"; it takes \"tries\" too
+  {\"do\":\"withdraw\"}              gives up a job that waits: {\"number\":N,\"ok\":\"withdraw\"}
+  {\"do\":\"last\"}                  the receipt of the last job, or null: {\"last\":{..},\"ok\":\"last\"}
+  {\"do\":\"crash_after\",\"steps\":N} plans a crash after N further own steps, at most 1000000:
+                                 {\"ok\":\"crash_after\"}
+  {\"do\":\"detach\"}                lets the worker go: {\"ok\":\"detach\"}
+
+A line that is refused is answered {\"code\":N,\"error\":NAME} and changes nothing. A worker that a session
+lets go, or whose session ends, falls; whoever attaches it next goes on where it was.
+
+A server and a client, for bash:
+
+  rme serve --workers 2 --cells 1 --jobs 10 --port 0 --connections 1 bank | {
+    read -r _ port
+    exec 3<>/dev/tcp/127.0.0.1/$port
+    echo '{\"do\":\"attach\",\"worker\":0}' >&3
+    echo '{\"do\":\"submit\",\"number\":1,\"lock\":\"bank\",\"script\":[[\"add\",0,5]]}' >&3
+    head -n 2 <&3
+    exec 3>&-
+    cat
+  }
+
+  {\"number\":0,\"ok\":\"attach\",\"stance\":\"ready\"}
+  {\"ok\":\"submit\",\"receipt\":{\"lock\":\"bank\",\"number\":1,\"place\":0,\"reply\":5,\"worker\":0}}
+  lock bank cells 5 entries 1
+
+A client that is stuck or silent keeps its own worker, and the lock that this one owns, and nothing else of
+the server; but the server ends only after its last session. SIGTERM ends it at once, with no closing lines,
+and the words of the service are gone with it.
+
+Status: 0 after the closing lines, 1 with none of them where a worker was not given back, 2 for words that
+are refused (also 0 or more than 256 workers, 16 locks, 16 cells or 1000000 jobs, and a name that is none
+or stands twice), 4 where writing failed, 5 where memory ran out, 6 where it can't listen on the port or
+accept a connection, 7 where a connection can't have a thread.";

@@ -1,0 +1,52 @@
+-- The status with which the program ends after a fault, and the fault that it tells of.
+use Rattle.std.specs.Prelude.{ℕ}
+use Rattle.std.specs.declared.io.ErrorKind.{ErrorKind}
+use Rattle.std.specs.declared.io.ErrorKind.TheVariants as reason
+use Rattle.rme_words.specs.declared.refusal.Refusal.{Refusal}
+use Rattle.rme_words.specs.declared.refusal.Refusal.TheVariants as refusal
+use Rattle.rme_lines.specs.declared.fault.EngineFault.{EngineFault}
+use Rattle.rme_lines.specs.declared.fault.EngineFault.TheVariants as engine
+use Rattle.rme_server.specs.declared.fault.ServeFault.{ServeFault}
+use Rattle.rme_server.specs.declared.fault.ServeFault.TheVariants as serving
+use Rattle.rme_faults.specs.declared.fault.Fault.{Fault}
+use Rattle.rme_faults.specs.declared.fault.Fault.TheVariants.{BadArguments, ReadFailed, WriteFailed, NoMemory, BadNames, ImageUnread, BadImage, OtherLocks, ImageUnwritten, SocketFailed, NoThread}
+
+abbrev pub status_of : Fault → ℕ
+status_of BadArguments = 2
+status_of ReadFailed = 3
+status_of WriteFailed = 4
+status_of NoMemory = 5
+status_of BadNames = 2
+status_of (ImageUnread file why) = 3
+status_of (BadImage file) = 2
+status_of (OtherLocks file names) = 2
+status_of (ImageUnwritten file why) = 4
+status_of SocketFailed = 6
+status_of NoThread = 7
+
+-- the fault of the program that a fault of the engine is
+abbrev pub fault_of : EngineFault → Fault
+fault_of engine.ReadFailed = ReadFailed
+fault_of engine.WriteFailed = WriteFailed
+fault_of engine.NoMemory = NoMemory
+
+-- the fault of the program that a fault of the server is
+abbrev pub fault_of_serving : ServeFault → Fault
+fault_of_serving serving.SocketFailed = SocketFailed
+fault_of_serving serving.NoThread = NoThread
+fault_of_serving serving.NoMemory = NoMemory
+
+-- the fault where the words of the command line cannot be had as text, by the kind of the reason
+abbrev pub fault_of_words : ErrorKind → Fault
+fault_of_words reason.OutOfMemory = NoMemory
+fault_of_words _ = BadArguments
+
+-- the fault where a file is not read or written, by the kind of the reason and what it is but for want of memory
+abbrev pub fault_on_file : ErrorKind → Fault → Fault
+fault_on_file reason.OutOfMemory other = NoMemory
+fault_on_file _ other = other
+
+-- the status where the image to begin with is refused
+abbrev pub status_of_refusal : Refusal → ℕ
+status_of_refusal refusal.NoMemory = 5
+status_of_refusal _ = 2
