@@ -5,8 +5,8 @@
 //! back in the slot. A crash can be planned, so that a client sees what a crash leaves. `serve` listens, with a
 //! thread for each connection. The crate stands on rme_wire, which reads the orders and writes the answers, on
 //! rme_table, whose values the sessions hold, and on crossbeam_utils for the pause after a blocked sweep. What
-//! those above use is the contracts of `Slots` (`specs/Slots.antt`) and that of `obey`. Begin with `slots.rt` and
-//! `stand.rt`, and then `orders.rt`, which says what each order does.
+//! those above use is the contracts of `Slots` (`specs/Slots.antt`) and that of `obey` (`specs/Obeyed.antt`): what
+//! each order does and answers, and which are refused. Begin with `slots.rt` and `stand.rt`, and then `orders.rt`.
 #![tactic(auto)]
 
 mod buffers;
