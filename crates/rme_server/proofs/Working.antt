@@ -10,14 +10,22 @@ use Rattle.rme_server.specs.declared.stand.Holding.TheVariants.{Empty, Ready, Cl
 
 module _ (start now : Stand) (still : StillAwaits start now) where
   went_on : (value : Holding) (its : Outcome) → GoesOn now value its → GoesOn start value its
-  went_on (Ready ready) (outcome.Receipt receipt) (job, drafted, (entry, finished, told)) = (job, sym still.draft ∙ drafted, (entry, record {
-    is_of = record { by = finished.is_of.by ∙ still.own; number = finished.is_of.number ∙ still.number; lock = finished.is_of.lock; script = finished.is_of.script };
-    entries = subst (λ (before : List _). ready.part.entries ≡ before ++ entry ∷ []) still.entries finished.entries;
-    own = finished.own ∙ still.own;
-    number = finished.number ∙ still.number;
-  }, told))
+  went_on (Ready ready) (outcome.Receipt receipt) (job, drafted, (entry, finished, told)) = (
+    job,
+    sym still.draft ∙ drafted,
+    (
+      entry,
+      record {
+        is_of = record { by = finished.is_of.by ∙ still.own; number = finished.is_of.number ∙ still.number; lock = finished.is_of.lock; script = finished.is_of.script };
+        entries = subst (λ (before : List _). ready.part.entries ≡ before ++ entry ∷ []) still.entries finished.entries;
+        own = finished.own ∙ still.own;
+        number = finished.number ∙ still.number;
+      },
+      told,
+    ),
+  )
   went_on (Climb climb) outcome.Waiting waits =
-    record { draft = waits.draft ∙ still.draft; entries = waits.entries ∙ still.entries; own = waits.own ∙ still.own; number = waits.number ∙ still.number }
+      record { draft = waits.draft ∙ still.draft; entries = waits.entries ∙ still.entries; own = waits.own ∙ still.own; number = waits.number ∙ still.number }
   went_on Empty outcome.Fell went = went
   went_on Empty (outcome.Receipt receipt) went = elim went [ ]
   went_on Empty outcome.Withdrawn went = elim went [ ]
