@@ -1,10 +1,9 @@
 -- A worker that went on from where another order left it.
-use Rattle.std.proofs.Common.{◌≡◌, ℕ, List, ◌∷◌, [], ◌++◌, Option, Some, Result, Ok, Err, refl, sym, subst, ◌∙◌}
-use Rattle.rme_script.specs.declared.job.Job.{Job}
+use Rattle.std.proofs.Common.{◌≡◌, List, ◌∷◌, [], ◌++◌, Result, Ok, Err, sym, subst, ◌∙◌}
 use Rattle.rme_seats.specs.Stands.{Stand}
 use Rattle.rme_texts.specs.declared.session.Outcome.{Outcome}
 use Rattle.rme_texts.specs.declared.session.Outcome.TheVariants as outcome
-use Rattle.rme_server.specs.Works.{Ends, GoesOn, StillAwaits, Works, its_task}
+use Rattle.rme_server.specs.Works.{Ends, GoesOn, StillAwaits}
 use Rattle.rme_server.specs.declared.stand.Holding.{Holding}
 use Rattle.rme_server.specs.declared.stand.Holding.TheVariants.{Empty, Ready, Climb, Held}
 
