@@ -1,0 +1,9 @@
+-- What a caller's own contracts and proofs cite of the crates below: the values of workers and which service they are of;
+-- Downs of one service, those of all workers in order, and those that slots are made of; what a session may hold; and
+-- whether a job is over.
+pub use Rattle.rme_seats.specs.Stands
+pub use Rattle.rme_seats.specs.Closing
+pub use Rattle.rme_supervisor.specs.Supervised
+pub use Rattle.rme_server.specs.Slots
+pub use Rattle.rme_server.specs.Stands as Holdings
+pub use Rattle.rme_table.specs.Calls

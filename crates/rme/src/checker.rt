@@ -1,0 +1,7 @@
+//! The abstract machine, by which runs are checked.
+//!
+//! `Machine` takes events with their answers, one pair after another, and says of each whether the machine has that
+//! step. `check_lines` does so with the lines of a transcript.
+
+pub use rme_checker::Machine;
+pub use rme_engine::{Verdict, check_lines};

@@ -1,0 +1,11 @@
+//! Lines of JSON in, and lines out: a world by lines, its transcript, and what both are made of.
+//!
+//! `run_lines` answers each line of a reader, and `transcript_lines` writes the events of each in the place of its
+//! answer. `answer_lines` answers over an `Engine`, which may begin with a saved world. `LineReader` cuts a reader's
+//! bytes into lines, and `Names` are the names of locks.
+
+pub use rme_engine::{Engine, answer_lines, run_lines, transcript_lines};
+pub use rme_wire::{
+    Command, Cut, Done, EngineFault, GivenNames, Image, LineReader, Loading, Names, Opening, Reply,
+    Request, is_name, push_reply, put_all, request_of,
+};

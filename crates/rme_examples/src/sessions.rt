@@ -1,0 +1,75 @@
+//! A session over lines in memory.
+
+ghost use Rattle.std.specs.Prelude.{◌≡◌};
+ghost use Rattle.rme.specs.Slots.{AreInPlace};
+
+use rme::Shape;
+use rme::lines::Names;
+use rme::service::{Closed, Down, Service, Tag};
+use rme::sessions::{Slots, session};
+use std::alloc::Global;
+use std::marker::Brand;
+use std::process::Abort;
+use std::sync::Wait;
+use std::test::Fail;
+
+/// What a client says: the worker crashes in the middle of its job, and the job is submitted again.
+const SAID: &str = r#"{"do":"attach","worker":0}
+{"do":"crash_after","steps":20}
+{"do":"submit","lock":"bank","number":1,"script":[["add",0,5]]}
+{"do":"attach","worker":0}
+{"do":"submit","lock":"bank","number":1,"script":[["add",0,5]]}
+"#;
+
+/// What it is answered.
+const HEARD: &str = r#"{"number":0,"ok":"attach","stance":"ready"}
+{"ok":"crash_after"}
+{"fell":true,"ok":"submit"}
+{"number":1,"ok":"attach","stance":"held"}
+{"ok":"submit","receipt":{"lock":"bank","number":1,"place":0,"reply":5,"worker":0}}
+"#;
+
+/// One session of the service that K names, from a text in memory to bytes in memory.
+fn talk<K: Tag, R: Abort + Wait>(
+    rt: &R,
+    alloc: Global,
+    service: Service,
+    downs: Vec<Down>,
+) -> Result<Closed, Fail>
+    requires named { service ≡ K.ident }
+    requires downs { AreInPlace K.ident downs.items }
+{
+    let mut names = Names::new(alloc)?;
+    names.add("bank")?;
+    let Ok(slots) = Slots::<K>::new(rt, alloc, downs) else {
+        panic!(rt; "no room for the slots");
+    };
+    let mut heard = Vec::new(alloc);
+    session(
+        rt,
+        alloc,
+        SAID.as_bytes(),
+        &mut heard,
+        &service,
+        &slots,
+        &names,
+    )?;
+    assert_eq!(rt; str::from_utf8(heard.as_slice()).ok(), Some(HEARD));
+    let Ok(downs) = slots.into_downs(rt) else {
+        panic!(rt; "no room for the Downs");
+    };
+    let Ok(closed) = service.close(downs) else {
+        panic!(rt; "the service was not closed");
+    };
+    Ok(closed)
+}
+
+/// The client's job counts once.
+#[test]
+fn session_in_memory(rt: HostRuntime) -> Result<(), Fail> {
+    let (service, downs) = Service::new(rt.alloc(), Shape::new(2, 1, 1, 10)?)?;
+    let closed = talk::<Brand, HostRuntime>(&rt, rt.alloc(), service, downs)?;
+    assert_eq!(rt; closed.locks.len(), 1);
+    assert_eq!(rt; closed.locks[0].cells.as_slice(), [5].as_slice());
+    Ok(())
+}
