@@ -30,7 +30,7 @@ impl Model for Machine {
 }
 
 impl Machine {
-    ghost use Rattle.std.specs.Prelude.{◌≡◌, true, Some, IfOk, OnErr, slice_get};
+    ghost use Rattle.std.specs.Prelude.{◌≡◌, true, Some, IfOk, IfSome, OnErr, slice_get};
     ghost use Rattle.rme_machine.specs.Machine.{WorkerState, opening_state};
     ghost use Rattle.rme_machine.specs.ShownCells.{owner_at};
     ghost use Rattle.rme_machine.specs.Labels.{labels};
@@ -79,6 +79,21 @@ impl Machine {
             Some(owner) => *owner,
             None => None,
         }
+    }
+
+    /// The shape that the machine was opened with.
+    pub fn shape(&self) -> Shape
+        ensures { result ≡ self.now.shape }
+    {
+        self.ledger.shape()
+    }
+
+    /// What the machine knows of a worker; nothing where there is no such worker.
+    pub fn worker(&self, worker: u32) -> Option<&Worker>
+        ensures some { IfSome result (λ me. slice_get self.now.state.workers worker ≡ Some me.now) }
+        ensures none { result ≡ None → slice_get self.now.state.workers worker ≡ None }
+    {
+        self.ledger.workers().get(worker as usize)
     }
 
     /// The finished sections of all locks, in order of finishing.
