@@ -7,6 +7,7 @@ use crate::ledger::{Ledger, job_fits};
 use crate::worker::Worker;
 use rme_machine::{Act, Label};
 use rme_program::{Answer, Entry, Event};
+use rme_script::Row;
 use rme_words::{NoMemory, Shape};
 use std::alloc::Global;
 use std::marker::Model;
@@ -33,6 +34,7 @@ impl Machine {
     ghost use Rattle.std.specs.Prelude.{◌≡◌, true, Some, IfOk, IfSome, OnErr, slice_get};
     ghost use Rattle.rme_machine.specs.Machine.{WorkerState, opening_state};
     ghost use Rattle.rme_machine.specs.ShownCells.{owner_at};
+    ghost use Rattle.rme_machine.specs.Histories.{rows};
     ghost use Rattle.rme_machine.specs.Labels.{labels};
     ghost use Rattle.rme_checker.specs.Admitting.{Admitted, Grows, grows};
     ghost use Rattle.rme_checker.specs.Deciding.{is_free, may, may_as, state_next};
@@ -101,6 +103,13 @@ impl Machine {
         ensures { result.now ≡ self.now.state.history }
     {
         self.ledger.entries()
+    }
+
+    /// What the cells of a lock hold after all finished sections; nothing where there is no such lock.
+    pub fn cells(&self, lock: u32) -> Option<Row>
+        ensures { IfSome result (λ row. row ≡ rows self.now.shape self.now.state.history lock) }
+    {
+        self.ledger.cells(lock)
     }
 
     /// Whether the worker may make this step; one that is not there makes none.
