@@ -72,7 +72,15 @@ fn sessions<K: Tag, R: Wait>(
             continue;
         };
         let mut answers = Counted { lines: 0 };
-        let ended = session(wait, rt.alloc(), LINES, &mut answers, service, slots, &names);
+        let ended = session(
+            wait,
+            rt.alloc(),
+            LINES,
+            &mut answers,
+            service,
+            slots,
+            &names,
+        );
         let Ok(down) = slots.take(wait, 0) else {
             return println!(rt; "session: worker 0 is lost");
         };

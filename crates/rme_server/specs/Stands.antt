@@ -3,7 +3,6 @@ use Rattle.std.specs.Prelude.{◌≡◌, ℕ, ◌<◌, false, Option, Some, None
 use Rattle.rme_seats.specs.Stands.{Ident, Stand}
 use Rattle.rme_table.specs.Calls.{is_over}
 use Rattle.rme_texts.specs.declared.session.Outcome.{Outcome}
-use Rattle.rme_server.specs.Slots.{IsOf}
 use Rattle.rme_server.specs.declared.stand.Holding.{Holding}
 use Rattle.rme_server.specs.declared.stand.Holding.TheVariants.{Empty, Ready, Climb, Held}
 

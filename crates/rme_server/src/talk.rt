@@ -103,7 +103,12 @@ fn turn<K: Tag, R: Wait, I: Read + Drop, O: Write>(
         Ok(cut) => cut,
         Err(fault) => return (stand, Err(fault)),
     };
-    let (stand, replied) = match order_in(cut, buffers.line.as_slice(), shared.alloc, shared.names) {
+    let (stand, replied) = match order_in(
+        cut,
+        buffers.line.as_slice(),
+        shared.alloc,
+        shared.names,
+    ) {
         Ok(Ok(order)) => obey_in_time(rt, stand, order, buffers, writer, shared),
         Ok(Err(why)) => (stand, Ok(SessionReply::Refused(why))),
         Err(_) => (stand, Err(EngineFault::NoMemory)),
@@ -161,7 +166,13 @@ fn obey_in_time<K: Tag, R: Wait, O: Write>(
     if let Err(fault) = buffers.write(writer) {
         return (stand, Err(fault));
     }
-    let (stand, last) = obey(rt, stand, Order::Resume(tries), shared.service, shared.slots);
+    let (stand, last) = obey(
+        rt,
+        stand,
+        Order::Resume(tries),
+        shared.service,
+        shared.slots,
+    );
     (stand, Ok(as_answer_to(reply, last)))
 }
 

@@ -3,7 +3,8 @@
 ghost use Rattle.std.specs.Prelude.{◌≡◌};
 ghost use Rattle.rme_server.specs.Stands.{MayHold};
 
-use crate::desk::{Desk, Trial, at_desk, take};
+use crate::desk::{Desk, Trial, take};
+use crate::talks::{Case, check_cases};
 use rme_program::Receipt;
 use rme_script::{Job, Op, Script};
 use rme_server::{Stand, obey};
@@ -12,11 +13,10 @@ use rme_wire::{Order, Outcome, SessionReply, Standing, Submission};
 use rme_words::Refusal;
 use std::process::Abort;
 use std::sync::Wait;
-use std::test::Fail;
 use std::thread::Threads;
 
 /// Takes what is there, and what is not.
-pub fn take_twice<K: Tag, R: Abort + Wait>(rt: &R, desk: &Desk<'_, K>) -> Result<(), Fail> {
+pub fn take_twice<K: Tag, R: Abort + Wait>(rt: &R, desk: &Desk<'_, K>) {
     let down = take(rt, desk, 0);
     assert_eq!(rt; down.worker(), 0);
     for (worker, why) in [(0, Refusal::Taken), (2, Refusal::NoWorker)] {
@@ -26,14 +26,6 @@ pub fn take_twice<K: Tag, R: Abort + Wait>(rt: &R, desk: &Desk<'_, K>) -> Result
         }
     }
     desk.slots.give(rt, down);
-    Ok(())
-}
-
-#[test]
-fn small_calls(rt: HostRuntime) -> Result<(), Fail> {
-    let left = at_desk(&rt, rt.alloc(), (2, 10), &Trial::Takes)?;
-    assert_eq!(rt; left, (0, true, 0));
-    Ok(())
 }
 
 /// The order must have this answer.
@@ -53,7 +45,7 @@ fn order<K: Tag, R: Abort + Wait>(
 }
 
 /// Orders by calls, with a worker that is spent by the test.
-pub fn give_orders<K: Tag, R: Abort + Wait>(rt: &R, desk: &Desk<'_, K>) -> Result<(), Fail> {
+pub fn give_orders<K: Tag, R: Abort + Wait>(rt: &R, desk: &Desk<'_, K>) {
     let job = Job {
         lock: 0,
         script: Script::of(&[Op::Add(0, 5)]),
@@ -83,12 +75,13 @@ pub fn give_orders<K: Tag, R: Abort + Wait>(rt: &R, desk: &Desk<'_, K>) -> Resul
         None => panic!(rt; "no worker is held"),
     }
     assert!(rt; Stand::empty().crash().is_none());
-    Ok(())
 }
 
 #[test]
-fn orders_by_calls(rt: HostRuntime) -> Result<(), Fail> {
-    let left = at_desk(&rt, rt.alloc(), (1, 10), &Trial::Orders)?;
-    assert_eq!(rt; left, (5, true, 1));
-    Ok(())
+fn small_calls(rt: HostRuntime) {
+    let cases: [Case<'_>; 2] = [
+        (Trial::Takes, (2, 10), (0, true, 0)),
+        (Trial::Orders, (1, 10), (5, true, 1)),
+    ];
+    check_cases(&rt, rt.alloc(), &cases);
 }

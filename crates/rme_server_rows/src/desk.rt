@@ -1,6 +1,6 @@
 //! A service with its slots and its lock's name, opened for a test and closed after it.
 
-ghost use Rattle.std.specs.Prelude.{◌≡◌, ◌<◌, IfOk};
+ghost use Rattle.std.specs.Prelude.{◌≡◌, ◌<◌};
 ghost use Rattle.rme_server.specs.Slots.{AreInPlace};
 
 use crate::calls::{give_orders, take_twice};
@@ -18,7 +18,6 @@ use std::alloc::Global;
 use std::marker::Brand;
 use std::process::Abort;
 use std::sync::Wait;
-use std::test::Fail;
 use std::thread::Threads;
 
 /// What all sessions of a test share: a service of one lock, `a`, with one cell.
@@ -58,7 +57,7 @@ fn make<K: Tag + Send + Sync, R: Abort + Threads + Wait + Sync>(
     rt: &R,
     desk: &Desk<'_, K>,
     trial: &Trial<'_>,
-) -> Result<(), Fail> {
+) {
     match trial {
         Trial::Talk(row) => talk(rt, desk, *row),
         Trial::Session(meeting) => make_session(rt, desk, *meeting),
@@ -78,10 +77,11 @@ fn make<K: Tag + Send + Sync, R: Abort + Threads + Wait + Sync>(
 pub type Left = (u64, bool, usize);
 
 /// A new service of these workers and jobs, and its Downs.
-fn open(alloc: Global, workers: u32, jobs: u32) -> Result<(Service, Vec<Down>), Fail>
-    ensures { IfOk result (λ opened. AreInPlace opened.0 opened.1.items) }
+fn open(rt: &impl Abort, alloc: Global, workers: u32, jobs: u32) -> (Service, Vec<Down>)
+    ensures { AreInPlace result.0 result.1.items }
 {
-    Ok(Service::new(alloc, Shape::new(workers, 1, 1, jobs)?)?)
+    let shape = Shape::new(workers, 1, 1, jobs).expect(rt, "a shape");
+    Service::new(alloc, shape).expect(rt, "a service")
 }
 
 /// Makes the trial with a new service of these workers and jobs, and tells what the lock is after it.
@@ -90,13 +90,13 @@ pub fn at_desk<R: Abort + Threads + Wait + Sync>(
     alloc: Global,
     (workers, jobs): (u32, u32),
     trial: &Trial<'_>,
-) -> Result<Left, Fail> {
-    let (service, downs) = open(alloc, workers, jobs)?;
-    let closed = try_out::<Brand, R>(rt, alloc, service, downs, trial)?;
+) -> Left {
+    let (service, downs) = open(rt, alloc, workers, jobs);
+    let closed = try_out::<Brand, R>(rt, alloc, service, downs, trial);
     assert_eq!(rt; closed.locks.len(), 1);
     let lock = &closed.locks[0];
     assert_eq!(rt; lock.cells.len(), 1);
-    Ok((lock.cells[0], lock.settled, lock.entries.len()))
+    (lock.cells[0], lock.settled, lock.entries.len())
 }
 
 /// Makes the trial with the service that K names, and closes it with the Downs of the slots.
@@ -106,12 +106,11 @@ fn try_out<K: Tag + Send + Sync, R: Abort + Threads + Wait + Sync>(
     service: Service,
     downs: Vec<Down>,
     trial: &Trial<'_>,
-) -> Result<Closed, Fail>
+) -> Closed
     requires named { service ≡ K.ident }
     requires downs { AreInPlace K.ident downs.items }
 {
-    let mut names = Names::new(alloc)?;
-    names.add("a")?;
+    let names = lock_names(rt, alloc);
     let slots = match Slots::<K>::new(rt, alloc, downs) {
         Ok(slots) => slots,
         Err(_) => panic!(rt; "no room for the slots"),
@@ -122,16 +121,23 @@ fn try_out<K: Tag + Send + Sync, R: Abort + Threads + Wait + Sync>(
         slots: &slots,
         names: &names,
     };
-    make(rt, &desk, trial)?;
+    make(rt, &desk, trial);
     all_are_back(rt, &desk);
     let downs = match slots.into_downs(rt) {
         Ok(downs) => downs,
         Err(_) => panic!(rt; "no room for the Downs"),
     };
     match service.close(downs) {
-        Ok(closed) => Ok(closed),
+        Ok(closed) => closed,
         Err(unclosed) => panic!(rt; "not closed: {}", unclosed.why.name()),
     }
+}
+
+/// The name of the one lock.
+fn lock_names(rt: &impl Abort, alloc: Global) -> Names {
+    let mut names = Names::new(alloc).expect(rt, "names");
+    assert_eq!(rt; names.add("a"), Ok(0));
+    names
 }
 
 /// Takes a worker's Down, which must lie in its slot.

@@ -1,8 +1,8 @@
 //! Planned crashes, waiting and withdrawal, by lines.
 
+use crate::desk::Trial;
 use crate::talks::{Case, Row, check_cases};
 use crate::words::*;
-use std::test::Fail;
 
 /// A plan outlives answers: 28 steps of the first job, and two of the second, whose number is not used.
 const OUTLIVES_ANSWERS: Row<'static> = &[
@@ -164,25 +164,18 @@ const CUT_EXITS: Row<'static> = &[
 ];
 
 #[test]
-fn planned_crashes(rt: HostRuntime) -> Result<(), Fail> {
-    let cases: [Case; 6] = [
-        (OUTLIVES_ANSWERS, (2, 10), (6, true, 2)),
-        (REPLACED, (2, 10), (6, true, 2)),
-        (CLEARED, (2, 10), (6, true, 2)),
-        (EXACTLY_AS_MANY, (2, 10), (6, true, 2)),
-        (AFTER_THE_LAST_JOB, (2, 1), (5, true, 1)),
-        (CUT_EXITS, (4, 10), (6, true, 2)),
+fn planned_crashes(rt: HostRuntime) {
+    let cases: [Case<'_>; 10] = [
+        (Trial::Talk(OUTLIVES_ANSWERS), (2, 10), (6, true, 2)),
+        (Trial::Talk(REPLACED), (2, 10), (6, true, 2)),
+        (Trial::Talk(CLEARED), (2, 10), (6, true, 2)),
+        (Trial::Talk(EXACTLY_AS_MANY), (2, 10), (6, true, 2)),
+        (Trial::Talk(AFTER_THE_LAST_JOB), (2, 1), (5, true, 1)),
+        (Trial::Talk(CUT_SWEEPS), (2, 10), (0, false, 0)),
+        (Trial::Talk(WAITS), (2, 10), (6, true, 2)),
+        (Trial::Talk(CUT_WITHDRAWAL), (2, 10), (0, false, 0)),
+        (Trial::Talk(CUT_AFTER_DONE), (4, 10), (0, false, 0)),
+        (Trial::Talk(CUT_EXITS), (4, 10), (6, true, 2)),
     ];
-    check_cases(&rt, rt.alloc(), &cases)
-}
-
-#[test]
-fn waiting_and_withdrawal(rt: HostRuntime) -> Result<(), Fail> {
-    let cases: [Case; 4] = [
-        (CUT_SWEEPS, (2, 10), (0, false, 0)),
-        (WAITS, (2, 10), (6, true, 2)),
-        (CUT_WITHDRAWAL, (2, 10), (0, false, 0)),
-        (CUT_AFTER_DONE, (4, 10), (0, false, 0)),
-    ];
-    check_cases(&rt, rt.alloc(), &cases)
+    check_cases(&rt, rt.alloc(), &cases);
 }

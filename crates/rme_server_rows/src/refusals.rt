@@ -1,12 +1,11 @@
 //! Each refusal of a session, two reasons at once in their order, and that a refused order changes nothing.
 
-use crate::desk::{Desk, Trial, at_desk};
+use crate::desk::{Desk, Trial};
 use crate::talks::{Case, Row, answers_to, check_cases};
 use crate::words::*;
 use rme_table::Tag;
 use std::process::Abort;
 use std::sync::Wait;
-use std::test::Fail;
 use std::thread::Threads;
 
 /// Without a worker every order but `attach` is refused, also after a detachment and after a fall; a line that is
@@ -138,37 +137,31 @@ const INSIDE: Row<'static> = &[
     (FIRST, FIRST_DONE),
 ];
 
-#[test]
-fn refused_orders(rt: HostRuntime) -> Result<(), Fail> {
-    let cases: [Case; 5] = [
-        (NO_ONE_ATTACHED, (2, 10), (0, true, 0)),
-        (ATTACHED_ALREADY, (2, 10), (0, true, 0)),
-        (SUBMISSIONS, (2, 1), (5, true, 1)),
-        (PENDING, (2, 10), (6, true, 2)),
-        (INSIDE, (2, 10), (5, true, 1)),
-    ];
-    check_cases(&rt, rt.alloc(), &cases)
-}
-
 /// A line of the most bytes that a line may have, and one of a byte more.
-pub fn say_long_lines<K: Tag, R: Abort + Wait>(rt: &R, desk: &Desk<'_, K>) -> Result<(), Fail> {
+pub fn say_long_lines<K: Tag, R: Abort + Wait>(rt: &R, desk: &Desk<'_, K>) {
     for (length, answer) in [
         (65_536, "{\"code\":19,\"error\":\"NotAttached\"}\n"),
         (65_537, "{\"code\":2,\"error\":\"LineTooLong\"}\n"),
     ] {
         let mut line = Vec::new(desk.alloc);
-        line.extend_from_slice(LAST.as_bytes())?;
-        line.resize(length, b' ')?;
-        line.push(b'\n')?;
-        let output = answers_to(rt, desk, line.as_slice())?;
+        line.extend_from_slice(LAST.as_bytes())
+            .expect(rt, "room for a line");
+        line.resize(length, b' ').expect(rt, "room for spaces");
+        line.push(b'\n').expect(rt, "room for a newline");
+        let output = answers_to(rt, desk, line.as_slice());
         assert!(rt; output.as_slice() == answer.as_bytes(), "{length}");
     }
-    Ok(())
 }
 
 #[test]
-fn over_long_line(rt: HostRuntime) -> Result<(), Fail> {
-    let left = at_desk(&rt, rt.alloc(), (1, 1), &Trial::LongLines)?;
-    assert_eq!(rt; left, (0, true, 0));
-    Ok(())
+fn refused_orders(rt: HostRuntime) {
+    let cases: [Case<'_>; 6] = [
+        (Trial::Talk(NO_ONE_ATTACHED), (2, 10), (0, true, 0)),
+        (Trial::Talk(ATTACHED_ALREADY), (2, 10), (0, true, 0)),
+        (Trial::Talk(SUBMISSIONS), (2, 1), (5, true, 1)),
+        (Trial::Talk(PENDING), (2, 10), (6, true, 2)),
+        (Trial::Talk(INSIDE), (2, 10), (5, true, 1)),
+        (Trial::LongLines, (1, 1), (0, true, 0)),
+    ];
+    check_cases(&rt, rt.alloc(), &cases);
 }

@@ -2,15 +2,14 @@
 
 ghost use Rattle.std.specs.Prelude.{◌≡◌};
 
-use crate::desk::{Desk, Trial, at_desk, take};
+use crate::desk::{Desk, Trial, take};
 use crate::sockets::{Meeting, meet, open_meeting};
-use crate::talks::{Row, talk};
+use crate::talks::{Case, Row, check_cases, talk};
 use crate::words::*;
 use rme_script::{Job, Op, Script};
 use rme_table::{Down, Held, Never, Posted, Service, Stance, Sweep, Tag};
 use std::process::Abort;
 use std::sync::Wait;
-use std::test::Fail;
 use std::thread::Threads;
 
 /// Row `session`. The test holds worker 1's Down.
@@ -53,7 +52,7 @@ fn hold<K: Tag + Send + Sync, R: Abort + Threads + Wait + Sync>(
     desk: &Desk<'_, K>,
     meeting: Option<&Meeting>,
     row: Row<'_>,
-) -> Result<(), Fail> {
+) {
     match meeting {
         None => talk(rt, desk, row),
         Some(meeting) => meet(rt, desk, meeting, &[(0, row)]),
@@ -65,11 +64,10 @@ pub fn make_session<K: Tag + Send + Sync, R: Abort + Threads + Wait + Sync>(
     rt: &R,
     desk: &Desk<'_, K>,
     meeting: Option<&Meeting>,
-) -> Result<(), Fail> {
+) {
     let down = take(rt, desk, 1);
-    hold(rt, desk, meeting, SESSION)?;
+    hold(rt, desk, meeting, SESSION);
     desk.slots.give(rt, down);
-    Ok(())
 }
 
 /// Row `withdrawal in a session`, while the test has worker 0's Held.
@@ -77,12 +75,11 @@ pub fn make_withdrawal<K: Tag + Send + Sync, R: Abort + Threads + Wait + Sync>(
     rt: &R,
     desk: &Desk<'_, K>,
     meeting: Option<&Meeting>,
-) -> Result<(), Fail> {
+) {
     let down = take(rt, desk, 0);
     let held = go_in(rt, desk.service, down);
-    let talked = hold(rt, desk, meeting, WITHDRAWAL);
+    hold(rt, desk, meeting, WITHDRAWAL);
     desk.slots.give(rt, held.crash());
-    talked
 }
 
 /// The worker comes up, posts a job that adds 5, and enters its lock.
@@ -110,21 +107,20 @@ fn go_in(rt: &impl Abort, service: &Service, down: Down) -> Held
 }
 
 #[test]
-fn session_row(rt: HostRuntime) -> Result<(), Fail> {
-    let meeting = open_meeting(&rt, rt.alloc(), 1)?;
-    for meeting in [None, Some(&meeting)] {
-        let left = at_desk(&rt, rt.alloc(), (2, 10), &Trial::Session(meeting))?;
-        assert_eq!(rt; left, (6, true, 2));
-    }
-    Ok(())
-}
-
-#[test]
-fn withdrawal_row(rt: HostRuntime) -> Result<(), Fail> {
-    let meeting = open_meeting(&rt, rt.alloc(), 1)?;
-    for meeting in [None, Some(&meeting)] {
-        let left = at_desk(&rt, rt.alloc(), (2, 10), &Trial::Withdrawal(meeting))?;
-        assert_eq!(rt; left, (0, false, 0));
-    }
-    Ok(())
+fn rows(rt: HostRuntime) {
+    let meetings = [
+        open_meeting(&rt, &rt, rt.alloc(), 1),
+        open_meeting(&rt, &rt, rt.alloc(), 1),
+    ];
+    let cases: [Case<'_>; 4] = [
+        (Trial::Session(None), (2, 10), (6, true, 2)),
+        (Trial::Session(Some(&meetings[0])), (2, 10), (6, true, 2)),
+        (Trial::Withdrawal(None), (2, 10), (0, false, 0)),
+        (
+            Trial::Withdrawal(Some(&meetings[1])),
+            (2, 10),
+            (0, false, 0),
+        ),
+    ];
+    check_cases(&rt, rt.alloc(), &cases);
 }

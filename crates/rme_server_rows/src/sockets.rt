@@ -1,16 +1,15 @@
 //! Sessions through sockets, with the clients in a thread.
 
-use crate::desk::{Desk, Trial, at_desk};
-use crate::talks::{Row, ask};
+use crate::desk::{Desk, Trial};
+use crate::talks::{Case, Row, ask, check_cases};
 use crate::words::*;
 use rme_server::serve;
 use rme_table::Tag;
-use rme_wire::{Cut, EngineFault, LineReader};
+use rme_wire::{Cut, LineReader};
 use std::alloc::Global;
 use std::net::{Ipv4Addr, Net, Shutdown, TcpListener, TcpStream};
 use std::process::Abort;
 use std::sync::Wait;
-use std::test::Fail;
 use std::thread;
 use std::thread::Threads;
 
@@ -27,21 +26,26 @@ pub type Turns<'a> = &'a [(usize, Row<'a>)];
 
 /// A listener on a port that is free, to which so many clients are connected, but none is accepted yet.
 pub fn open_meeting<R: Net<Listener = TcpListener, Stream = TcpStream>>(
-    rt: &R,
+    rt: &impl Abort,
+    net: &R,
     alloc: Global,
     connections: u32,
-) -> Result<Meeting, Fail> {
-    let listener = TcpListener::bind(rt, (Ipv4Addr::LOCALHOST, 0))?;
-    let port = listener.local_addr()?.port();
+) -> Meeting {
+    let listener = TcpListener::bind(net, (Ipv4Addr::LOCALHOST, 0)).expect(rt, "a listener");
+    let port = listener.local_addr().expect(rt, "its port").port();
     let mut clients = Vec::new(alloc);
     for _ in 0..connections {
-        clients.push(TcpStream::connect(rt, (Ipv4Addr::LOCALHOST, port))?)?;
+        let client = TcpStream::connect(net, (Ipv4Addr::LOCALHOST, port)).expect(
+            rt,
+            "a connection",
+        );
+        clients.push(client).expect(rt, "room for a client");
     }
-    Ok(Meeting {
+    Meeting {
         listener,
         connections,
         clients,
-    })
+    }
 }
 
 /// Serves the clients of the meeting while they talk by turns.
@@ -50,9 +54,9 @@ pub fn meet<K: Tag + Send + Sync, R: Abort + Threads + Wait + Sync>(
     desk: &Desk<'_, K>,
     meeting: &Meeting,
     turns: Turns<'_>,
-) -> Result<(), Fail> {
+) {
     let (alloc, clients) = (desk.alloc, meeting.clients.as_slice());
-    let (served, talked) = thread::join(
+    let (served, _) = thread::join(
         rt,
         || {
             serve(
@@ -67,51 +71,36 @@ pub fn meet<K: Tag + Send + Sync, R: Abort + Threads + Wait + Sync>(
         },
         || talk_by_turns(rt, alloc, clients, turns),
     );
-    assert_eq!(rt; talked, Ok(()));
     assert_eq!(rt; served, Ok(()));
-    Ok(())
 }
 
 /// Each client says its lines when its turn comes, one after the other; then all of them hang up.
-fn talk_by_turns(
-    rt: &impl Abort,
-    alloc: Global,
-    clients: &[TcpStream],
-    turns: Turns<'_>,
-) -> Result<(), EngineFault> {
+fn talk_by_turns(rt: &impl Abort, alloc: Global, clients: &[TcpStream], turns: Turns<'_>) {
     for (client, row) in turns {
         let Some(client) = clients.get(*client) else {
             panic!(rt; "no client {client}");
         };
-        talk_as(rt, alloc, client, row)?;
+        talk_as(rt, alloc, client, row);
     }
     for client in clients {
-        hang_up(rt, alloc, client)?;
+        hang_up(rt, alloc, client);
     }
-    Ok(())
 }
 
 /// A client says the lines of a row, and waits for each answer before it says the next.
-fn talk_as(
-    rt: &impl Abort,
-    alloc: Global,
-    client: &TcpStream,
-    row: Row<'_>,
-) -> Result<(), EngineFault> {
-    let mut answers = LineReader::new(alloc, client)?;
+fn talk_as(rt: &impl Abort, alloc: Global, client: &TcpStream, row: Row<'_>) {
+    let mut answers = LineReader::new(alloc, client).expect(rt, "a reader");
     let mut writer = client;
     for line in row {
-        ask(rt, alloc, &mut answers, &mut writer, *line)?;
+        ask(rt, alloc, &mut answers, &mut writer, *line);
     }
-    Ok(())
 }
 
 /// A client says that there are no further lines, and nothing more comes from the server.
-fn hang_up(rt: &impl Abort, alloc: Global, client: &TcpStream) -> Result<(), EngineFault> {
+fn hang_up(rt: &impl Abort, alloc: Global, client: &TcpStream) {
     assert!(rt; client.shutdown(Shutdown::Write).is_ok());
-    let mut answers = LineReader::new(alloc, client)?;
+    let mut answers = LineReader::new(alloc, client).expect(rt, "a reader");
     assert_eq!(rt; answers.next_line(&mut Vec::new(alloc)), Ok(Cut::End));
-    Ok(())
 }
 
 /// Row `small calls`, its connection.
@@ -155,11 +144,12 @@ const TWO_CLIENTS: Turns<'static> = &[
 ];
 
 #[test]
-fn served_clients(rt: HostRuntime) -> Result<(), Fail> {
-    for (clients, turns, left) in [(1, ONE_LINE, (0, true, 0)), (2, TWO_CLIENTS, (6, true, 2))] {
-        let meeting = open_meeting(&rt, rt.alloc(), clients)?;
-        let found = at_desk(&rt, rt.alloc(), (2, 10), &Trial::Meeting(&meeting, turns))?;
-        assert_eq!(rt; found, left);
-    }
-    Ok(())
+fn served_clients(rt: HostRuntime) {
+    let one = open_meeting(&rt, &rt, rt.alloc(), 1);
+    let two = open_meeting(&rt, &rt, rt.alloc(), 2);
+    let cases: [Case<'_>; 2] = [
+        (Trial::Meeting(&one, ONE_LINE), (2, 10), (0, true, 0)),
+        (Trial::Meeting(&two, TWO_CLIENTS), (2, 10), (6, true, 2)),
+    ];
+    check_cases(&rt, rt.alloc(), &cases);
 }

@@ -11,7 +11,6 @@ use std::io;
 use std::io::{Error, ErrorKind, Read, Write};
 use std::process::Abort;
 use std::sync::Wait;
-use std::test::Fail;
 use std::thread::Threads;
 
 /// A session that ends while its worker is inside, so that the worker has to fall then.
@@ -105,12 +104,8 @@ fn run<K: Tag, R: Wait, I: Read + Drop, O: Write>(
 }
 
 /// A session whose reader fails: the lines that it gave whole are answered.
-pub fn read_failing<K: Tag, R: Abort + Wait>(
-    rt: &R,
-    desk: &Desk<'_, K>,
-    limits: (usize, usize),
-) -> Result<(), Fail> {
-    let input = input_of(desk.alloc, ENDS_INSIDE)?;
+pub fn read_failing<K: Tag, R: Abort + Wait>(rt: &R, desk: &Desk<'_, K>, limits: (usize, usize)) {
+    let input = input_of(rt, desk.alloc, ENDS_INSIDE);
     let mut reader = Flaky::new(desk.alloc, input.as_slice(), limits);
     let mut output = Vec::new(desk.alloc);
     let ran = run(rt, desk, &mut reader, &mut output);
@@ -118,27 +113,21 @@ pub fn read_failing<K: Tag, R: Abort + Wait>(
     let given = &input[..input.len() - reader.unread.len()];
     let lines = given.iter().filter(|byte| **byte == b'\n').count();
     assert!(rt; lines <= ENDS_INSIDE.len());
-    let wanted = output_of(desk.alloc, &ENDS_INSIDE[..lines])?;
+    let wanted = output_of(rt, desk.alloc, &ENDS_INSIDE[..lines]);
     assert!(rt; output.as_slice() == wanted.as_slice());
     check_end(rt, ran, EngineFault::ReadFailed, limits);
-    Ok(())
 }
 
 /// A session whose writer fails: it holds a front of the answers.
-pub fn write_failing<K: Tag, R: Abort + Wait>(
-    rt: &R,
-    desk: &Desk<'_, K>,
-    limits: (usize, usize),
-) -> Result<(), Fail> {
-    let input = input_of(desk.alloc, ENDS_INSIDE)?;
-    let wanted = output_of(desk.alloc, ENDS_INSIDE)?;
+pub fn write_failing<K: Tag, R: Abort + Wait>(rt: &R, desk: &Desk<'_, K>, limits: (usize, usize)) {
+    let input = input_of(rt, desk.alloc, ENDS_INSIDE);
+    let wanted = output_of(rt, desk.alloc, ENDS_INSIDE);
     let mut writer = Flaky::new(desk.alloc, b"", limits);
     let ran = run(rt, desk, input.as_slice(), &mut writer);
     let held = writer.held.as_slice();
     assert!(rt; wanted.as_slice().starts_with(held));
     assert_eq!(rt; ran.is_ok(), held.len() == wanted.len());
     check_end(rt, ran, EngineFault::WriteFailed, limits);
-    Ok(())
 }
 
 /// The session ended with this fault, or else well, as it must where there were more calls than it makes.
@@ -153,13 +142,12 @@ fn check_end(
 
 /// A reader that fails at each of its calls, and a writer.
 #[test]
-fn failing_streams(rt: HostRuntime) -> Result<(), Fail> {
+fn failing_streams(rt: HostRuntime) {
     for calls in 0..=MOST_CALLS {
         for width in WIDTHS {
             let limits = (width, calls);
-            at_desk(&rt, rt.alloc(), (1, 10), &Trial::FailingReader(limits))?;
-            at_desk(&rt, rt.alloc(), (1, 10), &Trial::FailingWriter(limits))?;
+            at_desk(&rt, rt.alloc(), (1, 10), &Trial::FailingReader(limits));
+            at_desk(&rt, rt.alloc(), (1, 10), &Trial::FailingWriter(limits));
         }
     }
-    Ok(())
 }

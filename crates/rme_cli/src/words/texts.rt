@@ -127,11 +127,13 @@ Each line of a client is one JSON object, which is obeyed and answered by one li
                                  makes the job of the number after the last: {\"ok\":\"submit\",\"receipt\":{..}};
                                  {\"ok\":\"submit\",\"waiting\":true} where the lock was not had in 1000 tries, or
                                  in \"tries\":N, 1 to 1000000; {\"fell\":true,\"ok\":\"submit\"} at a planned crash.
-                                 The same line again goes on with the job, or answers its receipt: a job
-                                 counts once. The operations are those of `rme run --help`
+                                 The same line again goes on with the job, or answers its receipt, or
+                                 {\"ok\":\"submit\",\"withdrawn\":true}: a job counts once. The operations are
+                                 those of `rme run --help`
   {\"do\":\"resume\"}                goes on with the job that the worker is in, answered as submit is, with
                                  \"ok\":\"resume\"; it takes \"tries\" too
-  {\"do\":\"withdraw\"}              gives up a job that waits: {\"number\":N,\"ok\":\"withdraw\"}
+  {\"do\":\"withdraw\"}              gives up a job that waits: {\"number\":N,\"ok\":\"withdraw\"}, or with
+                                 \"fell\":true in the number's place at a planned crash
   {\"do\":\"last\"}                  the receipt of the last job, or null: {\"last\":{..},\"ok\":\"last\"}
   {\"do\":\"crash_after\",\"steps\":N} plans a crash after N further own steps, at most 1000000:
                                  {\"ok\":\"crash_after\"}
@@ -156,9 +158,9 @@ A server and a client, for bash:
   {\"ok\":\"submit\",\"receipt\":{\"lock\":\"bank\",\"number\":1,\"place\":0,\"reply\":5,\"worker\":0}}
   lock bank cells 5 entries 1
 
-A client that is stuck or silent keeps its own worker, and the lock that this one owns, and nothing else of
-the server; but the server ends only after its last session. SIGTERM ends it at once, with no closing lines,
-and the words of the service are gone with it.
+A client that is stuck or silent keeps its own worker alone, with what this one holds of a lock; the server
+goes on for all others, and ends after its last session. SIGTERM ends it at once, with no closing lines, and
+all that the service held is gone.
 
 Status: 0 after the closing lines, 1 with none of them where a worker was not given back, 2 for words that
 are refused (also 0 or more than 256 workers, 16 locks, 16 cells or 1000000 jobs, and a name that is none
