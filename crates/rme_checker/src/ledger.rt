@@ -40,7 +40,8 @@ impl Model for Ledger {
 }
 
 impl Ledger {
-    ghost use Rattle.std.specs.Prelude.{◌≡◌, ◌<◌, false, true, [], ◌∷◌, ◌++◌, IfOk, OnErr, Some, length, slice_get, slice_set, replicate};
+    ghost use Rattle.std.specs.Prelude.{◌≡◌, ◌<◌, false, true, [], ◌∷◌, ◌++◌, IfOk, IfSome, OnErr, Some, length, slice_get, slice_set, replicate};
+    ghost use Rattle.rme_machine.specs.Histories.{rows};
     ghost use Rattle.rme_machine.specs.declared.label.Act.TheVariants.{Finish, Withdraw};
     ghost use Rattle.rme_machine.specs.Machine.{WorkerState, opening_worker};
     ghost use Rattle.rme_checker.specs.Deciding.{is_receipt, worker_next, entry_inside};
@@ -80,6 +81,16 @@ impl Ledger {
         ensures { result.now ≡ self.now.history }
     {
         &self.entries
+    }
+
+    /// What the cells of a lock hold, after all finished sections; nothing where there is no such lock.
+    pub fn cells(&self, lock: u32) -> Option<Row>
+        ensures { IfSome result (λ row. row ≡ rows self.now.shape self.now.history lock) }
+    {
+        if lock >= self.shape.locks {
+            return None;
+        }
+        Some(self.fold.rows[lock as usize])
     }
 
     /// Whether the receipt is that of the section which the worker is inside, if that section finished now.

@@ -17,3 +17,4 @@ mod stances;
 mod worker;
 
 pub use machine::Machine;
+pub use worker::Worker;

@@ -7,6 +7,7 @@ use crate::ledger::{Ledger, job_fits};
 use crate::worker::Worker;
 use rme_machine::{Act, Label};
 use rme_program::{Answer, Entry, Event};
+use rme_script::Row;
 use rme_words::{NoMemory, Shape};
 use std::alloc::Global;
 use std::marker::Model;
@@ -30,9 +31,10 @@ impl Model for Machine {
 }
 
 impl Machine {
-    ghost use Rattle.std.specs.Prelude.{◌≡◌, true, Some, IfOk, OnErr, slice_get};
+    ghost use Rattle.std.specs.Prelude.{◌≡◌, true, Some, IfOk, IfSome, OnErr, slice_get};
     ghost use Rattle.rme_machine.specs.Machine.{WorkerState, opening_state};
     ghost use Rattle.rme_machine.specs.ShownCells.{owner_at};
+    ghost use Rattle.rme_machine.specs.Histories.{rows};
     ghost use Rattle.rme_machine.specs.Labels.{labels};
     ghost use Rattle.rme_checker.specs.Admitting.{Admitted, Grows, grows};
     ghost use Rattle.rme_checker.specs.Deciding.{is_free, may, may_as, state_next};
@@ -81,11 +83,33 @@ impl Machine {
         }
     }
 
+    /// The shape that the machine was opened with.
+    pub fn shape(&self) -> Shape
+        ensures { result ≡ self.now.shape }
+    {
+        self.ledger.shape()
+    }
+
+    /// What the machine knows of a worker; nothing where there is no such worker.
+    pub fn worker(&self, worker: u32) -> Option<&Worker>
+        ensures some { IfSome result (λ me. slice_get self.now.state.workers worker ≡ Some me.now) }
+        ensures none { result ≡ None → slice_get self.now.state.workers worker ≡ None }
+    {
+        self.ledger.workers().get(worker as usize)
+    }
+
     /// The finished sections of all locks, in order of finishing.
     pub fn finished(&self) -> &[Entry]
         ensures { result.now ≡ self.now.state.history }
     {
         self.ledger.entries()
+    }
+
+    /// What the cells of a lock hold after all finished sections; nothing where there is no such lock.
+    pub fn cells(&self, lock: u32) -> Option<Row>
+        ensures { IfSome result (λ row. row ≡ rows self.now.shape self.now.state.history lock) }
+    {
+        self.ledger.cells(lock)
     }
 
     /// Whether the worker may make this step; one that is not there makes none.

@@ -32,7 +32,7 @@ impl Worker {
     ghost use Rattle.rme_checker.specs.Keeping.{is_withdrawal};
 
     /// A worker at opening: up and idle.
-    pub fn new(alloc: Global) -> Worker
+    pub(crate) fn new(alloc: Global) -> Worker
         ensures { result ≡ opening_worker }
     {
         Worker {
@@ -70,31 +70,31 @@ impl Worker {
     }
 
     /// The number is the one after the last.
-    pub fn is_next_number(&self, number: u32) -> bool
+    pub(crate) fn is_next_number(&self, number: u32) -> bool
         ensures { result ≡ (number == self.now.asked + 1) }
     {
         u64::from(number) == u64::from(self.asked) + 1
     }
 
-    pub fn is_idle(&self) -> bool
+    pub(crate) fn is_idle(&self) -> bool
         ensures { result ≡ is_idle self.now.stance }
     {
         matches!(&self.stance, Stance::Idle)
     }
 
-    pub fn is_handed(&self) -> bool
+    pub(crate) fn is_handed(&self) -> bool
         ensures { result ≡ is_handed self.now.stance }
     {
         matches!(&self.stance, Stance::Handed(_))
     }
 
-    pub fn is_waiting(&self) -> bool
+    pub(crate) fn is_waiting(&self) -> bool
         ensures { result ≡ is_waiting self.now.stance }
     {
         matches!(&self.stance, Stance::Waiting(_, _))
     }
 
-    pub fn waits_as(&self, number: u32) -> bool
+    pub(crate) fn waits_as(&self, number: u32) -> bool
         ensures { result ≡ waits_as self.now.stance number }
     {
         match &self.stance {
@@ -103,7 +103,7 @@ impl Worker {
         }
     }
 
-    pub fn waits_on(&self, lock: u32) -> bool
+    pub(crate) fn waits_on(&self, lock: u32) -> bool
         ensures { result ≡ waits_on self.now.stance lock }
     {
         match &self.stance {
@@ -112,7 +112,7 @@ impl Worker {
         }
     }
 
-    pub fn finished_on(&self, lock: u32) -> bool
+    pub(crate) fn finished_on(&self, lock: u32) -> bool
         ensures { result ≡ finished_on self.now.stance lock }
     {
         match &self.stance {
@@ -121,7 +121,7 @@ impl Worker {
         }
     }
 
-    pub fn stays_on(&self, lock: u32) -> bool
+    pub(crate) fn stays_on(&self, lock: u32) -> bool
         ensures { result ≡ stays_on self.now.stance lock }
     {
         match &self.stance {
@@ -131,7 +131,7 @@ impl Worker {
     }
 
     /// The worker's own part of a step that adds nothing to its withdrawn numbers.
-    pub fn change(&mut self, act: &Act)
+    pub(crate) fn change(&mut self, act: &Act)
         requires { is_withdrawal act.now ≡ false }
         ensures { self.new ≡ worker_next act.now self.old }
     {
@@ -162,7 +162,7 @@ impl Worker {
     }
 
     /// Gives up the job of this number. `NoMemory` where there was no room to note it, and then nothing changed.
-    pub fn withdraw(&mut self, number: u32) -> Result<(), NoMemory>
+    pub(crate) fn withdraw(&mut self, number: u32) -> Result<(), NoMemory>
         ensures withdrawn { OnOk result (self.new ≡ worker_next (Withdraw number) self.old) }
         ensures unchanged { OnErr result (self.new ≡ self.old) }
     {

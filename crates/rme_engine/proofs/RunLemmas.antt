@@ -1,6 +1,5 @@
 -- A run goes on by one line.
-use Rattle.std.proofs.Common.{◌≡◌, ℕ, List, [], ◌∷◌, ◌++◌, length, take, drop, take-append-drop, ◌<◌, ◌≤◌, arith, Bool, true, false, Option, Some, None, refl, sym, ap, subst, ◌∙◌, append_assoc, append-nil}
-use Rattle.std.proofs.lemmas.List.{take_at}
+use Rattle.std.proofs.Common.{◌≡◌, ℕ, List, [], ◌∷◌, ◌++◌, ◌<◌, ◌≤◌, arith, Bool, true, false, Option, Some, None, refl, sym, ap, subst, ◌∙◌, append_assoc, append-nil}
 use Rattle.std.specs.Io.KnownBytes.{Appends}
 use Rattle.std.proofs.KnownBytes.{Appends-nil, Appends-trans}
 use Rattle.rme_lines.specs.declared.cut.Cut.{Cut}
@@ -12,7 +11,7 @@ use Rattle.rme_lines.specs.Pieces.{InputLine, TakesPiece, TakesWhole, line_of, l
 use Rattle.rme_lines.specs.Puts.{AppendsFront, Gathers}
 use Rattle.rme_lines.specs.declared.lines.LineReader.{LineReader}
 use Rattle.rme_lines.specs.Readers.{FailsToRead, ReadsNoMore, most_lines}
-use Rattle.rme_lines.proofs.PutLemmas.{front_after, front_before, gathered_front, gathered_put}
+use Rattle.rme_lines.proofs.PutLemmas.{front_after, gathered_front, gathered_put}
 use Rattle.rme_lines.proofs.ReaderLemmas.{CameOn, came_no_more, came_to_fail}
 use Rattle.rme_lines.proofs.PieceLemmas.{lines_ended, whole_lines_ended, whole_lines_piece}
 use Rattle.rme_engine.specs.Runs.{AreLines, BeginsWith, CutsOff, HasNone, Run, Spills, TurnFails, Turns, WereRead, WritesFirst, WritesTo, all_bytes}

@@ -6,6 +6,7 @@ ghost use Rattle.rme_engine.specs.Judging.{JudgesLeft};
 ghost use Rattle.rme_engine.specs.Verdicts.{Finds};
 
 use crate::judge::{Found, Judge};
+use crate::watch::{Unwatched, Watch};
 use rme_wire::{Cut, EngineFault, LineReader};
 use std::alloc::Global;
 use std::io::Read;
@@ -37,6 +38,21 @@ pub fn check_lines<R: Read + Drop>(
     ensures ended { HasEnded lines.old → ReadsNoMore lines.old lines.new }
     ensures failed { IfErr result (λ fault. fault ≡ EngineFault.ReadFailed → FailsToRead lines.old lines.new) }
 {
+    watch_lines(alloc, lines, &mut Unwatched)
+}
+
+/// Checks a transcript as `check_lines` does, and shows the watcher each step that the machine takes, before the
+/// next line is read. What the watcher does has no part in the verdict; its want of memory ends the check.
+pub fn watch_lines<R: Read + Drop, V: Watch>(
+    alloc: Global,
+    lines: &mut LineReader<R>,
+    watcher: &mut V,
+) -> Result<Verdict, EngineFault>
+    ensures verdict { IfOk result (Finds (bytes_left R.remaining lines.old)) }
+    ensures kind { IfErr result (λ fault. fault ≢ EngineFault.WriteFailed) }
+    ensures ended { HasEnded lines.old → ReadsNoMore lines.old lines.new }
+    ensures failed { IfErr result (λ fault. fault ≡ EngineFault.ReadFailed → FailsToRead lines.old lines.new) }
+{
     let mut line = Vec::new(alloc);
     let first = match lines.next_line(&mut line) {
         Ok(cut) => cut,
@@ -50,14 +66,18 @@ pub fn check_lines<R: Read + Drop>(
         Ok(None) => return Ok(Verdict::Bad(1)),
         Err(_) => return Err(EngineFault::NoMemory),
     };
-    judge_lines(&mut judge, lines, &mut line)
+    match watcher.opened(&judge.names, &judge.machine) {
+        Ok(()) => judge_lines(&mut judge, lines, &mut line, watcher),
+        Err(_) => Err(EngineFault::NoMemory),
+    }
 }
 
 /// Judges the lines that are left, the first of which is the second of the transcript.
-fn judge_lines<R: Read + Drop>(
+fn judge_lines<R: Read + Drop, V: Watch>(
     judge: &mut Judge,
     lines: &mut LineReader<R>,
     line: &mut Vec<u8>,
+    watcher: &mut V,
 ) -> Result<Verdict, EngineFault>
     ensures verdict { IfOk result (JudgesLeft judge.old.names judge.old.machine 2 (bytes_left R.remaining lines.old)) }
     ensures kind { IfErr result (λ fault. fault ≢ EngineFault.WriteFailed) }
@@ -74,7 +94,7 @@ fn judge_lines<R: Read + Drop>(
         if cut == Cut::End {
             return Ok(Verdict::Yes);
         }
-        match judge.finds(cut, line.as_slice()) {
+        match judge.finds(cut, line.as_slice(), watcher) {
             Ok(Found::Step) => number += 1,
             Ok(Found::NoStep) => return Ok(Verdict::No(number)),
             Ok(Found::NoEvent) => return Ok(Verdict::Bad(number)),

@@ -5,6 +5,7 @@ ghost use Rattle.rme_lines.specs.Cuts.{line_read};
 ghost use Rattle.rme_engine.specs.Judging.{HasOpened, IsDecided, IsFound, IsJudge};
 
 use crate::opened::names_and_shape;
+use crate::watch::Watch;
 use rme_checker::Machine;
 use rme_wire::{Cut, EventLine, Names, Opening, Request, event_of, request_of};
 use rme_words::{NoMemory, Refusal};
@@ -62,8 +63,13 @@ impl Judge {
         }
     }
 
-    /// What a further line is found to be.
-    pub fn finds(&mut self, cut: Cut, line: &[u8]) -> Result<Found, NoMemory>
+    /// What a further line is found to be. A step that the machine takes is shown to the watcher.
+    pub fn finds<V: Watch>(
+        &mut self,
+        cut: Cut,
+        line: &[u8],
+        watcher: &mut V,
+    ) -> Result<Found, NoMemory>
         ensures found { IfOk result (λ found. IsFound self.old.names self.old.machine (line_read cut line.now) found self.new.machine) }
         ensures names { self.new.names ≡ self.old.names }
     {
@@ -72,21 +78,21 @@ impl Judge {
         }
         match event_of(self.alloc, &self.names, line)? {
             None => Ok(Found::NoEvent),
-            Some(told) => self.decides(&told),
+            Some(told) => self.decides(&told, watcher),
         }
     }
 
     /// Whether the machine has the step of an event line, which it takes then.
-    fn decides(&mut self, line: &EventLine) -> Result<Found, NoMemory>
+    fn decides<V: Watch>(&mut self, line: &EventLine, watcher: &mut V) -> Result<Found, NoMemory>
         ensures found { IfOk result (λ found. IsDecided self.old.machine line.now found self.new.machine) }
         ensures names { self.new.names ≡ self.old.names }
     {
         let event = line.event();
         let answer = line.answer();
-        if self.machine.admits(&event, &answer)? {
-            Ok(Found::Step)
-        } else {
-            Ok(Found::NoStep)
+        if !self.machine.admits(&event, &answer)? {
+            return Ok(Found::NoStep);
         }
+        watcher.stepped(line, &self.machine)?;
+        Ok(Found::Step)
     }
 }

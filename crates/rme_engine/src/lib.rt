@@ -22,8 +22,10 @@ mod run;
 mod tallied;
 mod told;
 mod walk;
+mod watch;
 
-pub use check::{Verdict, check_lines};
+pub use check::{Verdict, check_lines, watch_lines};
 pub use engine::Engine;
 pub use run::{answer_lines, run_lines, transcript_lines};
 pub use tallied::TalliedWorld;
+pub use watch::Watch;

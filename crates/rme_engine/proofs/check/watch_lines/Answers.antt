@@ -6,7 +6,7 @@ use Rattle.rme_engine.specs.declared.judge.Judge.{Judge}
 use Rattle.rme_engine.specs.Judging.{HasOpened}
 use Rattle.rme_engine.proofs.JudgeLemmas.{found_by, found_closed}
 use Rattle.rme_engine.proofs.RunLemmas.{cut_off}
-use Rattle.rme_engine.proofs.check.check_lines.Goals as goal
+use Rattle.rme_engine.proofs.check.watch_lines.Goals as goal
 
 pub returns-in-Ok-None-clause-verdict : goal.returns-in-Ok-None-clause-verdict
 returns-in-Ok-None-clause-verdict g c =
@@ -18,8 +18,8 @@ returns-in-Ok-None-clause-verdict g c =
     let P : Option Judge → Type 0 = λ j. HasOpened line j in
     found_closed (left c.args.lines.now) (left c.next_line.new.self) line off (subst P c.in-Ok-None.field-0-is c.in-Ok-None.ensures)
 
-pub returns-clause-verdict : goal.returns-clause-verdict
-returns-clause-verdict g c =
+pub returns-in-Ok-opened-clause-verdict : goal.returns-in-Ok-opened-clause-verdict
+returns-in-Ok-opened-clause-verdict g c =
     let left = bytes_left g.R.Read.remaining in
     let line = line_read c.in-Ok.cut c.as_slice.result.now in
     let cuts = rw (← c.as_slice.ensures.value) at c.in-Ok.ensures.cut in
