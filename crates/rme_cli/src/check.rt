@@ -23,7 +23,7 @@ pub fn check(rt: &HostRuntime) -> Result<u8, Fault> {
 }
 
 /// The status of the program after a verdict.
-fn status_of(verdict: Verdict) -> u8
+pub fn status_of(verdict: Verdict) -> u8
     ensures { result ≡ status_of_verdict verdict }
 {
     match verdict {

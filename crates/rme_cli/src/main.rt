@@ -1,8 +1,9 @@
 //! The program `rme`: a recoverable mutual exclusion lock service over lines, and over threads.
 //!
 //! It stands on rme_engine, whose engines it runs on its standard streams, on rme_supervisor, by which `threads.rt`
-//! runs workers in threads, and on rme_server, by which `serve.rt` serves them to clients. A run that begins or ends
-//! with a saved world is in `image.rt`. The words of the command line are read in `words.rt`, and `told.rt` says what
+//! runs workers in threads, on rme_server, by which `serve.rt` serves them to clients, and on rme_draw, by which
+//! `draw.rt` draws a transcript. A run that begins or ends with a saved world is in `image.rt`, and what `rme explain`
+//! prints in `explanation.rt`. The words of the command line are read in `words.rt`, and `told.rt` says what
 //! becomes of those that give no task; what went wrong has its text and its status from rme_faults. Begin with `main`.
 #![tactic(auto)]
 
@@ -11,6 +12,8 @@ ghost use Rattle.clap.specs.Values.{kind_of};
 ghost use Rattle.rme_cli.specs.Statuses.{told};
 
 mod check;
+mod draw;
+mod explanation;
 mod image;
 mod progress;
 mod serve;
@@ -19,6 +22,8 @@ mod told;
 mod words;
 
 use crate::check::check;
+use crate::draw::draw;
+use crate::explanation::run_explain;
 use crate::image::run_images;
 use crate::serve::run_serve;
 use crate::threads::run_threads;
@@ -59,6 +64,8 @@ fn perform<R: Threads + Wait + Sync>(rt: &HostRuntime, threads: &R) -> Result<u8
             Ok(0)
         }
         Ok(Task::Check) => check(rt),
+        Ok(Task::Draw) => draw(rt),
+        Ok(Task::Explain(asked)) => run_explain(rt, asked),
         Ok(Task::Threads(task)) => run_threads(rt, threads, &task),
         Ok(Task::Serve(task)) => run_serve(rt, threads, &task),
         Err(error) => explain(rt, &error),

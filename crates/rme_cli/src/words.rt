@@ -9,8 +9,9 @@ use clap::{Arg, ArgAction, ArgMatches, Command, Error, value_parser};
 use rme_wire::GivenNames;
 use std::alloc::{AllocError, Global};
 use texts::{
-    ABOUT, CHECK_ABOUT, CHECK_LINES, EXAMPLE, IMAGE_HELP, LOCKS_HELP, RUN_ABOUT, RUN_LINES,
-    SAVE_HELP, SERVE_ABOUT, SERVE_LINES, THREADS_ABOUT, THREADS_LINES, TRANSCRIPT_HELP,
+    ABOUT, CHECK_ABOUT, CHECK_LINES, DRAW_ABOUT, DRAW_LINES, EXAMPLE, EXPLAIN_ABOUT, EXPLAIN_LINES,
+    IMAGE_HELP, LOCKS_HELP, RUN_ABOUT, RUN_LINES, SAVE_HELP, SERVE_ABOUT, SERVE_LINES,
+    THREADS_ABOUT, THREADS_LINES, TRANSCRIPT_HELP,
 };
 
 /// What the words ask for.
@@ -24,6 +25,10 @@ pub enum Task {
     Transcript,
     /// Check the transcript on the standard input.
     Check,
+    /// Draw the transcript on the standard input.
+    Draw,
+    /// Explain what has this number or name, or, where it is empty, name all.
+    Explain(String),
     /// Supervise workers that add to one cell.
     Threads(ThreadsTask),
     /// Serve workers to the sessions of so many connections.
@@ -142,12 +147,29 @@ fn run_command<'a>(alloc: Global) -> Result<Command<'a>, Error> {
     Ok(run)
 }
 
+/// The words after `explain`.
+fn explain_command<'a>(alloc: Global) -> Result<Command<'a>, Error> {
+    let code = Arg::new(alloc, "CODE")
+        .action(ArgAction::Append)
+        .num_args(0..)
+        .help("The number or the name of a refusal or of a status; without it each is named");
+    let explain = Command::new(alloc, "explain")
+        .about(EXPLAIN_ABOUT)
+        .after_help(EXPLAIN_LINES)
+        .arg(code)?;
+    Ok(explain)
+}
+
 /// The command line of the program.
 fn command<'a>(alloc: Global) -> Result<Command<'a>, Error> {
     let run = run_command(alloc)?;
     let check = Command::new(alloc, "check")
         .about(CHECK_ABOUT)
         .after_help(CHECK_LINES);
+    let draw = Command::new(alloc, "draw")
+        .about(DRAW_ABOUT)
+        .after_help(DRAW_LINES);
+    let explain = explain_command(alloc)?;
     let threads = threads_command(alloc)?;
     let serve = serve_command(alloc)?;
     let program = Command::new(alloc, "rme")
@@ -159,6 +181,8 @@ fn command<'a>(alloc: Global) -> Result<Command<'a>, Error> {
         .arg_required_else_help(true)
         .subcommand(run)?
         .subcommand(check)?
+        .subcommand(draw)?
+        .subcommand(explain)?
         .subcommand(threads)?
         .subcommand(serve)?;
     Ok(program)
@@ -174,6 +198,12 @@ pub fn task_of(alloc: Global, words: &[String]) -> Result<Task, Error> {
     }
     if let Some(serve) = found.subcommand_matches("serve") {
         return Ok(Task::Serve(serve_task(alloc, serve)?));
+    }
+    if let Some(explain) = found.subcommand_matches("explain") {
+        return Ok(Task::Explain(code_of(alloc, explain)?));
+    }
+    if found.subcommand_matches("draw").is_some() {
+        return Ok(Task::Draw);
     }
     match found.subcommand_matches("run") {
         None => Ok(Task::Check),
@@ -206,6 +236,15 @@ fn names_of(
         names.push(name.to_string(alloc)?)?;
     }
     Ok(GivenNames::of(names))
+}
+
+/// The words after `explain`, as one name: `no memory`, as a fault is printed, is `nomemory`.
+fn code_of(alloc: Global, found: &ArgMatches<'_>) -> Result<String, AllocError> {
+    let mut code = String::new(alloc);
+    for word in found.get_strs("CODE").unwrap_or(&[]) {
+        code.push_str(word)?;
+    }
+    Ok(code)
 }
 
 /// The text of an option, if it was given.

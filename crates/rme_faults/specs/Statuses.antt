@@ -8,8 +8,10 @@ use Rattle.rme_lines.specs.declared.fault.EngineFault.{EngineFault}
 use Rattle.rme_lines.specs.declared.fault.EngineFault.TheVariants as engine
 use Rattle.rme_server.specs.declared.fault.ServeFault.{ServeFault}
 use Rattle.rme_server.specs.declared.fault.ServeFault.TheVariants as serving
+use Rattle.rme_faults.specs.declared.ending.Ending.{Ending}
+use Rattle.rme_faults.specs.declared.ending.Ending.TheVariants as ending
 use Rattle.rme_faults.specs.declared.fault.Fault.{Fault}
-use Rattle.rme_faults.specs.declared.fault.Fault.TheVariants.{BadArguments, ReadFailed, WriteFailed, NoMemory, BadNames, ImageUnread, BadImage, OtherLocks, ImageUnwritten, SocketFailed, NoThread}
+use Rattle.rme_faults.specs.declared.fault.Fault.TheVariants.{BadArguments, ReadFailed, WriteFailed, NoMemory, BadNames, ImageUnread, BadImage, OtherLocks, ImageUnwritten, SocketFailed, NoThread, Unexplained}
 
 abbrev pub status_of : Fault → ℕ
 status_of BadArguments = 2
@@ -23,6 +25,16 @@ status_of (OtherLocks file names) = 2
 status_of (ImageUnwritten file why) = 4
 status_of SocketFailed = 6
 status_of NoThread = 7
+status_of (Unexplained asked) = 2
+
+-- the status that an ending explains
+abbrev pub status_of_ending : Ending → ℕ
+status_of_ending ending.BadArguments = 2
+status_of_ending ending.ReadFailed = 3
+status_of_ending ending.WriteFailed = 4
+status_of_ending ending.NoMemory = 5
+status_of_ending ending.SocketFailed = 6
+status_of_ending ending.NoThread = 7
 
 -- the fault of the program that a fault of the engine is
 abbrev pub fault_of : EngineFault → Fault

@@ -45,6 +45,9 @@ pub enum Fault {
     /// A connection can't have a thread.
     #[error("no thread")]
     NoThread,
+    /// Nothing that can be explained has this number or name.
+    #[error("no refusal and no status is called {0}: rme explain names each")]
+    Unexplained(String),
 }
 
 impl Fault {
@@ -64,6 +67,7 @@ impl Fault {
             Fault::ImageUnwritten(_, _) => 4,
             Fault::SocketFailed => 6,
             Fault::NoThread => 7,
+            Fault::Unexplained(_) => 2,
         }
     }
 

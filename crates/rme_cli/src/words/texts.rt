@@ -53,6 +53,45 @@ first of all where it opens no world.
 Status: 0 after yes, 1 after no and bad, 2 for words that are refused, 3 where reading failed, 4 where
 writing failed, 5 where memory ran out.";
 
+pub const DRAW_ABOUT: &str =
+    "Draws a transcript on the standard input: a picture in SVG on the standard output";
+
+pub const DRAW_LINES: &str = "\
+The picture has a row for each worker, with its phases, and a row for each lock, with its owner, its finished
+sections and what its cells held after them; there is a column for each line of the transcript. It opens in
+any browser. A worker that crashes in its section, and what becomes of the lock:
+
+  rme run --transcript >run.jsonl <<'END'
+  {\"do\":\"open\",\"workers\":2,\"locks\":[\"bank\"],\"cells\":1,\"jobs\":10}
+  {\"do\":\"submit\",\"worker\":0,\"lock\":\"bank\",\"script\":[[\"add\",0,5]]}
+  {\"do\":\"walk\",\"worker\":0,\"until\":\"entered\"}
+  {\"do\":\"crash\",\"worker\":0}
+  {\"do\":\"restart\",\"worker\":0}
+  {\"do\":\"walk\",\"worker\":0}
+  END
+  rme draw <run.jsonl >run.svg
+
+A transcript is checked as `rme check` does it, and drawn only where that says yes. Else there is no picture,
+and its verdict, no LINE or bad LINE, stands on the standard error.
+
+Status: 0 after a picture, 1 after no and bad, 2 for words that are refused, 3 where reading failed, 4 where
+writing failed, 5 where memory ran out.";
+
+pub const EXPLAIN_ABOUT: &str =
+    "Explains a refusal or a status of the program, by its number or its name";
+
+pub const EXPLAIN_LINES: &str = "\
+A refused line is answered {\"code\":N,\"error\":NAME}; a program that ends early has a status, 2 to 7. Where a
+refusal and a status have the same number or name, both are explained:
+
+  rme explain TooManyJobs
+
+  14 TooManyJobs: the worker has begun all its jobs
+    The world was opened with so many jobs for each worker, and a withdrawn one counts too. Use another worker, or open the next world with more `jobs`.
+
+Status: 0 after an explanation, 2 where no refusal and no status has the number or the name, 4 where writing
+failed, 5 where memory ran out.";
+
 pub const RUN_LINES: &str = "\
 Each line is one JSON object; its keys may come in any order. A world must be open or loaded first.
 

@@ -1,0 +1,44 @@
+//! Drawing a transcript.
+
+ghost use Rattle.std.specs.Prelude.{◌≡◌, ◌≢◌, IfOk, IfErr};
+ghost use Rattle.rme_lines.specs.Readers.{FailsToRead, HasEnded, ReadsNoMore, bytes_left};
+ghost use Rattle.rme_engine.specs.Verdicts.{Finds};
+
+use crate::drawing::Drawing;
+use crate::svg::svg_of;
+use rme_engine::{Verdict, watch_lines};
+use rme_wire::{EngineFault, LineReader, put_all};
+use std::alloc::Global;
+use std::io::{Read, Write};
+
+/// Checks a transcript as `check_lines` does, and draws it where the verdict is yes: a timeline in SVG, with a row for
+/// each worker and for each lock, and a column for each line.
+///
+/// After any other verdict nothing is written, and so it is after each fault but `WriteFailed`, which leaves a front of
+/// the picture. `NoMemory` says that there was no room for a line, the machine, what was seen of the run or the picture's
+/// text, all of which grow with the transcript.
+pub fn draw_lines<R: Read + Drop, W: Write>(
+    alloc: Global,
+    lines: &mut LineReader<R>,
+    writer: &mut W,
+) -> Result<Verdict, EngineFault>
+    ensures verdict { IfOk result (Finds (bytes_left R.remaining lines.old)) }
+    ensures silent { IfOk result (λ verdict. verdict ≢ Verdict.Yes → W.contents writer.new ≡ W.contents writer.old) }
+    ensures unwritten { IfErr result (λ fault. fault ≢ EngineFault.WriteFailed → W.contents writer.new ≡ W.contents writer.old) }
+    ensures ended { HasEnded lines.old → ReadsNoMore lines.old lines.new }
+    ensures failed { IfErr result (λ fault. fault ≡ EngineFault.ReadFailed → FailsToRead lines.old lines.new) }
+{
+    let mut drawing = Drawing::new(alloc);
+    match watch_lines(alloc, lines, &mut drawing) {
+        Ok(Verdict::Yes) => {}
+        Ok(verdict) => return Ok(verdict),
+        Err(fault) => return Err(fault),
+    }
+    let Ok(text) = svg_of(alloc, &mut drawing) else {
+        return Err(EngineFault::NoMemory);
+    };
+    match put_all(writer, text.as_bytes()) {
+        Ok(()) => Ok(Verdict::Yes),
+        Err(fault) => Err(fault),
+    }
+}

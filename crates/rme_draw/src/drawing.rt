@@ -1,0 +1,260 @@
+//! What was seen of a run: how long each worker stayed in each phase, who held each lock, and what happened when.
+
+use crate::labels::{Told, told_of, worker_of};
+use crate::phase::{Phase, phase_after};
+use rme_checker::{Machine, Worker};
+use rme_engine::Watch;
+use rme_machine::Stance;
+use rme_program::{Note, Receipt};
+use rme_script::Row;
+use rme_texts::{EventLine, Names};
+use rme_words::NoMemory;
+use std::alloc::{AllocError, Global};
+
+/// A worker's stay in a phase, from one line of the transcript to another.
+#[derive(Clone, Copy, Debug)]
+pub struct Stay {
+    pub worker: u32,
+    pub phase: Phase,
+    /// The lock of the job that it began with, if it had one.
+    pub lock: Option<u32>,
+    pub from: u64,
+    pub to: u64,
+}
+
+/// A stretch in which a lock had one owner, who was up or was down all the while.
+#[derive(Clone, Copy, Debug)]
+pub struct Hold {
+    pub lock: u32,
+    pub owner: u32,
+    pub is_up: bool,
+    pub from: u64,
+    pub to: u64,
+}
+
+/// What a line told of a worker.
+#[derive(Clone, Copy, Debug)]
+pub struct Mark {
+    pub line: u64,
+    pub worker: u32,
+    pub told: Told,
+}
+
+/// A finished section, and what the cells of its lock then held.
+#[derive(Clone, Copy, Debug)]
+pub struct Finish {
+    pub line: u64,
+    pub receipt: Receipt,
+    pub cells: Row,
+}
+
+/// What was seen of a run so far.
+#[derive(Drop)]
+pub struct Drawing {
+    alloc: Global,
+    /// The locks' names, in order.
+    pub names: Vec<String>,
+    /// The last line that was seen.
+    pub line: u64,
+    /// The greatest number of a job.
+    pub number: u32,
+    pub stays: Vec<Stay>,
+    pub holds: Vec<Hold>,
+    pub marks: Vec<Mark>,
+    pub finishes: Vec<Finish>,
+    /// For each worker the stay that it is in.
+    staying: Vec<Stay>,
+    /// For each lock the stretch that it is in, if it has an owner.
+    holding: Vec<Option<Hold>>,
+}
+
+impl Watch for Drawing {
+    fn opened(&mut self, names: &Names, machine: &Machine) -> Result<(), NoMemory> {
+        match self.open(names, machine) {
+            Ok(()) => Ok(()),
+            Err(_) => Err(NoMemory),
+        }
+    }
+
+    fn stepped(&mut self, line: &EventLine, machine: &Machine) -> Result<(), NoMemory> {
+        self.line = self.line.saturating_add(1);
+        match self.see(*line, machine) {
+            Ok(()) => Ok(()),
+            Err(_) => Err(NoMemory),
+        }
+    }
+}
+
+impl Drawing {
+    /// Nothing was seen yet.
+    pub fn new(alloc: Global) -> Drawing {
+        Drawing {
+            alloc,
+            names: Vec::new(alloc),
+            line: 0,
+            number: 0,
+            stays: Vec::new(alloc),
+            holds: Vec::new(alloc),
+            marks: Vec::new(alloc),
+            finishes: Vec::new(alloc),
+            staying: Vec::new(alloc),
+            holding: Vec::new(alloc),
+        }
+    }
+
+    /// How many workers there are.
+    pub fn workers(&self) -> usize {
+        self.staying.len()
+    }
+
+    /// Ends all that goes on, one line behind the last.
+    pub fn end(&mut self) -> Result<(), AllocError> {
+        let end = self.line.saturating_add(1);
+        for stay in &self.staying {
+            self.stays.push(Stay { to: end, ..*stay })?;
+        }
+        for hold in &self.holding {
+            if let Some(hold) = hold {
+                self.holds.push(Hold { to: end, ..*hold })?;
+            }
+        }
+        Ok(())
+    }
+
+    /// Begins with all workers ready and all locks free.
+    fn open(&mut self, names: &Names, machine: &Machine) -> Result<(), AllocError> {
+        self.line = 1;
+        for lock in 0..names.len() {
+            self.names
+                .push(String::from_str(self.alloc, names.name(lock))?)?;
+            self.holding.push(None)?;
+        }
+        for worker in 0..machine.shape().workers() {
+            self.staying.push(Stay {
+                worker,
+                phase: Phase::Ready,
+                lock: None,
+                from: 1,
+                to: 1,
+            })?;
+        }
+        Ok(())
+    }
+
+    /// Notes what the last line told, and where the machine is after it.
+    fn see(&mut self, told: EventLine, machine: &Machine) -> Result<(), AllocError> {
+        let line = self.line;
+        let worker = worker_of(&told);
+        self.number = self.number.max(number_of(&told));
+        if let Some(told) = told_of(&told) {
+            self.marks.push(Mark { line, worker, told })?;
+        }
+        if let EventLine::Note(_, Note::Finished(receipt)) = told {
+            self.see_finish(receipt, machine)?;
+        }
+        if let Some(me) = machine.worker(worker) {
+            self.see_worker(worker, me, &told)?;
+        }
+        self.see_locks(machine)
+    }
+
+    /// Notes a finished section, and the cells after it.
+    fn see_finish(&mut self, receipt: Receipt, machine: &Machine) -> Result<(), AllocError> {
+        let line = self.line;
+        if let Some(cells) = machine.cells(receipt.lock) {
+            self.finishes.push(Finish {
+                line,
+                receipt,
+                cells,
+            })?;
+        }
+        Ok(())
+    }
+
+    /// Begins a new stay where the worker is in another phase now.
+    fn see_worker(&mut self, worker: u32, me: &Worker, told: &EventLine) -> Result<(), AllocError> {
+        let are_few = self.staying.len() <= 2;
+        let line = self.line;
+        let Some(stay) = self.staying.get_mut(worker as usize) else {
+            return Ok(());
+        };
+        let phase = phase_after(me, told, are_few, stay.phase);
+        if phase == stay.phase {
+            return Ok(());
+        }
+        let over = Stay { to: line, ..*stay };
+        *stay = Stay {
+            worker,
+            phase,
+            lock: lock_of(&me.stance()),
+            from: line,
+            to: line,
+        };
+        self.stays.push(over)?;
+        Ok(())
+    }
+
+    /// Ends and begins stretches of locks whose owner is another now, fell or came up.
+    fn see_locks(&mut self, machine: &Machine) -> Result<(), AllocError> {
+        let line = self.line;
+        for lock in 0..machine.shape().locks() {
+            let now = hold_now(machine, lock, line);
+            let Some(hold) = self.holding.get_mut(lock as usize) else {
+                return Ok(());
+            };
+            if are_alike(hold, &now) {
+                continue;
+            }
+            let before = *hold;
+            *hold = now;
+            if let Some(over) = before {
+                self.holds.push(Hold { to: line, ..over })?;
+            }
+        }
+        Ok(())
+    }
+}
+
+/// The stretch of a lock that begins at a line, if the lock has an owner there.
+fn hold_now(machine: &Machine, lock: u32, line: u64) -> Option<Hold> {
+    let owner = machine.owner(lock)?;
+    let is_up = match machine.worker(owner) {
+        Some(me) => me.is_up(),
+        None => false,
+    };
+    Some(Hold {
+        lock,
+        owner,
+        is_up,
+        from: line,
+        to: line,
+    })
+}
+
+/// Whether a stretch goes on: the same owner, up or down as before, or none still.
+fn are_alike(before: &Option<Hold>, now: &Option<Hold>) -> bool {
+    match (before, now) {
+        (None, None) => true,
+        (Some(before), Some(now)) => before.owner == now.owner && before.is_up == now.is_up,
+        _ => false,
+    }
+}
+
+/// The number of a job that a line tells, or 0.
+fn number_of(told: &EventLine) -> u32 {
+    match told {
+        EventLine::Submit(handed) => handed.number,
+        _ => 0,
+    }
+}
+
+/// The lock of a worker's job, if it has one.
+fn lock_of(stance: &Stance) -> Option<u32> {
+    match stance {
+        Stance::Idle => None,
+        Stance::Handed(job) => Some(job.lock),
+        Stance::Waiting(_, job) => Some(job.lock),
+        Stance::Inside(_, job) => Some(job.lock),
+        Stance::Finished(_, job) => Some(job.lock),
+    }
+}

@@ -1,0 +1,164 @@
+//! Where things are on the sheet. Lengths are in units of the picture, about a pixel each.
+
+use crate::drawing::{Drawing, Finish};
+use rme_script::Row;
+use std::alloc::{AllocError, Global};
+use std::fmt::Write;
+
+/// The height of what stands above the rows: the title, the legend and the numbers of lines.
+pub const HEAD: u64 = 128;
+
+/// The height of a worker's row.
+pub const WORKER_ROW: u64 = 62;
+
+/// The height of a lock's row without what its entries say.
+const LOCK_ROW: u64 = 52;
+
+/// The height of a line of text.
+pub const TEXT_LINE: u64 = 14;
+
+/// How wide the picture is at least, so that its legend has room.
+const LEAST_WIDTH: u64 = 980;
+
+/// A column is so wide beside the digits of the numbers in it.
+const COLUMN: u64 = 62;
+
+/// A letter of a row's name is so wide.
+const NAME_LETTER: u64 = 9;
+
+/// Room behind the last column, for the text of an entry there.
+const BEHIND: u64 = 64;
+
+/// About the width of any other letter.
+const LETTER: u64 = 7;
+
+/// The most letters of a line of an entry's text: an entry is three columns from the next one of its lock.
+const ENTRY_LETTERS: usize = 24;
+
+/// An entry's text names its place, its worker and number, and its reply, before the cells.
+pub const ENTRY_LINES: u64 = 3;
+
+/// Where the columns and the rows of a drawing are.
+#[derive(Drop)]
+pub struct Sheet {
+    left: u64,
+    column: u64,
+    pub width: u64,
+    /// The top of each lock's row.
+    pub locks: Vec<u64>,
+    /// Where the last row ends.
+    pub bottom: u64,
+}
+
+impl Sheet {
+    /// The sheet of all that was seen.
+    pub fn of(alloc: Global, drawing: &Drawing) -> Result<Sheet, AllocError> {
+        let left = longest_name(drawing)
+            .saturating_mul(NAME_LETTER)
+            .saturating_add(40);
+        let digits = format!(in alloc; "{}", drawing.number)?.len() as u64;
+        let column = COLUMN.saturating_add(digits.saturating_mul(4));
+        let width = drawing
+            .line
+            .saturating_add(1)
+            .saturating_mul(column)
+            .saturating_add(left)
+            .saturating_add(BEHIND);
+        let mut bottom = top_of_worker(drawing.workers() as u64).saturating_add(8);
+        let mut locks = Vec::new(alloc);
+        let needed = entry_lines(alloc, drawing)?;
+        for lines in &needed {
+            locks.push(bottom)?;
+            bottom = bottom
+                .saturating_add(LOCK_ROW)
+                .saturating_add(lines.saturating_mul(TEXT_LINE));
+        }
+        Ok(Sheet {
+            left,
+            column,
+            width: width.max(LEAST_WIDTH),
+            locks,
+            bottom,
+        })
+    }
+
+    /// The middle of a line's column.
+    pub fn x(&self, line: u64) -> u64 {
+        self.left
+            .saturating_add(line.saturating_mul(self.column))
+            .saturating_sub(self.column / 2)
+    }
+
+    /// How wide so many columns are.
+    pub fn columns(&self, count: u64) -> u64 {
+        count.saturating_mul(self.column)
+    }
+
+    /// Whether a text has room in a width.
+    pub fn has_room(&self, text: &str, width: u64) -> bool {
+        (text.len() as u64).saturating_mul(LETTER).saturating_add(6) <= width
+    }
+
+    /// The top of a lock's row.
+    pub fn lock(&self, lock: u32) -> u64 {
+        match self.locks.get(lock as usize) {
+            Some(top) => *top,
+            None => self.bottom,
+        }
+    }
+}
+
+/// The top of a worker's row.
+pub fn top_of_worker(worker: u64) -> u64 {
+    worker.saturating_mul(WORKER_ROW).saturating_add(HEAD)
+}
+
+/// How many letters the longest name of a row has.
+fn longest_name(drawing: &Drawing) -> u64 {
+    let mut longest = "worker 000".len();
+    for name in &drawing.names {
+        longest = longest.max(name.as_str().len().saturating_add("lock ".len()));
+    }
+    longest as u64
+}
+
+/// For each lock, how many lines of text its entries need.
+fn entry_lines(alloc: Global, drawing: &Drawing) -> Result<Vec<u64>, AllocError> {
+    let mut lines = vec![in alloc; 0u64; drawing.names.len()]?;
+    for finish in &drawing.finishes {
+        let needed = cell_lines(alloc, &finish.cells)?.len() as u64;
+        if let Some(most) = lines.get_mut(finish.receipt.lock as usize) {
+            *most = (*most).max(ENTRY_LINES.saturating_add(needed));
+        }
+    }
+    Ok(lines)
+}
+
+/// What the cells of a row hold, in lines that fit an entry's text.
+pub fn cell_lines(alloc: Global, row: &Row) -> Result<Vec<String>, AllocError> {
+    let mut lines = Vec::new(alloc);
+    let mut line = String::from_str(alloc, "cells")?;
+    for cell in 0..row.len() {
+        let value = format!(in alloc; " {}", row.get(cell))?;
+        if line.len().saturating_add(value.len()) > ENTRY_LETTERS {
+            lines.push(line)?;
+            line = String::new(alloc);
+        }
+        line.push_str(value.as_str())?;
+    }
+    lines.push(line)?;
+    Ok(lines)
+}
+
+/// The text of an entry: its place, its worker and number, its reply, and the cells after it.
+pub fn entry_text(alloc: Global, finish: &Finish) -> Result<Vec<String>, AllocError> {
+    let receipt = finish.receipt;
+    let mut text = Vec::new(alloc);
+    text.push(format!(in alloc; "place {}", receipt.place)?)?;
+    text.push(format!(in alloc; "worker {}, job {}", receipt.worker, receipt.number)?)?;
+    text.push(format!(in alloc; "reply {}", receipt.reply)?)?;
+    for line in cell_lines(alloc, &finish.cells)? {
+        text.push(line)?;
+    }
+    Ok(text)
+}

@@ -1,0 +1,86 @@
+//! What the statuses of a program that ended early mean.
+
+ghost use Rattle.std.specs.Prelude.{◌≡◌, ◌≢◌, None, IfSome};
+ghost use Rattle.rme_faults.specs.declared.fault.Fault.{Fault as FaultOf};
+ghost use Rattle.rme_faults.specs.Statuses.{status_of, status_of_ending};
+
+/// Why a program ended early, by its status.
+#[derive(Clone, Copy, Debug, PartialEq, Eq)]
+pub enum Ending {
+    BadArguments,
+    ReadFailed,
+    WriteFailed,
+    NoMemory,
+    SocketFailed,
+    NoThread,
+}
+
+/// The last status of a program that ended early.
+pub const LAST_STATUS: u8 = 7;
+
+impl Ending {
+    /// The ending of a status, and none where no fault has it.
+    pub fn of_status(status: u8) -> Option<Ending>
+        ensures some { IfSome result (λ ending. status_of_ending ending ≡ status) }
+        ensures none { result ≡ None → (fault : FaultOf) → status_of fault ≢ status }
+    {
+        match status {
+            2 => Some(Ending::BadArguments),
+            3 => Some(Ending::ReadFailed),
+            4 => Some(Ending::WriteFailed),
+            5 => Some(Ending::NoMemory),
+            6 => Some(Ending::SocketFailed),
+            7 => Some(Ending::NoThread),
+            _ => None,
+        }
+    }
+
+    /// Its name, for those who look it up.
+    pub fn name(&self) -> &'static str {
+        match self {
+            Ending::BadArguments => "BadArguments",
+            Ending::ReadFailed => "ReadFailed",
+            Ending::WriteFailed => "WriteFailed",
+            Ending::NoMemory => "NoMemory",
+            Ending::SocketFailed => "SocketFailed",
+            Ending::NoThread => "NoThread",
+        }
+    }
+
+    /// When a program ends so.
+    pub fn when(&self) -> &'static str {
+        match self {
+            Ending::BadArguments =>
+                "words of the command line, or a file that they name, are refused",
+            Ending::ReadFailed => "reading failed",
+            Ending::WriteFailed => "writing failed",
+            Ending::NoMemory => "memory ran out",
+            Ending::SocketFailed => "rme serve can't listen or accept a connection",
+            Ending::NoThread => "a connection can't have a thread",
+        }
+    }
+
+    /// What it means and what the caller does about it, in two or three sentences.
+    pub fn advice(&self) -> &'static str {
+        match self {
+            Ending::BadArguments => {
+                "Nothing was read and nothing done. The standard error says what is wrong; `rme --help` and the --help of each command say what is right."
+            }
+            Ending::ReadFailed => {
+                "The standard input, or the file of --image, can't be read. What came before was obeyed and answered whole. Mend the input and run again; a world that --save would have saved is not saved."
+            }
+            Ending::WriteFailed => {
+                "The standard output, or the file of --save, took no more; a front of the output was written. Look for a full disk or a reader that went away, and run again."
+            }
+            Ending::NoMemory => {
+                "There was no room for a line, an answer or the world itself. All answers to the lines before were written whole. Give the program more memory, or give it less to hold."
+            }
+            Ending::SocketFailed => {
+                "Another program may have the port, or the system allows no more open sockets. Choose another --port, or 0 for a free one, and start again."
+            }
+            Ending::NoThread => {
+                "The system allows no more threads. Sessions that ran went on to their ends. Serve fewer --connections, or raise the limit of threads."
+            }
+        }
+    }
+}

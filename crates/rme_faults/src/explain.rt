@@ -1,0 +1,102 @@
+//! What a refusal means, and what the caller does about it.
+
+ghost use Rattle.std.specs.Prelude.{◌≡◌, ◌≢◌, None, IfSome};
+ghost use Rattle.rme_words.specs.declared.refusal.Refusal.{Refusal as RefusalOf};
+ghost use Rattle.rme_words.specs.Refusals.{code_of};
+
+use crate::texts;
+use rme_words::Refusal;
+
+/// The greatest number of a refusal.
+pub const LAST_CODE: u32 = 21;
+
+/// The refusal of a number, and none where no refusal has it.
+///
+/// Of `WrongNumber` it is the one that expects 1: what is expected has no part in the number.
+pub fn refusal_of(code: u32) -> Option<Refusal>
+    ensures some { IfSome result (λ refusal. code_of refusal ≡ code) }
+    ensures none { result ≡ None → (refusal : RefusalOf) → code_of refusal ≢ code }
+{
+    match code {
+        1 => Some(Refusal::BadLine),
+        2 => Some(Refusal::LineTooLong),
+        3 => Some(Refusal::NotOpen),
+        4 => Some(Refusal::AlreadyOpen),
+        5 => Some(Refusal::BadShape),
+        6 => Some(Refusal::NoWorker),
+        7 => Some(Refusal::Down),
+        8 => Some(Refusal::Up),
+        9 => Some(Refusal::Busy),
+        10 => Some(Refusal::Idle),
+        11 => Some(Refusal::NoLock),
+        12 => Some(Refusal::BadScript),
+        13 => Some(Refusal::NoCell),
+        14 => Some(Refusal::TooManyJobs),
+        15 => Some(Refusal::BadImage),
+        16 => Some(Refusal::WrongNumber(1)),
+        17 => Some(Refusal::Differs),
+        18 => Some(Refusal::Taken),
+        19 => Some(Refusal::NotAttached),
+        20 => Some(Refusal::NoMemory),
+        21 => Some(Refusal::NotWaiting),
+        _ => None,
+    }
+}
+
+/// When a line is refused so, in the words of the table of refusals.
+pub fn when(refusal: &Refusal) -> &'static str {
+    match refusal {
+        Refusal::BadLine => "the line is no command",
+        Refusal::LineTooLong => "the line has more than 65,536 bytes",
+        Refusal::NotOpen => "no world is open",
+        Refusal::AlreadyOpen => "open where a world is open",
+        Refusal::BadShape => {
+            "open with a number or a name outside the limits; load with a name outside them, or with more or fewer names than the image has locks"
+        }
+        Refusal::NoWorker => "there is no such worker",
+        Refusal::Down => "the worker is down",
+        Refusal::Up => "restart of a worker that is up",
+        Refusal::Busy => "submit to a worker that is not ready",
+        Refusal::Idle => "a step of a worker that is ready",
+        Refusal::NoLock => "there is no lock of that name, whatever the name is",
+        Refusal::BadScript => "the script has more than 8 operations",
+        Refusal::NoCell => "an operation names a cell that the lock does not have",
+        Refusal::TooManyJobs => "the worker has begun all its jobs",
+        Refusal::BadImage => "load of what is no image, or no good one",
+        Refusal::WrongNumber(_) =>
+            "submit of a session with a number that is neither the next nor the last",
+        Refusal::Differs =>
+            "submit of a session with another lock or script than the pending job of its number",
+        Refusal::Taken => "attach of a worker that another session has",
+        Refusal::NotAttached => "an order of a session that has no worker",
+        Refusal::NoMemory => "memory was refused",
+        Refusal::NotWaiting => "withdraw of a worker that is up and does not wait in phase Enter",
+    }
+}
+
+/// What a refusal means and what the caller does about it, in two or three sentences.
+pub fn advice(refusal: &Refusal) -> &'static str {
+    match refusal {
+        Refusal::BadLine => texts::BAD_LINE,
+        Refusal::LineTooLong => texts::LINE_TOO_LONG,
+        Refusal::NotOpen => texts::NOT_OPEN,
+        Refusal::AlreadyOpen => texts::ALREADY_OPEN,
+        Refusal::BadShape => texts::BAD_SHAPE,
+        Refusal::NoWorker => texts::NO_WORKER,
+        Refusal::Down => texts::DOWN,
+        Refusal::Up => texts::UP,
+        Refusal::Busy => texts::BUSY,
+        Refusal::Idle => texts::IDLE,
+        Refusal::NoLock => texts::NO_LOCK,
+        Refusal::BadScript => texts::BAD_SCRIPT,
+        Refusal::NoCell => texts::NO_CELL,
+        Refusal::TooManyJobs => texts::TOO_MANY_JOBS,
+        Refusal::BadImage => texts::BAD_IMAGE,
+        Refusal::WrongNumber(_) => texts::WRONG_NUMBER,
+        Refusal::Differs => texts::DIFFERS,
+        Refusal::Taken => texts::TAKEN,
+        Refusal::NotAttached => texts::NOT_ATTACHED,
+        Refusal::NoMemory => texts::NO_MEMORY,
+        Refusal::NotWaiting => texts::NOT_WAITING,
+    }
+}
