@@ -1,0 +1,5 @@
+use Rattle.std.specs.Prelude.{◌≡◌}
+use Rattle.rme_examples.proofs.sessions.session_in_memory.Given as goal
+
+abbrev pub ghosts-talk : goal.ghosts-talk
+ghosts-talk g a = record { ident = a.service }
