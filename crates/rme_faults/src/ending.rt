@@ -1,8 +1,7 @@
 //! What the statuses of a program that ended early mean.
 
-ghost use Rattle.std.specs.Prelude.{◌≡◌, ◌≢◌, None, IfSome};
-ghost use Rattle.rme_faults.specs.declared.fault.Fault.{Fault as FaultOf};
-ghost use Rattle.rme_faults.specs.Statuses.{status_of, status_of_ending};
+ghost use Rattle.std.specs.Prelude.{◌≡◌, ◌≤◌, IfSome, IsSome};
+ghost use Rattle.rme_faults.specs.Statuses.{status_of_ending};
 
 /// Why a program ended early, by its status.
 #[derive(Clone, Copy, Debug, PartialEq, Eq)]
@@ -19,10 +18,10 @@ pub enum Ending {
 pub const LAST_STATUS: u8 = 7;
 
 impl Ending {
-    /// The ending of a status, and none where no fault has it.
+    /// The ending of a status, and none of a status that is not in the list: 2 to `LAST_STATUS`.
     pub fn of_status(status: u8) -> Option<Ending>
         ensures some { IfSome result (λ ending. status_of_ending ending ≡ status) }
-        ensures none { result ≡ None → (fault : FaultOf) → status_of fault ≢ status }
+        ensures listed { 2 ≤ status → status ≤ 7 → IsSome result }
     {
         match status {
             2 => Some(Ending::BadArguments),

@@ -1,7 +1,6 @@
 //! What a refusal means, and what the caller does about it.
 
-ghost use Rattle.std.specs.Prelude.{◌≡◌, ◌≢◌, None, IfSome};
-ghost use Rattle.rme_words.specs.declared.refusal.Refusal.{Refusal as RefusalOf};
+ghost use Rattle.std.specs.Prelude.{◌≡◌, ◌≤◌, IfSome, IsSome};
 ghost use Rattle.rme_words.specs.Refusals.{code_of};
 
 use crate::texts;
@@ -10,12 +9,12 @@ use rme_words::Refusal;
 /// The greatest number of a refusal.
 pub const LAST_CODE: u32 = 21;
 
-/// The refusal of a number, and none where no refusal has it.
+/// The refusal of a number, and none of a number that is not in the list: 1 to `LAST_CODE`.
 ///
 /// Of `WrongNumber` it is the one that expects 1: what is expected has no part in the number.
 pub fn refusal_of(code: u32) -> Option<Refusal>
     ensures some { IfSome result (λ refusal. code_of refusal ≡ code) }
-    ensures none { result ≡ None → (refusal : RefusalOf) → code_of refusal ≢ code }
+    ensures listed { 1 ≤ code → code ≤ 21 → IsSome result }
 {
     match code {
         1 => Some(Refusal::BadLine),
@@ -43,8 +42,11 @@ pub fn refusal_of(code: u32) -> Option<Refusal>
     }
 }
 
-/// When a line is refused so, in the words of the table of refusals.
-pub fn when(refusal: &Refusal) -> &'static str {
+/// When a line is refused so, in the words of the table of refusals. Each refusal has a number of the list.
+pub fn when(refusal: &Refusal) -> &'static str
+    ensures first { 1 ≤ code_of refusal.now }
+    ensures last { code_of refusal.now ≤ 21 }
+{
     match refusal {
         Refusal::BadLine => "the line is no command",
         Refusal::LineTooLong => "the line has more than 65,536 bytes",

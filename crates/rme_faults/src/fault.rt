@@ -1,6 +1,6 @@
 //! What ends the program early.
 
-ghost use Rattle.std.specs.Prelude.{◌≡◌};
+ghost use Rattle.std.specs.Prelude.{◌≡◌, ◌≤◌};
 ghost use Rattle.rme_faults.specs.Statuses.{fault_of, fault_of_serving, fault_of_words, fault_on_file, status_of, status_of_refusal};
 ghost use Rattle.rme_faults.specs.declared.fault.Fault.TheVariants.{NoMemory};
 
@@ -53,7 +53,9 @@ pub enum Fault {
 impl Fault {
     /// The status of the program.
     pub fn status(&self) -> u8
-        ensures { result ≡ status_of self.now }
+        ensures status { result ≡ status_of self.now }
+        ensures first { 2 ≤ result }
+        ensures last { result ≤ 7 }
     {
         match self {
             Fault::BadArguments => 2,
