@@ -1,11 +1,12 @@
 //! A session over lines in memory.
 
-ghost use Rattle.std.specs.Prelude.{◌≡◌};
+ghost use Rattle.std.specs.Prelude.{◌≡◌, IfOk};
+ghost use Rattle.rme.specs.Closing.{AreOf};
 ghost use Rattle.rme.specs.Slots.{AreInPlace};
 
 use rme::Shape;
 use rme::lines::Names;
-use rme::service::{Closed, Down, Service, Tag};
+use rme::service::{Down, Service, Tag};
 use rme::sessions::{Slots, session};
 use std::alloc::Global;
 use std::marker::Brand;
@@ -29,15 +30,17 @@ const HEARD: &str = r#"{"number":0,"ok":"attach","stance":"ready"}
 {"ok":"submit","receipt":{"lock":"bank","number":1,"place":0,"reply":5,"worker":0}}
 "#;
 
-/// One session of the service that K names, from a text in memory to bytes in memory.
+/// One session of the service that K names, from a text in memory to bytes in memory. Answers the Downs that lie in
+/// the slots after it.
 fn talk<K: Tag, R: Abort + Wait>(
     rt: &R,
     alloc: Global,
-    service: Service,
+    service: &Service,
     downs: Vec<Down>,
-) -> Result<Closed, Fail>
-    requires named { service ≡ K.ident }
-    requires downs { AreInPlace K.ident downs.items }
+) -> Result<Vec<Down>, Fail>
+    requires named { service.now ≡ K.ident }
+    requires all { AreInPlace service.now downs.items }
+    ensures ours { IfOk result (λ downs. AreOf service.now downs.items) }
 {
     let mut names = Names::new(alloc)?;
     names.add("bank")?;
@@ -50,25 +53,25 @@ fn talk<K: Tag, R: Abort + Wait>(
         alloc,
         SAID.as_bytes(),
         &mut heard,
-        &service,
+        service,
         &slots,
         &names,
     )?;
     assert_eq!(rt; str::from_utf8(heard.as_slice()).ok(), Some(HEARD));
-    let Ok(downs) = slots.into_downs(rt) else {
-        panic!(rt; "no room for the Downs");
-    };
-    let Ok(closed) = service.close(downs) else {
-        panic!(rt; "the service was not closed");
-    };
-    Ok(closed)
+    match slots.into_downs(rt) {
+        Ok(downs) => Ok(downs),
+        Err(_) => panic!(rt; "no room for the Downs"),
+    }
 }
 
 /// The client's job counts once.
 #[test]
 fn session_in_memory(rt: HostRuntime) -> Result<(), Fail> {
     let (service, downs) = Service::new(rt.alloc(), Shape::new(2, 1, 1, 10)?)?;
-    let closed = talk::<Brand, HostRuntime>(&rt, rt.alloc(), service, downs)?;
+    let downs = talk::<Brand, HostRuntime>(&rt, rt.alloc(), &service, downs)?;
+    let Ok(closed) = service.close(downs) else {
+        panic!(rt; "the service was not closed");
+    };
     assert_eq!(rt; closed.locks.len(), 1);
     assert_eq!(rt; closed.locks[0].cells.as_slice(), [5].as_slice());
     Ok(())

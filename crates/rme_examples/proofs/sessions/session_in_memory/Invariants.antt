@@ -2,4 +2,4 @@ use Rattle.std.specs.Prelude.{◌≡◌}
 use Rattle.rme_examples.proofs.sessions.session_in_memory.Given as goal
 
 abbrev pub ghosts-talk : goal.ghosts-talk
-ghosts-talk g a = record { ident = a.service }
+ghosts-talk g a = record { ident = a.service.now }

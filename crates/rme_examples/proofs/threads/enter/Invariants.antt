@@ -2,4 +2,4 @@ use Rattle.std.specs.Prelude.{◌≡◌}
 use Rattle.rme_examples.proofs.threads.enter.Given as goal
 
 abbrev pub invariant-loop : goal.invariant-loop
-invariant-loop g l = l.climb.ident ≡ l.service
+invariant-loop l = l.climb.ident ≡ l.service
