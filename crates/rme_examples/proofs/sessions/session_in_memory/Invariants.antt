@@ -1,4 +1,3 @@
-use Rattle.std.specs.Prelude.{◌≡◌}
 use Rattle.rme_examples.proofs.sessions.session_in_memory.Given as goal
 
 abbrev pub ghosts-talk : goal.ghosts-talk
