@@ -3,6 +3,8 @@
 use rme_checker::Machine;
 use rme_program::{Answer, Event, Note, Receipt};
 use rme_script::{Job, Op, Script};
+use rme_words::Shape;
+use std::alloc::Global;
 use std::process::Abort;
 use std::test::Fail;
 
@@ -26,6 +28,8 @@ pub enum Pair {
     Crash(u32),
     Restart(u32),
     Withdraw(u32),
+    /// An own step with this note, which may be of another lock or of another worker's job.
+    Step(u32, Note),
 }
 
 impl Pair {
@@ -52,12 +56,29 @@ impl Pair {
             Pair::Crash(worker) => (Event::Crash(worker), Answer::Crashed),
             Pair::Restart(worker) => (Event::Restart(worker), Answer::Restarted),
             Pair::Withdraw(worker) => (Event::Withdraw(worker), Answer::Withdrawing),
+            Pair::Step(worker, note) => step(worker, note),
         }
     }
 }
 
+/// A finished section of the first lock: its worker, number, place and reply, and the operations.
+pub type Told = ((u32, u32, u32, u64), &'static [Op]);
+
+/// What a machine must say of pairs, and be like after them.
+#[derive(Clone, Copy)]
+pub enum Check {
+    /// It has each of these steps, one after another.
+    Admits(&'static [Pair]),
+    /// It has none of these steps.
+    Refuses(&'static [Pair]),
+    /// This lock has this owner.
+    Owner(u32, Option<u32>),
+    /// These are the finished sections.
+    Finished(&'static [Told]),
+}
+
 /// An own step of a worker, and its note.
-pub fn step(worker: u32, note: Note) -> (Event, Answer) {
+fn step(worker: u32, note: Note) -> (Event, Answer) {
     (Event::Step(worker), Answer::Stepped(note))
 }
 
@@ -80,8 +101,57 @@ pub fn receipt(worker: u32, number: u32, place: u32, reply: u64) -> Receipt {
     }
 }
 
+/// A new machine of these workers, locks, cells and jobs passes these checks, one after another.
+pub fn check_run(
+    rt: &impl Abort,
+    alloc: Global,
+    (workers, locks, cells, jobs): (u32, u32, u32, u32),
+    checks: &[Check],
+) -> Result<(), Fail> {
+    let mut machine = Machine::new(alloc, Shape::new(workers, locks, cells, jobs)?)?;
+    check_all(rt, &mut machine, checks)
+}
+
+/// A machine passes these checks, one after another.
+pub fn check_all(rt: &impl Abort, machine: &mut Machine, checks: &[Check]) -> Result<(), Fail> {
+    for check in checks {
+        check_one(rt, machine, *check)?;
+    }
+    Ok(())
+}
+
+fn check_one(rt: &impl Abort, machine: &mut Machine, check: Check) -> Result<(), Fail> {
+    match check {
+        Check::Admits(pairs) => admit_all(rt, machine, pairs),
+        Check::Refuses(pairs) => refuse_all(rt, machine, pairs),
+        Check::Owner(lock, owner) => {
+            owner_is(rt, machine, lock, owner);
+            Ok(())
+        }
+        Check::Finished(told) => {
+            finished_are(rt, machine, told);
+            Ok(())
+        }
+    }
+}
+
+/// A lock must have this owner.
+pub fn owner_is(rt: &impl Abort, machine: &Machine, lock: u32, owner: Option<u32>) {
+    assert_eq!(rt; machine.owner(lock), owner);
+}
+
+/// The finished sections must have just these receipts and scripts.
+pub fn finished_are(rt: &impl Abort, machine: &Machine, told: &[Told]) {
+    let entries = machine.finished();
+    assert_eq!(rt; entries.len(), told.len());
+    for (entry, ((worker, number, place, reply), ops)) in entries.iter().zip(told) {
+        assert_eq!(rt; entry.receipt, receipt(*worker, *number, *place, *reply));
+        assert!(rt; entry.script == Script::of(ops));
+    }
+}
+
 /// The machine has each of these steps, one after another.
-pub fn admit_all(rt: &impl Abort, machine: &mut Machine, pairs: &[Pair]) -> Result<(), Fail> {
+fn admit_all(rt: &impl Abort, machine: &mut Machine, pairs: &[Pair]) -> Result<(), Fail> {
     for pair in pairs {
         let (event, answer) = pair.told();
         assert!(rt; machine.admits(&event, &answer)?, "{pair:?}");
@@ -96,16 +166,15 @@ pub fn refuse(
     event: Event,
     answer: Answer,
 ) -> Result<(), Fail> {
-    let owner = machine.owner(0);
-    let entries = machine.finished().len();
+    let before = (machine.owner(0), machine.finished().len());
     assert!(rt; !machine.admits(&event, &answer)?, "{event:?} {answer:?}");
-    assert_eq!(rt; machine.owner(0), owner, "{event:?} {answer:?}");
-    assert_eq!(rt; machine.finished().len(), entries, "{event:?} {answer:?}");
+    let after = (machine.owner(0), machine.finished().len());
+    assert_eq!(rt; after, before, "{event:?} {answer:?}");
     Ok(())
 }
 
 /// The machine has none of these steps.
-pub fn refuse_all(rt: &impl Abort, machine: &mut Machine, pairs: &[Pair]) -> Result<(), Fail> {
+fn refuse_all(rt: &impl Abort, machine: &mut Machine, pairs: &[Pair]) -> Result<(), Fail> {
     for pair in pairs {
         let (event, answer) = pair.told();
         refuse(rt, machine, event, answer)?;

@@ -1,14 +1,37 @@
 //! Pairs that are no step of the machine, and pairs that are one though nothing is done.
 
-use crate::pairs::{Pair, admit_all, job, receipt, refuse, refuse_all, step};
+use crate::pairs::Check::{Admits, Owner, Refuses};
+use crate::pairs::{Check, Pair, check_all, check_run, job, refuse};
 use rme_checker::Machine;
 use rme_program::{Answer, Event, Note, Receipt};
 use rme_script::{Job, Op, Script};
 use rme_words::{Refusal, Shape};
 use std::alloc::Global;
+use std::process::Abort;
 use std::test::Fail;
 
 const ADD_FIVE: &[Op] = &[Op::Add(0, 5)];
+
+/// Two workers, two locks and one cell.
+const TWO_WORKERS: (u32, u32, u32, u32) = (2, 2, 1, 10);
+
+/// The finish of another worker's job.
+const ANOTHER_WORKERS: Note = Note::Finished(Receipt {
+    worker: 1,
+    lock: 0,
+    number: 1,
+    place: 0,
+    reply: 5,
+});
+
+/// A finish at another lock.
+const ANOTHER_LOCKS: Note = Note::Finished(Receipt {
+    worker: 0,
+    lock: 1,
+    number: 1,
+    place: 0,
+    reply: 5,
+});
 
 /// A machine of two workers, two locks and one cell.
 fn two_workers(alloc: Global) -> Result<Machine, Fail> {
@@ -16,251 +39,188 @@ fn two_workers(alloc: Global) -> Result<Machine, Fail> {
 }
 
 /// A lock has one owner, whether it is up or down, and a worker that does not wait enters none.
+const AN_OWNED_LOCK: &[Check] = &[
+    Refuses(&[Pair::Entered(0)]),
+    Admits(&[
+        Pair::Submit(0, ADD_FIVE, 1),
+        Pair::Submit(1, ADD_FIVE, 1),
+        Pair::Asked(0, 1),
+        Pair::Asked(1, 1),
+        Pair::Entered(0),
+    ]),
+    Refuses(&[Pair::Entered(0), Pair::Entered(1)]),
+    Admits(&[Pair::Crash(0)]),
+    Owner(0, Some(0)),
+    Refuses(&[
+        Pair::Entered(1),
+        Pair::Step(1, Note::Entered(1)),
+        Pair::Step(1, Note::Entered(2)),
+    ]),
+];
+
 #[test]
 fn an_owned_lock(rt: HostRuntime) -> Result<(), Fail> {
-    let mut machine = two_workers(rt.alloc())?;
-    refuse_all(&rt, &mut machine, &[Pair::Entered(0)])?;
-    admit_all(
-        &rt,
-        &mut machine,
-        &[
-            Pair::Submit(0, ADD_FIVE, 1),
-            Pair::Submit(1, ADD_FIVE, 1),
-            Pair::Asked(0, 1),
-            Pair::Asked(1, 1),
-            Pair::Entered(0),
-        ],
-    )?;
-    refuse_all(&rt, &mut machine, &[Pair::Entered(0), Pair::Entered(1)])?;
-    admit_all(&rt, &mut machine, &[Pair::Crash(0)])?;
-    assert_eq!(rt; machine.owner(0), Some(0));
-    refuse_all(&rt, &mut machine, &[Pair::Entered(1)])?;
-    let (event, answer) = step(1, Note::Entered(1));
-    refuse(&rt, &mut machine, event, answer)?;
-    let (event, answer) = step(1, Note::Entered(2));
-    refuse(&rt, &mut machine, event, answer)
+    check_run(&rt, rt.alloc(), TWO_WORKERS, AN_OWNED_LOCK)
 }
 
 /// A worker that is down does nothing but come up.
+const A_DOWN_WORKER: &[Check] = &[
+    Admits(&[
+        Pair::Submit(0, ADD_FIVE, 1),
+        Pair::Asked(0, 1),
+        Pair::Crash(0),
+    ]),
+    Refuses(&[
+        Pair::Submit(0, ADD_FIVE, 2),
+        Pair::Quiet(0),
+        Pair::Asked(0, 2),
+        Pair::Blocked(0),
+        Pair::Entered(0),
+        Pair::Ready(0),
+        Pair::Withdrew(0, 1),
+        Pair::Withdraw(0),
+        Pair::Crash(0),
+    ]),
+    Admits(&[Pair::Restart(0), Pair::Entered(0), Pair::Crash(0)]),
+    Refuses(&[
+        Pair::Reentered(0),
+        Pair::Finished(0, 1, 0, 5),
+        Pair::Left(0),
+    ]),
+];
+
 #[test]
 fn a_down_worker(rt: HostRuntime) -> Result<(), Fail> {
-    let mut machine = two_workers(rt.alloc())?;
-    admit_all(
-        &rt,
-        &mut machine,
-        &[
-            Pair::Submit(0, ADD_FIVE, 1),
-            Pair::Asked(0, 1),
-            Pair::Crash(0),
-        ],
-    )?;
-    refuse_all(
-        &rt,
-        &mut machine,
-        &[
-            Pair::Submit(0, ADD_FIVE, 2),
-            Pair::Quiet(0),
-            Pair::Asked(0, 2),
-            Pair::Blocked(0),
-            Pair::Entered(0),
-            Pair::Ready(0),
-            Pair::Withdrew(0, 1),
-            Pair::Withdraw(0),
-            Pair::Crash(0),
-        ],
-    )?;
-    admit_all(
-        &rt,
-        &mut machine,
-        &[Pair::Restart(0), Pair::Entered(0), Pair::Crash(0)],
-    )?;
-    refuse_all(
-        &rt,
-        &mut machine,
-        &[
-            Pair::Reentered(0),
-            Pair::Finished(0, 1, 0, 5),
-            Pair::Left(0),
-        ],
-    )
+    check_run(&rt, rt.alloc(), TWO_WORKERS, A_DOWN_WORKER)
 }
 
 /// A finish has the receipt that is due, and comes once, after the entry.
+const ANOTHER_RECEIPT: &[Check] = &[
+    Admits(&[Pair::Submit(0, ADD_FIVE, 1), Pair::Asked(0, 1)]),
+    Refuses(&[Pair::Finished(0, 1, 0, 5)]),
+    Admits(&[Pair::Entered(0)]),
+    Refuses(&[
+        Pair::Finished(0, 1, 0, 6),
+        Pair::Finished(0, 1, 1, 5),
+        Pair::Finished(0, 2, 0, 5),
+        Pair::Finished(1, 1, 0, 5),
+        Pair::Left(0),
+        Pair::Step(0, ANOTHER_WORKERS),
+        Pair::Step(0, ANOTHER_LOCKS),
+    ]),
+    Admits(&[Pair::Finished(0, 1, 0, 5)]),
+    Refuses(&[
+        Pair::Finished(0, 1, 0, 5),
+        Pair::Finished(0, 1, 1, 10),
+        Pair::Step(0, Note::Left(1)),
+    ]),
+];
+
 #[test]
 fn another_receipt(rt: HostRuntime) -> Result<(), Fail> {
-    let mut machine = two_workers(rt.alloc())?;
-    admit_all(
-        &rt,
-        &mut machine,
-        &[Pair::Submit(0, ADD_FIVE, 1), Pair::Asked(0, 1)],
-    )?;
-    refuse_all(&rt, &mut machine, &[Pair::Finished(0, 1, 0, 5)])?;
-    admit_all(&rt, &mut machine, &[Pair::Entered(0)])?;
-    refuse_all(
-        &rt,
-        &mut machine,
-        &[
-            Pair::Finished(0, 1, 0, 6),
-            Pair::Finished(0, 1, 1, 5),
-            Pair::Finished(0, 2, 0, 5),
-            Pair::Finished(1, 1, 0, 5),
-            Pair::Left(0),
-        ],
-    )?;
-    for other in [
-        receipt(1, 1, 0, 5),
-        Receipt {
-            lock: 1,
-            ..receipt(0, 1, 0, 5)
-        },
-    ] {
-        let (event, answer) = step(0, Note::Finished(other));
-        refuse(&rt, &mut machine, event, answer)?;
-    }
-    admit_all(&rt, &mut machine, &[Pair::Finished(0, 1, 0, 5)])?;
-    refuse_all(
-        &rt,
-        &mut machine,
-        &[Pair::Finished(0, 1, 0, 5), Pair::Finished(0, 1, 1, 10)],
-    )?;
-    let (event, answer) = step(0, Note::Left(1));
-    refuse(&rt, &mut machine, event, answer)
+    check_run(&rt, rt.alloc(), TWO_WORKERS, ANOTHER_RECEIPT)
 }
 
 /// After a crash in the section its owner re-enters before it finishes or leaves, and once.
+const BEFORE_RE_ENTRY: &[Check] = &[
+    Admits(&[
+        Pair::Submit(0, ADD_FIVE, 1),
+        Pair::Asked(0, 1),
+        Pair::Entered(0),
+    ]),
+    Refuses(&[Pair::Reentered(0)]),
+    Admits(&[Pair::Crash(0), Pair::Restart(0)]),
+    Refuses(&[
+        Pair::Finished(0, 1, 0, 5),
+        Pair::Entered(0),
+        Pair::Reentered(1),
+        Pair::Step(0, Note::Reentered(1)),
+    ]),
+    Admits(&[
+        Pair::Reentered(0),
+        Pair::Finished(0, 1, 0, 5),
+        Pair::Crash(0),
+        Pair::Restart(0),
+    ]),
+    Refuses(&[Pair::Left(0), Pair::Finished(0, 1, 1, 10)]),
+    Admits(&[Pair::Reentered(0), Pair::Left(0)]),
+];
+
 #[test]
 fn before_re_entry(rt: HostRuntime) -> Result<(), Fail> {
-    let mut machine = two_workers(rt.alloc())?;
-    admit_all(
-        &rt,
-        &mut machine,
-        &[
-            Pair::Submit(0, ADD_FIVE, 1),
-            Pair::Asked(0, 1),
-            Pair::Entered(0),
-        ],
-    )?;
-    refuse_all(&rt, &mut machine, &[Pair::Reentered(0)])?;
-    admit_all(&rt, &mut machine, &[Pair::Crash(0), Pair::Restart(0)])?;
-    refuse_all(
-        &rt,
-        &mut machine,
-        &[
-            Pair::Finished(0, 1, 0, 5),
-            Pair::Entered(0),
-            Pair::Reentered(1),
-        ],
-    )?;
-    let (event, answer) = step(0, Note::Reentered(1));
-    refuse(&rt, &mut machine, event, answer)?;
-    admit_all(
-        &rt,
-        &mut machine,
-        &[
-            Pair::Reentered(0),
-            Pair::Finished(0, 1, 0, 5),
-            Pair::Crash(0),
-            Pair::Restart(0),
-        ],
-    )?;
-    refuse_all(
-        &rt,
-        &mut machine,
-        &[Pair::Left(0), Pair::Finished(0, 1, 1, 10)],
-    )?;
-    admit_all(&rt, &mut machine, &[Pair::Reentered(0), Pair::Left(0)])
+    check_run(&rt, rt.alloc(), TWO_WORKERS, BEFORE_RE_ENTRY)
 }
 
 /// A number that was withdrawn does not come again, and only the number that is waited with is withdrawn.
+const A_WITHDRAWN_NUMBER: &[Check] = &[
+    Refuses(&[Pair::Withdraw(0), Pair::Blocked(0)]),
+    Admits(&[Pair::Submit(0, ADD_FIVE, 1), Pair::Asked(0, 1)]),
+    Refuses(&[Pair::Withdrew(0, 0), Pair::Withdrew(0, 2)]),
+    Admits(&[Pair::Withdraw(0), Pair::Withdrew(0, 1)]),
+    Refuses(&[
+        Pair::Withdrew(0, 1),
+        Pair::Entered(0),
+        Pair::Submit(0, ADD_FIVE, 1),
+    ]),
+    Admits(&[Pair::Submit(0, ADD_FIVE, 2)]),
+    Refuses(&[Pair::Asked(0, 1)]),
+    Admits(&[Pair::Asked(0, 2), Pair::Entered(0)]),
+    Refuses(&[Pair::Withdraw(0), Pair::Withdrew(0, 2)]),
+];
+
 #[test]
 fn a_withdrawn_number(rt: HostRuntime) -> Result<(), Fail> {
-    let mut machine = two_workers(rt.alloc())?;
-    refuse_all(&rt, &mut machine, &[Pair::Withdraw(0), Pair::Blocked(0)])?;
-    admit_all(
-        &rt,
-        &mut machine,
-        &[Pair::Submit(0, ADD_FIVE, 1), Pair::Asked(0, 1)],
-    )?;
-    refuse_all(
-        &rt,
-        &mut machine,
-        &[Pair::Withdrew(0, 0), Pair::Withdrew(0, 2)],
-    )?;
-    admit_all(
-        &rt,
-        &mut machine,
-        &[Pair::Withdraw(0), Pair::Withdrew(0, 1)],
-    )?;
-    refuse_all(
-        &rt,
-        &mut machine,
-        &[
-            Pair::Withdrew(0, 1),
-            Pair::Entered(0),
-            Pair::Submit(0, ADD_FIVE, 1),
-        ],
-    )?;
-    admit_all(&rt, &mut machine, &[Pair::Submit(0, ADD_FIVE, 2)])?;
-    refuse_all(&rt, &mut machine, &[Pair::Asked(0, 1)])?;
-    admit_all(&rt, &mut machine, &[Pair::Asked(0, 2), Pair::Entered(0)])?;
-    refuse_all(
-        &rt,
-        &mut machine,
-        &[Pair::Withdraw(0), Pair::Withdrew(0, 2)],
-    )
+    check_run(&rt, rt.alloc(), TWO_WORKERS, A_WITHDRAWN_NUMBER)
 }
 
 /// A job is handed to an idle worker, under its next number.
+const A_SECOND_SUBMIT: &[Check] = &[
+    Refuses(&[
+        Pair::Submit(0, ADD_FIVE, 0),
+        Pair::Submit(0, ADD_FIVE, 2),
+        Pair::Asked(0, 1),
+    ]),
+    Admits(&[Pair::Submit(0, ADD_FIVE, 1)]),
+    Refuses(&[
+        Pair::Submit(0, ADD_FIVE, 1),
+        Pair::Asked(0, 2),
+        Pair::Entered(0),
+    ]),
+    Admits(&[Pair::Asked(0, 1)]),
+    Refuses(&[Pair::Submit(0, ADD_FIVE, 2)]),
+];
+
 #[test]
 fn a_second_submit(rt: HostRuntime) -> Result<(), Fail> {
-    let mut machine = two_workers(rt.alloc())?;
-    refuse_all(
-        &rt,
-        &mut machine,
-        &[
-            Pair::Submit(0, ADD_FIVE, 0),
-            Pair::Submit(0, ADD_FIVE, 2),
-            Pair::Asked(0, 1),
-        ],
-    )?;
-    admit_all(&rt, &mut machine, &[Pair::Submit(0, ADD_FIVE, 1)])?;
-    refuse_all(
-        &rt,
-        &mut machine,
-        &[
-            Pair::Submit(0, ADD_FIVE, 1),
-            Pair::Asked(0, 2),
-            Pair::Entered(0),
-        ],
-    )?;
-    admit_all(&rt, &mut machine, &[Pair::Asked(0, 1)])?;
-    refuse_all(&rt, &mut machine, &[Pair::Submit(0, ADD_FIVE, 2)])
+    check_run(&rt, rt.alloc(), TWO_WORKERS, A_SECOND_SUBMIT)
 }
 
 /// A crash takes back a job that has no number yet.
+const A_LOST_JOB: &[Check] = &[
+    Admits(&[
+        Pair::Submit(0, ADD_FIVE, 1),
+        Pair::Crash(0),
+        Pair::Restart(0),
+    ]),
+    Refuses(&[Pair::Asked(0, 1)]),
+    Admits(&[Pair::Submit(0, ADD_FIVE, 1)]),
+];
+
 #[test]
 fn a_lost_job(rt: HostRuntime) -> Result<(), Fail> {
-    let mut machine = two_workers(rt.alloc())?;
-    admit_all(
-        &rt,
-        &mut machine,
-        &[
-            Pair::Submit(0, ADD_FIVE, 1),
-            Pair::Crash(0),
-            Pair::Restart(0),
-        ],
-    )?;
-    refuse_all(&rt, &mut machine, &[Pair::Asked(0, 1)])?;
-    admit_all(&rt, &mut machine, &[Pair::Submit(0, ADD_FIVE, 1)])
+    check_run(&rt, rt.alloc(), TWO_WORKERS, A_LOST_JOB)
 }
 
 /// A worker that is up is not restarted.
+const A_RESTART_OF_AN_UP_WORKER: &[Check] = &[
+    Refuses(&[Pair::Restart(0)]),
+    Admits(&[Pair::Crash(0), Pair::Restart(0)]),
+    Refuses(&[Pair::Restart(0)]),
+];
+
 #[test]
 fn a_restart_of_an_up_worker(rt: HostRuntime) -> Result<(), Fail> {
-    let mut machine = two_workers(rt.alloc())?;
-    refuse_all(&rt, &mut machine, &[Pair::Restart(0)])?;
-    admit_all(&rt, &mut machine, &[Pair::Crash(0), Pair::Restart(0)])?;
-    refuse_all(&rt, &mut machine, &[Pair::Restart(0)])
+    check_run(&rt, rt.alloc(), TWO_WORKERS, A_RESTART_OF_AN_UP_WORKER)
 }
 
 /// A job of the shape has one of its locks, at most eight operations and its cells alone.
@@ -289,36 +249,32 @@ fn jobs_outside_the_shape(rt: HostRuntime) -> Result<(), Fail> {
 }
 
 /// No job is handed out beyond the shape's.
+const TOO_MANY_JOBS: &[Check] = &[
+    Admits(&[
+        Pair::Submit(0, &[], 1),
+        Pair::Asked(0, 1),
+        Pair::Withdrew(0, 1),
+    ]),
+    Refuses(&[Pair::Submit(0, &[], 2)]),
+];
+
 #[test]
 fn too_many_jobs(rt: HostRuntime) -> Result<(), Fail> {
-    let mut machine = Machine::new(rt.alloc(), Shape::new(1, 1, 1, 1)?)?;
-    admit_all(
-        &rt,
-        &mut machine,
-        &[
-            Pair::Submit(0, &[], 1),
-            Pair::Asked(0, 1),
-            Pair::Withdrew(0, 1),
-        ],
-    )?;
-    refuse_all(&rt, &mut machine, &[Pair::Submit(0, &[], 2)])
+    check_run(&rt, rt.alloc(), (1, 1, 1, 1), TOO_MANY_JOBS)
 }
 
 /// A worker that is not there makes no step.
+const NO_WORKER: &[Check] = &[Refuses(&[
+    Pair::Submit(2, &[], 1),
+    Pair::Quiet(2),
+    Pair::Crash(2),
+    Pair::Restart(2),
+    Pair::Withdraw(2),
+])];
+
 #[test]
 fn no_worker(rt: HostRuntime) -> Result<(), Fail> {
-    let mut machine = two_workers(rt.alloc())?;
-    refuse_all(
-        &rt,
-        &mut machine,
-        &[
-            Pair::Submit(2, &[], 1),
-            Pair::Quiet(2),
-            Pair::Crash(2),
-            Pair::Restart(2),
-            Pair::Withdraw(2),
-        ],
-    )
+    check_run(&rt, rt.alloc(), TWO_WORKERS, NO_WORKER)
 }
 
 /// An empty job for worker 0.
@@ -326,57 +282,91 @@ fn submit() -> Event {
     Event::Submit(0, job(&[]))
 }
 
-/// An answer that the event can't have makes a pair without a label.
-#[test]
-fn no_label(rt: HostRuntime) -> Result<(), Fail> {
-    let mut machine = two_workers(rt.alloc())?;
-    for (event, answer) in [
-        (submit(), Answer::Stepped(Note::Quiet)),
-        (submit(), Answer::Crashed),
-        (submit(), Answer::Withdrawing),
-        (Event::Step(0), Answer::Handed(1)),
-        (Event::Step(0), Answer::Crashed),
-        (Event::Crash(0), Answer::Stepped(Note::Quiet)),
-        (Event::Crash(0), Answer::Restarted),
-        (Event::Restart(0), Answer::Crashed),
-        (Event::Restart(0), Answer::Withdrawing),
-        (Event::Withdraw(0), Answer::Handed(1)),
-        (Event::Withdraw(0), Answer::Stepped(Note::Withdrew(1))),
-    ] {
-        refuse(&rt, &mut machine, event, answer)?;
+/// The event can have none of these answers: they make pairs without a label.
+fn refuse_answers(
+    rt: &impl Abort,
+    machine: &mut Machine,
+    event: &Event,
+    answers: &[Answer],
+) -> Result<(), Fail> {
+    for answer in answers {
+        refuse(rt, machine, *event, *answer)?;
     }
     Ok(())
 }
 
-/// A refused event is nothing, sensible or not; an up worker may be quiet or ready, and a waiting one blocked.
+/// A quiet step.
+const QUIET: Answer = Answer::Stepped(Note::Quiet);
+
+/// A step that withdraws the first number.
+const WITHDREW: Answer = Answer::Stepped(Note::Withdrew(1));
+
+/// A submission's answer.
+const HANDED: Answer = Answer::Handed(1);
+
+/// An answer that the event can't have makes a pair without a label.
+#[test]
+fn no_label(rt: HostRuntime) -> Result<(), Fail> {
+    let mut machine = two_workers(rt.alloc())?;
+    let two = &mut machine;
+    refuse_answers(
+        &rt,
+        two,
+        &submit(),
+        &[QUIET, Answer::Crashed, Answer::Withdrawing],
+    )?;
+    refuse_answers(&rt, two, &Event::Step(0), &[HANDED, Answer::Crashed])?;
+    refuse_answers(&rt, two, &Event::Crash(0), &[QUIET, Answer::Restarted])?;
+    refuse_answers(
+        &rt,
+        two,
+        &Event::Restart(0),
+        &[Answer::Crashed, Answer::Withdrawing],
+    )?;
+    refuse_answers(&rt, two, &Event::Withdraw(0), &[HANDED, WITHDREW])
+}
+
+/// An event that is refused is a step of the machine.
+fn admit_refused(
+    rt: &impl Abort,
+    machine: &mut Machine,
+    event: Event,
+    refusal: Refusal,
+) -> Result<(), Fail> {
+    let answer = Answer::Refused(refusal);
+    assert!(rt; machine.admits(&event, &answer)?, "{event:?} {refusal:?}");
+    Ok(())
+}
+
+/// Events of each kind are, sensible or not.
+fn admit_all_refused(rt: &impl Abort, machine: &mut Machine, refusal: Refusal) -> Result<(), Fail> {
+    admit_refused(rt, machine, submit(), refusal)?;
+    admit_refused(rt, machine, Event::Step(7), refusal)?;
+    admit_refused(rt, machine, Event::Crash(0), refusal)?;
+    admit_refused(rt, machine, Event::Restart(0), refusal)?;
+    admit_refused(rt, machine, Event::Withdraw(1), refusal)
+}
+
+/// Refused events have done nothing; an up worker may be quiet or ready, and a waiting one blocked.
+const NOTHING_DONE: &[Check] = &[
+    Admits(&[
+        Pair::Quiet(0),
+        Pair::Ready(0),
+        Pair::Submit(0, &[], 1),
+        Pair::Ready(0),
+        Pair::Asked(0, 1),
+        Pair::Blocked(0),
+        Pair::Quiet(0),
+        Pair::Entered(0),
+    ]),
+    Refuses(&[Pair::Blocked(0)]),
+];
+
 #[test]
 fn nothing_done(rt: HostRuntime) -> Result<(), Fail> {
     let mut machine = two_workers(rt.alloc())?;
     for refusal in [Refusal::Busy, Refusal::Down, Refusal::NoMemory] {
-        for event in [
-            Event::Submit(0, job(&[])),
-            Event::Step(7),
-            Event::Crash(0),
-            Event::Restart(0),
-            Event::Withdraw(1),
-        ] {
-            let answer = Answer::Refused(refusal);
-            assert!(rt; machine.admits(&event, &answer)?, "{event:?} {refusal:?}");
-        }
+        admit_all_refused(&rt, &mut machine, refusal)?;
     }
-    admit_all(
-        &rt,
-        &mut machine,
-        &[
-            Pair::Quiet(0),
-            Pair::Ready(0),
-            Pair::Submit(0, &[], 1),
-            Pair::Ready(0),
-            Pair::Asked(0, 1),
-            Pair::Blocked(0),
-            Pair::Quiet(0),
-            Pair::Entered(0),
-        ],
-    )?;
-    refuse_all(&rt, &mut machine, &[Pair::Blocked(0)])
+    check_all(&rt, &mut machine, NOTHING_DONE)
 }

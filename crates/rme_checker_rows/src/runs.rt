@@ -1,12 +1,13 @@
 //! Runs that the machine admits whole.
 
-use crate::pairs::{Pair, admit_all, job, receipt, refuse_all};
+use crate::pairs::Check::{Admits, Finished, Owner, Refuses};
+use crate::pairs::{Check, Pair, check_run, finished_are, job, owner_is};
 use rme_checker::Machine;
-use rme_program::{Event, Receipt};
-use rme_script::{Op, Script};
+use rme_program::Event;
+use rme_script::Op;
 use rme_words::Shape;
 use rme_world::World;
-use std::process::Abort;
+use std::alloc::Global;
 use std::test::Fail;
 
 /// The job of worker 0 in row `re-entry`.
@@ -29,14 +30,12 @@ const TO_THE_FINISH: &[Pair] = &[
     Pair::Finished(0, 1, 0, 5),
 ];
 
-/// Whether the finished sections have just these receipts and scripts.
-fn finished_are(rt: &impl Abort, machine: &Machine, told: &[(Receipt, &[Op])]) {
-    let entries = machine.finished();
-    assert_eq!(rt; entries.len(), told.len());
-    for (entry, (receipt, ops)) in entries.iter().zip(told) {
-        assert_eq!(rt; entry.receipt, *receipt);
-        assert!(rt; entry.script == Script::of(ops));
-    }
+/// The job of row `run and admits`, and 19 steps.
+fn run_of_steps(alloc: Global) -> Result<Vec<Event>, Fail> {
+    let mut events = Vec::new(alloc);
+    events.push(Event::Submit(0, job(&[])))?;
+    events.resize(20, Event::Step(0))?;
+    Ok(events)
 }
 
 /// Row `run and admits`: the job of one worker and 19 steps, as a world answers them.
@@ -44,126 +43,109 @@ fn finished_are(rt: &impl Abort, machine: &Machine, told: &[(Receipt, &[Op])]) {
 fn run_and_admits(rt: HostRuntime) -> Result<(), Fail> {
     let shape = Shape::new(1, 1, 1, 10)?;
     let mut world = World::new(rt.alloc(), shape)?;
-    let mut events = [Event::Step(0); 20];
-    events[0] = Event::Submit(0, job(&[]));
+    let events = run_of_steps(rt.alloc())?;
     let answers = world.run(&events)?;
     assert_eq!(rt; answers.len(), 20);
     let mut machine = Machine::new(rt.alloc(), shape)?;
     for (event, answer) in events.iter().zip(&answers) {
         assert!(rt; machine.admits(event, answer)?, "{event:?} {answer:?}");
     }
-    assert_eq!(rt; machine.owner(0), None);
-    finished_are(&rt, &machine, &[(receipt(0, 1, 0, 0), &[])]);
+    owner_is(&rt, &machine, 0, None);
+    finished_are(&rt, &machine, &[((0, 1, 0, 0), &[])]);
     Ok(())
 }
 
 /// Row `transcript`: its 14 event lines.
+const TRANSCRIPT: &[Check] = &[
+    Owner(0, None),
+    Finished(&[]),
+    Admits(TO_THE_FINISH),
+    Owner(0, Some(0)),
+    Finished(&[((0, 1, 0, 5), ADD_FIVE)]),
+    Admits(&[Pair::Left(0), Pair::Entered(1)]),
+    Owner(0, Some(1)),
+    Admits(&[Pair::Finished(1, 1, 1, 6), Pair::Left(1)]),
+    Owner(0, None),
+    Owner(1, None),
+    Finished(&[((0, 1, 0, 5), ADD_FIVE), ((1, 1, 1, 6), ADD_ONE)]),
+];
+
 #[test]
 fn transcript(rt: HostRuntime) -> Result<(), Fail> {
-    let mut machine = Machine::new(rt.alloc(), Shape::new(2, 1, 1, 10)?)?;
-    assert_eq!(rt; machine.owner(0), None);
-    finished_are(&rt, &machine, &[]);
-    admit_all(&rt, &mut machine, TO_THE_FINISH)?;
-    assert_eq!(rt; machine.owner(0), Some(0));
-    finished_are(&rt, &machine, &[(receipt(0, 1, 0, 5), ADD_FIVE)]);
-    admit_all(&rt, &mut machine, &[Pair::Left(0), Pair::Entered(1)])?;
-    assert_eq!(rt; machine.owner(0), Some(1));
-    admit_all(
-        &rt,
-        &mut machine,
-        &[Pair::Finished(1, 1, 1, 6), Pair::Left(1)],
-    )?;
-    assert_eq!(rt; machine.owner(0), None);
-    assert_eq!(rt; machine.owner(1), None);
-    finished_are(
-        &rt,
-        &machine,
-        &[
-            (receipt(0, 1, 0, 5), ADD_FIVE),
-            (receipt(1, 1, 1, 6), ADD_ONE),
-        ],
-    );
-    Ok(())
+    check_run(&rt, rt.alloc(), (2, 1, 1, 10), TRANSCRIPT)
 }
 
 /// Row `transcript`, with line 13 before line 12: the machine says no to line 12, and goes on from before it.
+const TRANSCRIPT_TURNED: &[Check] = &[
+    Admits(TO_THE_FINISH),
+    Refuses(&[Pair::Entered(1)]),
+    Admits(&[
+        Pair::Left(0),
+        Pair::Entered(1),
+        Pair::Finished(1, 1, 1, 6),
+        Pair::Left(1),
+    ]),
+];
+
 #[test]
 fn transcript_turned(rt: HostRuntime) -> Result<(), Fail> {
-    let mut machine = Machine::new(rt.alloc(), Shape::new(2, 1, 1, 10)?)?;
-    admit_all(&rt, &mut machine, TO_THE_FINISH)?;
-    refuse_all(&rt, &mut machine, &[Pair::Entered(1)])?;
-    admit_all(
-        &rt,
-        &mut machine,
-        &[
-            Pair::Left(0),
-            Pair::Entered(1),
-            Pair::Finished(1, 1, 1, 6),
-            Pair::Left(1),
-        ],
-    )
+    check_run(&rt, rt.alloc(), (2, 1, 1, 10), TRANSCRIPT_TURNED)
 }
 
 /// Row `withdrawal`: worker 1 gives its first number up, and finishes under its second.
+const WITHDRAWAL: &[Check] = &[
+    Admits(&[
+        Pair::Submit(0, ADD_FIVE, 1),
+        Pair::Asked(0, 1),
+        Pair::Entered(0),
+        Pair::Crash(0),
+        Pair::Submit(1, ADD_ONE, 1),
+        Pair::Asked(1, 1),
+        Pair::Blocked(1),
+        Pair::Restart(0),
+        Pair::Reentered(0),
+        Pair::Withdraw(1),
+        Pair::Withdrew(1, 1),
+        Pair::Submit(1, &[], 2),
+        Pair::Finished(0, 1, 0, 5),
+        Pair::Left(0),
+        Pair::Asked(1, 2),
+        Pair::Entered(1),
+        Pair::Finished(1, 2, 1, 0),
+        Pair::Left(1),
+    ]),
+    Owner(0, None),
+    Finished(&[((0, 1, 0, 5), ADD_FIVE), ((1, 2, 1, 0), &[])]),
+];
+
 #[test]
 fn withdrawal(rt: HostRuntime) -> Result<(), Fail> {
-    let mut machine = Machine::new(rt.alloc(), Shape::new(2, 1, 1, 10)?)?;
-    admit_all(
-        &rt,
-        &mut machine,
-        &[
-            Pair::Submit(0, ADD_FIVE, 1),
-            Pair::Asked(0, 1),
-            Pair::Entered(0),
-            Pair::Crash(0),
-            Pair::Submit(1, ADD_ONE, 1),
-            Pair::Asked(1, 1),
-            Pair::Blocked(1),
-            Pair::Restart(0),
-            Pair::Reentered(0),
-            Pair::Withdraw(1),
-            Pair::Withdrew(1, 1),
-            Pair::Submit(1, &[], 2),
-            Pair::Finished(0, 1, 0, 5),
-            Pair::Left(0),
-            Pair::Asked(1, 2),
-            Pair::Entered(1),
-            Pair::Finished(1, 2, 1, 0),
-            Pair::Left(1),
-        ],
-    )?;
-    assert_eq!(rt; machine.owner(0), None);
-    finished_are(
-        &rt,
-        &machine,
-        &[(receipt(0, 1, 0, 5), ADD_FIVE), (receipt(1, 2, 1, 0), &[])],
-    );
-    Ok(())
+    check_run(&rt, rt.alloc(), (2, 1, 1, 10), WITHDRAWAL)
 }
 
-/// Row `five operations`: its job, whose only section replies 5.
+/// The job of row `five operations`.
+const FIVE: &[Op] = &[
+    Op::Set(1, 5),
+    Op::Set(0, 18446744073709551615),
+    Op::Add(0, 1),
+    Op::Swap(0, 0),
+    Op::Copy(1, 1),
+];
+
+/// Row `five operations`, whose only section replies 5.
+const FIVE_OPERATIONS: &[Check] = &[
+    Admits(&[
+        Pair::Submit(0, FIVE, 1),
+        Pair::Asked(0, 1),
+        Pair::Entered(0),
+        Pair::Finished(0, 1, 0, 5),
+        Pair::Left(0),
+        Pair::Ready(0),
+    ]),
+    Finished(&[((0, 1, 0, 5), FIVE)]),
+];
+
 #[test]
 fn five_operations(rt: HostRuntime) -> Result<(), Fail> {
-    const FIVE: &[Op] = &[
-        Op::Set(1, 5),
-        Op::Set(0, 18446744073709551615),
-        Op::Add(0, 1),
-        Op::Swap(0, 0),
-        Op::Copy(1, 1),
-    ];
-    let mut machine = Machine::new(rt.alloc(), Shape::new(1, 1, 2, 10)?)?;
-    admit_all(
-        &rt,
-        &mut machine,
-        &[
-            Pair::Submit(0, FIVE, 1),
-            Pair::Asked(0, 1),
-            Pair::Entered(0),
-            Pair::Finished(0, 1, 0, 5),
-            Pair::Left(0),
-            Pair::Ready(0),
-        ],
-    )?;
-    finished_are(&rt, &machine, &[(receipt(0, 1, 0, 5), FIVE)]);
-    Ok(())
+    check_run(&rt, rt.alloc(), (1, 1, 2, 10), FIVE_OPERATIONS)
 }
