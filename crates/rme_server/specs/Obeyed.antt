@@ -17,7 +17,9 @@ use Rattle.rme_wire.specs.declared.order.Order.TheVariants as order
 use Rattle.rme_wire.specs.declared.order.Submission.{Submission}
 use Rattle.rme_server.specs.Slots.{IsOf}
 use Rattle.rme_server.specs.Refusals.{Refuses, attach_refusal}
-use Rattle.rme_server.specs.Works.{GoesOn, Hands}
+use Rattle.rme_server.specs.Plans.{IsPlanned}
+use Rattle.rme_server.specs.Works.{GoesOn, Hands, IsSpared, steps_of}
+use Rattle.rme_server.specs.declared.planned.Planned.{Planned}
 use Rattle.rme_server.specs.declared.planned.Planned.TheVariants.{Nothing, After}
 use Rattle.rme_server.specs.declared.stand.Stand.{Stand}
 use Rattle.rme_server.specs.declared.stand.Holding.{Holding}
@@ -62,18 +64,20 @@ abbrev pub Lasts : Shape → Holding → Option Receipt → Type 0
 Lasts shape (Ready ready) receipt = IsLast shape ready.part receipt
 Lasts shape other receipt = ⊥
 
--- After a fall the session has no worker, and its plan is used up.
-abbrev pub IsLeft : Stand → Outcome → Type 0
-IsLeft now Fell = now ≡ nobody
-IsLeft now outcome = Unit {0}
+-- A worker falls only where a crash was planned, and then the session has no worker and nothing is planned. Without a fall
+-- the crash comes sooner by the steps that the worker made.
+abbrev pub IsLeft : Stand → Stand → Outcome → Type 0
+IsLeft old now Fell = IsPlanned old.planned × (now ≡ nobody)
+IsLeft old now outcome = IsSpared old.planned (steps_of old.value) now.planned now.value
 
 -- What an order that is not refused does, and its answer.
 abbrev pub Does : seat.Ident → Stand → Order → Stand → SessionReply → Type 0
 Does ident old (order.Attach worker) now answer = AnswersOf ident worker now.value answer × (now.planned ≡ Nothing)
-Does ident old (order.Submit its) now (reply.Submitted outcome) = Submits ident.shape old.value its now.value outcome × IsLeft now outcome
-Does ident old (order.Resume tries) now (reply.Resumed outcome) = Resumes old.value now.value outcome × IsLeft now outcome
-Does ident old order.Withdraw now (reply.Withdrew number) = Withdraws old.value now.value number
-Does ident old order.Withdraw now reply.WithdrawFell = now ≡ nobody
+Does ident old (order.Submit its) now (reply.Submitted outcome) = Submits ident.shape old.value its now.value outcome × IsLeft old now outcome
+Does ident old (order.Resume tries) now (reply.Resumed outcome) = Resumes old.value now.value outcome × IsLeft old now outcome
+Does ident old order.Withdraw now (reply.Withdrew number) =
+    Withdraws old.value now.value number × IsSpared old.planned (steps_of old.value) now.planned now.value
+Does ident old order.Withdraw now reply.WithdrawFell = IsPlanned old.planned × (now ≡ nobody)
 Does ident old order.Last now (reply.Last receipt) = Lasts ident.shape old.value receipt × (now ≡ old)
 Does ident old (order.CrashAfter steps) now reply.CrashPlanned = now ≡ record { value = old.value; planned = After steps }
 Does ident old order.Detach now reply.Detached = now ≡ nobody
@@ -93,6 +97,6 @@ Obeys ident count old its now (reply.Refused why) =
 Obeys ident count old its now answer = Refuses ident.shape old.value its None × Does ident old its now answer
 
 -- What the session holds after work, and what is answered of it: a worker that fell is back in its slot.
-abbrev pub Settles : Result (Holding × Outcome) seat.Stand → Stand → Outcome → Type 0
-Settles (Ok done) now outcome = (now.value ≡ done.0) × (outcome ≡ done.1)
-Settles (Err down) now outcome = (now ≡ nobody) × (outcome ≡ Fell)
+abbrev pub Settles : Result (Holding × Outcome) seat.Stand → Planned → Stand → Outcome → Type 0
+Settles (Ok done) planned now outcome = (now ≡ record { value = done.0; planned = planned }) × (outcome ≡ done.1)
+Settles (Err down) planned now outcome = (now ≡ nobody) × (outcome ≡ Fell)

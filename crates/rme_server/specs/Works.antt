@@ -7,8 +7,10 @@ use Rattle.rme_seats.specs.Stands.{Stand}
 use Rattle.rme_table.specs.Calls.{IsLast, last_receipt}
 use Rattle.rme_texts.specs.declared.session.Outcome.{Outcome}
 use Rattle.rme_texts.specs.declared.session.Outcome.TheVariants as outcome
+use Rattle.rme_server.specs.Plans.{IsPlanned, Leaves}
+use Rattle.rme_server.specs.declared.planned.Planned.{Planned}
 use Rattle.rme_server.specs.declared.stand.Holding.{Holding}
-use Rattle.rme_server.specs.declared.stand.Holding.TheVariants.{Empty, Ready, Climb}
+use Rattle.rme_server.specs.declared.stand.Holding.TheVariants.{Empty, Ready, Climb, Held}
 
 -- A worker's job, which is pending or is posted now, with its number.
 pub record Task : Type 0 where
@@ -85,3 +87,18 @@ IsUp its = Unit {0}
 
 abbrev pub Ends : Result (Holding × Outcome) Stand → (Holding → Outcome → Type 0) → Type 0
 Ends worked Has = MatchResult worked (λ (done : Holding × Outcome). Has done.0 done.1 × IsUp done.1) (λ (down : Stand). Has Empty outcome.Fell)
+
+-- The own steps that a worker has made until now.
+abbrev pub steps_of : Holding → ℕ
+steps_of Empty = 0
+steps_of (Ready ready) = ready.part.steps
+steps_of (Climb climb) = climb.part.steps
+steps_of (Held held) = held.part.steps
+
+-- A worker with so many own steps made some more, and the plan is what they leave of it.
+abbrev pub IsSpared : Planned → ℕ → Planned → Holding → Type 0
+IsSpared old steps now value = (made : ℕ) × (steps_of value ≡ steps + made) × Leaves old made now
+
+-- What work does to the plan, where the worker had made so many own steps: it fell, as was planned, or it was spared.
+abbrev pub Spends : Planned → ℕ → Planned → Result (Holding × Outcome) Stand → Type 0
+Spends old steps now worked = MatchResult worked (λ (done : Holding × Outcome). IsSpared old steps now done.0) (λ (down : Stand). IsPlanned old)

@@ -96,7 +96,7 @@ fn hand_over<K: Tag, R: Wait>(
     requires ours { MayHold K.ident slots.now stand.value }
     requires allowed { SubmitRefuses service.now.shape stand.value submission.now None }
     ensures ours { MayHold K.ident slots.now result.0.value }
-    ensures did { Submits service.now.shape stand.value submission.now result.0.value result.1 × IsLeft result.0 result.1 }
+    ensures did { Submits service.now.shape stand.value submission.now result.0.value result.1 × IsLeft stand result.0 result.1 }
 {
     let Stand { value, mut planned } = stand;
     let worked = submit(value, submission, &mut planned, service);
@@ -115,7 +115,7 @@ fn go_on<K: Tag, R: Wait>(
     requires ours { MayHold K.ident slots.now stand.value }
     requires allowed { resume_refusal stand.value ≡ None }
     ensures ours { MayHold K.ident slots.now result.0.value }
-    ensures did { Resumes stand.value result.0.value result.1 × IsLeft result.0 result.1 }
+    ensures did { Resumes stand.value result.0.value result.1 × IsLeft stand result.0 result.1 }
 {
     let Stand { value, mut planned } = stand;
     let worked = resume(value, tries, &mut planned, service);
@@ -131,7 +131,7 @@ fn settle<K: Tag, R: Wait>(
 ) -> (Stand, Outcome)
     requires ours { MayWork K.ident slots.now worked }
     ensures ours { MayHold K.ident slots.now result.0.value }
-    ensures settles { Settles worked result.0 result.1 }
+    ensures settles { Settles worked planned result.0 result.1 }
 {
     match worked {
         Ok((value, outcome)) => (Stand { value, planned }, outcome),

@@ -4,7 +4,7 @@ ghost use Rattle.std.specs.Prelude.{◌≡◌, ◌==◌, ℕ, false, None};
 ghost use Rattle.rme_table.specs.Calls.{is_over};
 ghost use Rattle.rme_server.specs.Stands.{HasSlot, MayHold, MayWork};
 ghost use Rattle.rme_server.specs.Refusals.{SubmitRefuses, posting_refusal, resume_refusal};
-ghost use Rattle.rme_server.specs.Works.{Ends, GoesOn, Hands, Repeats};
+ghost use Rattle.rme_server.specs.Works.{Ends, GoesOn, Hands, Repeats, Spends, steps_of};
 ghost use Rattle.rme_server.specs.Obeyed.{Resumes, Submits};
 ghost use Rattle.rme_server.specs.declared.stand.Holding.TheVariants as spec;
 
@@ -28,6 +28,7 @@ pub(crate) fn submit(
     requires allowed { SubmitRefuses service.now.shape value submission.now None }
     ensures ours { (count : ℕ) → MayHold service.now count value → MayWork service.now count result }
     ensures did { Ends result (Submits service.now.shape value submission.now) }
+    ensures plan { Spends planned.old (steps_of value) planned.new result }
 {
     match value {
         Holding::Ready(ready) => submit_to(ready, submission, planned, service),
@@ -48,6 +49,7 @@ pub(crate) fn resume(
     requires allowed { resume_refusal value ≡ None }
     ensures ours { (count : ℕ) → MayHold service.now count value → MayWork service.now count result }
     ensures did { Ends result (Resumes value) }
+    ensures plan { Spends planned.old (steps_of value) planned.new result }
 {
     match value {
         Holding::Climb(climb) => go_in(climb, tries, planned, service),
@@ -67,6 +69,7 @@ fn submit_to(
     requires allowed { posting_refusal service.now.shape ready.part.private.begun submission.now ≡ None }
     ensures ours { (count : ℕ) → HasSlot service.now count ready → MayWork service.now count result }
     ensures did { Ends result (Hands service.now.shape (submission.now.number == ready.part.private.begun) ready submission.now.job) }
+    ensures plan { Spends planned.old ready.part.steps planned.new result }
 {
     if submission.number == ready.number() {
         let outcome = last_outcome(&mut ready, service);
@@ -101,6 +104,7 @@ fn go_in(
     requires ours { climb.ident ≡ service.now }
     ensures ours { (count : ℕ) → HasSlot service.now count climb → MayWork service.now count result }
     ensures did { Ends result (GoesOn climb) }
+    ensures plan { Spends planned.old climb.part.steps planned.new result }
 {
     let backoff = Backoff::new();
     for _ in 0..tries {
@@ -120,6 +124,7 @@ fn go_on(held: Held, planned: &mut Planned, service: &Service) -> Result<Worked,
     requires pending { is_over held.part.private.stage ≡ false }
     ensures ours { (count : ℕ) → HasSlot service.now count held → MayWork service.now count result }
     ensures did { Ends result (GoesOn held) }
+    ensures plan { Spends planned.old held.part.steps planned.new result }
 {
     let (leave, receipt) = match held.perform(service, planned) {
         Ok(done) => done,
