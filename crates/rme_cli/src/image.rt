@@ -32,16 +32,28 @@ pub fn run_images(rt: &HostRuntime, images: Images) -> Result<u8, Fault> {
         locks,
         save: new,
     } = images;
-    let mut engine = Engine::new(rt.alloc())?;
-    if let Some(file) = old {
-        load(rt, &mut engine, file, locks)?;
-    }
-    let mut lines = LineReader::new(rt.alloc(), rt.stdin())?;
-    answer_lines(&mut engine, &mut lines, &mut io::writer(rt))?;
+    let mut engine = begin(rt, old, locks)?;
+    answer(rt, &mut engine)?;
     match new {
         None => Ok(0),
         Some(file) => save(rt, &engine, file),
     }
+}
+
+/// The engine with the world of a file, if one is named, or with none.
+fn begin(rt: &HostRuntime, file: Option<String>, locks: GivenNames) -> Result<Engine, Fault> {
+    let mut engine = Engine::new(rt.alloc())?;
+    if let Some(file) = file {
+        load(rt, &mut engine, file, locks)?;
+    }
+    Ok(engine)
+}
+
+/// Answers the lines of the standard input.
+fn answer(rt: &HostRuntime, engine: &mut Engine) -> Result<(), Fault> {
+    let mut lines = LineReader::new(rt.alloc(), rt.stdin())?;
+    answer_lines(engine, &mut lines, &mut io::writer(rt))?;
+    Ok(())
 }
 
 /// Loads the world of a file. Where the file is not there, which is so at a first start, nothing is open.

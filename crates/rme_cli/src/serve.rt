@@ -39,25 +39,23 @@ pub fn run_serve<R: Threads + Wait + Sync>(
     if !task.locks.are_names() {
         return Err(Fault::BadArguments);
     }
-    let locks = task.locks.len() as u32;
-    let Ok(shape) = Shape::new(task.workers, locks, task.cells, task.jobs) else {
-        return Err(Fault::BadArguments);
-    };
     let names = task.locks.names(rt.alloc())?;
+    let shape = shape_of(task, names.len())?;
     let listener = listen(rt, task.port)?;
-    let (service, downs) = Service::new(rt.alloc(), shape)?;
     let host = Host {
         rt,
         listener: &listener,
         connections: task.connections,
         names: &names,
     };
-    let downs = serve_all::<Brand, R>(threads, &host, &service, downs)?;
-    info!(Logged::new(rt, Level::Info, Console(rt)); target: "rme", "served {}", task.connections);
-    match service.close(downs) {
-        Ok(closed) => print_closed(rt, &names, &closed),
-        Err(unclosed) if unclosed.why == Refusal::NoWorker => Ok(1),
-        Err(_) => Err(Fault::NoMemory),
+    serve_workers(threads, &host, shape)
+}
+
+/// The shape of the service that is asked for, with so many locks.
+fn shape_of(task: &ServeTask, locks: u32) -> Result<Shape, Fault> {
+    match Shape::new(task.workers, locks, task.cells, task.jobs) {
+        Ok(shape) => Ok(shape),
+        Err(_) => Err(Fault::BadArguments),
     }
 }
 
@@ -76,6 +74,34 @@ fn listen(rt: &HostRuntime, port: u16) -> Result<TcpListener, Fault> {
         Ok(listener) => Ok(listener),
         Err(error) if error.kind() == ErrorKind::OutOfMemory => Err(Fault::NoMemory),
         Err(_) => Err(Fault::SocketFailed),
+    }
+}
+
+/// Serves the workers of a new service of this shape, prints what its locks then hold, and answers the status.
+fn serve_workers<R: Threads + Wait + Sync>(
+    threads: &R,
+    host: &Host<'_>,
+    shape: Shape,
+) -> Result<u8, Fault> {
+    let (service, downs) = Service::new(host.rt.alloc(), shape)?;
+    let downs = serve_all::<Brand, R>(threads, host, &service, downs)?;
+    log_served(host.rt, host.connections);
+    close(host, service, downs)
+}
+
+/// The record of a server that has served all its connections.
+fn log_served(rt: &HostRuntime, connections: u32) {
+    info!(Logged::new(rt, Level::Info, Console(rt)); target: "rme", "served {connections}");
+}
+
+/// Closes the service, prints what its locks hold, and answers the status.
+fn close(host: &Host<'_>, service: Service, downs: Vec<Down>) -> Result<u8, Fault>
+    requires ours { AreOf service downs.items }
+{
+    match service.close(downs) {
+        Ok(closed) => print_closed(host.rt, host.names, &closed),
+        Err(unclosed) if unclosed.why == Refusal::NoWorker => Ok(1),
+        Err(_) => Err(Fault::NoMemory),
     }
 }
 

@@ -1,5 +1,7 @@
--- The status with which the program ends after a fault, and the fault that it tells of.
-use Rattle.std.specs.Prelude.{ℕ}
+-- The status with which the program ends after a fault or after words that give no task, and the fault that it tells of.
+use Rattle.std.specs.Prelude.{ℕ, Bool, true, false, Result, Ok, Err}
+use Rattle.clap.specs.declared.error.kind.ErrorKind as clap
+use Rattle.clap.specs.declared.error.kind.ErrorKind.TheVariants as words
 use Rattle.std.specs.declared.io.ErrorKind.{ErrorKind}
 use Rattle.std.specs.declared.io.ErrorKind.TheVariants as reason
 use Rattle.rme_words.specs.declared.refusal.Refusal.{Refusal}
@@ -62,3 +64,15 @@ fault_on_file _ other = other
 abbrev pub status_of_refusal : Refusal → ℕ
 status_of_refusal refusal.NoMemory = 5
 status_of_refusal _ = 2
+
+-- what was asked for, and whether it was printed
+abbrev pub shown : Bool → Result ℕ Fault
+shown true = Ok 0
+shown false = Err WriteFailed
+
+-- the end after words that give no task, by their kind and by whether their text was printed
+abbrev pub told : clap.ErrorKind → Bool → Result ℕ Fault
+told words.OutOfMemory _ = Err NoMemory
+told words.DisplayHelp is_printed = shown is_printed
+told words.DisplayVersion is_printed = shown is_printed
+told _ _ = Ok 2

@@ -2,18 +2,21 @@
 //! and the refusals mean.
 //!
 //! A fault of an engine or of a server, a growth that was refused, a file or a word that can't be had each become
-//! one. The crate stands on rme_lines and rme_server, whose faults it takes over, on rme_words for refusals, and on
-//! thiserror. The contract that the program uses is that of `Fault::status`, and what each other fault becomes;
-//! `specs/Statuses.antt` has both. It is a crate of its own so that what it says of faults is checked without the
-//! words of the command line. Begin with `fault.rt`; `explain.rt` has the table of the refusals and `ending.rt`
-//! that of the statuses.
+//! one. The crate stands on rme_lines and rme_server, whose faults it takes over, on rme_words for refusals, on
+//! thiserror, and on clap for the kinds of its mistakes. The contracts that the program uses are those of
+//! `Fault::status`, of what each other fault becomes, and of `answer_of`, for words that give no task;
+//! `specs/Statuses.antt` has them all. It is a crate of its own so that what it says of faults is checked without
+//! the program. Begin with `fault.rt`; `told.rt` says what becomes of words that give no task, `explain.rt` has the
+//! table of the refusals and `ending.rt` that of the statuses.
 #![tactic(auto)]
 
 mod ending;
 mod explain;
 mod fault;
 mod texts;
+mod told;
 
 pub use ending::{Ending, LAST_STATUS};
 pub use explain::{LAST_CODE, advice, refusal_of, when};
 pub use fault::Fault;
+pub use told::answer_of;

@@ -1,10 +1,10 @@
 //! What becomes of words that give no task: help, the version, or a mistake.
 
 ghost use Rattle.std.specs.Prelude.{◌≡◌};
-ghost use Rattle.rme_cli.specs.Statuses.{told};
+ghost use Rattle.rme_faults.specs.Statuses.{told};
 
+use crate::fault::Fault;
 use clap::error::ErrorKind;
-use rme_faults::Fault;
 
 /// The status after words of this kind, or the fault that ends the program; `is_printed` says whether their
 /// text could be written.
