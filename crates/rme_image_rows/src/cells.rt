@@ -1,12 +1,13 @@
 //! The clauses `turn`, `shadow` and `cells`.
 
+use crate::checks::Check::{Steps, Submit};
+use crate::checks::{Run, check_clause};
+use crate::images::Change;
 use crate::images::Change::Word;
-use crate::images::{Change, check_changes};
 use crate::places::{
     ADD_FIVE, BEGUN, CELL, DONE, ENTERED, FINISHED, LEFT, LOGGED, MASK, NEXT_CELL, NEXT_TURN, NODE,
-    PLACE, REPLY, SHADOW, SHADOW_REPLY, TURN, WITHDRAWN, at_two_locks,
+    PLACE, REPLY, SHADOW, SHADOW_REPLY, SIZES, SUBMITTED, TO_FINISHED, TO_LEFT, TURN, WITHDRAWN,
 };
-use crate::walks::{job, step_times};
 use std::test::Fail;
 
 /// With an owner inside, one section being over: the copy may be whole.
@@ -38,8 +39,7 @@ const BROKEN_INSIDE: &[&[Change]] = &[
 /// Clauses `turn` and `cells` of a lock whose owner is inside, before its copy: 2p, and the cells are those before.
 #[test]
 fn inside(rt: HostRuntime) -> Result<(), Fail> {
-    let world = at_two_locks(rt.alloc(), ENTERED)?;
-    check_changes(&rt, rt.alloc(), &world, GOOD_INSIDE, BROKEN_INSIDE)
+    check_clause(&rt, rt.alloc(), ENTERED, GOOD_INSIDE, BROKEN_INSIDE)
 }
 
 /// The cell may be copied or not; the other cell may be in the mask, its shadow being what it holds, and without that its
@@ -71,8 +71,7 @@ const BROKEN_LOGGED: &[&[Change]] = &[
 /// Clauses `shadow` and `cells` of a lock whose owner is inside, its copy being whole.
 #[test]
 fn logged(rt: HostRuntime) -> Result<(), Fail> {
-    let world = at_two_locks(rt.alloc(), LOGGED)?;
-    check_changes(&rt, rt.alloc(), &world, GOOD_LOGGED, BROKEN_LOGGED)
+    check_clause(&rt, rt.alloc(), LOGGED, GOOD_LOGGED, BROKEN_LOGGED)
 }
 
 /// The turn may be the next one, with anything in the shadow row.
@@ -115,8 +114,7 @@ const BROKEN_FINISHED: &[&[Change]] = &[
 /// Clauses `turn`, `shadow` and `cells` of a lock whose owner has finished: 2p-1 or 2p, and the cells are those after.
 #[test]
 fn done(rt: HostRuntime) -> Result<(), Fail> {
-    let world = at_two_locks(rt.alloc(), FINISHED)?;
-    check_changes(&rt, rt.alloc(), &world, GOOD_FINISHED, BROKEN_FINISHED)
+    check_clause(&rt, rt.alloc(), FINISHED, GOOD_FINISHED, BROKEN_FINISHED)
 }
 
 /// Anything in the shadow row; and, as the end of the withdrawal that is broken with the node held, without it.
@@ -145,11 +143,21 @@ const BROKEN_FREE: &[&[Change]] = &[
 /// Clauses `turn` and `cells` of a lock without an owner: 2p.
 #[test]
 fn free(rt: HostRuntime) -> Result<(), Fail> {
-    let world = at_two_locks(rt.alloc(), LEFT)?;
-    check_changes(&rt, rt.alloc(), &world, GOOD_FREE, BROKEN_FREE)
+    check_clause(&rt, rt.alloc(), LEFT, GOOD_FREE, BROKEN_FREE)
 }
 
-/// Both workers have run the job, and worker 1 has not left; nor need it hold the lock, once the turn is even.
+/// Both workers have run the job, and worker 1 has not left.
+const SECOND: Run = (
+    SIZES,
+    &[
+        SUBMITTED,
+        Steps(0, TO_LEFT),
+        Submit(1, 0, ADD_FIVE, 1),
+        Steps(1, TO_FINISHED),
+    ],
+);
+
+/// It need not hold the lock, once the turn is even.
 const GOOD_SECOND: &[&[Change]] = &[&[Word(TURN, 4)], &[Word(TURN, 4), Word(NODE, 0)]];
 
 /// Worker 0 holds the lock, and the last entry is worker 1's.
@@ -164,8 +172,5 @@ const BROKEN_SECOND: &[&[Change]] = &[
 /// Clause `turn`: the last entry is the owner's.
 #[test]
 fn second(rt: HostRuntime) -> Result<(), Fail> {
-    let mut world = at_two_locks(rt.alloc(), LEFT)?;
-    world.submit(1, job(0, ADD_FIVE))?;
-    step_times(&mut world, 1, FINISHED)?;
-    check_changes(&rt, rt.alloc(), &world, GOOD_SECOND, BROKEN_SECOND)
+    check_clause(&rt, rt.alloc(), SECOND, GOOD_SECOND, BROKEN_SECOND)
 }

@@ -1,12 +1,14 @@
 //! The clause `entries`.
 
+use crate::checks::Check::{Steps, Submit, Walk, Withdraw};
+use crate::checks::{Run, check_clause};
+use crate::images::Change;
 use crate::images::Change::{Byte, Word};
-use crate::images::{Change, check_changes};
 use crate::places::{
     ADD_FIVE, ASKED, AT, BEGUN, DONE, ENTERED, ENTRY, ENTRY_LOCK, ENTRY_NUMBER, ENTRY_PLACE,
-    ENTRY_REPLY, ENTRY_WORKER, LEFT, PLACE, REPLY, WITHDRAWN, WORKER_1, at_two_locks,
+    ENTRY_REPLY, ENTRY_WORKER, LEFT, PLACE, REPLY, SIZES, SUBMITTED, TO_ENTERED, TO_LEFT,
+    WITHDRAWN, WORKER_1,
 };
-use crate::walks::{job, step_times, walk};
 use rme_program::Note;
 use std::test::Fail;
 
@@ -54,8 +56,7 @@ const BROKEN_RECEIPTS: &[&[Change]] = &[
 /// Clause `entries`, in the words of a worker whose job is done.
 #[test]
 fn receipts(rt: HostRuntime) -> Result<(), Fail> {
-    let world = at_two_locks(rt.alloc(), LEFT)?;
-    check_changes(&rt, rt.alloc(), &world, GOOD_RECEIPTS, BROKEN_RECEIPTS)
+    check_clause(&rt, rt.alloc(), LEFT, GOOD_RECEIPTS, BROKEN_RECEIPTS)
 }
 
 /// An entry of number 0, of a number that isn't done, of the other worker or lock, at another place, with another reply.
@@ -73,9 +74,19 @@ const BROKEN_ENTRIES: &[&[Change]] = &[
 /// Clause `entries`, in the bytes of an entry.
 #[test]
 fn one_entry(rt: HostRuntime) -> Result<(), Fail> {
-    let world = at_two_locks(rt.alloc(), LEFT)?;
-    check_changes(&rt, rt.alloc(), &world, &[], BROKEN_ENTRIES)
+    check_clause(&rt, rt.alloc(), LEFT, &[], BROKEN_ENTRIES)
 }
+
+/// The job is run twice, and the second reply is 10.
+const TWICE: Run = (
+    SIZES,
+    &[
+        SUBMITTED,
+        Steps(0, TO_LEFT),
+        Submit(0, 0, ADD_FIVE, 2),
+        Steps(0, TO_LEFT),
+    ],
+);
 
 /// The numbers of two entries rise, also where one between them, or the first, was withdrawn.
 const GOOD_ORDERS: &[&[Change]] = &[
@@ -108,14 +119,24 @@ const BROKEN_ORDERS: &[&[Change]] = &[
     &[Word(BEGUN, 3), Byte(ENTRY_REPLY + ENTRY, 5)],
 ];
 
-/// Clause `entries`, of two entries of one worker: the job is run twice, and the second reply is 10.
+/// Clause `entries`, of two entries of one worker.
 #[test]
 fn two_entries(rt: HostRuntime) -> Result<(), Fail> {
-    let mut world = at_two_locks(rt.alloc(), LEFT)?;
-    assert_eq!(rt; world.submit(0, job(0, ADD_FIVE)), Ok(2));
-    step_times(&mut world, 0, LEFT)?;
-    check_changes(&rt, rt.alloc(), &world, GOOD_ORDERS, BROKEN_ORDERS)
+    check_clause(&rt, rt.alloc(), TWICE, GOOD_ORDERS, BROKEN_ORDERS)
 }
+
+/// Worker 1 gives its empty job up, while worker 0 owns the lock.
+const GIVEN_UP: Run = (
+    SIZES,
+    &[
+        SUBMITTED,
+        Steps(0, TO_ENTERED),
+        Submit(1, 0, &[], 1),
+        Walk(1, &[Note::Asked(1), Note::Blocked]),
+        Withdraw(1),
+        Walk(1, &[Note::Withdrew(1)]),
+    ],
+);
 
 /// It was withdrawn at the other lock.
 const GOOD_WITHDRAWN: &[&[Change]] = &[&[Word(WORKER_1 + AT, 1)]];
@@ -130,19 +151,14 @@ const BROKEN_WITHDRAWN: &[&[Change]] = &[
 /// Clause `entries`, of a worker whose only number was withdrawn, while the other owns the lock.
 #[test]
 fn withdrawn(rt: HostRuntime) -> Result<(), Fail> {
-    let mut world = at_two_locks(rt.alloc(), ENTERED)?;
-    world.submit(1, job(0, &[]))?;
-    let _ = walk(rt.alloc(), &mut world, 1)?;
-    world.withdraw(1)?;
-    let notes = walk(rt.alloc(), &mut world, 1)?;
-    assert_eq!(rt; notes.as_slice(), [Note::Withdrew(1)].as_slice());
-    check_changes(&rt, rt.alloc(), &world, GOOD_WITHDRAWN, BROKEN_WITHDRAWN)
+    check_clause(&rt, rt.alloc(), GIVEN_UP, GOOD_WITHDRAWN, BROKEN_WITHDRAWN)
 }
 
-/// Clause `entries`, of a worker whose first job waits: its receipt may be anything.
+/// Anything in its receipt.
+const GOOD_PENDING: &[&[Change]] = &[&[Word(REPLY, 9), Word(PLACE, 9), Word(AT, 9)]];
+
+/// Clause `entries`, of a worker whose first job waits.
 #[test]
 fn pending(rt: HostRuntime) -> Result<(), Fail> {
-    let world = at_two_locks(rt.alloc(), ASKED)?;
-    let good: &[&[Change]] = &[&[Word(REPLY, 9), Word(PLACE, 9), Word(AT, 9)]];
-    check_changes(&rt, rt.alloc(), &world, good, &[])
+    check_clause(&rt, rt.alloc(), ASKED, GOOD_PENDING, &[])
 }

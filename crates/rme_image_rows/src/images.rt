@@ -9,6 +9,19 @@ use std::test::Fail;
 /// How many bytes stand before the words.
 const HEADER: usize = 13;
 
+/// An image without entries.
+#[derive(Clone, Copy)]
+pub struct Image {
+    /// What stands before the words.
+    pub header: [u8; HEADER],
+    /// How many words there are.
+    pub words: u16,
+    /// Those that aren't 0, by their numbers.
+    pub not_zero: &'static [(u16, u64)],
+    /// How many bytes the image has.
+    pub len: usize,
+}
+
 /// A change of an image.
 #[derive(Clone, Copy, Debug)]
 pub enum Change {
@@ -16,21 +29,21 @@ pub enum Change {
     Word(u16, u64),
     /// The byte at this offset is this.
     Byte(u16, u8),
+    /// The last byte is missing.
+    Shorter,
+    /// This byte follows the last one.
+    Longer(u8),
 }
 
-/// The image of a header, of so many words that are 0 but for these, and of no entry.
-pub fn image(
-    alloc: Global,
-    header: [u8; HEADER],
-    count: u16,
-    words: &[(u16, u64)],
-) -> Result<Vec<u8>, Fail> {
-    let mut image = Vec::from_slice(alloc, &header)?;
-    for number in 0..count {
-        image.extend_from_slice(&word_in(words, number).to_be_bytes())?;
+/// The bytes of an image.
+pub fn bytes_of(rt: &impl Abort, alloc: Global, image: &Image) -> Result<Vec<u8>, Fail> {
+    let mut bytes = Vec::from_slice(alloc, &image.header)?;
+    for number in 0..image.words {
+        bytes.extend_from_slice(&word_in(image.not_zero, number).to_be_bytes())?;
     }
-    image.extend_from_slice(&[0; 4])?;
-    Ok(image)
+    bytes.extend_from_slice(&[0; 4])?;
+    assert!(rt; bytes.len() == image.len);
+    Ok(bytes)
 }
 
 /// The word with this number, which is 0 where it is not told.
@@ -57,6 +70,8 @@ pub fn changed(
                 put(rt, &mut bytes, word_start(number), &word.to_be_bytes());
             }
             Change::Byte(offset, byte) => put(rt, &mut bytes, usize::from(offset), &[byte]),
+            Change::Shorter => assert!(rt; bytes.pop().is_some()),
+            Change::Longer(byte) => bytes.push(byte)?,
         }
     }
     Ok(bytes)
@@ -76,27 +91,38 @@ fn put(rt: &impl Abort, image: &mut [u8], offset: usize, bytes: &[u8]) {
     place.copy_from_slice(bytes);
 }
 
-/// What `load` refuses an image by, if it does.
-pub fn refusal_of(alloc: Global, image: &[u8]) -> Option<Refusal> {
-    World::load(alloc, image).err()
+/// Whether `load` takes an image. It refuses none but as a bad image.
+pub fn is_accepted(rt: &impl Abort, alloc: Global, image: &[u8]) -> bool {
+    match World::load(alloc, image).err() {
+        Some(refusal) => {
+            assert!(rt; refusal == Refusal::BadImage, "{refusal:?}");
+            false
+        }
+        None => true,
+    }
 }
 
-/// Whether `load` takes an image of version 2, which `save` then gives back. It refuses none but as a bad image.
-pub fn is_taken(rt: &impl Abort, alloc: Global, image: &[u8]) -> Result<bool, Fail> {
+/// Whether `load` takes an image, of which `save` then gives back these bytes. It refuses none but as a bad image.
+pub fn comes_back(
+    rt: &impl Abort,
+    alloc: Global,
+    image: &[u8],
+    wanted: &[u8],
+) -> Result<bool, Fail> {
     match World::load(alloc, image) {
         Ok(world) => {
             let saved = world.save()?;
-            assert_eq!(rt; saved.as_slice(), image);
+            assert!(rt; saved.as_slice() == wanted);
             Ok(true)
         }
         Err(refusal) => {
-            assert_eq!(rt; refusal, Refusal::BadImage);
+            assert!(rt; refusal == Refusal::BadImage, "{refusal:?}");
             Ok(false)
         }
     }
 }
 
-/// Checks of each list of changes whether the image is taken with it.
+/// Checks of each list of changes whether an image of version 2 is taken with it.
 fn check_each(
     rt: &impl Abort,
     alloc: Global,
@@ -106,22 +132,24 @@ fn check_each(
 ) -> Result<(), Fail> {
     for changes in lists {
         let bytes = changed(rt, alloc, image, changes)?;
-        assert_eq!(rt; is_taken(rt, alloc, &bytes)?, wanted, "{changes:?}");
+        assert!(rt;
+            comes_back(rt, alloc, &bytes, &bytes)? == wanted,
+            "{changes:?}"
+        );
     }
     Ok(())
 }
 
-/// A world is saved; its image stays good with each of the first changes, and breaks a clause with each of the
-/// others.
+/// An image of version 2 is taken; it stays good with each of the first changes, and breaks a clause with each of
+/// the others.
 pub fn check_changes(
     rt: &impl Abort,
     alloc: Global,
-    world: &World,
+    image: &[u8],
     good: &[&[Change]],
     broken: &[&[Change]],
 ) -> Result<(), Fail> {
-    let image = world.save()?;
-    assert!(rt; is_taken(rt, alloc, &image)?);
-    check_each(rt, alloc, &image, good, true)?;
-    check_each(rt, alloc, &image, broken, false)
+    check_each(rt, alloc, image, &[&[]], true)?;
+    check_each(rt, alloc, image, good, true)?;
+    check_each(rt, alloc, image, broken, false)
 }

@@ -4,12 +4,14 @@
 //! of an image leave it good is told by the clauses of good images. The crate has nothing but tests: it shows that
 //! the contracts of `World::save` and `World::load` say what was meant, and that each call on images succeeds with
 //! room. It stands on `rme_world`, on `rme_image` and `rme_good` for one test of each of their calls, and on the
-//! crates that name a job, a note and a shape. Begin with `images.rt`, which has the words that the rows are written
-//! in, and then `smallest.rt`.
+//! crates that name a job, a note and a shape. Begin with `images.rt` and `checks.rt`, which have the words that the
+//! rows are written in, and then `smallest.rt`.
 #![tactic(auto)]
 
 #[cfg(test)]
 mod cells;
+#[cfg(test)]
+mod checks;
 #[cfg(test)]
 mod climber;
 #[cfg(test)]

@@ -1,13 +1,110 @@
 //! A save and a load between any two steps of a row, beside a crash there without them.
 
-use crate::walks::{check_cells, check_down, job, step_times, walk};
+use crate::checks::Check::{
+    AllDown, Cells, CrashAll, Finished, Last, Owner, Ready, Restart, Submit, Walk,
+};
+use crate::checks::{Check, Run, check_all, first_wrong, opened};
+use crate::walks::step_times;
 use rme_program::{Note, Receipt};
-use rme_script::{Op, Script};
-use rme_words::Shape;
+use rme_script::Op;
 use rme_world::World;
 use std::alloc::Global;
 use std::process::Abort;
 use std::test::Fail;
+
+/// Cuts after so many own steps, from the first number to the last one, and what comes after each of them.
+pub type Stretch = (u32, u32, &'static [Check]);
+
+/// A row is saved and loaded after each of a worker's own steps: a run, then so many steps of the worker up to the cut,
+/// and then what its stretch tells. At the end the world passes the last checks, wherever it was cut.
+///
+/// What is compared with the world that is not saved, but whose workers all crash there: the image right after; all
+/// that comes after, which is told by hand; and the image at the end, which has all words and the history.
+pub fn check_row(
+    rt: &impl Abort,
+    alloc: Global,
+    run: Run,
+    worker: u32,
+    stretches: &[Stretch],
+    end: &[Check],
+) -> Result<(), Fail> {
+    for (first, last, after) in stretches {
+        for steps in *first..=*last {
+            check_cut(rt, alloc, run, (worker, steps), after, end)?;
+        }
+    }
+    Ok(())
+}
+
+const ALL_CRASH: &[Check] = &[CrashAll];
+
+const ALL_ARE_DOWN: &[Check] = &[AllDown];
+
+/// The row is saved and loaded at a cut, and ends there and without it with the same image.
+fn check_cut(
+    rt: &impl Abort,
+    alloc: Global,
+    (sizes, before): Run,
+    (worker, steps): (u32, u32),
+    after: &[Check],
+    end: &[Check],
+) -> Result<(), Fail> {
+    let mut world = opened(alloc, sizes)?;
+    check_all(rt, alloc, &mut world, before)?;
+    step_times(&mut world, worker, steps)?;
+    let image = world.save()?;
+    check_all(rt, alloc, &mut world, ALL_CRASH)?;
+    check_saved(rt, &world, &image)?;
+    let crashed = end_of(rt, alloc, &mut world, after, end, steps)?;
+    let loaded = end_of_loaded(rt, alloc, &image, after, end, steps)?;
+    assert!(rt;
+        loaded.as_slice() == crashed.as_slice(),
+        "cut after {steps}"
+    );
+    Ok(())
+}
+
+/// The image at the end of a world that was loaded where the row is cut, and in which all workers are down at first.
+fn end_of_loaded(
+    rt: &impl Abort,
+    alloc: Global,
+    image: &[u8],
+    after: &[Check],
+    end: &[Check],
+    steps: u32,
+) -> Result<Vec<u8>, Fail> {
+    let mut world = World::load(alloc, image)?;
+    check_saved(rt, &world, image)?;
+    check_all(rt, alloc, &mut world, ALL_ARE_DOWN)?;
+    check_saved(rt, &world, image)?;
+    end_of(rt, alloc, &mut world, after, end, steps)
+}
+
+/// The image at the end of a world that was cut after so many steps.
+fn end_of(
+    rt: &impl Abort,
+    alloc: Global,
+    world: &mut World,
+    after: &[Check],
+    end: &[Check],
+    steps: u32,
+) -> Result<Vec<u8>, Fail> {
+    let wrong = first_wrong(rt, alloc, world, after)?;
+    assert!(rt; wrong.is_none(), "cut after {steps}, check {wrong:?}");
+    let wrong = first_wrong(rt, alloc, world, end)?;
+    assert!(rt;
+        wrong.is_none(),
+        "cut after {steps}, check {wrong:?} of the end"
+    );
+    Ok(world.save()?)
+}
+
+/// A world is saved as this image.
+fn check_saved(rt: &impl Abort, world: &World, image: &[u8]) -> Result<(), Fail> {
+    let saved = world.save()?;
+    assert!(rt; saved.as_slice() == image);
+    Ok(())
+}
 
 /// The job of row `five operations`.
 const FIVE: &[Op] = &[
@@ -29,93 +126,61 @@ const RECEIPT: Receipt = Receipt {
 
 const FINISHED: Note = Note::Finished(RECEIPT);
 
-/// The notes of the walk after the restart where the job was cut after so many own steps: 18 of Post, 1 of Enter, 34
-/// of the section, 3 of Exit. The number is asked for by the eighteenth.
-fn after_cut(cut: u32) -> &'static [Note] {
-    match cut {
-        0..=17 => &[Note::Ready],
-        18 => &[Note::Entered(0), FINISHED, Note::Left(0)],
-        19..=52 => &[Note::Reentered(0), FINISHED, Note::Left(0)],
-        53..=55 => &[Note::Reentered(0), Note::Left(0)],
-        _ => &[Note::Ready],
-    }
-}
+/// Row `five operations` before its steps.
+const FIVE_OPERATIONS: Run = ((1, 1, 2, 10), &[Submit(0, 0, FIVE, 1)]);
 
-/// The world of row `five operations` after so many own steps.
-fn cut_after(alloc: Global, cut: u32) -> Result<World, Fail> {
-    let mut world = World::new(alloc, Shape::new(1, 1, 2, 10)?)?;
-    world.submit(0, job(0, FIVE))?;
-    step_times(&mut world, 0, cut)?;
-    Ok(world)
-}
+/// Its steps are 18 of Post, 1 of Enter, 34 of the section and 3 of Exit. The number is asked for by the eighteenth: a
+/// job that was cut before is lost, and is posted again.
+const STRETCHES: &[Stretch] = &[
+    (
+        0,
+        17,
+        &[
+            Restart(0),
+            Walk(0, &[Note::Ready]),
+            Finished(&[]),
+            Submit(0, 0, FIVE, 1),
+            Walk(
+                0,
+                &[Note::Asked(1), Note::Entered(0), FINISHED, Note::Left(0)],
+            ),
+        ],
+    ),
+    (
+        18,
+        18,
+        &[
+            Restart(0),
+            Walk(0, &[Note::Entered(0), FINISHED, Note::Left(0)]),
+        ],
+    ),
+    (
+        19,
+        52,
+        &[
+            Restart(0),
+            Walk(0, &[Note::Reentered(0), FINISHED, Note::Left(0)]),
+        ],
+    ),
+    (
+        53,
+        55,
+        &[Restart(0), Walk(0, &[Note::Reentered(0), Note::Left(0)])],
+    ),
+    (56, 56, &[Restart(0), Walk(0, &[Note::Ready])]),
+];
 
-/// The world of a world's image, in which all workers are down.
-pub fn loaded(rt: &impl Abort, alloc: Global, world: &World) -> Result<World, Fail> {
-    let image = world.save()?;
-    let mut loaded = World::load(alloc, &image)?;
-    let again = loaded.save()?;
-    assert_eq!(rt; again.as_slice(), image.as_slice());
-    for worker in 0..world.shape().workers() {
-        check_down(rt, &mut loaded, worker);
-    }
-    Ok(loaded)
-}
-
-/// Two worlds have the same words and the same history: they have one image.
-pub fn check_same(rt: &impl Abort, world: &World, other: &World) -> Result<(), Fail> {
-    let image = world.save()?;
-    let another = other.save()?;
-    assert_eq!(rt; image.as_slice(), another.as_slice());
-    Ok(())
-}
-
-/// The job of row `five operations` is run: the last receipt, the one entry, the cells and the owner.
-fn check_five(rt: &impl Abort, world: &World) -> Result<(), Fail> {
-    assert_eq!(rt; world.last(0), Ok(Some(RECEIPT)));
-    assert_eq!(rt; world.history().len(), 1);
-    assert_eq!(rt; world.history()[0].receipt, RECEIPT);
-    assert!(rt; world.history()[0].script == Script::of(FIVE));
-    assert_eq!(rt; world.owner(0), Ok(None));
-    assert_eq!(rt; world.ready(0), Ok(true));
-    check_cells(rt, world, 0, &[0, 5], true)
-}
-
-/// Restarts the worker and lets it go on until it is ready; posts the job again where it was lost, and answers the
-/// notes up to there.
-fn go_on(rt: &impl Abort, alloc: Global, world: &mut World, cut: u32) -> Result<Vec<Note>, Fail> {
-    world.restart(0)?;
-    let notes = walk(alloc, world, 0)?;
-    if cut < 18 {
-        assert_eq!(rt; world.history().len(), 0);
-        assert_eq!(rt; world.submit(0, job(0, FIVE)), Ok(1));
-        let again = walk(alloc, world, 0)?;
-        assert_eq!(rt;
-            again.as_slice(),
-            [Note::Asked(1), Note::Entered(0), FINISHED, Note::Left(0)].as_slice()
-        );
-    }
-    Ok(notes)
-}
+/// At the end the job is run, once.
+const END: &[Check] = &[
+    Last(0, RECEIPT),
+    Finished(&[(RECEIPT, FIVE)]),
+    Owner(0, None),
+    Ready(0),
+    Cells(0, &[0, 5], true),
+];
 
 /// Row `five operations`, saved and loaded after each of its 56 steps, and before the first.
-///
-/// What is compared with the world that is not saved, but whose worker crashes there: the image right after; the notes
-/// of the walk after the restart, which are told by hand too; and the image at the end, which has all words and the
-/// history. In both worlds a job that was cut before its number was asked for is lost, and is posted again. At the end
-/// the last receipt, the entries, the cells and the owner are those of the row.
 #[test]
 fn five_operations_saved(rt: HostRuntime) -> Result<(), Fail> {
-    for cut in 0..=56 {
-        let mut crashed = cut_after(rt.alloc(), cut)?;
-        let mut loaded = loaded(&rt, rt.alloc(), &crashed)?;
-        crashed.crash(0)?;
-        check_same(&rt, &crashed, &loaded)?;
-        let notes = go_on(&rt, rt.alloc(), &mut loaded, cut)?;
-        assert_eq!(rt; notes.as_slice(), after_cut(cut), "cut after {cut}");
-        let others = go_on(&rt, rt.alloc(), &mut crashed, cut)?;
-        assert_eq!(rt; notes.as_slice(), others.as_slice(), "cut after {cut}");
-        check_five(&rt, &loaded)?;
-        check_same(&rt, &crashed, &loaded)?;
-    }
-    Ok(())
+    check_row(&rt, rt.alloc(), FIVE_OPERATIONS, 0, STRETCHES, END)
 }

@@ -1,11 +1,10 @@
 //! The clauses `nodes` and `one lock each`.
 
+use crate::checks::Check::{Steps, Submit};
+use crate::checks::{Run, check_clause};
+use crate::images::Change;
 use crate::images::Change::Word;
-use crate::images::{Change, check_changes};
-use crate::places::{BEGUN, ENTERED, NEXT_NODE, NODE, SLATE_LOCK, WORKER_1, at_two_locks};
-use crate::walks::{job, step_times};
-use rme_words::Shape;
-use rme_world::World;
+use crate::places::{BEGUN, ENTERED, NEXT_NODE, NODE, SLATE_LOCK, WORKER_1};
 use std::test::Fail;
 
 /// Node 1, the root, of three workers and one lock.
@@ -16,6 +15,9 @@ const LEFT: u16 = 94;
 
 /// Node 3, between worker 2 and no worker.
 const RIGHT: u16 = 95;
+
+/// The last of three workers has asked for the lock, and is below the root.
+const LAST_OF_THREE: Run = ((3, 1, 1, 1), &[Submit(2, 0, &[], 1), Steps(2, 3 + 1)]);
 
 /// Worker 2 is at the root; node 2 may be worker 1's if that waits; nodes that nobody holds are free.
 const GOOD_NODES: &[&[Change]] = &[
@@ -35,13 +37,10 @@ const BROKEN_NODES: &[&[Change]] = &[
     &[Word(RIGHT, 0), Word(ROOT, 2)],
 ];
 
-/// Clause `nodes`: of three workers the last one is below the root.
+/// Clause `nodes`.
 #[test]
 fn nodes(rt: HostRuntime) -> Result<(), Fail> {
-    let mut world = World::new(rt.alloc(), Shape::new(3, 1, 1, 1)?)?;
-    world.submit(2, job(0, &[]))?;
-    step_times(&mut world, 2, 3 + 1)?;
-    check_changes(&rt, rt.alloc(), &world, GOOD_NODES, BROKEN_NODES)
+    check_clause(&rt, rt.alloc(), LAST_OF_THREE, GOOD_NODES, BROKEN_NODES)
 }
 
 /// The worker may be at the other lock, and the other worker may be there.
@@ -63,6 +62,5 @@ const BROKEN_LOCKS: &[&[Change]] = &[
 /// Clause `one lock each`: a worker has entered one of two locks.
 #[test]
 fn one_lock_each(rt: HostRuntime) -> Result<(), Fail> {
-    let world = at_two_locks(rt.alloc(), ENTERED)?;
-    check_changes(&rt, rt.alloc(), &world, GOOD_LOCKS, BROKEN_LOCKS)
+    check_clause(&rt, rt.alloc(), ENTERED, GOOD_LOCKS, BROKEN_LOCKS)
 }

@@ -1,7 +1,7 @@
 //! The calls that an image is written, read and judged by, each on its own.
 
-use crate::images::image;
-use crate::smallest::{HEADER, WORDS};
+use crate::images::bytes_of;
+use crate::smallest::SMALLEST;
 use rme_good::is_good;
 use rme_image::{encode, parse};
 use rme_words::{Bank, Refusal, Shape};
@@ -12,26 +12,26 @@ use std::test::Fail;
 /// `encode` of words and no entries is the row `smallest image`.
 #[test]
 fn encoded(rt: HostRuntime) -> Result<(), Fail> {
-    let image = image(rt.alloc(), HEADER, WORDS, &[])?;
+    let image = bytes_of(&rt, rt.alloc(), &SMALLEST)?;
     let encoded = encode(rt.alloc(), Shape::new(1, 1, 1, 1)?, &[0; 37], &[])?;
-    assert_eq!(rt; encoded.as_slice(), image.as_slice());
+    assert!(rt; encoded.as_slice() == image.as_slice());
     Ok(())
 }
 
 /// `parse` of it finds those words and no entries, and refuses it without its last byte.
 #[test]
 fn parsed(rt: HostRuntime) -> Result<(), Fail> {
-    let mut image = image(rt.alloc(), HEADER, WORDS, &[])?;
+    let mut image = bytes_of(&rt, rt.alloc(), &SMALLEST)?;
     let parsed = parse(rt.alloc(), &image)?;
-    assert_eq!(rt; parsed.version, 2);
-    assert_eq!(rt; parsed.shape.workers(), 1);
-    assert_eq!(rt; parsed.shape.locks(), 1);
-    assert_eq!(rt; parsed.shape.cells(), 1);
-    assert_eq!(rt; parsed.shape.jobs(), 1);
-    assert_eq!(rt; parsed.words.as_slice(), [0; 37].as_slice());
-    assert_eq!(rt; parsed.entries.len(), 0);
+    assert!(rt; parsed.version == 2);
+    assert!(rt; parsed.shape.workers() == 1);
+    assert!(rt; parsed.shape.locks() == 1);
+    assert!(rt; parsed.shape.cells() == 1);
+    assert!(rt; parsed.shape.jobs() == 1);
+    assert!(rt; parsed.words.as_slice() == [0; 37].as_slice());
+    assert!(rt; parsed.entries.is_empty());
     let _ = image.pop();
-    assert_eq!(rt; parse(rt.alloc(), &image).err(), Some(Refusal::BadImage));
+    assert!(rt; parse(rt.alloc(), &image).err() == Some(Refusal::BadImage));
     Ok(())
 }
 
@@ -39,7 +39,7 @@ fn parsed(rt: HostRuntime) -> Result<(), Fail> {
 fn are_good(rt: &impl Abort, alloc: Global, words: &[u64]) -> Result<bool, Fail> {
     let shape = Shape::new(1, 1, 1, 1)?;
     let words = Vec::from_slice(alloc, words)?;
-    assert_eq!(rt; words.len(), shape.words());
+    assert!(rt; words.len() == shape.words());
     let bank = Bank::of(shape, words);
     Ok(is_good(alloc, &bank, &[])?)
 }

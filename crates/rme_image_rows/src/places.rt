@@ -2,12 +2,9 @@
 //! each worker: 31 words of each worker, and of each lock its one node, its turn, two cells, two shadow words, the
 //! shadow reply and the mask.
 
-use crate::walks::{job, step_times};
+use crate::checks::Check::{Steps, Submit};
+use crate::checks::{Check, Run, Sizes};
 use rme_script::Op;
-use rme_words::Shape;
-use rme_world::World;
-use std::alloc::Global;
-use std::test::Fail;
 
 /// The word `Begun` of worker 0.
 pub const BEGUN: u16 = 0;
@@ -96,28 +93,37 @@ pub const ENTRY_FIRST: u16 = 662;
 /// How many bytes an entry of one operation has.
 pub const ENTRY: u16 = 30;
 
+/// The sizes of the worlds here.
+pub const SIZES: Sizes = (2, 2, 2, 3);
+
 /// The job of the worlds here.
 pub const ADD_FIVE: &[Op] = &[Op::Add(0, 5)];
 
-/// The steps of that job up to the store of `Begun`.
-pub const ASKED: u32 = 6;
+/// Worker 0 is handed it, at the first lock.
+pub const SUBMITTED: Check = Submit(0, 0, ADD_FIVE, 1);
+
+/// Its steps up to the store of `Begun`.
+pub const TO_ASKED: u32 = 6;
 
 /// Up to the entry.
-pub const ENTERED: u32 = 7;
+pub const TO_ENTERED: u32 = 7;
 
 /// Up to the section's store of `Turn`: its shadow row is whole.
-pub const LOGGED: u32 = 17;
+pub const TO_LOGGED: u32 = 17;
 
 /// Up to the store of `Done`.
-pub const FINISHED: u32 = 25;
+pub const TO_FINISHED: u32 = 25;
 
 /// Up to the store into the root.
-pub const LEFT: u32 = 28;
+pub const TO_LEFT: u32 = 28;
 
-/// The world after so many steps of worker 0 with that job at the first lock.
-pub fn at_two_locks(alloc: Global, steps: u32) -> Result<World, Fail> {
-    let mut world = World::new(alloc, Shape::new(2, 2, 2, 3)?)?;
-    world.submit(0, job(0, ADD_FIVE))?;
-    step_times(&mut world, 0, steps)?;
-    Ok(world)
-}
+/// The worker has made so many.
+pub const ASKED: Run = (SIZES, &[SUBMITTED, Steps(0, TO_ASKED)]);
+
+pub const ENTERED: Run = (SIZES, &[SUBMITTED, Steps(0, TO_ENTERED)]);
+
+pub const LOGGED: Run = (SIZES, &[SUBMITTED, Steps(0, TO_LOGGED)]);
+
+pub const FINISHED: Run = (SIZES, &[SUBMITTED, Steps(0, TO_FINISHED)]);
+
+pub const LEFT: Run = (SIZES, &[SUBMITTED, Steps(0, TO_LEFT)]);

@@ -1,10 +1,8 @@
 //! Sweep `cuts and bits`: the image of row `saved climber` cut to each length, and with each of its bits changed.
 
-use crate::climber::{HEADER, NOT_ZERO, WORDS};
-use crate::images::image;
+use crate::climber::CLIMBER;
+use crate::images::{bytes_of, comes_back, is_accepted};
 use crate::layouts::{Layout, with_masks, without_masks};
-use rme_words::Refusal;
-use rme_world::World;
 use std::alloc::Global;
 use std::process::Abort;
 use std::test::Fail;
@@ -18,30 +16,23 @@ const LAYOUT: Layout = Layout {
     all_cells: 1,
 };
 
-/// The image of version 2.
-fn newer(alloc: Global) -> Result<Vec<u8>, Fail> {
-    image(alloc, HEADER, WORDS, &NOT_ZERO)
-}
-
 /// The image of the same world in version 1.
 fn older(rt: &impl Abort, alloc: Global) -> Result<Vec<u8>, Fail> {
-    without_masks(rt, alloc, &newer(alloc)?, LAYOUT)
+    without_masks(rt, alloc, &bytes_of(rt, alloc, &CLIMBER)?, LAYOUT)
 }
 
 /// The whole image is taken, and none of its beginnings.
 fn cut_everywhere(rt: &impl Abort, alloc: Global, image: &[u8]) {
-    assert!(rt; World::load(alloc, image).is_ok());
+    assert!(rt; is_accepted(rt, alloc, image));
     for length in 0..image.len() {
-        let refusal = World::load(alloc, &image[..length]).err();
-        assert_eq!(rt; refusal, Some(Refusal::BadImage), "{length} bytes");
+        assert!(rt; !is_accepted(rt, alloc, &image[..length]), "{length} bytes");
     }
 }
 
 /// Each length of 0 to 1,072 bytes.
 #[test]
 fn cuts(rt: HostRuntime) -> Result<(), Fail> {
-    let image = newer(rt.alloc())?;
-    assert_eq!(rt; image.len(), 1_073);
+    let image = bytes_of(&rt, rt.alloc(), &CLIMBER)?;
     cut_everywhere(&rt, rt.alloc(), &image);
     Ok(())
 }
@@ -50,7 +41,7 @@ fn cuts(rt: HostRuntime) -> Result<(), Fail> {
 #[test]
 fn older_cuts(rt: HostRuntime) -> Result<(), Fail> {
     let image = older(&rt, rt.alloc())?;
-    assert_eq!(rt; image.len(), 1_065);
+    assert!(rt; image.len() == 1_065);
     cut_everywhere(&rt, rt.alloc(), &image);
     Ok(())
 }
@@ -137,22 +128,6 @@ fn stands_for(rt: &impl Abort, alloc: Global, image: &[u8], sweep: Sweep) -> Res
     with_masks(rt, alloc, image, LAYOUT)
 }
 
-/// Whether `load` takes an image, of which `save` then gives back what it stands for.
-fn comes_back(rt: &impl Abort, alloc: Global, image: &[u8], sweep: Sweep) -> Result<bool, Fail> {
-    match World::load(alloc, image) {
-        Ok(world) => {
-            let saved = world.save()?;
-            let wanted = stands_for(rt, alloc, image, sweep)?;
-            assert_eq!(rt; saved.as_slice(), wanted.as_slice());
-            Ok(true)
-        }
-        Err(refusal) => {
-            assert_eq!(rt; refusal, Refusal::BadImage);
-            Ok(false)
-        }
-    }
-}
-
 /// Changes one bit.
 fn change(rt: &impl Abort, image: &mut [u8], offset: usize, bit: u8) {
     assert!(rt; offset < image.len() && bit < 8);
@@ -170,8 +145,9 @@ fn change_byte(
     for bit in 0..8u8 {
         change(rt, image, offset, bit);
         let good = stays_good(sweep, offset, bit);
-        let back = comes_back(rt, alloc, image, sweep)?;
-        assert_eq!(rt; back, good, "bit {bit} of byte {offset}");
+        let wanted = stands_for(rt, alloc, image, sweep)?;
+        let back = comes_back(rt, alloc, image, &wanted)?;
+        assert!(rt; back == good, "bit {bit} of byte {offset}");
         change(rt, image, offset, bit);
     }
     Ok(())
@@ -192,7 +168,7 @@ fn change_everywhere(
 
 #[test]
 fn bits(rt: HostRuntime) -> Result<(), Fail> {
-    let mut image = newer(rt.alloc())?;
+    let mut image = bytes_of(&rt, rt.alloc(), &CLIMBER)?;
     let sweep = Sweep {
         version: 2,
         words: 132,

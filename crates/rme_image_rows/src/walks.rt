@@ -1,11 +1,10 @@
-//! Worlds that go on.
+//! The words that rows are written in: jobs, notes, and how a worker goes on.
 
-use rme_program::{Note, Phase, Receipt};
+use rme_program::{Note, Receipt};
 use rme_script::{Job, Op, Script};
 use rme_words::Refusal;
 use rme_world::World;
 use std::alloc::Global;
-use std::process::Abort;
 use std::test::Fail;
 
 /// More than the steps of any walk here.
@@ -17,17 +16,6 @@ pub fn job(lock: u32, ops: &[Op]) -> Job {
         lock,
         script: Script::of(ops),
     }
-}
-
-/// The note of a finished job that is its worker's first.
-pub fn finished(worker: u32, lock: u32, place: u32, reply: u64) -> Note {
-    Note::Finished(Receipt {
-        worker,
-        lock,
-        number: 1,
-        place,
-        reply,
-    })
 }
 
 /// Lets a worker make so many steps.
@@ -51,39 +39,4 @@ pub fn walk(alloc: Global, world: &mut World, worker: u32) -> Result<Vec<Note>, 
         }
     }
     Ok(notes)
-}
-
-/// Own steps by phase: Recover, Post, Enter, Section, Exit.
-pub fn steps_of(world: &World, worker: u32) -> Result<[u32; 5], Refusal> {
-    Ok([
-        world.steps(worker, Phase::Recover)?,
-        world.steps(worker, Phase::Post)?,
-        world.steps(worker, Phase::Enter)?,
-        world.steps(worker, Phase::Section)?,
-        world.steps(worker, Phase::Exit)?,
-    ])
-}
-
-/// A worker is down, and no step of it is counted.
-pub fn check_down(rt: &impl Abort, world: &mut World, worker: u32) {
-    assert_eq!(rt; world.ready(worker), Ok(false));
-    assert_eq!(rt; world.step(worker), Err(Refusal::Down));
-    assert_eq!(rt; steps_of(world, worker), Ok([0; 5]));
-}
-
-/// The cells of a lock hold this, and are settled or not.
-pub fn check_cells(
-    rt: &impl Abort,
-    world: &World,
-    lock: u32,
-    values: &[u64],
-    settled: bool,
-) -> Result<(), Fail> {
-    let (row, is_settled) = world.cells(lock)?;
-    assert_eq!(rt; is_settled, settled);
-    assert_eq!(rt; row.len() as usize, values.len());
-    for cell in 0..row.len() {
-        assert_eq!(rt; values.get(cell as usize).copied(), Some(row.get(cell)));
-    }
-    Ok(())
 }

@@ -1,14 +1,14 @@
 //! The clauses `header`, `numbers` and `slate`.
 
-use crate::images::Change::{Byte, Word};
-use crate::images::{Change, check_changes, is_taken};
+use crate::checks::Check::{Steps, Submit, Walk, Withdraw};
+use crate::checks::{Run, check_clause};
+use crate::images::Change;
+use crate::images::Change::{Byte, Longer, Word};
 use crate::places::{
     ASKED, AT, BEGUN, DONE, ENTERED, ENTRIES, ENTRY_FIRST, ENTRY_KIND, ENTRY_LEN, ENTRY_LOCK,
-    ENTRY_WORKER, LEFT, NODE, SLATE, SLATE_LEN, SLATE_LOCK, at_two_locks,
+    ENTRY_WORKER, LEFT, NODE, SLATE, SLATE_LEN, SLATE_LOCK,
 };
-use crate::walks::{job, step_times, walk};
-use rme_words::Shape;
-use rme_world::World;
+use rme_program::Note;
 use std::test::Fail;
 
 /// Other numbers of jobs, and an operation that does the same to the cell, 0.
@@ -52,18 +52,13 @@ const BROKEN_HEADERS: &[&[Change]] = &[
 /// byte are within them and not.
 #[test]
 fn header(rt: HostRuntime) -> Result<(), Fail> {
-    let world = at_two_locks(rt.alloc(), LEFT)?;
-    check_changes(&rt, rt.alloc(), &world, GOOD_HEADERS, BROKEN_HEADERS)
+    check_clause(&rt, rt.alloc(), LEFT, GOOD_HEADERS, BROKEN_HEADERS)
 }
 
 /// Clause `header`: nothing follows the last entry.
 #[test]
 fn one_byte_more(rt: HostRuntime) -> Result<(), Fail> {
-    let mut image = at_two_locks(rt.alloc(), LEFT)?.save()?;
-    assert!(rt; is_taken(&rt, rt.alloc(), &image)?);
-    image.push(0)?;
-    assert!(rt; !is_taken(&rt, rt.alloc(), &image)?);
-    Ok(())
+    check_clause(&rt, rt.alloc(), LEFT, &[], &[&[Longer(0)]])
 }
 
 /// The third of three jobs waits, and the first two were withdrawn; or the second, and the first was.
@@ -85,8 +80,7 @@ const BROKEN_NUMBERS: &[&[Change]] = &[
 /// Clause `numbers`, of a worker that has asked and holds no node.
 #[test]
 fn numbers(rt: HostRuntime) -> Result<(), Fail> {
-    let world = at_two_locks(rt.alloc(), ASKED)?;
-    check_changes(&rt, rt.alloc(), &world, GOOD_NUMBERS, BROKEN_NUMBERS)
+    check_clause(&rt, rt.alloc(), ASKED, GOOD_NUMBERS, BROKEN_NUMBERS)
 }
 
 /// A worker that waits at the other lock, with the first lock free.
@@ -98,26 +92,44 @@ const BROKEN_SITES: &[&[Change]] = &[&[Word(BEGUN, 0)], &[Word(SLATE_LOCK, 1)]];
 /// Clause `numbers`, of a worker that holds a node and whose job is not done: the lock is its slate's.
 #[test]
 fn sites(rt: HostRuntime) -> Result<(), Fail> {
-    let world = at_two_locks(rt.alloc(), ENTERED)?;
-    check_changes(&rt, rt.alloc(), &world, GOOD_SITES, BROKEN_SITES)
+    check_clause(&rt, rt.alloc(), ENTERED, GOOD_SITES, BROKEN_SITES)
 }
 
 /// Node 2 of the first lock, where there are four workers.
 const LOWER_NODE: u16 = 125;
 
-/// Clause `numbers`, of a worker that holds a node and whose job is done: the lock is its `At`. Worker 0 holds a node
-/// below the root and has withdrawn; without the node it may have withdrawn at either lock.
+/// Worker 2 owns the first lock. Worker 0 has withdrawn, and still holds the node below the root.
+const WITHDRAWING: Run = (
+    (4, 2, 1, 1),
+    &[
+        Submit(2, 0, &[], 1),
+        Steps(2, 3 + 2),
+        Submit(0, 0, &[], 1),
+        Walk(0, &[Note::Asked(1), Note::Blocked]),
+        Withdraw(0),
+        Steps(0, 4),
+    ],
+);
+
+/// Without the node it may have withdrawn at either lock.
+const GOOD_SITES_OF_DONE: &[&[Change]] = &[
+    &[Word(LOWER_NODE, 0), Word(AT, 1)],
+    &[Word(LOWER_NODE, 0)],
+];
+
+/// With it, not at the other lock.
+const BROKEN_SITES_OF_DONE: &[&[Change]] = &[&[Word(AT, 1)]];
+
+/// Clause `numbers`, of a worker that holds a node and whose job is done: the lock is its `At`.
 #[test]
 fn sites_of_done(rt: HostRuntime) -> Result<(), Fail> {
-    let mut world = World::new(rt.alloc(), Shape::new(4, 2, 1, 1)?)?;
-    world.submit(2, job(0, &[]))?;
-    step_times(&mut world, 2, 3 + 2)?;
-    world.submit(0, job(0, &[]))?;
-    let _ = walk(rt.alloc(), &mut world, 0)?;
-    world.withdraw(0)?;
-    step_times(&mut world, 0, 4)?;
-    let good: &[&[Change]] = &[&[Word(LOWER_NODE, 0), Word(AT, 1)], &[Word(LOWER_NODE, 0)]];
-    check_changes(&rt, rt.alloc(), &world, good, &[&[Word(AT, 1)]])
+    check_clause(
+        &rt,
+        rt.alloc(),
+        WITHDRAWING,
+        GOOD_SITES_OF_DONE,
+        BROKEN_SITES_OF_DONE,
+    )
 }
 
 /// The other lock, other operations (a get, a copy and a swap of the two cells, none, eight gets), and anything in words
@@ -154,8 +166,7 @@ const BROKEN_SLATES: &[&[Change]] = &[
 /// Clause `slate`, of a worker whose job is not done.
 #[test]
 fn slate(rt: HostRuntime) -> Result<(), Fail> {
-    let world = at_two_locks(rt.alloc(), ASKED)?;
-    check_changes(&rt, rt.alloc(), &world, GOOD_SLATES, BROKEN_SLATES)
+    check_clause(&rt, rt.alloc(), ASKED, GOOD_SLATES, BROKEN_SLATES)
 }
 
 /// What is broken while the job is not done.
@@ -169,6 +180,5 @@ const OF_DONE: &[&[Change]] = &[
 /// Clause `slate`, of a worker whose job is done: the slate may hold anything.
 #[test]
 fn slate_of_done(rt: HostRuntime) -> Result<(), Fail> {
-    let world = at_two_locks(rt.alloc(), LEFT)?;
-    check_changes(&rt, rt.alloc(), &world, OF_DONE, &[])
+    check_clause(&rt, rt.alloc(), LEFT, OF_DONE, &[])
 }

@@ -1,6 +1,6 @@
 //! Small corners, by lines: each shows what a wrong definition would turn, where a wrong body alone is refused.
 
-use crate::lines::{Row, TWO_WORKERS, answers, check_row, push_line};
+use crate::lines::{Row, TWO_WORKERS, answers, check_row, push_line, same};
 use std::alloc::Global;
 use std::test::Fail;
 
@@ -129,13 +129,18 @@ fn last_piece(alloc: Global, length: usize) -> Result<Vec<u8>, Fail> {
 /// A last piece without a newline has the limit of a line.
 #[test]
 fn over_long_last_piece(rt: HostRuntime) -> Result<(), Fail> {
-    assert_eq!(rt;
-        last_piece(rt.alloc(), 65_536)?.as_slice(),
-        b"{\"ok\":\"open\"}\n{\"ok\":\"owner\",\"owner\":null}\n".as_slice()
-    );
-    assert_eq!(rt;
-        last_piece(rt.alloc(), 65_537)?.as_slice(),
-        b"{\"ok\":\"open\"}\n{\"code\":2,\"error\":\"LineTooLong\"}\n".as_slice()
-    );
+    for (length, wanted) in [
+        (
+            65_536,
+            "{\"ok\":\"open\"}\n{\"ok\":\"owner\",\"owner\":null}\n",
+        ),
+        (
+            65_537,
+            "{\"ok\":\"open\"}\n{\"code\":2,\"error\":\"LineTooLong\"}\n",
+        ),
+    ] {
+        let output = last_piece(rt.alloc(), length)?;
+        same(&rt, output.as_slice(), wanted.as_bytes(), length);
+    }
     Ok(())
 }

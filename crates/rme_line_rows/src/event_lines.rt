@@ -1,8 +1,11 @@
 //! The lines of transcripts: what they tell, and that what was read is written back as it stood.
 
+use crate::lines::same;
 use rme_program::{Answer, Event, Note, Receipt};
 use rme_script::{Job, Op, Script};
-use rme_wire::{EventLine, Handed, Names, Request, event_of, push_event, push_opening, request_of};
+use rme_wire::{
+    EventLine, Handed, Names, Opening, Request, event_of, push_event, push_opening, request_of,
+};
 use rme_words::Shape;
 use std::alloc::Global;
 use std::process::Abort;
@@ -97,7 +100,7 @@ fn written_back(rt: HostRuntime) -> Result<(), Fail> {
         if let Some(event) = event_of(rt.alloc(), &names, line.as_bytes())? {
             push_event(&mut text, &names, event)?;
         }
-        assert_eq!(rt; text.as_str(), *line);
+        same(&rt, text.as_str(), *line, *line);
     }
     Ok(())
 }
@@ -105,24 +108,25 @@ fn written_back(rt: HostRuntime) -> Result<(), Fail> {
 /// The first line of a transcript is a command line, and the text of what it opens is the line again.
 #[test]
 fn opening_written_back(rt: HostRuntime) -> Result<(), Fail> {
-    let alloc = rt.alloc();
     for line in [
         OPENING,
         r#"{"cells":16,"do":"open","jobs":1000000,"locks":["bank","shop","a-b_9"],"workers":256}"#,
     ] {
-        let mut text = String::new(alloc);
-        if let Some(Request::Open(opening)) = request_of(
-            alloc,
-            &Names::new(alloc)?,
-            line.as_bytes(),
-        )? {
+        let mut text = String::new(rt.alloc());
+        let names = Names::new(rt.alloc())?;
+        if let Some(Request::Open(opening)) = request_of(rt.alloc(), &names, line.as_bytes())? {
             assert!(rt; opening.locks.are_names());
-            let names = opening.locks.names(alloc)?;
-            let shape = Shape::new(opening.workers, names.len(), opening.cells, opening.jobs)?;
-            push_opening(&mut text, &names, shape)?;
+            write_opening(&mut text, &opening.locks.names(rt.alloc())?, &opening)?;
         }
-        assert_eq!(rt; text.as_str(), line);
+        same(&rt, text.as_str(), line, line);
     }
+    Ok(())
+}
+
+/// Appends the text of what an opening with these names opens.
+fn write_opening(text: &mut String, names: &Names, opening: &Opening) -> Result<(), Fail> {
+    let shape = Shape::new(opening.workers, names.len(), opening.cells, opening.jobs)?;
+    push_opening(text, names, shape)?;
     Ok(())
 }
 
@@ -203,10 +207,8 @@ fn events_and_answers(rt: HostRuntime) -> Result<(), Fail> {
 fn no_event_lines(rt: HostRuntime) -> Result<(), Fail> {
     let names = names_of(rt.alloc(), &["bank"])?;
     for line in BAD {
-        assert!(rt;
-            event_of(rt.alloc(), &names, line.as_bytes())?.is_none(),
-            "{line}"
-        );
+        let event = event_of(rt.alloc(), &names, line.as_bytes())?;
+        same(&rt, event, None, *line);
     }
     Ok(())
 }

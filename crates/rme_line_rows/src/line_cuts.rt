@@ -1,6 +1,6 @@
 //! Row `every cut`, as lines: a job is crashed after each of its own steps.
 
-use crate::lines::{TWO_WORKERS, answers, push_line};
+use crate::lines::{TWO_WORKERS, answers, push_line, push_lines, same};
 use std::alloc::Global;
 use std::test::Fail;
 
@@ -12,6 +12,12 @@ const SUBMIT: (&str, &str) = (
 const CRASH: (&str, &str) = (r#"{"do":"crash","worker":0}"#, r#"{"ok":"crash"}"#);
 
 const RESTART: (&str, &str) = (r#"{"do":"restart","worker":0}"#, r#"{"ok":"restart"}"#);
+
+const WALK: &str = r#"{"do":"walk","worker":0}"#;
+
+const CELLS: &str = r#"{"do":"cells","lock":"bank"}"#;
+
+const HISTORY: &str = r#"{"do":"history"}"#;
 
 /// What the walk is answered that is cut after so many steps.
 fn walked_before(cut: u32) -> &'static str {
@@ -56,20 +62,15 @@ fn ends(cut: u32) -> (&'static str, &'static str) {
     )
 }
 
-/// The lines of a cut after so many steps.
+/// The lines of a cut after so many steps; after none there is no walk before the crash.
 fn lines_of(alloc: Global, cut: u32) -> Result<Vec<u8>, Fail> {
     let mut input = Vec::new(alloc);
-    push_line(&mut input, TWO_WORKERS.0.as_bytes())?;
-    push_line(&mut input, SUBMIT.0.as_bytes())?;
+    push_lines(&mut input, &[TWO_WORKERS.0, SUBMIT.0])?;
     if cut > 0 {
         let walk = format!(in alloc; "{{\"do\":\"walk\",\"max\":{cut},\"worker\":0}}")?;
         push_line(&mut input, walk.as_bytes())?;
     }
-    push_line(&mut input, CRASH.0.as_bytes())?;
-    push_line(&mut input, RESTART.0.as_bytes())?;
-    push_line(&mut input, br#"{"do":"walk","worker":0}"#)?;
-    push_line(&mut input, br#"{"do":"cells","lock":"bank"}"#)?;
-    push_line(&mut input, br#"{"do":"history"}"#)?;
+    push_lines(&mut input, &[CRASH.0, RESTART.0, WALK, CELLS, HISTORY])?;
     Ok(input)
 }
 
@@ -77,16 +78,14 @@ fn lines_of(alloc: Global, cut: u32) -> Result<Vec<u8>, Fail> {
 fn wanted_of(alloc: Global, cut: u32) -> Result<Vec<u8>, Fail> {
     let (cells, history) = ends(cut);
     let mut wanted = Vec::new(alloc);
-    push_line(&mut wanted, TWO_WORKERS.1.as_bytes())?;
-    push_line(&mut wanted, SUBMIT.1.as_bytes())?;
+    push_lines(&mut wanted, &[TWO_WORKERS.1, SUBMIT.1])?;
     if cut > 0 {
         push_line(&mut wanted, walked_before(cut).as_bytes())?;
     }
-    push_line(&mut wanted, CRASH.1.as_bytes())?;
-    push_line(&mut wanted, RESTART.1.as_bytes())?;
-    push_line(&mut wanted, walked_after(cut).as_bytes())?;
-    push_line(&mut wanted, cells.as_bytes())?;
-    push_line(&mut wanted, history.as_bytes())?;
+    push_lines(
+        &mut wanted,
+        &[CRASH.1, RESTART.1, walked_after(cut), cells, history],
+    )?;
     Ok(wanted)
 }
 
@@ -96,7 +95,7 @@ fn every_cut_of_lines(rt: HostRuntime) -> Result<(), Fail> {
         let input = lines_of(rt.alloc(), cut)?;
         let wanted = wanted_of(rt.alloc(), cut)?;
         let output = answers(rt.alloc(), input.as_slice())?;
-        assert_eq!(rt; output.as_slice(), wanted.as_slice(), "cut after {cut}");
+        same(&rt, output.as_slice(), wanted.as_slice(), cut);
     }
     Ok(())
 }

@@ -1,6 +1,6 @@
 //! How a line is read: keys, numbers, texts, names of locks, scripts and openings.
 
-use crate::line_refusals::answer_after_open;
+use crate::line_refusals::check_answer;
 use crate::lines::{Row, TWO_WORKERS, check_row};
 use std::alloc::Global;
 use std::test::Fail;
@@ -36,6 +36,11 @@ const KEYS: Row = &[
     (r#"{"do":"walk","until":"quiet","worker":0}"#, BAD_LINE),
 ];
 
+#[test]
+fn keys(rt: HostRuntime) -> Result<(), Fail> {
+    check_row(&rt, rt.alloc(), "keys", KEYS)
+}
+
 /// Whole numbers are those without a sign, a point and an exponent.
 const NUMBERS: Row = &[
     TWO_WORKERS,
@@ -59,6 +64,11 @@ const NUMBERS: Row = &[
         r#"{"code":10,"error":"Idle"}"#,
     ),
 ];
+
+#[test]
+fn numbers(rt: HostRuntime) -> Result<(), Fail> {
+    check_row(&rt, rt.alloc(), "numbers", NUMBERS)
+}
 
 /// A lock that was not opened is no lock, whatever its name; too many operations come before a cell that is
 /// not there, and a malformed operation before both.
@@ -97,6 +107,11 @@ const JOBS: Row = &[
     ),
     (r#"{"do":"history"}"#, r#"{"entries":[],"ok":"history"}"#),
 ];
+
+#[test]
+fn jobs(rt: HostRuntime) -> Result<(), Fail> {
+    check_row(&rt, rt.alloc(), "jobs", JOBS)
+}
 
 /// Openings that are refused, and the greatest one.
 const OPENINGS: Row = &[
@@ -154,6 +169,11 @@ const OPENINGS: Row = &[
     ),
 ];
 
+#[test]
+fn openings(rt: HostRuntime) -> Result<(), Fail> {
+    check_row(&rt, rt.alloc(), "openings", OPENINGS)
+}
+
 /// Appends so many brackets.
 fn push_brackets(out: &mut Vec<u8>, bracket: u8, count: usize) -> Result<(), Fail> {
     for _ in 0..count {
@@ -162,31 +182,22 @@ fn push_brackets(out: &mut Vec<u8>, bracket: u8, count: usize) -> Result<(), Fai
     Ok(())
 }
 
-/// What a line is answered in which a value that is passed over has so many lists in one another.
+/// A line in which a value that is passed over has so many lists in one another.
 fn nested(alloc: Global, depth: usize) -> Result<Vec<u8>, Fail> {
     let mut line = Vec::new(alloc);
     line.extend_from_slice(br#"{"do":"#)?;
     push_brackets(&mut line, b'[', depth)?;
     push_brackets(&mut line, b']', depth)?;
     line.extend_from_slice(br#","do":"last","worker":0}"#)?;
-    answer_after_open(alloc, line.as_slice())
+    Ok(line)
 }
 
 /// A line may nest 127 deep, its own object counted.
 #[test]
 fn depth_of_lines(rt: HostRuntime) -> Result<(), Fail> {
-    assert_eq!(rt;
-        nested(rt.alloc(), 126)?.as_slice(),
-        NOTHING_LAST.as_bytes()
-    );
-    assert_eq!(rt; nested(rt.alloc(), 127)?.as_slice(), BAD_LINE.as_bytes());
+    for (depth, wanted) in [(126, NOTHING_LAST), (127, BAD_LINE)] {
+        let line = nested(rt.alloc(), depth)?;
+        check_answer(&rt, rt.alloc(), line.as_slice(), wanted, depth)?;
+    }
     Ok(())
-}
-
-#[test]
-fn readings_of_lines(rt: HostRuntime) -> Result<(), Fail> {
-    check_row(&rt, rt.alloc(), "keys", KEYS)?;
-    check_row(&rt, rt.alloc(), "numbers", NUMBERS)?;
-    check_row(&rt, rt.alloc(), "jobs", JOBS)?;
-    check_row(&rt, rt.alloc(), "openings", OPENINGS)
 }

@@ -1,7 +1,8 @@
 //! Refusals of lines, and what counts as a line.
 
-use crate::lines::{Row, TWO_WORKERS, answers, check_row, push_line};
+use crate::lines::{Row, TWO_WORKERS, answers, check_row, push_line, same};
 use std::alloc::Global;
+use std::fmt::Display;
 use std::process::Abort;
 use std::test::Fail;
 
@@ -82,6 +83,11 @@ const REFUSALS: Row = &[
     ),
 ];
 
+#[test]
+fn refusals(rt: HostRuntime) -> Result<(), Fail> {
+    check_row(&rt, rt.alloc(), "refusals", REFUSALS)
+}
+
 /// Row `lines`, the opening: nothing is open yet, one is open already, a shape outside the limits.
 const OPENINGS: Row = &[
     (r#"{"do":"report"}"#, r#"{"code":3,"error":"NotOpen"}"#),
@@ -102,6 +108,11 @@ const OPENINGS: Row = &[
     (r#"{"do":"history"}"#, r#"{"entries":[],"ok":"history"}"#),
 ];
 
+#[test]
+fn openings(rt: HostRuntime) -> Result<(), Fail> {
+    check_row(&rt, rt.alloc(), "lines", OPENINGS)
+}
+
 /// Lines that are no commands, each after an open.
 const BAD_LINES: &[&[u8]] = &[
     b"\xff",
@@ -116,34 +127,33 @@ const BAD_LINES: &[&[u8]] = &[
     br#"{"do":"report","worker":0}"#,
     b"",
     b"\r",
+    &[b'['; 200],
 ];
-
-#[test]
-fn refusals_of_lines(rt: HostRuntime) -> Result<(), Fail> {
-    check_row(&rt, rt.alloc(), "refusals", REFUSALS)?;
-    check_row(&rt, rt.alloc(), "lines", OPENINGS)
-}
 
 /// The sweep over bad lines.
 #[test]
 fn bad_lines(rt: HostRuntime) -> Result<(), Fail> {
-    for line in BAD_LINES {
-        check_bad(&rt, rt.alloc(), line)?;
+    for (index, line) in BAD_LINES.iter().enumerate() {
+        check_answer(&rt, rt.alloc(), line, BAD_LINE, index)?;
     }
-    check_bad(&rt, rt.alloc(), &[b'['; 200])
+    Ok(())
 }
 
-fn check_bad(rt: &impl Abort, alloc: Global, line: &[u8]) -> Result<(), Fail> {
-    assert_eq!(rt;
-        answer_after_open(alloc, line)?.as_slice(),
-        BAD_LINE.as_bytes(),
-        "{line:?}"
-    );
+/// A line that follows an open must have this answer.
+pub fn check_answer(
+    rt: &impl Abort,
+    alloc: Global,
+    line: &[u8],
+    wanted: &str,
+    place: impl Display + Drop,
+) -> Result<(), Fail> {
+    let answer = answer_after_open(alloc, line)?;
+    same(rt, answer.as_slice(), wanted.as_bytes(), place);
     Ok(())
 }
 
 /// What a line is answered that follows an open, without the newlines of both lines.
-pub fn answer_after_open(alloc: Global, line: &[u8]) -> Result<Vec<u8>, Fail> {
+fn answer_after_open(alloc: Global, line: &[u8]) -> Result<Vec<u8>, Fail> {
     let (open, opened) = TWO_WORKERS;
     let mut input = Vec::new(alloc);
     push_line(&mut input, open.as_bytes())?;
@@ -166,12 +176,13 @@ fn between(output: &[u8], first: usize) -> &[u8] {
 /// Row `lines`: no input has no output, and a last piece without a newline is a line.
 #[test]
 fn ends_of_input(rt: HostRuntime) -> Result<(), Fail> {
-    let alloc = rt.alloc();
-    assert_eq!(rt; answers(alloc, b"")?.as_slice(), b"".as_slice());
-    assert_eq!(rt;
-        answers(alloc, br#"{"do":"own"#)?.as_slice(),
-        b"{\"code\":1,\"error\":\"BadLine\"}\n".as_slice()
-    );
+    for (input, wanted) in [
+        ("", ""),
+        (r#"{"do":"own"#, "{\"code\":1,\"error\":\"BadLine\"}\n"),
+    ] {
+        let output = answers(rt.alloc(), input.as_bytes())?;
+        same(&rt, output.as_slice(), wanted.as_bytes(), input);
+    }
     Ok(())
 }
 
@@ -180,15 +191,12 @@ fn ends_of_input(rt: HostRuntime) -> Result<(), Fail> {
 fn longest_line(rt: HostRuntime) -> Result<(), Fail> {
     let mut line = Vec::new(rt.alloc());
     line.extend_from_slice(br#"{"do":"owner","lock":"bank"}"#)?;
-    line.resize(65_536, b' ')?;
-    assert_eq!(rt;
-        answer_after_open(rt.alloc(), line.as_slice())?.as_slice(),
-        br#"{"ok":"owner","owner":null}"#.as_slice()
-    );
-    line.push(b' ')?;
-    assert_eq!(rt;
-        answer_after_open(rt.alloc(), line.as_slice())?.as_slice(),
-        br#"{"code":2,"error":"LineTooLong"}"#.as_slice()
-    );
+    for (length, wanted) in [
+        (65_536, r#"{"ok":"owner","owner":null}"#),
+        (65_537, r#"{"code":2,"error":"LineTooLong"}"#),
+    ] {
+        line.resize(length, b' ')?;
+        check_answer(&rt, rt.alloc(), line.as_slice(), wanted, length)?;
+    }
     Ok(())
 }

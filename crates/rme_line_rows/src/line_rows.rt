@@ -23,6 +23,11 @@ const ONE_WORKER: Row = &[
     ),
 ];
 
+#[test]
+fn one_worker(rt: HostRuntime) -> Result<(), Fail> {
+    check_row(&rt, rt.alloc(), "one worker", ONE_WORKER)
+}
+
 /// Row `five operations`: 18+1+34+3 steps.
 const FIVE_OPERATIONS: Row = &[
     (
@@ -47,6 +52,11 @@ const FIVE_OPERATIONS: Row = &[
     ),
 ];
 
+#[test]
+fn five_operations(rt: HostRuntime) -> Result<(), Fail> {
+    check_row(&rt, rt.alloc(), "five operations", FIVE_OPERATIONS)
+}
+
 /// Row `two of sixteen cells`: 6+1+22+3 steps.
 const TWO_OF_SIXTEEN: Row = &[
     (
@@ -66,6 +76,11 @@ const TWO_OF_SIXTEEN: Row = &[
         r#"{"enter":1,"exit":3,"ok":"report","post":6,"recover":0,"section":22}"#,
     ),
 ];
+
+#[test]
+fn two_of_sixteen(rt: HostRuntime) -> Result<(), Fail> {
+    check_row(&rt, rt.alloc(), "two of sixteen cells", TWO_OF_SIXTEEN)
+}
 
 /// Row `two of sixteen cells`, crashed right after the store of Turn, the twelfth step of the section: then
 /// Recover takes 4 steps, the section 11 and Exit 3.
@@ -110,6 +125,16 @@ const TWO_OF_SIXTEEN_CUT: Row = &[
     ),
 ];
 
+#[test]
+fn two_of_sixteen_cut(rt: HostRuntime) -> Result<(), Fail> {
+    check_row(
+        &rt,
+        rt.alloc(),
+        "two of sixteen cells, cut",
+        TWO_OF_SIXTEEN_CUT,
+    )
+}
+
 /// Row `tall tree`: re-entry is at step 9 of Recover.
 const TALL_TREE: Row = &[
     (
@@ -147,6 +172,11 @@ const TALL_TREE: Row = &[
         r#"{"enter":6,"exit":8,"ok":"report","post":3,"recover":9,"section":11}"#,
     ),
 ];
+
+#[test]
+fn tall_tree(rt: HostRuntime) -> Result<(), Fail> {
+    check_row(&rt, rt.alloc(), "tall tree", TALL_TREE)
+}
 
 /// Row `tallest tree`: re-entry is at step 11 of Recover.
 const TALLEST_TREE: Row = &[
@@ -186,6 +216,11 @@ const TALLEST_TREE: Row = &[
     ),
 ];
 
+#[test]
+fn tallest_tree(rt: HostRuntime) -> Result<(), Fail> {
+    check_row(&rt, rt.alloc(), "tallest tree", TALLEST_TREE)
+}
+
 /// Row `crash after finish`.
 const CRASH_AFTER_FINISH: Row = &[
     (
@@ -223,6 +258,11 @@ const CRASH_AFTER_FINISH: Row = &[
         r#"{"entries":[{"lock":"bank","number":1,"place":0,"reply":5,"script":[["add",0,5]],"worker":0}],"ok":"history"}"#,
     ),
 ];
+
+#[test]
+fn crash_after_finish(rt: HostRuntime) -> Result<(), Fail> {
+    check_row(&rt, rt.alloc(), "crash after finish", CRASH_AFTER_FINISH)
+}
 
 /// Row `dead climber`.
 const DEAD_CLIMBER: Row = &[
@@ -269,6 +309,11 @@ const DEAD_CLIMBER: Row = &[
         r#"{"end":"ready","notes":[["entered","bank"],["finished","bank",1,1,0],["left","bank"],["ready"]],"ok":"walk"}"#,
     ),
 ];
+
+#[test]
+fn dead_climber(rt: HostRuntime) -> Result<(), Fail> {
+    check_row(&rt, rt.alloc(), "dead climber", DEAD_CLIMBER)
+}
 
 /// Row `withdrawal with a node`.
 const WITHDRAWAL_WITH_A_NODE: Row = &[
@@ -317,6 +362,16 @@ const WITHDRAWAL_WITH_A_NODE: Row = &[
         r#"{"end":"ready","notes":[["withdrew",1],["ready"]],"ok":"walk"}"#,
     ),
 ];
+
+#[test]
+fn withdrawal_with_a_node(rt: HostRuntime) -> Result<(), Fail> {
+    check_row(
+        &rt,
+        rt.alloc(),
+        "withdrawal with a node",
+        WITHDRAWAL_WITH_A_NODE,
+    )
+}
 
 /// Row `withdrawal with a node`, cut after the fourth step, which gave the number up: the recovery releases the
 /// node.
@@ -374,42 +429,12 @@ const WITHDRAWAL_CUT_LATE: Row = &[
     ),
 ];
 
-const ONE_AT_A_TIME: &[(&str, Row)] = &[
-    ("one worker", ONE_WORKER),
-    ("five operations", FIVE_OPERATIONS),
-    ("two of sixteen cells", TWO_OF_SIXTEEN),
-    ("two of sixteen cells, cut", TWO_OF_SIXTEEN_CUT),
-];
-
-const TALL: &[(&str, Row)] = &[("tall tree", TALL_TREE), ("tallest tree", TALLEST_TREE)];
-
-const WAITING: &[(&str, Row)] = &[
-    ("crash after finish", CRASH_AFTER_FINISH),
-    ("dead climber", DEAD_CLIMBER),
-    ("withdrawal with a node", WITHDRAWAL_WITH_A_NODE),
-    ("withdrawal with a node, cut late", WITHDRAWAL_CUT_LATE),
-];
-
 #[test]
-fn one_at_a_time(rt: HostRuntime) -> Result<(), Fail> {
-    for (name, row) in ONE_AT_A_TIME {
-        check_row(&rt, rt.alloc(), name, row)?;
-    }
-    Ok(())
-}
-
-#[test]
-fn tall(rt: HostRuntime) -> Result<(), Fail> {
-    for (name, row) in TALL {
-        check_row(&rt, rt.alloc(), name, row)?;
-    }
-    Ok(())
-}
-
-#[test]
-fn waiting(rt: HostRuntime) -> Result<(), Fail> {
-    for (name, row) in WAITING {
-        check_row(&rt, rt.alloc(), name, row)?;
-    }
-    Ok(())
+fn withdrawal_cut_late(rt: HostRuntime) -> Result<(), Fail> {
+    check_row(
+        &rt,
+        rt.alloc(),
+        "withdrawal with a node, cut late",
+        WITHDRAWAL_CUT_LATE,
+    )
 }

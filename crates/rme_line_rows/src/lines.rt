@@ -6,6 +6,7 @@ ghost use Rattle.rme_line_rows.specs.Answered.{AreAnswers};
 use rme_engine::run_lines;
 use rme_wire::LineReader;
 use std::alloc::Global;
+use std::fmt::{Debug, Display};
 use std::process::Abort;
 use std::test::Fail;
 
@@ -45,6 +46,11 @@ const FIRST_RUN: Row = &[
     ),
 ];
 
+#[test]
+fn first_run(rt: HostRuntime) -> Result<(), Fail> {
+    check_row(&rt, rt.alloc(), "first run", FIRST_RUN)
+}
+
 /// Rows `plain path` and `second worker`.
 const PLAIN_PATH: Row = &[
     TWO_WORKERS,
@@ -81,6 +87,11 @@ const PLAIN_PATH: Row = &[
         r#"{"cells":[5],"ok":"cells","settled":true}"#,
     ),
 ];
+
+#[test]
+fn plain_path(rt: HostRuntime) -> Result<(), Fail> {
+    check_row(&rt, rt.alloc(), "plain path", PLAIN_PATH)
+}
 
 /// Row `cells in mid-copy`: the cells are read from the words, and the history knows nothing of the script yet.
 const CELLS_IN_MID_COPY: Row = &[
@@ -125,6 +136,11 @@ const CELLS_IN_MID_COPY: Row = &[
         r#"{"cells":[5],"ok":"cells","settled":true}"#,
     ),
 ];
+
+#[test]
+fn cells_in_mid_copy(rt: HostRuntime) -> Result<(), Fail> {
+    check_row(&rt, rt.alloc(), "cells in mid-copy", CELLS_IN_MID_COPY)
+}
 
 /// Row `re-entry`, and the report at its end: the recovery took 4 steps.
 const RE_ENTRY: Row = &[
@@ -173,6 +189,11 @@ const RE_ENTRY: Row = &[
     ),
 ];
 
+#[test]
+fn re_entry(rt: HostRuntime) -> Result<(), Fail> {
+    check_row(&rt, rt.alloc(), "re-entry", RE_ENTRY)
+}
+
 /// Row `stale receipt`.
 const STALE_RECEIPT: Row = &[
     TWO_WORKERS,
@@ -211,6 +232,11 @@ const STALE_RECEIPT: Row = &[
         r#"{"last":{"lock":"bank","number":2,"place":1,"reply":8,"worker":0},"ok":"last"}"#,
     ),
 ];
+
+#[test]
+fn stale_receipt(rt: HostRuntime) -> Result<(), Fail> {
+    check_row(&rt, rt.alloc(), "stale receipt", STALE_RECEIPT)
+}
 
 /// Row `partial exit`.
 const PARTIAL_EXIT: Row = &[
@@ -257,6 +283,11 @@ const PARTIAL_EXIT: Row = &[
         r#"{"end":"blocked","notes":[["blocked"]],"ok":"walk"}"#,
     ),
 ];
+
+#[test]
+fn partial_exit(rt: HostRuntime) -> Result<(), Fail> {
+    check_row(&rt, rt.alloc(), "partial exit", PARTIAL_EXIT)
+}
 
 /// Row `withdrawal`.
 const WITHDRAWAL: Row = &[
@@ -313,6 +344,11 @@ const WITHDRAWAL: Row = &[
         r#"{"end":"ready","notes":[["asked",2],["entered","bank"],["finished","bank",2,1,0],["left","bank"]],"ok":"walk"}"#,
     ),
 ];
+
+#[test]
+fn withdrawal(rt: HostRuntime) -> Result<(), Fail> {
+    check_row(&rt, rt.alloc(), "withdrawal", WITHDRAWAL)
+}
 
 /// The report has the steps of the command `step` and of walks, and those of a stay that a crash cut; a refused
 /// step, and a submission or a restart by itself, add nothing.
@@ -382,24 +418,20 @@ const REPORTS: Row = &[
     ),
 ];
 
-/// Each row, with a name for messages.
-const ROWS: &[(&str, Row)] = &[
-    ("first run", FIRST_RUN),
-    ("plain path", PLAIN_PATH),
-    ("cells in mid-copy", CELLS_IN_MID_COPY),
-    ("re-entry", RE_ENTRY),
-    ("stale receipt", STALE_RECEIPT),
-    ("partial exit", PARTIAL_EXIT),
-    ("withdrawal", WITHDRAWAL),
-    ("reports", REPORTS),
-];
-
 #[test]
-fn rows(rt: HostRuntime) -> Result<(), Fail> {
-    for (name, row) in ROWS {
-        check_row(&rt, rt.alloc(), name, row)?;
-    }
-    Ok(())
+fn reports(rt: HostRuntime) -> Result<(), Fail> {
+    check_row(&rt, rt.alloc(), "reports", REPORTS)
+}
+
+/// What was found must be what was wanted; `place` says where that is looked at. The tests share this function,
+/// since an assertion that shows its values is dear to prove.
+pub fn same<T: PartialEq + Debug + Drop>(
+    rt: &impl Abort,
+    found: T,
+    wanted: T,
+    place: impl Display + Drop,
+) {
+    assert_eq!(rt; found, wanted, "at {place}");
 }
 
 /// Runs the lines of a row and compares the whole output.
@@ -411,7 +443,15 @@ pub fn check_row(rt: &impl Abort, alloc: Global, name: &str, row: Row) -> Result
         push_line(&mut wanted, answer.as_bytes())?;
     }
     let output = answers(alloc, input.as_slice())?;
-    assert_eq!(rt; output.as_slice(), wanted.as_slice(), "row {name}");
+    same(rt, output.as_slice(), wanted.as_slice(), name);
+    Ok(())
+}
+
+/// Appends lines, each with its newline.
+pub fn push_lines(out: &mut Vec<u8>, lines: &[&str]) -> Result<(), Fail> {
+    for line in lines {
+        push_line(out, line.as_bytes())?;
+    }
     Ok(())
 }
 

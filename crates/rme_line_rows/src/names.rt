@@ -1,7 +1,9 @@
 //! The names of locks, by calls.
 
+use crate::lines::same;
 use rme_wire::{Names, is_name};
 use rme_words::Refusal;
+use std::process::Abort;
 use std::test::Fail;
 
 /// Row `small calls`: a name is added once, and numbered in order.
@@ -19,13 +21,19 @@ fn added_once(rt: HostRuntime) -> Result<(), Fail> {
     Ok(())
 }
 
+/// To add a name must be answered so. A function of its own, as each call of `add` in one body makes the proof of
+/// the next dearer.
+fn check_add(rt: &impl Abort, names: &mut Names, text: &str, wanted: Result<u32, Refusal>) {
+    same(rt, names.add(text), wanted, text);
+}
+
 /// A name has 1 to 32 bytes of `a` to `z`, `0` to `9`, `_` and `-`.
 #[test]
 fn texts_that_are_names(rt: HostRuntime) -> Result<(), Fail> {
     let mut names = Names::new(rt.alloc())?;
     let longest = "abcdefghijklmnopqrstuvwxyz012345";
-    assert!(rt; is_name(longest));
-    assert_eq!(rt; names.add(longest), Ok(0));
+    same(&rt, is_name(longest), true, longest);
+    check_add(&rt, &mut names, longest, Ok(0));
     for text in [
         "",
         "A",
@@ -34,10 +42,10 @@ fn texts_that_are_names(rt: HostRuntime) -> Result<(), Fail> {
         "\u{e9}",
         "abcdefghijklmnopqrstuvwxyz0123456",
     ] {
-        assert!(rt; !is_name(text), "{text}");
-        assert_eq!(rt; names.add(text), Err(Refusal::BadShape), "{text}");
+        same(&rt, is_name(text), false, text);
+        check_add(&rt, &mut names, text, Err(Refusal::BadShape));
     }
-    assert_eq!(rt; names.len(), 1);
+    same(&rt, names.len(), 1, "the length");
     Ok(())
 }
 
@@ -50,9 +58,9 @@ const SIXTEEN: [&str; 16] = [
 fn at_most_sixteen(rt: HostRuntime) -> Result<(), Fail> {
     let mut names = Names::new(rt.alloc())?;
     for (number, text) in SIXTEEN.iter().enumerate() {
-        assert_eq!(rt; names.add(text), Ok(number as u32));
+        check_add(&rt, &mut names, text, Ok(number as u32));
     }
-    assert_eq!(rt; names.add("q"), Err(Refusal::BadShape));
-    assert_eq!(rt; names.len(), 16);
+    check_add(&rt, &mut names, "q", Err(Refusal::BadShape));
+    same(&rt, names.len(), 16, "the length");
     Ok(())
 }

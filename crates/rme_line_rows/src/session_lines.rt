@@ -1,6 +1,7 @@
 //! The lines of sessions: what they order, and the texts of what they are answered.
 
 use crate::event_lines::names_of;
+use crate::lines::same;
 use rme_program::Receipt;
 use rme_script::{Job, Op, Script};
 use rme_wire::{Order, Outcome, SessionReply, Standing, Submission, order_of, push_session_reply};
@@ -115,7 +116,7 @@ const BAD: &[&str] = &[
 #[test]
 fn orders(rt: HostRuntime) -> Result<(), Fail> {
     let names = names_of(rt.alloc(), &["a"])?;
-    for (line, order) in [
+    for (line, wanted) in [
         (r#"{"do":"attach","worker":0}"#, Order::Attach(0)),
         (r#"{"worker":9,"do":"attach"}"#, Order::Attach(9)),
         (r#"{"do":"resume"}"#, Order::Resume(1_000)),
@@ -133,52 +134,53 @@ fn orders(rt: HostRuntime) -> Result<(), Fail> {
         ),
         (r#"{"do":"detach"}"#, Order::Detach),
     ] {
-        assert_eq!(rt;
-            order_of(rt.alloc(), &names, line.as_bytes())?,
-            Some(order),
-            "{line}"
-        );
+        let order = order_of(rt.alloc(), &names, line.as_bytes())?;
+        same(&rt, order, Some(wanted), line);
     }
     Ok(())
+}
+
+/// Lines that submit the job that adds 5, with its number, its lock and its tries.
+const SUBMISSIONS: &[(&str, u32, u32, u32)] = &[
+    (
+        r#"{"do":"submit","lock":"a","number":1,"script":[["add",0,5]]}"#,
+        1,
+        0,
+        1_000,
+    ),
+    (
+        r#"{"do":"submit","lock":"b","number":0,"script":[["add",0,5]],"tries":1}"#,
+        0,
+        1,
+        1,
+    ),
+    (
+        r#"{"do":"submit","lock":"c","number":4294967295,"script":[["add",0,5]],"tries":1000000}"#,
+        4_294_967_295,
+        2,
+        1_000_000,
+    ),
+];
+
+/// An order to submit the job that adds 5.
+fn submission(number: u32, lock: u32, tries: u32) -> Order {
+    let script = Script::of(&[Op::Add(0, 5)]);
+    Order::Submit(Submission {
+        number,
+        job: Job { lock, script },
+        tries,
+    })
 }
 
 /// A lock that the service doesn't have is the number of its locks, and a line that doesn't say how often to
 /// try asks for 1,000 tries.
 #[test]
 fn submissions(rt: HostRuntime) -> Result<(), Fail> {
-    let alloc = rt.alloc();
-    let names = names_of(alloc, &["a", "b"])?;
-    for (line, number, lock, tries) in [
-        (
-            r#"{"do":"submit","lock":"a","number":1,"script":[["add",0,5]]}"#,
-            1,
-            0,
-            1_000,
-        ),
-        (
-            r#"{"do":"submit","lock":"b","number":0,"script":[["add",0,5]],"tries":1}"#,
-            0,
-            1,
-            1,
-        ),
-        (
-            r#"{"do":"submit","lock":"c","number":4294967295,"script":[["add",0,5]],"tries":1000000}"#,
-            4_294_967_295,
-            2,
-            1_000_000,
-        ),
-    ] {
-        let script = Script::of(&[Op::Add(0, 5)]);
-        let wanted = Order::Submit(Submission {
-            number,
-            job: Job { lock, script },
-            tries,
-        });
-        assert_eq!(rt;
-            order_of(alloc, &names, line.as_bytes())?,
-            Some(wanted),
-            "{line}"
-        );
+    let names = names_of(rt.alloc(), &["a", "b"])?;
+    for (line, number, lock, tries) in SUBMISSIONS {
+        let order = order_of(rt.alloc(), &names, line.as_bytes())?;
+        let wanted = submission(*number, *lock, *tries);
+        same(&rt, order, Some(wanted), *line);
     }
     Ok(())
 }
@@ -187,10 +189,8 @@ fn submissions(rt: HostRuntime) -> Result<(), Fail> {
 fn no_orders(rt: HostRuntime) -> Result<(), Fail> {
     let names = names_of(rt.alloc(), &["a"])?;
     for line in BAD {
-        assert!(rt;
-            order_of(rt.alloc(), &names, line.as_bytes())?.is_none(),
-            "{line}"
-        );
+        let order = order_of(rt.alloc(), &names, line.as_bytes())?;
+        same(&rt, order, None, *line);
     }
     Ok(())
 }
@@ -201,7 +201,7 @@ fn replies(rt: HostRuntime) -> Result<(), Fail> {
     for (reply, wanted) in REPLIES {
         let mut text = String::new(rt.alloc());
         push_session_reply(&mut text, &names, *reply)?;
-        assert_eq!(rt; text.as_str(), *wanted);
+        same(&rt, text.as_str(), *wanted, *wanted);
     }
     Ok(())
 }

@@ -1,6 +1,6 @@
 //! Readers and writers that are not bytes in memory: what is read and written of them, and when it is over.
 
-use crate::lines::{TWO_WORKERS, push_line};
+use crate::lines::{TWO_WORKERS, push_line, same};
 use rme_engine::run_lines;
 use rme_wire::{EngineFault, LineReader};
 use std::alloc::Global;
@@ -110,10 +110,12 @@ fn check_end(rt: &impl Abort, alloc: Global, last_is_whole: bool, fails: bool) -
     let input = two_lines(alloc, last_is_whole)?;
     let mut terminal = Terminal::new(input.as_slice(), 65_536, fails);
     let mut output = Vec::new(alloc);
-    assert_eq!(rt; run(alloc, &mut terminal, &mut output), Ok(()));
-    assert_eq!(rt; output.as_slice(), two_answers(alloc)?.as_slice());
-    assert!(rt; terminal.ended);
-    assert_eq!(rt; terminal.reads_after_end, 0);
+    let ran = run(alloc, &mut terminal, &mut output);
+    let wanted = two_answers(alloc)?;
+    same(rt, ran, Ok(()), "the run");
+    same(rt, output.as_slice(), wanted.as_slice(), "the answers");
+    same(rt, terminal.ended, true, "the end");
+    same(rt, terminal.reads_after_end, 0, "reads after the end");
     Ok(())
 }
 
@@ -137,9 +139,15 @@ fn line_in_a_thousand_pieces(rt: HostRuntime) -> Result<(), Fail> {
     line.push(b'\n')?;
     let mut terminal = Terminal::new(line.as_slice(), 1, true);
     let mut output = Vec::new(alloc);
-    assert_eq!(rt; run(alloc, &mut terminal, &mut output), Ok(()));
-    assert_eq!(rt; output.as_slice(), b"{\"ok\":\"open\"}\n".as_slice());
-    assert_eq!(rt; terminal.reads, 1_001);
+    let ran = run(alloc, &mut terminal, &mut output);
+    same(&rt, ran, Ok(()), "the run");
+    same(
+        &rt,
+        output.as_slice(),
+        b"{\"ok\":\"open\"}\n".as_slice(),
+        "the answer",
+    );
+    same(&rt, terminal.reads, 1_001, "reads");
     Ok(())
 }
 
@@ -149,7 +157,7 @@ fn writer_that_takes_no_byte(rt: HostRuntime) -> Result<(), Fail> {
     let input = two_lines(rt.alloc(), true)?;
     let mut writer = Full { writes: 0 };
     let ran = run(rt.alloc(), input.as_slice(), &mut writer);
-    assert_eq!(rt; ran, Err(EngineFault::WriteFailed));
-    assert_eq!(rt; writer.writes, 1);
+    same(&rt, ran, Err(EngineFault::WriteFailed), "the run");
+    same(&rt, writer.writes, 1, "writes");
     Ok(())
 }

@@ -1,7 +1,7 @@
 //! A client that waits for its answers: at each read all lines given so far were answered, and else answers are
 //! written together.
 
-use crate::lines::{TWO_WORKERS, push_line};
+use crate::lines::{TWO_WORKERS, push_line, same};
 use rme_engine::run_lines;
 use rme_wire::LineReader;
 use std::alloc::Global;
@@ -103,12 +103,10 @@ fn writes_of(rt: &impl Abort, alloc: Global, width: usize) -> Result<usize, Fail
         talk: &talk,
     };
     let mut lines = LineReader::new(alloc, asking)?;
-    assert_eq!(rt;
-        run_lines(alloc, &mut lines, &mut Hearing { talk: &talk }),
-        Ok(())
-    );
-    assert_eq!(rt; talk.answered.get(), LINES);
-    assert_eq!(rt; talk.late.get(), 0);
+    let ran = run_lines(alloc, &mut lines, &mut Hearing { talk: &talk });
+    same(rt, ran, Ok(()), width);
+    same(rt, talk.answered.get(), LINES, width);
+    same(rt, talk.late.get(), 0, width);
     Ok(talk.writes.get())
 }
 
@@ -121,6 +119,6 @@ fn answers_before_each_read(rt: HostRuntime) -> Result<(), Fail> {
         writes_of(&rt, rt.alloc(), width)?;
     }
     // All 58,034 bytes by one read, and 55,986 bytes of answers.
-    assert_eq!(rt; writes_of(&rt, rt.alloc(), 65_536)?, 1);
+    same(&rt, writes_of(&rt, rt.alloc(), 65_536)?, 1, 65_536);
     Ok(())
 }

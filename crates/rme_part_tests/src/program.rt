@@ -157,7 +157,7 @@ fn make(rt: &impl Abort, bank: &mut Bank, private: &mut Private, step: Step)
     let value = perform(bank, action);
     assert!(rt; may_be(shape, private, value));
     let note = after(shape, private, value);
-    assert_eq!(rt; (most, action, note), step);
+    assert!(rt; (most, action, note) == step);
 }
 
 /// Makes these steps in turn.
@@ -181,7 +181,7 @@ fn walks_the_plain_path(rt: HostRuntime) -> Result<(), Fail> {
     script.check(shape)?;
     let first = Private::submit(Private::ready(0, 0), Job { lock: 0, script });
     let last = walk(&rt, &mut bank, first, &PLAIN_PATH);
-    assert_eq!(rt; phase(&last), Phase::Ready);
+    assert!(rt; phase(&last) == Phase::Ready);
     Ok(())
 }
 
@@ -193,12 +193,12 @@ fn gives_up_and_recovers(rt: HostRuntime) -> Result<(), Fail> {
     script.check(shape)?;
     let first = Private::submit(Private::ready(0, 0), Job { lock: 0, script });
     let climbing = walk(&rt, &mut bank, first, &ONE_LEVEL);
-    assert_eq!(rt; phase(&climbing), Phase::Enter);
+    assert!(rt; phase(&climbing) == Phase::Enter);
     if let Stage::Climbing(_) = climbing.stage {
         let given_up = walk(&rt, &mut bank, Private::withdraw(climbing), &WITHDRAWAL);
-        assert_eq!(rt; phase(&given_up), Phase::Ready);
+        assert!(rt; phase(&given_up) == Phase::Ready);
         let restarted = walk(&rt, &mut bank, Private::restart(0), &RECOVERY);
-        assert_eq!(rt; phase(&restarted), Phase::Ready);
+        assert!(rt; phase(&restarted) == Phase::Ready);
     }
     Ok(())
 }

@@ -9,28 +9,28 @@ use std::test::Fail;
 #[test]
 fn three_workers(rt: HostRuntime) -> Result<(), Fail> {
     let shape = Shape::new(3, 1, 1, 1)?;
-    assert_eq!(rt; shape.leaves, 4);
-    assert_eq!(rt; shape.height, 2);
-    assert_eq!(rt; node(shape, 2, 1), 3);
-    assert_eq!(rt; node(shape, 2, 2), 1);
-    assert_eq!(rt; side(shape, 2, 1), 1);
-    assert_eq!(rt; side(shape, 2, 2), 2);
+    assert!(rt; shape.leaves == 4);
+    assert!(rt; shape.height == 2);
+    assert!(rt; node(shape, 2, 1) == 3);
+    assert!(rt; node(shape, 2, 2) == 1);
+    assert!(rt; side(shape, 2, 1) == 1);
+    assert!(rt; side(shape, 2, 2) == 2);
 
     let mut bank = Bank::new(rt.alloc(), shape)?;
-    assert_eq!(rt; held(&bank, 0, 2), 0);
-    assert_eq!(rt; owner(&bank, 0), None);
+    assert!(rt; held(&bank, 0, 2) == 0);
+    assert!(rt; owner(&bank, 0) == None);
     bank.store(Address::Node(0, 3), 1);
-    assert_eq!(rt; held(&bank, 0, 2), 1);
-    assert_eq!(rt; owner(&bank, 0), None);
+    assert!(rt; held(&bank, 0, 2) == 1);
+    assert!(rt; owner(&bank, 0) == None);
     bank.store(Address::Node(0, 1), 2);
-    assert_eq!(rt; held(&bank, 0, 2), 2);
-    assert_eq!(rt; held(&bank, 0, 1), 0);
-    assert_eq!(rt; owner(&bank, 0), Some(2));
+    assert!(rt; held(&bank, 0, 2) == 2);
+    assert!(rt; held(&bank, 0, 1) == 0);
+    assert!(rt; owner(&bank, 0) == Some(2));
     bank.store(Address::Node(0, 3), 2);
-    assert_eq!(rt; held(&bank, 0, 2), 0);
-    assert_eq!(rt; owner(&bank, 0), None);
+    assert!(rt; held(&bank, 0, 2) == 0);
+    assert!(rt; owner(&bank, 0) == None);
     bank.store(Address::Node(0, 1), 7);
-    assert_eq!(rt; owner(&bank, 0), None);
+    assert!(rt; owner(&bank, 0) == None);
     Ok(())
 }
 

@@ -27,7 +27,7 @@ fn check_loading(
     let Some(loading) = loading_of(alloc, line)? else {
         return Err(Fail::from("no load line"));
     };
-    assert_eq!(rt; loading.locks.len(), names, "{line}");
+    assert!(rt; loading.locks.len() == names, "{line}");
     match (&loading.image, bytes) {
         (Some(image), Some(bytes)) => assert!(rt; image.as_slice() == bytes, "{line}"),
         (None, None) => {}
@@ -145,7 +145,7 @@ fn text_of(alloc: Global, reply: &Reply) -> Result<String, Fail> {
 fn texts_of_answers(rt: HostRuntime) -> Result<(), Fail> {
     let alloc = rt.alloc();
     let loaded = text_of(alloc, &Reply::Done(Done::Load))?;
-    assert_eq!(rt; loaded.as_str(), r#"{"ok":"load"}"#);
+    assert!(rt; loaded.as_str() == r#"{"ok":"load"}"#);
     for (bytes, wanted) in [
         (b"RM".as_slice(), r#"{"image":"524d","ok":"save"}"#),
         (&[0, 255, 154, 15], r#"{"image":"00ff9a0f","ok":"save"}"#),
@@ -153,7 +153,7 @@ fn texts_of_answers(rt: HostRuntime) -> Result<(), Fail> {
     ] {
         let image = Image::new(Vec::from_slice(alloc, bytes)?);
         let saved = text_of(alloc, &Reply::Image(image))?;
-        assert_eq!(rt; saved.as_str(), wanted);
+        assert!(rt; saved.as_str() == wanted);
     }
     Ok(())
 }

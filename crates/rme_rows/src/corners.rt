@@ -3,7 +3,7 @@
 use crate::plays::Line::{
     Cells, Counts, Crash, History, Refused, Restart, Steps, Submit, Walk, WalkUntil,
 };
-use crate::plays::{Ask, Line, job, play};
+use crate::plays::{Ask, Line, job, play, same};
 use crate::seen::cells_are;
 use crate::walks::Told::{Asked, Entered, Finished, Left, Ready};
 use crate::walks::{End, Until, walk};
@@ -124,9 +124,9 @@ fn ties_of_places(rt: HostRuntime) -> Result<(), Fail> {
         entry(0, 0, 1, 1),
         entry(0, 1, 1, 0),
     ];
-    assert_eq!(rt; sorted.len(), places.len());
+    same(&rt, sorted.len(), places.len(), "the length");
     for (found, wanted) in sorted.iter().zip(&places) {
-        assert_eq!(rt; found.receipt, wanted.receipt);
+        same(&rt, found.receipt, wanted.receipt, wanted.receipt.place);
     }
     Ok(())
 }
@@ -173,9 +173,9 @@ fn replay_over_sixteen_locks(rt: HostRuntime) -> Result<(), Fail> {
     let Ok(rows) = replay(rt.alloc(), Shape::new(1, 16, 1, 32)?, &entries) else {
         return Err(Refusal::NoMemory.into());
     };
-    assert_eq!(rt; rows.len(), 16);
+    same(&rt, rows.len(), 16, "the rows");
     for (row, sum) in rows.iter().zip(&SUMS) {
-        assert!(rt; cells_are(row, &[*sum]), "{sum}");
+        same(&rt, cells_are(row, &[*sum]), true, *sum);
     }
     Ok(())
 }
@@ -185,11 +185,16 @@ fn replay_over_sixteen_locks(rt: HostRuntime) -> Result<(), Fail> {
 fn long_history(rt: HostRuntime) -> Result<(), Fail> {
     let mut world = World::new(rt.alloc(), Shape::new(1, 1, 1, 2_000)?)?;
     for number in 1..=2_000 {
-        assert_eq!(rt; world.submit(0, job(&[Op::Add(0, 1)])), Ok(number));
+        same(
+            &rt,
+            world.submit(0, job(&[Op::Add(0, 1)])),
+            Ok(number),
+            number,
+        );
         walk(&mut world, 0, None, 100)?;
     }
-    assert_eq!(rt; world.history().len(), 2_000);
-    assert_eq!(rt; world.ready(0), Ok(true));
+    same(&rt, world.history().len(), 2_000, "the history");
+    same(&rt, world.ready(0), Ok(true), "the worker");
     let last = world.history().last().map(|entry| entry.receipt);
     let receipt = Receipt {
         worker: 0,
@@ -198,6 +203,6 @@ fn long_history(rt: HostRuntime) -> Result<(), Fail> {
         place: 1_999,
         reply: 2_000,
     };
-    assert_eq!(rt; last, Some(receipt));
+    same(&rt, last, Some(receipt), "the last entry");
     Ok(())
 }

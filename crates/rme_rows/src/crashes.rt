@@ -20,6 +20,11 @@ const FIRST_RUN: &[Line] = &[
     Owner(None),
 ];
 
+#[test]
+fn first_run(rt: HostRuntime) -> Result<(), Fail> {
+    play(&rt, rt.alloc(), (2, 1, 10), FIRST_RUN)
+}
+
 /// Row `re-entry`: no other enters before the crashed owner has re-entered and left.
 const RE_ENTRY: &[Line] = &[
     Submit(0, &[Op::Add(0, 5)], 1),
@@ -40,6 +45,11 @@ const RE_ENTRY: &[Line] = &[
     ]),
 ];
 
+#[test]
+fn re_entry(rt: HostRuntime) -> Result<(), Fail> {
+    play(&rt, rt.alloc(), (2, 1, 10), RE_ENTRY)
+}
+
 /// Row `crash after finish`: a finished section is not run again.
 const CRASH_AFTER_FINISH: &[Line] = &[
     Submit(0, &[Op::Add(0, 5)], 1),
@@ -54,6 +64,11 @@ const CRASH_AFTER_FINISH: &[Line] = &[
     Counts(0, [4, 0, 0, 0, 3]),
     History(&[(0, 1, 0, 5, &[Op::Add(0, 5)])]),
 ];
+
+#[test]
+fn crash_after_finish(rt: HostRuntime) -> Result<(), Fail> {
+    play(&rt, rt.alloc(), (2, 1, 10), CRASH_AFTER_FINISH)
+}
 
 /// Row `stale receipt`: the receipt of an earlier job is none as soon as a later one is asked for. Of the 22
 /// steps the last stores the reply: 6 of Post, 1 of Enter, 15 of the section.
@@ -70,6 +85,11 @@ const STALE_RECEIPT: &[Line] = &[
     Counts(0, [4, 0, 0, 9, 3]),
     Last(0, Some((2, 1, 8))),
 ];
+
+#[test]
+fn stale_receipt(rt: HostRuntime) -> Result<(), Fail> {
+    play(&rt, rt.alloc(), (2, 1, 10), STALE_RECEIPT)
+}
 
 /// Row `partial exit`: a worker that crashed after it left releases its lower node, and no other's. Worker 1
 /// takes that node then, and stands at the root.
@@ -94,6 +114,11 @@ const PARTIAL_EXIT: &[Line] = &[
     Counts(1, [0, 3, 1, 0, 0]),
 ];
 
+#[test]
+fn partial_exit(rt: HostRuntime) -> Result<(), Fail> {
+    play(&rt, rt.alloc(), (4, 1, 10), PARTIAL_EXIT)
+}
+
 /// Row `dead climber`: a worker that is down holds a node below a lock that is free.
 const DEAD_CLIMBER: &[Line] = &[
     Submit(2, &[], 1),
@@ -111,14 +136,6 @@ const DEAD_CLIMBER: &[Line] = &[
 ];
 
 #[test]
-fn crashes(rt: HostRuntime) -> Result<(), Fail> {
-    let two = (2, 1, 10);
-    for lines in [FIRST_RUN, RE_ENTRY, CRASH_AFTER_FINISH, STALE_RECEIPT] {
-        play(&rt, rt.alloc(), two, lines)?;
-    }
-    let four = (4, 1, 10);
-    for lines in [PARTIAL_EXIT, DEAD_CLIMBER] {
-        play(&rt, rt.alloc(), four, lines)?;
-    }
-    Ok(())
+fn dead_climber(rt: HostRuntime) -> Result<(), Fail> {
+    play(&rt, rt.alloc(), (4, 1, 10), DEAD_CLIMBER)
 }

@@ -1,6 +1,6 @@
 //! Histories in the hands of an observer: in the order of their places, replayed, and the steps tallied.
 
-use crate::plays::job;
+use crate::plays::{job, same};
 use crate::walks::{Until, walk};
 use rme_history::{ReplayFault, Tally, by_place, replay};
 use rme_program::{Entry, Phase};
@@ -48,7 +48,7 @@ fn are_same(these: &[Entry], others: &[Entry]) -> bool {
 fn order(rt: HostRuntime) -> Result<(), Fail> {
     let world = re_entry(rt.alloc(), Shape::new(2, 1, 1, 10)?)?;
     let history = world.history();
-    assert_eq!(rt; history.len(), 2);
+    same(&rt, history.len(), 2, "the history");
     let sorted = by_place(Vec::from_slice(rt.alloc(), history)?);
     assert!(rt; are_same(&sorted, history));
     let mut turned = Vec::from_slice(rt.alloc(), history)?;
@@ -72,7 +72,7 @@ fn replayed(rt: HostRuntime) -> Result<(), Fail> {
     assert_eq!(rt; entries.len(), 2);
     entries[1].receipt.reply = 7;
     let broken = replay(rt.alloc(), shape, &entries).err();
-    assert_eq!(rt; broken, Some(ReplayFault::Broken(1)));
+    same(&rt, broken, Some(ReplayFault::Broken(1)), "a wrong reply");
     Ok(())
 }
 
@@ -96,19 +96,24 @@ fn tally_walk(tally: &mut Tally, world: &mut World, worker: u32) -> Result<(), R
     Ok(())
 }
 
+/// The greatest counts, by phase.
+fn report_of(tally: &Tally) -> [u32; 5] {
+    PHASES.map(|phase| tally.most(phase))
+}
+
 /// Rows `plain path` and `second worker`: the report of the first, which the shorter second leaves.
 #[test]
 fn tallied(rt: HostRuntime) -> Result<(), Fail> {
     let mut world = World::new(rt.alloc(), Shape::new(2, 1, 1, 10)?)?;
     let mut tally = Tally::new();
-    assert_eq!(rt; PHASES.map(|phase| tally.most(phase)), [0; 5]);
+    same(&rt, report_of(&tally), [0; 5], "the beginning");
     world.submit(0, job(&[Op::Add(0, 5)]))?;
     tally_walk(&mut tally, &mut world, 0)?;
-    assert_eq!(rt; PHASES.map(|phase| tally.most(phase)), [0, 6, 1, 18, 3]);
+    same(&rt, report_of(&tally), [0, 6, 1, 18, 3], "the first job");
     world.submit(1, job(&[]))?;
     tally_walk(&mut tally, &mut world, 1)?;
     tally.see(Phase::Ready, 100);
-    assert_eq!(rt; PHASES.map(|phase| tally.most(phase)), [0, 6, 1, 18, 3]);
-    assert_eq!(rt; tally.most(Phase::Ready), 0);
+    same(&rt, report_of(&tally), [0, 6, 1, 18, 3], "the second job");
+    same(&rt, tally.most(Phase::Ready), 0, "Ready");
     Ok(())
 }

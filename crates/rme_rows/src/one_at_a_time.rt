@@ -24,6 +24,11 @@ const PLAIN_PATH: &[Line] = &[
     Owner(None),
 ];
 
+#[test]
+fn plain_path(rt: HostRuntime) -> Result<(), Fail> {
+    play(&rt, rt.alloc(), (2, 1, 10), PLAIN_PATH)
+}
+
 /// Row `cells in mid-copy`: the cells are read from the words, and the history knows nothing of the script yet.
 /// Of the 20 steps the last stores the cell: 6 of Post, 1 of Enter, 13 of the section.
 const CELLS_IN_MID_COPY: &[Line] = &[
@@ -41,12 +46,22 @@ const CELLS_IN_MID_COPY: &[Line] = &[
     Cells(&[5], true),
 ];
 
+#[test]
+fn cells_in_mid_copy(rt: HostRuntime) -> Result<(), Fail> {
+    play(&rt, rt.alloc(), (2, 1, 10), CELLS_IN_MID_COPY)
+}
+
 /// Row `one worker`: a tree of two leaves, of which one is no worker's.
 const ONE_WORKER: &[Line] = &[
     Submit(0, &[], 1),
     Walk(0, End::Ready, &[Asked(1), Entered, Finished(1, 0, 0), Left]),
     Counts(0, [0, 3, 1, 11, 3]),
 ];
+
+#[test]
+fn one_worker(rt: HostRuntime) -> Result<(), Fail> {
+    play(&rt, rt.alloc(), (1, 1, 10), ONE_WORKER)
+}
 
 /// Row `five operations`.
 const FIVE_OPERATIONS: &[Line] = &[
@@ -56,12 +71,22 @@ const FIVE_OPERATIONS: &[Line] = &[
     Cells(&[0, 5], true),
 ];
 
+#[test]
+fn five_operations(rt: HostRuntime) -> Result<(), Fail> {
+    play(&rt, rt.alloc(), (1, 2, 10), FIVE_OPERATIONS)
+}
+
 /// Row `two of sixteen cells`, the whole way.
 const TWO_OF_SIXTEEN_CELLS: &[Line] = &[
     Submit(0, &[Op::Copy(3, 7)], 1),
     Walk(0, End::Ready, &[Asked(1), Entered, Finished(1, 0, 0), Left]),
     Counts(0, [0, 6, 1, 22, 3]),
 ];
+
+#[test]
+fn two_of_sixteen_cells(rt: HostRuntime) -> Result<(), Fail> {
+    play(&rt, rt.alloc(), (1, 16, 10), TWO_OF_SIXTEEN_CELLS)
+}
 
 /// Row `two of sixteen cells`, crashed right after the store of Turn, the twelfth step of the section.
 const TWO_CELLS_REDONE: &[Line] = &[
@@ -74,11 +99,6 @@ const TWO_CELLS_REDONE: &[Line] = &[
 ];
 
 #[test]
-fn one_at_a_time(rt: HostRuntime) -> Result<(), Fail> {
-    play(&rt, rt.alloc(), (2, 1, 10), PLAIN_PATH)?;
-    play(&rt, rt.alloc(), (2, 1, 10), CELLS_IN_MID_COPY)?;
-    play(&rt, rt.alloc(), (1, 1, 10), ONE_WORKER)?;
-    play(&rt, rt.alloc(), (1, 2, 10), FIVE_OPERATIONS)?;
-    play(&rt, rt.alloc(), (1, 16, 10), TWO_OF_SIXTEEN_CELLS)?;
+fn two_cells_redone(rt: HostRuntime) -> Result<(), Fail> {
     play(&rt, rt.alloc(), (1, 16, 10), TWO_CELLS_REDONE)
 }

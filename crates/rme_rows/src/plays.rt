@@ -7,6 +7,7 @@ use rme_script::{Job, Op, Script};
 use rme_words::{Refusal, Shape};
 use rme_world::World;
 use std::alloc::Global;
+use std::fmt::{Debug, Display};
 use std::process::Abort;
 use std::test::Fail;
 
@@ -23,7 +24,7 @@ pub const FIVE: &[Op] = &[
 ];
 
 /// A call that changes a world. The first number is the worker's.
-#[derive(Clone, Copy, Debug)]
+#[derive(Clone, Copy)]
 pub enum Ask {
     /// A job on the first lock.
     Submit(u32, &'static [Op]),
@@ -36,7 +37,7 @@ pub enum Ask {
 }
 
 /// A line of a row: a call, and what it must answer. The first number is the worker's.
-#[derive(Clone, Copy, Debug)]
+#[derive(Clone, Copy)]
 pub enum Line {
     /// A job on the first lock is handed over, and has this number.
     Submit(u32, &'static [Op], u32),
@@ -73,11 +74,22 @@ pub fn play(
     lines: &[Line],
 ) -> Result<(), Fail> {
     let mut world = World::new(alloc, Shape::new(workers, 1, cells, jobs)?)?;
-    for line in lines {
-        change(rt, &mut world, *line)?;
-        look_up(rt, &world, *line)?;
+    for (index, line) in lines.iter().enumerate() {
+        change(rt, &mut world, *line, index)?;
+        look_up(rt, &world, *line, index)?;
     }
     Ok(())
+}
+
+/// What was found must be what was wanted; `place` says where that is looked at, in a row by the line's index. The
+/// tests share this function, since an assertion that shows its values is dear to prove.
+pub fn same<T: PartialEq + Debug + Drop>(
+    rt: &impl Abort,
+    found: T,
+    wanted: T,
+    place: impl Display + Drop,
+) {
+    assert_eq!(rt; found, wanted, "at {place}");
 }
 
 /// A job on the first lock.
@@ -104,60 +116,66 @@ fn request(world: &mut World, call: Ask) -> Result<(), Refusal> {
 }
 
 /// Makes the call of a line that changes the world, if it is one.
-fn change(rt: &impl Abort, world: &mut World, line: Line) -> Result<(), Fail> {
+fn change(rt: &impl Abort, world: &mut World, line: Line, index: usize) -> Result<(), Fail> {
     match line {
         Line::Submit(worker, ops, number) => {
-            assert_eq!(rt; world.submit(worker, job(ops)), Ok(number), "{line:?}");
+            same(rt, world.submit(worker, job(ops)), Ok(number), index);
         }
         Line::Walk(worker, end, notes) => {
-            let walked = walk(world, worker, None, MOST_STEPS)?;
-            assert_eq!(rt; walked, Walked::told(worker, 0, end, notes), "{line:?}");
+            let wanted = Walked::told(worker, 0, end, notes);
+            check_walk(rt, world, (worker, None, MOST_STEPS), wanted, index)?;
         }
         Line::WalkUntil(worker, kind, notes) => {
-            let walked = walk(world, worker, Some(kind), MOST_STEPS)?;
-            assert_eq!(rt;
-                walked,
-                Walked::told(worker, 0, End::Until, notes),
-                "{line:?}"
-            );
+            let wanted = Walked::told(worker, 0, End::Until, notes);
+            check_walk(rt, world, (worker, Some(kind), MOST_STEPS), wanted, index)?;
         }
         Line::WalkMax(worker, max, notes) => {
-            let walked = walk(world, worker, None, max)?;
-            assert_eq!(rt;
-                walked,
-                Walked::told(worker, 0, End::Max, notes),
-                "{line:?}"
-            );
+            let wanted = Walked::told(worker, 0, End::Max, notes);
+            check_walk(rt, world, (worker, None, max), wanted, index)?;
         }
         Line::Steps(worker, times) => {
-            assert_eq!(rt; step_times(world, worker, times), Ok(times), "{line:?}");
+            same(rt, step_times(world, worker, times), Ok(times), index);
         }
         Line::Crash(worker) => world.crash(worker)?,
         Line::Restart(worker) => world.restart(worker)?,
         Line::Withdraw(worker) => world.withdraw(worker)?,
-        Line::Refused(call, refusal) => {
-            let before = make_look(world);
-            assert_eq!(rt; request(world, call), Err(refusal), "{line:?}");
-            assert_eq!(rt; make_look(world), before, "{line:?}");
-        }
+        Line::Refused(call, refusal) => refuse(rt, world, call, refusal, index),
         _ => {}
     }
     Ok(())
 }
 
+/// A walk of a worker, until a note of this kind and of at most so many steps, must be this one.
+fn check_walk(
+    rt: &impl Abort,
+    world: &mut World,
+    (worker, kind, max): (u32, Option<Until>, u32),
+    wanted: Walked,
+    index: usize,
+) -> Result<(), Fail> {
+    let walked = walk(world, worker, kind, max)?;
+    same(rt, walked, wanted, index);
+    Ok(())
+}
+
+/// A call must be refused so, and change nothing that is seen.
+fn refuse(rt: &impl Abort, world: &mut World, call: Ask, refusal: Refusal, index: usize) {
+    let before = make_look(world);
+    same(rt, request(world, call), Err(refusal), index);
+    same(rt, make_look(world), before, index);
+}
+
 /// Looks up what a line that changes nothing asks for, if it is one.
-fn look_up(rt: &impl Abort, world: &World, line: Line) -> Result<(), Fail> {
+fn look_up(rt: &impl Abort, world: &World, line: Line, index: usize) -> Result<(), Fail> {
     match line {
         Line::Counts(worker, counts) => {
-            assert_eq!(rt; steps_of(world, worker), Ok(counts), "{line:?}");
+            same(rt, steps_of(world, worker), Ok(counts), index);
         }
-        Line::Owner(owner) => assert_eq!(rt; world.owner(0), Ok(owner), "{line:?}"),
+        Line::Owner(owner) => same(rt, world.owner(0), Ok(owner), index),
         Line::Cells(values, settled) => {
             let (row, is_settled) = world.cells(0)?;
-            assert!(rt;
-                cells_are(&row, values) && is_settled == settled,
-                "{line:?}"
-            );
+            same(rt, cells_are(&row, values), true, index);
+            same(rt, is_settled, settled, index);
         }
         Line::Last(worker, last) => {
             let last = last.map(|(number, place, reply)| Receipt {
@@ -167,9 +185,9 @@ fn look_up(rt: &impl Abort, world: &World, line: Line) -> Result<(), Fail> {
                 place,
                 reply,
             });
-            assert_eq!(rt; world.last(worker), Ok(last), "{line:?}");
+            same(rt, world.last(worker), Ok(last), index);
         }
-        Line::History(entries) => assert!(rt; history_is(world, entries), "{line:?}"),
+        Line::History(entries) => same(rt, history_is(world, entries), true, index),
         _ => {}
     }
     Ok(())

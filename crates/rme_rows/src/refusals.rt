@@ -1,7 +1,7 @@
 //! Refusals, each of which changes nothing.
 
 use crate::plays::Line::{Crash, Refused, Submit, Walk, WalkUntil};
-use crate::plays::{Ask, Line, play};
+use crate::plays::{Ask, Line, play, same};
 use crate::walks::Told::{Asked, Entered, Finished, Left, Ready};
 use crate::walks::{End, Until};
 use rme_script::Op;
@@ -49,6 +49,6 @@ fn numbers_of_refusals(rt: HostRuntime) {
         (Refusal::TooManyJobs, 14),
         (Refusal::NotWaiting, 21),
     ] {
-        assert_eq!(rt; refusal.code(), code, "{refusal:?}");
+        same(&rt, refusal.code(), code, code);
     }
 }

@@ -1,6 +1,6 @@
 //! Crashes before each own step, twice over.
 
-use crate::plays::{FIVE, job};
+use crate::plays::{FIVE, job, same};
 use crate::seen::{cells_are, history_is};
 use crate::walks::Told::{Entered, Finished, Left, Ready, Reentered};
 use crate::walks::{End, Told, Walked, step_times, walk};
@@ -29,11 +29,8 @@ fn every_cut(rt: HostRuntime) -> Result<(), Fail> {
     for cut in 0..=28 {
         let mut world = cut_once(&rt, rt.alloc(), (2, 1), &[Op::Add(0, 5)], cut)?;
         let (notes, cell) = after_cut(cut);
-        assert_eq!(rt;
-            walk(&mut world, 0, None, 100)?,
-            Walked::told(0, 0, End::Ready, notes),
-            "cut after {cut}"
-        );
+        let walked = walk(&mut world, 0, None, 100)?;
+        same(&rt, walked, Walked::told(0, 0, End::Ready, notes), cut);
         check_job(&rt, &world, &[Op::Add(0, 5)], &[cell], cell == 5)?;
     }
     Ok(())
@@ -50,7 +47,7 @@ fn cut_once(
 ) -> Result<World, Fail> {
     let mut world = World::new(alloc, Shape::new(workers, 1, cells, 10)?)?;
     world.submit(0, job(ops))?;
-    assert_eq!(rt; step_times(&mut world, 0, cut), Ok(cut));
+    same(rt, step_times(&mut world, 0, cut), Ok(cut), cut);
     world.crash(0)?;
     world.restart(0)?;
     Ok(world)
@@ -65,15 +62,17 @@ fn check_job(
     cells: &[u64],
     was_run: bool,
 ) -> Result<(), Fail> {
-    assert_eq!(rt; world.ready(0), Ok(true));
-    assert_eq!(rt; world.owner(0), Ok(None));
+    same(rt, world.ready(0), Ok(true), "the worker");
+    same(rt, world.owner(0), Ok(None), "the owner");
     let (row, settled) = world.cells(0)?;
-    assert!(rt; cells_are(&row, cells) && settled, "{row:?}");
-    if was_run {
-        assert!(rt; history_is(world, &[(0, 1, 0, 5, ops)]));
+    same(rt, cells_are(&row, cells), true, "the cells");
+    same(rt, settled, true, "whether they are settled");
+    let made = if was_run {
+        history_is(world, &[(0, 1, 0, 5, ops)])
     } else {
-        assert!(rt; history_is(world, &[]));
-    }
+        history_is(world, &[])
+    };
+    same(rt, made, true, "the history");
     Ok(())
 }
 

@@ -1,5 +1,6 @@
 //! Trees of many workers: the last worker and the last lock, and a re-entry bounded by the tree's height.
 
+use crate::plays::same;
 use crate::walks::Told::{Asked, Entered, Finished, Left, Ready};
 use crate::walks::{End, Until, Walked, step_times, walk};
 use rme_program::{Note, Phase};
@@ -28,13 +29,13 @@ fn entered(rt: &impl Abort, alloc: Global, workers: u32, height: u32) -> Result<
     let worker = workers.saturating_sub(1);
     let mut world = World::new(alloc, Shape::new(workers, 16, 1, 10)?)?;
     let script = Script::of(&[]);
-    assert_eq!(rt; world.submit(worker, Job { lock: LOCK, script }), Ok(1));
-    assert_eq!(rt;
-        walk(&mut world, worker, Some(Until::Entered), 100)?,
-        Walked::told(worker, LOCK, End::Until, &[Asked(1), Entered])
-    );
-    assert_eq!(rt; world.steps(worker, Phase::Post), Ok(3));
-    assert_eq!(rt; world.steps(worker, Phase::Enter), Ok(height));
+    let number = world.submit(worker, Job { lock: LOCK, script });
+    same(rt, number, Ok(1), "the number");
+    let walked = walk(&mut world, worker, Some(Until::Entered), 100)?;
+    let wanted = Walked::told(worker, LOCK, End::Until, &[Asked(1), Entered]);
+    same(rt, walked, wanted, "the way in");
+    same(rt, world.steps(worker, Phase::Post), Ok(3), "Post");
+    same(rt, world.steps(worker, Phase::Enter), Ok(height), "Enter");
     Ok(world)
 }
 
@@ -43,12 +44,16 @@ fn re_enter(rt: &impl Abort, world: &mut World, worker: u32, height: u32) -> Res
     world.crash(worker)?;
     world.restart(worker)?;
     let before = height.saturating_add(2);
-    assert_eq!(rt; step_times(world, worker, before), Ok(before));
-    assert_eq!(rt; world.step(worker), Ok(Note::Reentered(LOCK)));
-    assert_eq!(rt;
-        walk(world, worker, None, 100)?,
-        Walked::told(worker, LOCK, End::Ready, &[Finished(1, 0, 0), Left, Ready])
+    same(rt, step_times(world, worker, before), Ok(before), "Recover");
+    same(
+        rt,
+        world.step(worker),
+        Ok(Note::Reentered(LOCK)),
+        "re-entry",
     );
-    assert_eq!(rt; world.steps(worker, Phase::Exit), Ok(before));
+    let walked = walk(world, worker, None, 100)?;
+    let wanted = Walked::told(worker, LOCK, End::Ready, &[Finished(1, 0, 0), Left, Ready]);
+    same(rt, walked, wanted, "the way out");
+    same(rt, world.steps(worker, Phase::Exit), Ok(before), "Exit");
     Ok(())
 }

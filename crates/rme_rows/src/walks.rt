@@ -8,7 +8,7 @@ use rme_world::World;
 const MOST_NOTES: usize = 8;
 
 /// A note of a worker at a lock, in the words of a row: the worker and the lock are not said again.
-#[derive(Clone, Copy, Debug, PartialEq, Eq)]
+#[derive(Clone, Copy)]
 pub enum Told {
     /// The number.
     Asked(u32),
@@ -48,7 +48,7 @@ impl Told {
 }
 
 /// The kind of note that ends a walk.
-#[derive(Clone, Copy, Debug, PartialEq, Eq)]
+#[derive(Clone, Copy, PartialEq, Eq)]
 pub enum Until {
     Asked,
     Entered,

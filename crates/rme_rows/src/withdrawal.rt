@@ -31,6 +31,11 @@ const WITHDRAWAL: &[Line] = &[
     History(&[(0, 1, 0, 5, &[Op::Add(0, 5)]), (1, 2, 1, 0, &[])]),
 ];
 
+#[test]
+fn withdrawal(rt: HostRuntime) -> Result<(), Fail> {
+    play(&rt, rt.alloc(), (2, 1, 10), WITHDRAWAL)
+}
+
 /// Row `withdrawal with a node`: a withdrawal that was cut before its number was given up is none.
 const WITH_A_NODE: &[Line] = &[
     Submit(2, &[], 1),
@@ -47,6 +52,11 @@ const WITH_A_NODE: &[Line] = &[
     Counts(0, [5, 0, 0, 0, 5]),
     Owner(Some(2)),
 ];
+
+#[test]
+fn with_a_node(rt: HostRuntime) -> Result<(), Fail> {
+    play(&rt, rt.alloc(), (4, 1, 10), WITH_A_NODE)
+}
 
 /// Row `withdrawal with a node`, cut after its number was given up: the recovery releases the node.
 const CUT_LATE: &[Line] = &[
@@ -65,8 +75,6 @@ const CUT_LATE: &[Line] = &[
 ];
 
 #[test]
-fn withdrawal(rt: HostRuntime) -> Result<(), Fail> {
-    play(&rt, rt.alloc(), (2, 1, 10), WITHDRAWAL)?;
-    play(&rt, rt.alloc(), (4, 1, 10), WITH_A_NODE)?;
+fn cut_late(rt: HostRuntime) -> Result<(), Fail> {
     play(&rt, rt.alloc(), (4, 1, 10), CUT_LATE)
 }

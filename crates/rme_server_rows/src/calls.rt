@@ -18,11 +18,11 @@ use std::thread::Threads;
 /// Takes what is there, and what is not.
 pub fn take_twice<K: Tag, R: Abort + Wait>(rt: &R, desk: &Desk<'_, K>) {
     let down = take(rt, desk, 0);
-    assert_eq!(rt; down.worker(), 0);
+    assert!(rt; down.worker() == 0);
     for (worker, why) in [(0, Refusal::Taken), (2, Refusal::NoWorker)] {
         match desk.slots.take(rt, worker) {
             Ok(_) => panic!(rt; "worker {worker} is there"),
-            Err(found) => assert_eq!(rt; found, why),
+            Err(found) => assert!(rt; found == why),
         }
     }
     desk.slots.give(rt, down);
@@ -40,7 +40,7 @@ fn order<K: Tag, R: Abort + Wait>(
     ensures ours { MayHold K.ident desk.now.slots.now result.value }
 {
     let (stand, found) = obey(rt, stand, order, desk.service, desk.slots);
-    assert_eq!(rt; found, reply);
+    assert!(rt; found == reply);
     stand
 }
 

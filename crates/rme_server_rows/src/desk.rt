@@ -93,9 +93,9 @@ pub fn at_desk<R: Abort + Threads + Wait + Sync>(
 ) -> Left {
     let (service, downs) = open(rt, alloc, workers, jobs);
     let closed = try_out::<Brand, R>(rt, alloc, service, downs, trial);
-    assert_eq!(rt; closed.locks.len(), 1);
+    assert!(rt; closed.locks.len() == 1);
     let lock = &closed.locks[0];
-    assert_eq!(rt; lock.cells.len(), 1);
+    assert!(rt; lock.cells.len() == 1);
     (lock.cells[0], lock.settled, lock.entries.len())
 }
 
@@ -136,7 +136,7 @@ fn try_out<K: Tag + Send + Sync, R: Abort + Threads + Wait + Sync>(
 /// The name of the one lock.
 fn lock_names(rt: &impl Abort, alloc: Global) -> Names {
     let mut names = Names::new(alloc).expect(rt, "names");
-    assert_eq!(rt; names.add("a"), Ok(0));
+    assert!(rt; names.add("a") == Ok(0));
     names
 }
 

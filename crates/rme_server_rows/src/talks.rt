@@ -19,7 +19,7 @@ pub type Case<'a> = (Trial<'a>, (u32, u32), Left);
 /// Makes each trial, with a service of its own.
 pub fn check_cases<R: Abort + Threads + Wait + Sync>(rt: &R, alloc: Global, cases: &[Case<'_>]) {
     for (index, (trial, sizes, left)) in cases.iter().enumerate() {
-        assert_eq!(rt; at_desk(rt, alloc, *sizes, trial), *left, "case {index}");
+        assert!(rt; at_desk(rt, alloc, *sizes, trial) == *left, "case {index}");
     }
 }
 
@@ -31,7 +31,7 @@ pub fn talk<K: Tag, R: Abort + Wait>(rt: &R, desk: &Desk<'_, K>, row: Row<'_>) {
     for (line, answer) in row {
         hear(rt, desk.alloc, &mut answers, line, answer);
     }
-    assert_eq!(rt; answers.next_line(&mut Vec::new(desk.alloc)), Ok(Cut::End));
+    assert!(rt; answers.next_line(&mut Vec::new(desk.alloc)) == Ok(Cut::End));
 }
 
 /// What a session over bytes in memory writes.
@@ -46,7 +46,7 @@ pub fn answers_to<K: Tag, R: Abort + Wait>(rt: &R, desk: &Desk<'_, K>, input: &[
         desk.slots,
         desk.names,
     );
-    assert_eq!(rt; ended, Ok(()));
+    assert!(rt; ended == Ok(()));
     output
 }
 
@@ -84,9 +84,9 @@ pub fn hear<I: Read + Drop>(
     answer: &str,
 ) {
     let mut heard = Vec::new(alloc);
-    assert_eq!(rt; answers.next_line(&mut heard), Ok(Cut::Line), "{line}");
+    assert!(rt; answers.next_line(&mut heard) == Ok(Cut::Line), "{line}");
     let heard = str::from_utf8(heard.as_slice()).ok();
-    assert_eq!(rt; heard, Some(answer), "{line}");
+    assert!(rt; heard == Some(answer), "{line}");
 }
 
 /// Says a line and waits for its answer.
@@ -99,6 +99,6 @@ pub fn ask<I: Read + Drop, O: Write>(
 ) {
     let mut said = Vec::new(alloc);
     push_line(rt, &mut said, line);
-    assert_eq!(rt; put_all(writer, said.as_slice()), Ok(()));
+    assert!(rt; put_all(writer, said.as_slice()) == Ok(()));
     hear(rt, alloc, answers, line, answer);
 }

@@ -21,8 +21,8 @@ fn alone(rt: &impl Abort, alloc: Global, service: &Service, down: Down) -> Resul
     ensures ours { IfOk result (λ downs. AreOf service.now downs.items) }
     ensures all { IfOk result (λ downs. AreAll service.now.shape downs.items) }
 {
-    assert_eq!(rt; service.shape().workers, 1);
-    assert_eq!(rt; down.worker(), 0);
+    assert!(rt; service.shape().workers == 1);
+    assert!(rt; down.worker() == 0);
     let mut downs = Vec::with_capacity(alloc, 1)?;
     downs.push_reserved(down);
     Ok(downs)
@@ -93,14 +93,14 @@ fn begun(rt: HostRuntime) -> Result<(), Fail> {
         Ok(report) => report,
         Err(fault) => panic!(rt; "no report: {}", fault.why.name()),
     };
-    assert_eq!(rt; report.ends.as_slice(), [End::AllDone].as_slice());
-    assert_eq!(rt; report.lives.as_slice(), [1].as_slice());
+    assert!(rt; report.ends.as_slice() == [End::AllDone].as_slice());
+    assert!(rt; report.lives.as_slice() == [1].as_slice());
     let told = [
         ((0, 0, 1, 0, 5), OPERATIONS[0]),
         ((0, 0, 2, 1, 6), OPERATIONS[1]),
         ((0, 0, 3, 2, 40), OPERATIONS[2]),
     ];
-    assert_eq!(rt; report.closed.locks.len(), 1);
+    assert!(rt; report.closed.locks.len() == 1);
     assert!(rt; lock_is(&report.closed.locks[0], &[40], true, &told));
     Ok(())
 }

@@ -21,13 +21,12 @@ fn cut_everywhere(rt: HostRuntime) -> Result<(), Fail> {
         let mut plans = Vec::new(rt.alloc());
         plans.push(plan(rt.alloc(), &[job(0, FIVE)], &[steps], 2, 1)?)?;
         let report = report_of(&rt, rt.alloc(), (1, 1, 2, 10), plans, &Free)?;
-        assert_eq!(rt;
-            report.ends.as_slice(),
-            [End::AllDone].as_slice(),
+        assert!(rt;
+            report.ends.as_slice() == [End::AllDone].as_slice(),
             "{steps}"
         );
-        assert_eq!(rt; report.lives.as_slice(), [2].as_slice(), "{steps}");
-        assert_eq!(rt; report.closed.locks.len(), 1);
+        assert!(rt; report.lives.as_slice() == [2].as_slice(), "{steps}");
+        assert!(rt; report.closed.locks.len() == 1);
         assert!(rt;
             lock_is(
                 &report.closed.locks[0],

@@ -14,12 +14,13 @@ fn gate(rt: HostRuntime) -> Result<(), Fail> {
     plans.push(plan(rt.alloc(), &[job(0, &[])], &[], 1, 1)?)?;
     plans.push(plan(rt.alloc(), &[job(1, &[])], &[], 1, 1)?)?;
     let report = report_of(&rt, rt.alloc(), (2, 2, 1, 10), plans, &Crossing::new())?;
+    // Not `assert!`: `scripts/try-one-thread` reads the ends off what this prints when it fails.
     assert_eq!(rt;
         report.ends.as_slice(),
         [End::AllDone, End::AllDone].as_slice()
     );
-    assert_eq!(rt; report.lives.as_slice(), [1, 1].as_slice());
-    assert_eq!(rt; report.closed.locks.len(), 2);
+    assert!(rt; report.lives.as_slice() == [1, 1].as_slice());
+    assert!(rt; report.closed.locks.len() == 2);
     assert!(rt;
         lock_is(
             &report.closed.locks[0],
@@ -48,11 +49,8 @@ fn dead_owner(rt: HostRuntime) -> Result<(), Fail> {
     let jobs = [job(1, &[]), job(0, &[Op::Add(0, 1)])];
     plans.push(plan(rt.alloc(), &jobs, &[], 1, 3)?)?;
     let report = report_of(&rt, rt.alloc(), (2, 2, 1, 10), plans, &After::new())?;
-    assert_eq!(rt;
-        report.ends.as_slice(),
-        [End::OutOfLives, End::Stalled].as_slice()
-    );
-    assert_eq!(rt; report.closed.locks.len(), 2);
+    assert!(rt; report.ends.as_slice() == [End::OutOfLives, End::Stalled].as_slice());
+    assert!(rt; report.closed.locks.len() == 2);
     assert!(rt; lock_is(&report.closed.locks[0], &[0], false, &[]));
     assert!(rt;
         lock_is(
@@ -75,13 +73,13 @@ fn threads_program(rt: HostRuntime) -> Result<(), Fail> {
     }
     let gate = Counted::new();
     let report = report_of(&rt, rt.alloc(), (8, 1, 1, 100), plans, &gate)?;
-    assert_eq!(rt; report.ends.as_slice(), [End::AllDone; 8].as_slice());
-    assert_eq!(rt; report.lives.as_slice(), [4; 8].as_slice());
-    assert_eq!(rt; report.closed.locks.len(), 1);
+    assert!(rt; report.ends.as_slice() == [End::AllDone; 8].as_slice());
+    assert!(rt; report.lives.as_slice() == [4; 8].as_slice());
+    assert!(rt; report.closed.locks.len() == 1);
     let lock = &report.closed.locks[0];
-    assert_eq!(rt; lock.cells.as_slice(), [800].as_slice());
-    assert_eq!(rt; lock.entries.len(), 800);
-    assert_eq!(rt; gate.over(), 800);
+    assert!(rt; lock.cells.as_slice() == [800].as_slice());
+    assert!(rt; lock.entries.len() == 800);
+    assert!(rt; gate.over() == 800);
     Ok(())
 }
 
@@ -92,10 +90,10 @@ fn shut_gate(rt: HostRuntime) -> Result<(), Fail> {
     plans.push(plan(rt.alloc(), &[job(0, &[Op::Add(0, 5)])], &[], 3, 1)?)?;
     let gate = Shut::new();
     let report = report_of(&rt, rt.alloc(), (1, 1, 1, 10), plans, &gate)?;
-    assert_eq!(rt; report.ends.as_slice(), [End::Stalled].as_slice());
-    assert_eq!(rt; report.lives.as_slice(), [1].as_slice());
-    assert_eq!(rt; gate.counts(), (1, 0));
-    assert_eq!(rt; report.closed.locks.len(), 1);
+    assert!(rt; report.ends.as_slice() == [End::Stalled].as_slice());
+    assert!(rt; report.lives.as_slice() == [1].as_slice());
+    assert!(rt; gate.counts() == (1, 0));
+    assert!(rt; report.closed.locks.len() == 1);
     assert!(rt; lock_is(&report.closed.locks[0], &[0], false, &[]));
     Ok(())
 }
@@ -107,12 +105,9 @@ fn refused_job(rt: HostRuntime) -> Result<(), Fail> {
     let mut plans = Vec::new(rt.alloc());
     plans.push(plan(rt.alloc(), &jobs, &[], 1, 1)?)?;
     let report = report_of(&rt, rt.alloc(), (1, 1, 1, 10), plans, &Free)?;
-    assert_eq!(rt;
-        report.ends.as_slice(),
-        [End::Refused(Refusal::NoLock)].as_slice()
-    );
+    assert!(rt; report.ends.as_slice() == [End::Refused(Refusal::NoLock)].as_slice());
     let told = [((0, 0, 1, 0, 5), [Op::Add(0, 5)].as_slice())];
-    assert_eq!(rt; report.closed.locks.len(), 1);
+    assert!(rt; report.closed.locks.len() == 1);
     assert!(rt; lock_is(&report.closed.locks[0], &[5], true, &told));
     Ok(())
 }
@@ -123,7 +118,7 @@ fn falls_from_the_first_step(rt: HostRuntime) -> Result<(), Fail> {
     let mut plans = Vec::new(rt.alloc());
     plans.push(plan(rt.alloc(), &[job(0, &[Op::Add(0, 5)])], &[0, 1], 3, 1)?)?;
     let report = report_of(&rt, rt.alloc(), (1, 1, 1, 10), plans, &Free)?;
-    assert_eq!(rt; report.ends.as_slice(), [End::AllDone].as_slice());
-    assert_eq!(rt; report.lives.as_slice(), [3].as_slice());
+    assert!(rt; report.ends.as_slice() == [End::AllDone].as_slice());
+    assert!(rt; report.lives.as_slice() == [3].as_slice());
     Ok(())
 }

@@ -1,14 +1,14 @@
 //! Each public call on its happy path, and the refusals of `post`.
 
-ghost use Rattle.std.specs.Prelude.{◌≡◌};
-
 use crate::chances::Counting;
+use crate::plays::Call::{Ask, Enter, Exit, IsReady, Perform, Refuse};
+use crate::plays::{Call, live};
 use crate::values::{
     Told, ask, asked, climb_is, come_up, come_up_inside, come_up_waiting, enter, entries_are, exit,
-    held_is, is_job, job, next, open, perform, ready_is, receipt, refuse,
+    held_is, is_job, job, next, open, perform, ready_is, receipt,
 };
 use rme_script::Op;
-use rme_table::{Down, Never, Ready, Service};
+use rme_table::{Down, Never};
 use rme_words::Refusal;
 use std::process::Abort;
 use std::test::Fail;
@@ -17,7 +17,7 @@ const SEVEN: &[Op] = &[Op::Set(0, 7)];
 
 /// A Down must have this number, be fresh or not, and have just these entries.
 fn down_is(rt: &impl Abort, down: &Down, worker: u32, fresh: bool, told: &[Told]) {
-    assert_eq!(rt; (down.worker(), down.fresh()), (worker, fresh));
+    assert!(rt; down.worker() == worker && down.fresh() == fresh);
     assert!(rt; entries_are(down.entries(), told));
 }
 
@@ -25,12 +25,12 @@ fn down_is(rt: &impl Abort, down: &Down, worker: u32, fresh: bool, told: &[Told]
 #[test]
 fn told_when_fresh(rt: HostRuntime) -> Result<(), Fail> {
     let (service, mut downs) = open(rt.alloc(), (2, 2, 1, 10))?;
-    assert_eq!(rt; service.shape().locks(), 2);
-    assert_eq!(rt; downs.len(), 2);
+    assert!(rt; service.shape().locks() == 2);
+    assert!(rt; downs.len() == 2);
     let one = next(&rt, &service, &mut downs);
     down_is(&rt, &one, 1, true, &[]);
     let mut ready = come_up(&rt, &service, one, &mut Never);
-    assert_eq!(rt; ready.worker(), 1);
+    assert!(rt; ready.worker() == 1);
     ready_is(&rt, &service, &mut ready, 0, None);
     down_is(&rt, &ready.crash(), 1, true, &[]);
     Ok(())
@@ -44,18 +44,18 @@ fn told_by_values(rt: HostRuntime) -> Result<(), Fail> {
     let ready = come_up(&rt, &service, one, &mut Never);
     let ready = come_up(&rt, &service, ready.crash(), &mut Never);
     let mut climb = ask(&rt, &service, ready, job(1, SEVEN), &mut Never);
-    assert_eq!(rt; climb.worker(), 1);
+    assert!(rt; climb.worker() == 1);
     climb_is(&rt, &service, &mut climb, 1, 1, SEVEN);
     let one = climb.crash();
     down_is(&rt, &one, 1, false, &[]);
     let mut climb = come_up_waiting(&rt, &service, one, &mut Never);
     climb_is(&rt, &service, &mut climb, 1, 1, SEVEN);
     let mut held = enter(&rt, &service, climb, &mut Never);
-    assert_eq!(rt; held.worker(), 1);
+    assert!(rt; held.worker() == 1);
     held_is(&rt, &held, 1, 1, false);
     assert!(rt; is_job(&held.job(&service), 1, SEVEN));
     let leave = perform(&rt, &service, held, (1, 1, 1, 0, 7), &mut Never);
-    assert_eq!(rt; leave.worker(), 1);
+    assert!(rt; leave.worker() == 1);
     down_is(&rt, &leave.crash(), 1, false, &[((1, 1, 1, 0, 7), SEVEN)]);
     Ok(())
 }
@@ -91,35 +91,44 @@ fn finished_already(rt: HostRuntime) -> Result<(), Fail> {
     Ok(())
 }
 
-/// Posts jobs that are refused at the second lock of one, for their script and for its cells, each also for
-/// what is refused later.
-fn post_wrong_jobs(rt: &impl Abort, service: &Service, ready: Ready) -> Ready
-    requires ours { ready.ident ≡ service.now }
-    ensures ours { result.ident ≡ service.now }
-{
-    let ready = refuse(rt, service, ready, job(1, &[Op::Get(1); 9]), 11);
-    let ready = refuse(rt, service, ready, job(1, &[]), 11);
-    let ready = refuse(rt, service, ready, job(0, &[Op::Get(1); 9]), 12);
-    let ready = refuse(rt, service, ready, job(0, &[Op::Get(0); 9]), 12);
-    refuse(rt, service, ready, job(0, &[Op::Get(0), Op::Get(1)]), 13)
-}
+/// Jobs that are refused at the second lock of one, for their script and for its cells, each also for what is refused
+/// later.
+const SECOND_LOCK: Call = Refuse(1, &[Op::Get(1); 9], 11);
+
+const SECOND_LOCK_ALONE: Call = Refuse(1, &[], 11);
+
+const LONG_SCRIPT: Call = Refuse(0, &[Op::Get(1); 9], 12);
+
+const LONG_SCRIPT_ALONE: Call = Refuse(0, &[Op::Get(0); 9], 12);
+
+const SECOND_CELL: Call = Refuse(0, &[Op::Get(0), Op::Get(1)], 13);
 
 /// The refusals of `post` come in their order, and change nothing: not the last receipt, and not the number.
+const REFUSALS: &[Call] = &[
+    SECOND_LOCK,
+    SECOND_LOCK_ALONE,
+    LONG_SCRIPT,
+    LONG_SCRIPT_ALONE,
+    SECOND_CELL,
+    IsReady(0, None),
+    Ask(0, &[Op::Get(0); 8]),
+    Enter,
+    Perform((1, 0, 1, 0, 0)),
+    Exit,
+    SECOND_LOCK,
+    SECOND_LOCK_ALONE,
+    LONG_SCRIPT,
+    LONG_SCRIPT_ALONE,
+    SECOND_CELL,
+    Refuse(0, &[], 14),
+    IsReady(1, Some((1, 0, 1, 0, 0))),
+];
+
 #[test]
 fn refusals_of_post(rt: HostRuntime) -> Result<(), Fail> {
     let (service, mut downs) = open(rt.alloc(), (2, 1, 1, 1))?;
     let one = next(&rt, &service, &mut downs);
-    let mut chance = Counting::new();
-    let ready = come_up(&rt, &service, one, &mut chance);
-    let mut ready = post_wrong_jobs(&rt, &service, ready);
-    ready_is(&rt, &service, &mut ready, 0, None);
-    let climb = ask(&rt, &service, ready, job(0, &[Op::Get(0); 8]), &mut chance);
-    let held = enter(&rt, &service, climb, &mut chance);
-    let leave = perform(&rt, &service, held, (1, 0, 1, 0, 0), &mut chance);
-    let ready = exit(&rt, &service, leave, &mut chance);
-    let ready = post_wrong_jobs(&rt, &service, ready);
-    let mut ready = refuse(&rt, &service, ready, job(0, &[]), 14);
-    ready_is(&rt, &service, &mut ready, 1, Some(receipt((1, 0, 1, 0, 0))));
-    assert_eq!(rt; Refusal::TooManyJobs.code(), 14);
+    let _one = live(&rt, &service, one, REFUSALS, &mut Counting::new());
+    assert!(rt; Refusal::TooManyJobs.code() == 14);
     Ok(())
 }

@@ -4,8 +4,8 @@
 //! taken from a run. The crate has nothing but tests: it shows that the contracts of rme_table say what was
 //! meant, that each public call succeeds where there is room, and what no clause says, as what a crash leaves
 //! after it was cut at each own step, and what threads leave that run side by side. It stands on rme_table, and
-//! on rme_history, by which the entries of a closed service are replayed. Begin with `values.rt`, which has the
-//! words that the rows are written in, and then `services.rt`.
+//! on rme_history, by which the entries of a closed service are replayed. Begin with `values.rt` and `plays.rt`,
+//! which have the words that the rows are written in, and then `services.rt`.
 #![tactic(auto)]
 
 #[cfg(test)]
@@ -18,6 +18,8 @@ mod cuts;
 mod lives;
 #[cfg(test)]
 mod plans;
+#[cfg(test)]
+mod plays;
 #[cfg(test)]
 mod services;
 #[cfg(test)]

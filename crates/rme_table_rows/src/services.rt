@@ -3,9 +3,11 @@
 ghost use Rattle.std.specs.Prelude.{◌≡◌};
 
 use crate::chances::{Counting, Falls};
+use crate::plays::Call::{Ask, Asked, Enter, Exit, IsHeld, Meet, Perform};
+use crate::plays::{Call, fall, go_on, live, rise};
 use crate::values::{
-    ask, asked, both, close, come_up, come_up_inside, enter, entries_are, exit, fall_inside,
-    held_is, job, lock_is, meet, next, open, perform,
+    Numbers, ask, both, close, come_up, enter, entries_are, exit, fall_inside, job, lock_is, next,
+    open, perform,
 };
 use rme_script::Op;
 use rme_table::{Down, Never, Service, Unclosed};
@@ -19,7 +21,7 @@ fn make_job(
     service: &Service,
     down: Down,
     operations: &[Op],
-    told: (u32, u32, u32, u32, u64),
+    told: Numbers,
 ) -> Down
     requires ours { down.ident ≡ service.now }
     ensures ours { result.ident ≡ service.now }
@@ -42,7 +44,7 @@ fn running_service(rt: HostRuntime) -> Result<(), Fail> {
     let one = make_job(&rt, &service, one, &[Op::Get(0)], (1, 0, 1, 1, 5));
     let downs = both(rt.alloc(), &service, zero, one)?;
     let closed = close(&rt, service, downs);
-    assert_eq!(rt; closed.locks.len(), 1);
+    assert!(rt; closed.locks.len() == 1);
     assert!(rt;
         lock_is(
             &closed.locks[0],
@@ -70,22 +72,34 @@ fn close_with_one_missing(rt: HostRuntime) -> Result<(), Fail> {
     let Err(unclosed) = service.close(alone) else {
         return Err(Refusal::NoWorker.into());
     };
-    assert_eq!(rt; unclosed.why.code(), 6);
+    assert!(rt; unclosed.why.code() == 6);
     let Unclosed {
         why: _,
         service,
         mut downs,
     } = unclosed;
-    assert_eq!(rt; downs.len(), 1);
-    assert_eq!(rt; downs[0].worker(), 0);
+    assert!(rt; downs.len() == 1);
+    assert!(rt; downs[0].worker() == 0);
     assert!(rt; entries_are(downs[0].entries(), &[((0, 0, 1, 0, 5), &[Op::Add(0, 5)])]));
     let one = make_job(&rt, &service, one, &[Op::Get(0)], (1, 0, 1, 1, 5));
     downs.push(one)?;
     let closed = close(&rt, service, downs);
-    assert_eq!(rt; closed.locks.len(), 1);
-    assert_eq!(rt; closed.locks[0].entries.len(), 2);
+    assert!(rt; closed.locks.len() == 1);
+    assert!(rt; closed.locks[0].entries.len() == 2);
     Ok(())
 }
+
+/// Row `table re-entry`: worker 0 enters, and falls.
+const ENTERED: &[Call] = &[Asked(2), Ask(0, &[]), Asked(3), Enter, Asked(1)];
+
+/// Worker 1 is blocked twice.
+const BLOCKED_TWICE: &[Call] = &[Ask(0, &[]), Asked(5), Meet, Asked(1), Meet, Asked(1)];
+
+/// Worker 0 comes up inside.
+const RE_ENTERED: &[Call] = &[Asked(4), IsHeld(1, 0, false)];
+
+/// Worker 1 is blocked still.
+const BLOCKED_AGAIN: &[Call] = &[Meet, Asked(1)];
 
 /// Row `table re-entry`: a worker that fell inside is inside again once it has come up, and none entered
 /// meanwhile.
@@ -95,57 +109,53 @@ fn table_re_entry(rt: HostRuntime) -> Result<(), Fail> {
     let one = next(&rt, &service, &mut downs);
     let zero = next(&rt, &service, &mut downs);
     let mut chance = Counting::new();
-    let ready = come_up(&rt, &service, zero, &mut chance);
-    asked(&rt, &mut chance, 2);
-    let climb = ask(&rt, &service, ready, job(0, &[]), &mut chance);
-    asked(&rt, &mut chance, 3);
-    let held = enter(&rt, &service, climb, &mut chance);
-    asked(&rt, &mut chance, 1);
-    let zero = held.crash();
-    let ready = come_up(&rt, &service, one, &mut chance);
-    let climb = ask(&rt, &service, ready, job(0, &[]), &mut chance);
-    asked(&rt, &mut chance, 5);
-    let climb = meet(&rt, &service, climb, &mut chance);
-    asked(&rt, &mut chance, 1);
-    let climb = meet(&rt, &service, climb, &mut chance);
-    asked(&rt, &mut chance, 1);
-    let held = come_up_inside(&rt, &service, zero, &mut chance);
-    asked(&rt, &mut chance, 4);
-    held_is(&rt, &held, 1, 0, false);
-    let climb = meet(&rt, &service, climb, &mut chance);
-    asked(&rt, &mut chance, 1);
-    let _zero = held.crash();
-    let _one = climb.crash();
+    let zero = live(&rt, &service, zero, ENTERED, &mut chance);
+    let one = rise(&rt, &service, one, BLOCKED_TWICE, &mut chance);
+    let zero = rise(&rt, &service, zero, RE_ENTERED, &mut chance);
+    let one = go_on(&rt, &service, one, BLOCKED_AGAIN, &mut chance);
+    let _zero = fall(zero);
+    let _one = fall(one);
     Ok(())
 }
 
-/// Row `dead owner`, by calls: worker 0 falls before the first step of its section, which is its tenth own
-/// step; worker 1 is done on the other lock, and is blocked on this one.
+/// Row `dead owner`: worker 0 falls before the first step of its section, which is its tenth own step.
+fn fall_in_section(rt: &impl Abort, service: &Service, zero: Down) -> Down
+    requires ours { zero.ident ≡ service.now }
+    ensures ours { result.ident ≡ service.now }
+{
+    let mut falls = Falls::new(&[9]);
+    let ready = come_up(rt, service, zero, &mut falls);
+    let climb = ask(rt, service, ready, job(0, &[Op::Add(0, 5)]), &mut falls);
+    let held = enter(rt, service, climb, &mut falls);
+    assert!(rt; falls.fallen() == 0);
+    let zero = fall_inside(rt, service, held, &mut falls);
+    assert!(rt; falls.fallen() == 1);
+    zero
+}
+
+/// Worker 1 is done on the other lock, and is blocked on this one.
+const DONE_ON_ANOTHER: &[Call] = &[
+    Ask(1, &[]),
+    Enter,
+    Perform((1, 1, 1, 0, 0)),
+    Exit,
+    Ask(0, &[Op::Add(0, 1)]),
+    Meet,
+    Meet,
+    Meet,
+];
+
+/// Row `dead owner`, by calls.
 #[test]
 fn dead_owner(rt: HostRuntime) -> Result<(), Fail> {
     let (service, mut downs) = open(rt.alloc(), (2, 2, 1, 10))?;
     let one = next(&rt, &service, &mut downs);
     let zero = next(&rt, &service, &mut downs);
-    let mut falls = Falls::new(&[9]);
-    let ready = come_up(&rt, &service, zero, &mut falls);
-    let climb = ask(&rt, &service, ready, job(0, &[Op::Add(0, 5)]), &mut falls);
-    let held = enter(&rt, &service, climb, &mut falls);
-    assert_eq!(rt; falls.fallen(), 0);
-    let zero = fall_inside(&rt, &service, held, &mut falls);
-    assert_eq!(rt; falls.fallen(), 1);
-    let mut chance = Counting::new();
-    let ready = come_up(&rt, &service, one, &mut chance);
-    let climb = ask(&rt, &service, ready, job(1, &[]), &mut chance);
-    let held = enter(&rt, &service, climb, &mut chance);
-    let leave = perform(&rt, &service, held, (1, 1, 1, 0, 0), &mut chance);
-    let ready = exit(&rt, &service, leave, &mut chance);
-    let climb = ask(&rt, &service, ready, job(0, &[Op::Add(0, 1)]), &mut chance);
-    let climb = meet(&rt, &service, climb, &mut chance);
-    let climb = meet(&rt, &service, climb, &mut chance);
-    let climb = meet(&rt, &service, climb, &mut chance);
-    let downs = both(rt.alloc(), &service, zero, climb.crash())?;
+    let zero = fall_in_section(&rt, &service, zero);
+    let one = live(&rt, &service, one, DONE_ON_ANOTHER, &mut Counting::new());
+    let downs = both(rt.alloc(), &service, zero, one)?;
     let closed = close(&rt, service, downs);
-    assert_eq!(rt; closed.locks.len(), 2);
+    assert!(rt; closed.locks.len() == 2);
     assert!(rt; lock_is(&closed.locks[0], &[0], false, &[]));
     assert!(rt; lock_is(&closed.locks[1], &[0], true, &[((1, 1, 1, 0, 0), &[])]));
     Ok(())

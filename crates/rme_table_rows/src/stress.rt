@@ -9,7 +9,7 @@ use crate::values::open;
 use crate::watch::Watch;
 use rme_history::replay;
 use rme_program::Entry;
-use rme_script::Job;
+use rme_script::{Job, Row};
 use rme_table::{Closed, ClosedLock, Down, Service};
 use rme_words::{Refusal, Shape};
 use std::alloc::Global;
@@ -52,16 +52,25 @@ fn work(service: &Service, down: Down, plans: &[Plan], fallen: &AtomicU64, watch
     down
 }
 
+/// Whether an entry is this job of a worker, under this number.
+fn is_made(entry: &Entry, worker: u32, number: u32, job: &Job) -> bool {
+    let receipt = entry.receipt;
+    receipt.worker == worker
+        && receipt.number == number
+        && receipt.lock == job.lock
+        && entry.script == job.script
+}
+
 /// The entries of a worker are its jobs, in order, each once.
 fn check_entries(rt: &impl Abort, worker: u32, entries: &[Entry], jobs: &[Job]) {
-    assert_eq!(rt; entries.len(), jobs.len(), "worker {worker}");
+    assert!(rt; entries.len() == jobs.len(), "worker {worker}");
     let mut number: u32 = 0;
     for (entry, job) in entries.iter().zip(jobs) {
         number = number.saturating_add(1);
-        let receipt = entry.receipt;
-        assert_eq!(rt; (receipt.worker, receipt.number), (worker, number));
-        assert_eq!(rt; receipt.lock, job.lock, "worker {worker}, job {number}");
-        assert!(rt; entry.script == job.script, "worker {worker}, job {number}");
+        assert!(rt;
+            is_made(entry, worker, number, job),
+            "worker {worker}, job {number}"
+        );
     }
 }
 
@@ -76,21 +85,26 @@ fn all_entries(alloc: Global, closed: &Closed) -> Result<Vec<Entry>, Fail> {
     Ok(entries)
 }
 
+/// The cells of a lock are this row.
+fn check_row(rt: &impl Abort, cells: &[u64], row: &Row) {
+    assert!(rt; cells.len() == CELLS as usize && row.len() == CELLS);
+    for (cell, value) in cells.iter().enumerate() {
+        assert!(rt; *value == row.get(cell as u32), "cell {cell}");
+    }
+}
+
 /// The cells of each lock are what its entries leave, one after another.
 fn check_cells(rt: &impl Abort, alloc: Global, closed: &Closed) -> Result<(), Fail> {
     let entries = all_entries(alloc, closed)?;
-    assert_eq!(rt; entries.len(), (WORKERS * JOBS) as usize);
+    assert!(rt; entries.len() == (WORKERS * JOBS) as usize);
     let shape = Shape::new(WORKERS, LOCKS, CELLS, JOBS)?;
     let Ok(rows) = replay(alloc, shape, &entries) else {
         panic!(rt; "the entries are no history");
     };
-    assert_eq!(rt; closed.locks.len(), LOCKS as usize);
+    assert!(rt; closed.locks.len() == LOCKS as usize);
     for (lock, row) in closed.locks.iter().zip(&rows) {
         assert!(rt; lock.settled);
-        assert_eq!(rt; (lock.cells.len(), row.len()), (CELLS as usize, CELLS));
-        for (cell, value) in lock.cells.iter().enumerate() {
-            assert_eq!(rt; *value, row.get(cell as u32));
-        }
+        check_row(rt, &lock.cells, row);
     }
     Ok(())
 }
@@ -113,9 +127,9 @@ fn stress(rt: HostRuntime) -> Result<(), Fail> {
         ensures { result.ident ≡ shared.entry.now }
     { work(shared, down, planned, fallen, seen) };
     let downs = thread::map_vec(&rt, downs, &life)?;
-    assert_eq!(rt; downs.len(), WORKERS as usize);
-    assert_eq!(rt; fallen.load(Ordering::SeqCst), u64::from(WORKERS * FALLS));
-    assert_eq!(rt; watch.clashes(), 0);
+    assert!(rt; downs.len() == WORKERS as usize);
+    assert!(rt; fallen.load(Ordering::SeqCst) == u64::from(WORKERS * FALLS));
+    assert!(rt; watch.clashes() == 0);
     assert!(rt; watch.visits() >= u64::from(WORKERS * JOBS));
     for (down, plan) in downs.iter().zip(&plans) {
         check_entries(&rt, down.worker(), down.entries(), plan.jobs.as_slice());

@@ -3,7 +3,9 @@
 ghost use Rattle.std.specs.Prelude.{◌≡◌};
 
 use crate::chances::Counting;
-use crate::values::{ask, come_up, come_up_inside, enter, job, meet, next, open};
+use crate::plays::Call::{Ask, Asked, Enter, IsHeld, Meet};
+use crate::plays::{Call, fall, go_on, live, rise};
+use crate::values::{next, open};
 use rme_table::{Down, Service};
 use std::process::Abort;
 use std::sync::Wait;
@@ -27,27 +29,32 @@ fn hand_on(turn: &AtomicU64) {
     turn.fetch_add(1, Ordering::SeqCst);
 }
 
+/// Worker 0 up to its fall.
+const ENTERED: &[Call] = &[Ask(0, &[]), Enter, Asked(6)];
+
+/// It comes up inside.
+const RE_ENTERED: &[Call] = &[Asked(4), IsHeld(1, 0, false)];
+
 /// Worker 0, at turns 0 and 2: it enters and falls, and then it has re-entered.
 fn enter_twice<R: Abort + Wait>(rt: &R, service: &Service, down: Down, turn: &AtomicU64)
     requires { down.ident ≡ service.now }
 {
     let mut chance = Counting::new();
     wait_for(rt, turn, 0);
-    let ready = come_up(rt, service, down, &mut chance);
-    let climb = ask(rt, service, ready, job(0, &[]), &mut chance);
-    let held = enter(rt, service, climb, &mut chance);
-    assert_eq!(rt; chance.take(), 6);
-    let down = held.crash();
+    let down = live(rt, service, down, ENTERED, &mut chance);
     hand_on(turn);
     wait_for(rt, turn, 2);
-    let held = come_up_inside(rt, service, down, &mut chance);
-    assert_eq!(rt; chance.take(), 4);
-    assert_eq!(rt; held.number(), 1);
-    assert!(rt; !held.finished());
+    let stance = rise(rt, service, down, RE_ENTERED, &mut chance);
     hand_on(turn);
     wait_for(rt, turn, 4);
-    let _down = held.crash();
+    let _down = fall(stance);
 }
+
+/// Worker 1 while worker 0 is down.
+const BLOCKED_TWICE: &[Call] = &[Ask(0, &[]), Meet, Meet, Asked(2 + 3 + 1 + 1)];
+
+/// While it is inside again.
+const BLOCKED_AGAIN: &[Call] = &[Meet, Asked(1)];
 
 /// Worker 1, at turns 1 and 3: it is blocked each time.
 fn be_blocked<R: Abort + Wait>(rt: &R, service: &Service, down: Down, turn: &AtomicU64)
@@ -55,16 +62,11 @@ fn be_blocked<R: Abort + Wait>(rt: &R, service: &Service, down: Down, turn: &Ato
 {
     let mut chance = Counting::new();
     wait_for(rt, turn, 1);
-    let ready = come_up(rt, service, down, &mut chance);
-    let climb = ask(rt, service, ready, job(0, &[]), &mut chance);
-    let climb = meet(rt, service, climb, &mut chance);
-    let climb = meet(rt, service, climb, &mut chance);
-    assert_eq!(rt; chance.take(), 2 + 3 + 1 + 1);
+    let stance = rise(rt, service, down, BLOCKED_TWICE, &mut chance);
     hand_on(turn);
     wait_for(rt, turn, 3);
-    let climb = meet(rt, service, climb, &mut chance);
-    assert_eq!(rt; chance.take(), 1);
-    let _down = climb.crash();
+    let stance = go_on(rt, service, stance, BLOCKED_AGAIN, &mut chance);
+    let _down = fall(stance);
     hand_on(turn);
 }
 

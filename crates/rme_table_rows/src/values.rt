@@ -166,12 +166,12 @@ pub fn meet<C: Chance>(rt: &impl Abort, service: &Service, climb: Climb, chance:
     }
 }
 
-/// The job is performed, and must have this receipt: worker, lock, number, place and reply.
+/// The job is performed, and must have this receipt.
 pub fn perform<C: Chance>(
     rt: &impl Abort,
     service: &Service,
     held: Held,
-    told: (u32, u32, u32, u32, u64),
+    told: Numbers,
     chance: &mut C,
 ) -> Leave
     requires ours { held.ident ≡ service.now }
@@ -179,7 +179,7 @@ pub fn perform<C: Chance>(
 {
     match held.perform(service, chance) {
         Ok((leave, found)) => {
-            assert_eq!(rt; found, receipt(told));
+            assert!(rt; found == receipt(told));
             leave
         }
         _ => panic!(rt; "it fell"),
@@ -242,7 +242,7 @@ pub fn fall_back<C: Chance>(
 
 /// The chance must have been asked so often since it was looked at last.
 pub fn asked(rt: &impl Abort, chance: &mut Counting, times: u32) {
-    assert_eq!(rt; chance.take(), times);
+    assert!(rt; chance.take() == times);
 }
 
 /// A waiting worker must have this number and this job, on this lock.
@@ -257,7 +257,7 @@ pub fn climb_is(
     requires ours { climb.old.ident ≡ service.now }
     ensures same { climb.new ≡ climb.old }
 {
-    assert_eq!(rt; climb.number(), number);
+    assert!(rt; climb.number() == number);
     assert!(rt; is_job(&climb.job(service), lock, operations));
 }
 
@@ -272,16 +272,16 @@ pub fn ready_is(
     requires ours { ready.old.ident ≡ service.now }
     ensures same { ready.new ≡ ready.old }
 {
-    assert_eq!(rt; ready.number(), number);
-    assert_eq!(rt; ready.last(service), last);
+    assert!(rt; ready.number() == number);
+    assert!(rt; ready.last(service) == last);
 }
 
 /// A worker inside must have this number and this lock, and its job is finished already or not.
 pub fn held_is(rt: &impl Abort, held: &Held, number: u32, lock: u32, finished: bool)
     ensures { finished ≡ is_over held.now.part.private.stage }
 {
-    assert_eq!(rt; (held.number(), held.lock()), (number, lock));
-    assert_eq!(rt; held.finished(), finished);
+    assert!(rt; held.number() == number && held.lock() == lock);
+    assert!(rt; held.finished() == finished);
 }
 
 /// The service is closed, and must answer what its locks are.
@@ -302,16 +302,19 @@ pub fn refuse(rt: &impl Abort, service: &Service, ready: Ready, job: Job, code: 
     let mut chance = Counting::new();
     match ready.post(service, job, &mut chance) {
         Posted::Refused(ready, refusal) => {
-            assert_eq!(rt; refusal.code(), code);
-            assert_eq!(rt; chance.take(), 0);
+            assert!(rt; refusal.code() == code);
+            assert!(rt; chance.take() == 0);
             ready
         }
         _ => panic!(rt; "it was not refused"),
     }
 }
 
-/// A receipt: worker, lock, number, place and reply.
-pub fn receipt((worker, lock, number, place, reply): (u32, u32, u32, u32, u64)) -> Receipt {
+/// The numbers of a receipt: worker, lock, number, place and reply.
+pub type Numbers = (u32, u32, u32, u32, u64);
+
+/// A receipt of these numbers.
+pub fn receipt((worker, lock, number, place, reply): Numbers) -> Receipt {
     Receipt {
         worker,
         lock,
@@ -322,7 +325,7 @@ pub fn receipt((worker, lock, number, place, reply): (u32, u32, u32, u32, u64)) 
 }
 
 /// An entry: a receipt and the operations of its job.
-pub type Told = ((u32, u32, u32, u32, u64), &'static [Op]);
+pub type Told = (Numbers, &'static [Op]);
 
 /// Whether a list has just these entries.
 pub fn entries_are(entries: &[Entry], told: &[Told]) -> bool {

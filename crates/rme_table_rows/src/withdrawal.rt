@@ -3,15 +3,64 @@
 ghost use Rattle.std.specs.Prelude.{◌≡◌};
 ghost use Rattle.rme_seats.specs.Closing.{AreOf};
 
-use crate::chances::{Counting, Falls};
-use crate::values::{
-    ask, asked, both, close, come_up, come_up_inside, come_up_leaving, come_up_waiting, enter,
-    exit, fall_back, give_up, job, lock_is, meet, next, open, perform, ready_is,
+use crate::chances::Counting;
+use crate::plays::Call::{
+    Ask, Asked, Enter, Exit, FallBack, GiveUp, IsClimb, IsHeld, IsReady, Meet, Perform,
 };
+use crate::plays::{Call, fall, go_on, live, rise};
+use crate::values::{Told, both, close, lock_is, next, open};
 use rme_script::Op;
-use rme_table::{Climb, Down, Held, Service};
+use rme_table::{Down, Service};
 use std::process::Abort;
 use std::test::Fail;
+
+const ADD_FIVE: &[Op] = &[Op::Add(0, 5)];
+
+const ADD_ONE: &[Op] = &[Op::Add(0, 1)];
+
+/// Row `withdrawal`: worker 0 enters, and falls.
+const ENTERED: &[Call] = &[Ask(0, ADD_FIVE), Enter];
+
+/// Worker 1 waits.
+const BLOCKED: &[Call] = &[Ask(0, ADD_ONE), Meet];
+
+/// Worker 0 comes up inside: with the steps of both up to here.
+const RE_ENTERED: &[Call] = &[IsHeld(1, 0, false), Asked(2 + 6 + 1 + 2 + 6 + 1 + 4)];
+
+/// Worker 1 gives its first number up, which has no receipt, and asks under its second.
+const GIVEN_UP: &[Call] = &[
+    GiveUp,
+    Asked(4),
+    IsReady(1, None),
+    Ask(0, &[]),
+    IsClimb(2, 0, &[]),
+];
+
+/// Worker 0 finishes.
+const FINISHED: &[Call] = &[Perform((0, 0, 1, 0, 5)), Exit];
+
+/// Worker 1 finishes under its second number.
+const FINISHED_SECOND: &[Call] = &[Enter, Perform((1, 0, 2, 1, 0)), Exit];
+
+/// What the lock has then.
+const ENTRIES: &[Told] = &[((0, 0, 1, 0, 5), ADD_FIVE), ((1, 0, 2, 1, 0), &[])];
+
+/// Row `withdrawal`, its calls.
+fn withdraw(rt: &impl Abort, service: &Service, zero: Down, one: Down) -> (Down, Down)
+    requires zero { zero.ident ≡ service.now }
+    requires one { one.ident ≡ service.now }
+    ensures zero { result.0.ident ≡ service.now }
+    ensures one { result.1.ident ≡ service.now }
+{
+    let mut chance = Counting::new();
+    let zero = live(rt, service, zero, ENTERED, &mut chance);
+    let one = rise(rt, service, one, BLOCKED, &mut chance);
+    let zero = rise(rt, service, zero, RE_ENTERED, &mut chance);
+    let one = go_on(rt, service, one, GIVEN_UP, &mut chance);
+    let zero = go_on(rt, service, zero, FINISHED, &mut chance);
+    let one = go_on(rt, service, one, FINISHED_SECOND, &mut chance);
+    (fall(zero), fall(one))
+}
 
 /// Row `withdrawal`: a number that was given up is used, and has no receipt.
 #[test]
@@ -19,93 +68,62 @@ fn withdrawal(rt: HostRuntime) -> Result<(), Fail> {
     let (service, mut downs) = open(rt.alloc(), (2, 1, 1, 10))?;
     let one = next(&rt, &service, &mut downs);
     let zero = next(&rt, &service, &mut downs);
-    let mut chance = Counting::new();
-    let ready = come_up(&rt, &service, zero, &mut chance);
-    let climb = ask(&rt, &service, ready, job(0, &[Op::Add(0, 5)]), &mut chance);
-    let zero = enter(&rt, &service, climb, &mut chance).crash();
-    let ready = come_up(&rt, &service, one, &mut chance);
-    let climb = ask(&rt, &service, ready, job(0, &[Op::Add(0, 1)]), &mut chance);
-    let climb = meet(&rt, &service, climb, &mut chance);
-    let held = come_up_inside(&rt, &service, zero, &mut chance);
-    asked(&rt, &mut chance, 2 + 6 + 1 + 2 + 6 + 1 + 4);
-    let mut ready = give_up(&rt, &service, climb, &mut chance);
-    asked(&rt, &mut chance, 4);
-    ready_is(&rt, &service, &mut ready, 1, None);
-    let climb = ask(&rt, &service, ready, job(0, &[]), &mut chance);
-    assert_eq!(rt; climb.number(), 2);
-    let leave = perform(&rt, &service, held, (0, 0, 1, 0, 5), &mut chance);
-    let zero = exit(&rt, &service, leave, &mut chance).crash();
-    let held = enter(&rt, &service, climb, &mut chance);
-    let leave = perform(&rt, &service, held, (1, 0, 2, 1, 0), &mut chance);
-    let one = exit(&rt, &service, leave, &mut chance).crash();
+    let (zero, one) = withdraw(&rt, &service, zero, one);
     let downs = both(rt.alloc(), &service, zero, one)?;
     let closed = close(&rt, service, downs);
-    assert_eq!(rt; closed.locks.len(), 1);
-    assert!(rt;
-        lock_is(
-            &closed.locks[0],
-            &[5],
-            true,
-            &[((0, 0, 1, 0, 5), &[Op::Add(0, 5)]), ((1, 0, 2, 1, 0), &[])],
-        )
-    );
+    assert!(rt; closed.locks.len() == 1);
+    assert!(rt; lock_is(&closed.locks[0], &[5], true, ENTRIES));
     Ok(())
 }
 
-/// Row `dead climber` up to worker 0's blocked: worker 2 owns the lock, and worker 0 holds the node below the
-/// root. The Downs are of four workers.
-fn behind_another(rt: &impl Abort, service: &Service, mut downs: Vec<Down>) -> (Held, Climb)
+/// Row `dead climber`: worker 2 owns the lock.
+const OWNED: &[Call] = &[Ask(0, &[]), Enter];
+
+/// Worker 0 holds the node below the root, and is blocked there: with the steps of both.
+const BEHIND: &[Call] = &[Ask(0, &[]), Meet, Asked(2 + 3 + 2 + 2 + 3 + 2)];
+
+/// Row `dead climber` up to worker 0's blocked, and how it goes on by these calls. The Downs are of four workers.
+fn go_on_behind(rt: &impl Abort, service: &Service, mut downs: Vec<Down>, calls: &[Call])
     requires ours { AreOf service.now downs.items }
-    ensures held { result.0.ident ≡ service.now }
-    ensures climb { result.1.ident ≡ service.now }
 {
     let _three = next(rt, service, &mut downs);
     let two = next(rt, service, &mut downs);
     let _one = next(rt, service, &mut downs);
     let zero = next(rt, service, &mut downs);
     let mut chance = Counting::new();
-    let ready = come_up(rt, service, two, &mut chance);
-    let climb = ask(rt, service, ready, job(0, &[]), &mut chance);
-    let held = enter(rt, service, climb, &mut chance);
-    let ready = come_up(rt, service, zero, &mut chance);
-    let climb = ask(rt, service, ready, job(0, &[]), &mut chance);
-    let climb = meet(rt, service, climb, &mut chance);
-    asked(rt, &mut chance, 2 + 3 + 2 + 2 + 3 + 2);
-    (held, climb)
+    let two = rise(rt, service, two, OWNED, &mut chance);
+    let zero = rise(rt, service, zero, BEHIND, &mut chance);
+    let zero = go_on(rt, service, zero, calls, &mut chance);
+    let _zero = fall(zero);
+    let _two = fall(two);
 }
 
 /// Row `withdrawal with a node`: cut after three steps the worker waits still, and gives up by five.
+const CUT_EARLY: &[Call] = &[
+    FallBack(3),
+    IsClimb(1, 0, &[]),
+    Asked(5),
+    Meet,
+    Asked(1),
+    GiveUp,
+    Asked(5),
+    IsReady(1, None),
+];
+
 #[test]
 fn withdrawal_with_a_node(rt: HostRuntime) -> Result<(), Fail> {
     let (service, downs) = open(rt.alloc(), (4, 1, 1, 10))?;
-    let (held, climb) = behind_another(&rt, &service, downs);
-    let zero = fall_back(&rt, &service, climb, &mut Falls::new(&[3]));
-    let mut chance = Counting::new();
-    let climb = come_up_waiting(&rt, &service, zero, &mut chance);
-    assert_eq!(rt; climb.number(), 1);
-    asked(&rt, &mut chance, 5);
-    let climb = meet(&rt, &service, climb, &mut chance);
-    asked(&rt, &mut chance, 1);
-    let mut ready = give_up(&rt, &service, climb, &mut chance);
-    asked(&rt, &mut chance, 5);
-    ready_is(&rt, &service, &mut ready, 1, None);
-    let _two = held.crash();
+    go_on_behind(&rt, &service, downs, CUT_EARLY);
     Ok(())
 }
 
 /// Row `withdrawal with a node`: cut after its fourth step the job is withdrawn, and the node is released by
 /// the recovery.
+const CUT_LATE: &[Call] = &[FallBack(4), Asked(5), Exit, Asked(1), IsReady(1, None)];
+
 #[test]
 fn withdrawal_cut_late(rt: HostRuntime) -> Result<(), Fail> {
     let (service, downs) = open(rt.alloc(), (4, 1, 1, 10))?;
-    let (held, climb) = behind_another(&rt, &service, downs);
-    let zero = fall_back(&rt, &service, climb, &mut Falls::new(&[4]));
-    let mut chance = Counting::new();
-    let leave = come_up_leaving(&rt, &service, zero, &mut chance);
-    asked(&rt, &mut chance, 5);
-    let mut ready = exit(&rt, &service, leave, &mut chance);
-    asked(&rt, &mut chance, 1);
-    ready_is(&rt, &service, &mut ready, 1, None);
-    let _two = held.crash();
+    go_on_behind(&rt, &service, downs, CUT_LATE);
     Ok(())
 }

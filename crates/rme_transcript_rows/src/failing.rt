@@ -146,7 +146,7 @@ fn failing_transcript(rt: HostRuntime) -> std::result::Result<(), Fail> {
         match check(rt.alloc(), &mut reader) {
             Ok(verdict) => {
                 ended = true;
-                assert_eq!(rt; verdict, Verdict::Yes);
+                assert!(rt; verdict == Verdict::Yes);
                 break;
             }
             Err(fault) => assert!(rt; fault == EngineFault::ReadFailed),

@@ -57,7 +57,7 @@ fn check_second(
 ) -> Result<(), Fail> {
     for line in lines {
         let found = of_lines(alloc, &[OPENING, *line, "no line"])?;
-        assert_eq!(rt; found, wanted, "{line}");
+        assert!(rt; found == wanted, "{line}");
     }
     Ok(())
 }
@@ -67,7 +67,7 @@ fn check_second(
 fn no_openings(rt: HostRuntime) -> Result<(), Fail> {
     for line in &NO_OPENINGS {
         let found = of_lines(rt.alloc(), &[*line, TRANSCRIPT[1]])?;
-        assert_eq!(rt; found, Verdict::Bad(1), "{line}");
+        assert!(rt; found == Verdict::Bad(1), "{line}");
     }
     Ok(())
 }
@@ -93,7 +93,7 @@ fn longest_line(rt: HostRuntime) -> Result<(), Fail> {
         text.extend_from_slice(br#"{"do":"crash","worker":1}"#)?;
         text.resize(start + width, b' ')?;
         text.push(b'\n')?;
-        assert_eq!(rt; verdict(rt.alloc(), text.as_slice())?, wanted);
+        assert!(rt; verdict(rt.alloc(), text.as_slice())? == wanted);
     }
     Ok(())
 }
@@ -103,10 +103,9 @@ fn longest_line(rt: HostRuntime) -> Result<(), Fail> {
 fn each_front(rt: HostRuntime) -> Result<(), Fail> {
     for count in 1..=TRANSCRIPT.len() {
         let mut text = text_of(rt.alloc(), &TRANSCRIPT[..count])?;
-        assert_eq!(rt; text.pop(), Some(b'\n'));
-        assert_eq!(rt;
-            verdict(rt.alloc(), text.as_slice())?,
-            Verdict::Yes,
+        assert!(rt; text.pop() == Some(b'\n'));
+        assert!(rt;
+            verdict(rt.alloc(), text.as_slice())? == Verdict::Yes,
             "{count}"
         );
     }
