@@ -26,12 +26,12 @@ class Again(Exception):
 class Worker:
     def __init__(self, host, port, worker, timeout=30):
         self.address, self.worker, self.timeout = (host, port), worker, timeout
-        self.connection = None
-        self.done = None  # the number of the worker's last job, or None while a job is pending
+        self.connection = self.done = None  # done: the number of the last job, or None while a job is pending
 
-    def submit(self, lock, script):
-        """Makes the job, and answers its receipt: its lock, number, place, reply and worker. It tries for ever."""
-        number, pause = None, 0.001
+    def submit(self, lock, script, number=None):
+        """Makes the job, and answers its receipt: its lock, number, place, reply and worker. It tries for ever.
+        A program that may itself be killed gives the number, so that it can give the same one when it comes back."""
+        pause = 0.001
         while True:
             try:
                 if self.connection is None:
