@@ -48,6 +48,15 @@ pub struct Finish {
     pub cells: Row,
 }
 
+/// The stay that a worker is in.
+#[derive(Clone, Copy, Debug)]
+struct Staying {
+    stay: Stay,
+    /// Where it gave its job up in this stay. Whether it has nodes to release the transcript does not tell; only where
+    /// it has does a note say later that it is ready.
+    gave_up: Option<u64>,
+}
+
 /// What was seen of a run so far.
 #[derive(Drop)]
 pub struct Drawing {
@@ -63,7 +72,7 @@ pub struct Drawing {
     pub marks: Vec<Mark>,
     pub finishes: Vec<Finish>,
     /// For each worker the stay that it is in.
-    staying: Vec<Stay>,
+    staying: Vec<Staying>,
     /// For each lock the stretch that it is in, if it has an owner.
     holding: Vec<Option<Hold>>,
 }
@@ -110,8 +119,8 @@ impl Drawing {
     /// Ends all that goes on, one line behind the last.
     pub fn end(&mut self) -> Result<(), AllocError> {
         let end = self.line.saturating_add(1);
-        for stay in &self.staying {
-            self.stays.push(Stay { to: end, ..*stay })?;
+        for staying in &self.staying {
+            push_over(&mut self.stays, *staying, end, false)?;
         }
         for hold in &self.holding {
             if let Some(hold) = hold {
@@ -130,12 +139,9 @@ impl Drawing {
             self.holding.push(None)?;
         }
         for worker in 0..machine.shape().workers() {
-            self.staying.push(Stay {
-                worker,
-                phase: Phase::Ready,
-                lock: None,
-                from: 1,
-                to: 1,
+            self.staying.push(Staying {
+                stay: ready_from(worker, 1),
+                gave_up: None,
             })?;
         }
         Ok(())
@@ -175,23 +181,25 @@ impl Drawing {
     fn see_worker(&mut self, worker: u32, me: &Worker, told: &EventLine) -> Result<(), AllocError> {
         let are_few = self.staying.len() <= 2;
         let line = self.line;
-        let Some(stay) = self.staying.get_mut(worker as usize) else {
+        let Some(staying) = self.staying.get_mut(worker as usize) else {
             return Ok(());
         };
-        let phase = phase_after(me, told, are_few, stay.phase);
-        if phase == stay.phase {
+        let phase = phase_after(me, told, are_few, staying.stay.phase);
+        let gave_up = line_of_giving_up(told, line);
+        if phase == staying.stay.phase {
+            staying.gave_up = staying.gave_up.or(gave_up);
             return Ok(());
         }
-        let over = Stay { to: line, ..*stay };
-        *stay = Stay {
+        let over = *staying;
+        let stay = Stay {
             worker,
             phase,
             lock: lock_of(&me.stance()),
             from: line,
             to: line,
         };
-        self.stays.push(over)?;
-        Ok(())
+        *staying = Staying { stay, gave_up };
+        push_over(&mut self.stays, over, line, tells_ready(told))
     }
 
     /// Ends and begins stretches of locks whose owner is another now, fell or came up.
@@ -213,6 +221,55 @@ impl Drawing {
         }
         Ok(())
     }
+}
+
+/// Adds a stay that is over. A worker that gave up, and of which no note tells that it became ready later, was so at once.
+fn push_over(
+    stays: &mut Vec<Stay>,
+    over: Staying,
+    to: u64,
+    tells_ready: bool,
+) -> Result<(), AllocError> {
+    let stay = over.stay;
+    match over.gave_up {
+        Some(line) if stay.phase == Phase::Exit && !tells_ready => {
+            push_stretch(stays, Stay { to: line, ..stay })?;
+            let ready = ready_from(stay.worker, line);
+            push_stretch(stays, Stay { to, ..ready })
+        }
+        _ => push_stretch(stays, Stay { to, ..stay }),
+    }
+}
+
+/// Adds a stay, unless it has no line.
+fn push_stretch(stays: &mut Vec<Stay>, stay: Stay) -> Result<(), AllocError> {
+    if stay.from < stay.to {
+        stays.push(stay)?;
+    }
+    Ok(())
+}
+
+/// A worker that is ready from a line on.
+fn ready_from(worker: u32, line: u64) -> Stay {
+    Stay {
+        worker,
+        phase: Phase::Ready,
+        lock: None,
+        from: line,
+        to: line,
+    }
+}
+
+/// The line, where it tells that the worker gave its job up.
+fn line_of_giving_up(told: &EventLine, line: u64) -> Option<u64> {
+    match told {
+        EventLine::Note(_, Note::Withdrew(_)) => Some(line),
+        _ => None,
+    }
+}
+
+fn tells_ready(told: &EventLine) -> bool {
+    matches!(told, EventLine::Note(_, Note::Ready))
 }
 
 /// The stretch of a lock that begins at a line, if the lock has an owner there.

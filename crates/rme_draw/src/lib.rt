@@ -13,6 +13,7 @@ mod labels;
 mod phase;
 mod rows;
 mod sheet;
+mod strips;
 mod svg;
 
 pub use draw::draw_lines;

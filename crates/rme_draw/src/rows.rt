@@ -4,6 +4,7 @@ use crate::drawing::{Drawing, Finish, Hold, Mark, Stay};
 use crate::labels::{Told, push_told};
 use crate::phase::Phase;
 use crate::sheet::{Sheet, TEXT_LINE, entry_text, top_of_worker};
+use crate::strips::Strip;
 use std::alloc::{AllocError, Global};
 use std::fmt::Write;
 
@@ -42,12 +43,12 @@ pub fn name_of(phase: Phase) -> &'static str {
     }
 }
 
-/// Where a bar is: the top of its row, and the lines that it goes from and to.
+/// Where a bar is: the top of its row, its first column, and how many it has.
 #[derive(Clone, Copy)]
 struct Place {
     top: u64,
-    from: u64,
-    to: u64,
+    column: u64,
+    count: u64,
 }
 
 /// How a bar looks.
@@ -69,8 +70,8 @@ fn push_bar(
     long: &str,
     short: &str,
 ) -> Result<(), AllocError> {
-    let x = sheet.x(place.from);
-    let width = sheet.columns(place.to.saturating_sub(place.from));
+    let x = sheet.x(place.column);
+    let width = sheet.columns(place.count);
     let y = place.top.saturating_add(BAR);
     let Look {
         colour,
@@ -106,6 +107,7 @@ pub fn push_stay(
     out: &mut String,
     alloc: Global,
     sheet: &Sheet,
+    strip: &Strip,
     drawing: &Drawing,
     stay: &Stay,
 ) -> Result<(), AllocError> {
@@ -118,10 +120,11 @@ pub fn push_stay(
         "worker {}: {long}, lines {} to {}",
         stay.worker, stay.from, stay.to
     )?;
+    let (column, count) = strip.part(stay.from, stay.to);
     let place = Place {
         top: top_of_worker(u64::from(stay.worker)),
-        from: stay.from,
-        to: stay.to,
+        column,
+        count,
     };
     push_bar(
         out,
@@ -157,6 +160,7 @@ pub fn push_hold(
     out: &mut String,
     alloc: Global,
     sheet: &Sheet,
+    strip: &Strip,
     hold: &Hold,
 ) -> Result<(), AllocError> {
     let short = format!(in alloc; "worker {}", hold.owner)?;
@@ -165,10 +169,11 @@ pub fn push_hold(
         long.push_str(", down")?;
     }
     let tip = format!(in alloc; "owned by {long}, lines {} to {}", hold.from, hold.to)?;
+    let (column, count) = strip.part(hold.from, hold.to);
     let place = Place {
         top: sheet.lock(hold.lock),
-        from: hold.from,
-        to: hold.to,
+        column,
+        count,
     };
     let look = Look {
         colour: owner_colour(hold.owner),
@@ -218,8 +223,13 @@ fn lock_name(drawing: &Drawing, lock: Option<u32>) -> &str {
 }
 
 /// Appends what a line told of a worker: a sign on its bar, and the words below.
-pub fn push_mark(out: &mut String, sheet: &Sheet, mark: &Mark) -> Result<(), AllocError> {
-    let x = sheet.x(mark.line);
+pub fn push_mark(
+    out: &mut String,
+    sheet: &Sheet,
+    strip: &Strip,
+    mark: &Mark,
+) -> Result<(), AllocError> {
+    let x = sheet.x(strip.column(mark.line));
     let top = top_of_worker(u64::from(mark.worker));
     push_sign(out, x, top.saturating_add(BAR), mark.told)?;
     let base = top.saturating_add(WORDS);
@@ -264,9 +274,10 @@ pub fn push_finish(
     out: &mut String,
     alloc: Global,
     sheet: &Sheet,
+    strip: &Strip,
     finish: &Finish,
 ) -> Result<(), AllocError> {
-    let x = sheet.x(finish.line);
+    let x = sheet.x(strip.column(finish.line));
     let top = sheet.lock(finish.receipt.lock);
     let y = top.saturating_add(BAR + BAR_HEIGHT);
     writeln!(

@@ -32,60 +32,105 @@ const BEHIND: u64 = 64;
 /// About the width of any other letter.
 const LETTER: u64 = 7;
 
+/// No other letter is wider.
+const WIDEST_LETTER: u64 = 11;
+
 /// The most letters of a line of an entry's text: an entry is three columns from the next one of its lock.
 const ENTRY_LETTERS: usize = 24;
 
 /// An entry's text names its place, its worker and number, and its reply, before the cells.
 pub const ENTRY_LINES: u64 = 3;
 
-/// Where the columns and the rows of a drawing are.
+/// Above the numbers of lines there is so much room between a strip and the one before.
+const GAP: u64 = 12;
+
+/// From here on a strip is drawn anew below the last.
+const STRIP_TOP: u64 = 100;
+
+/// A strip is so wide at most: common viewers refuse a picture of more than 32,767 pixels.
+const STRIP_WIDTH: u64 = 30_000;
+
+/// Where the columns and the rows of a drawing are. A long one is cut into strips, one below the other.
 #[derive(Drop)]
 pub struct Sheet {
     left: u64,
     column: u64,
     pub width: u64,
-    /// The top of each lock's row.
-    pub locks: Vec<u64>,
-    /// Where the last row ends.
+    /// How many lines a strip has.
+    pub lines: u64,
+    /// The top of each lock's row; a lock that nobody used has none.
+    pub locks: Vec<Option<u64>>,
+    /// Where the last row of a strip ends.
     pub bottom: u64,
 }
 
 impl Sheet {
     /// The sheet of all that was seen.
     pub fn of(alloc: Global, drawing: &Drawing) -> Result<Sheet, AllocError> {
-        let left = longest_name(drawing)
+        let used = used_locks(alloc, drawing)?;
+        let left = longest_name(drawing, used.as_slice())
             .saturating_mul(NAME_LETTER)
             .saturating_add(40);
         let digits = format!(in alloc; "{}", drawing.number)?.len() as u64;
         let column = COLUMN.saturating_add(digits.saturating_mul(4));
-        let width = drawing
-            .line
+        let most = STRIP_WIDTH.saturating_sub(left).saturating_sub(BEHIND) / column.max(1);
+        let lines = drawing.line.min(most.saturating_sub(1)).max(1);
+        let width = lines
             .saturating_add(1)
             .saturating_mul(column)
             .saturating_add(left)
             .saturating_add(BEHIND);
-        let mut bottom = top_of_worker(drawing.workers() as u64).saturating_add(8);
-        let mut locks = Vec::new(alloc);
-        let needed = entry_lines(alloc, drawing)?;
-        for lines in &needed {
-            locks.push(bottom)?;
-            bottom = bottom
-                .saturating_add(LOCK_ROW)
-                .saturating_add(lines.saturating_mul(TEXT_LINE));
-        }
-        Ok(Sheet {
+        let mut sheet = Sheet {
             left,
             column,
             width: width.max(LEAST_WIDTH),
-            locks,
-            bottom,
-        })
+            lines,
+            locks: Vec::new(alloc),
+            bottom: top_of_worker(drawing.workers() as u64).saturating_add(8),
+        };
+        sheet.place_locks(alloc, drawing, used.as_slice())?;
+        Ok(sheet)
     }
 
-    /// The middle of a line's column.
-    pub fn x(&self, line: u64) -> u64 {
+    /// Gives each lock that was used a row, with room for what its entries say.
+    fn place_locks(
+        &mut self,
+        alloc: Global,
+        drawing: &Drawing,
+        used: &[bool],
+    ) -> Result<(), AllocError> {
+        let needed = entry_lines(alloc, drawing)?;
+        for (lines, is_used) in needed.iter().zip(used) {
+            if !*is_used {
+                self.locks.push(None)?;
+                continue;
+            }
+            self.locks.push(Some(self.bottom))?;
+            self.bottom = self
+                .bottom
+                .saturating_add(LOCK_ROW)
+                .saturating_add(lines.saturating_mul(TEXT_LINE));
+        }
+        Ok(())
+    }
+
+    /// The height of the picture with so many strips.
+    pub fn height(&self, strips: u64) -> u64 {
+        self.top(strips.saturating_sub(1))
+            .saturating_add(self.bottom)
+            .saturating_add(GAP)
+    }
+
+    /// How far below the first strip the strip after so many others is.
+    pub fn top(&self, strips: u64) -> u64 {
+        let height = self.bottom.saturating_sub(STRIP_TOP).saturating_add(GAP);
+        strips.saturating_mul(height)
+    }
+
+    /// The middle of a column, counted from 1 in its strip.
+    pub fn x(&self, column: u64) -> u64 {
         self.left
-            .saturating_add(line.saturating_mul(self.column))
+            .saturating_add(column.saturating_mul(self.column))
             .saturating_sub(self.column / 2)
     }
 
@@ -99,11 +144,17 @@ impl Sheet {
         (text.len() as u64).saturating_mul(LETTER).saturating_add(6) <= width
     }
 
+    /// Whether a row's name that begins in a column ends on the sheet.
+    pub fn has_room_for_name(&self, name: &str, column: u64) -> bool {
+        let width = (name.len() as u64).saturating_mul(WIDEST_LETTER);
+        self.x(column).saturating_add(width) <= self.width
+    }
+
     /// The top of a lock's row.
     pub fn lock(&self, lock: u32) -> u64 {
         match self.locks.get(lock as usize) {
-            Some(top) => *top,
-            None => self.bottom,
+            Some(Some(top)) => *top,
+            _ => self.bottom,
         }
     }
 }
@@ -114,12 +165,27 @@ pub fn top_of_worker(worker: u64) -> u64 {
 }
 
 /// How many letters the longest name of a row has.
-fn longest_name(drawing: &Drawing) -> u64 {
+fn longest_name(drawing: &Drawing, used: &[bool]) -> u64 {
     let mut longest = "worker 000".len();
-    for name in &drawing.names {
-        longest = longest.max(name.as_str().len().saturating_add("lock ".len()));
+    for (name, is_used) in drawing.names.iter().zip(used) {
+        if *is_used {
+            longest = longest.max(name.as_str().len().saturating_add("lock ".len()));
+        }
     }
     longest as u64
+}
+
+/// For each lock, whether a worker had a job on it.
+fn used_locks(alloc: Global, drawing: &Drawing) -> Result<Vec<bool>, AllocError> {
+    let mut used = vec![in alloc; false; drawing.names.len()]?;
+    for stay in &drawing.stays {
+        if let Some(lock) = stay.lock {
+            if let Some(is_used) = used.get_mut(lock as usize) {
+                *is_used = true;
+            }
+        }
+    }
+    Ok(used)
 }
 
 /// For each lock, how many lines of text its entries need.
