@@ -13,10 +13,11 @@ use Rattle.rme_server.specs.declared.fault.ServeFault.TheVariants as serving
 use Rattle.rme_faults.specs.declared.ending.Ending.{Ending}
 use Rattle.rme_faults.specs.declared.ending.Ending.TheVariants as ending
 use Rattle.rme_faults.specs.declared.fault.Fault.{Fault}
-use Rattle.rme_faults.specs.declared.fault.Fault.TheVariants.{BadArguments, ReadFailed, WriteFailed, NoMemory, BadNames, ImageUnread, BadImage, OtherLocks, ImageUnwritten, SocketFailed, NoThread, Unexplained}
+use Rattle.rme_faults.specs.declared.fault.Fault.TheVariants.{BadArguments, ReadFailed, WriteFailed, NoMemory, BadNames, ImageUnread, BadImage, OtherLocks, Unsavable, ImageUnwritten, FolderUnsynced, ListenFailed, AcceptFailed, NoThread, Unexplained, NothingAsked}
+use Rattle.rme_faults.specs.declared.argument.BadArgument.TheVariants.{NoText}
 
 abbrev pub status_of : Fault → ℕ
-status_of BadArguments = 2
+status_of (BadArguments why) = 2
 status_of ReadFailed = 3
 status_of WriteFailed = 4
 status_of NoMemory = 5
@@ -24,13 +25,19 @@ status_of BadNames = 2
 status_of (ImageUnread file why) = 3
 status_of (BadImage file) = 2
 status_of (OtherLocks file names) = 2
+status_of (Unsavable file why) = 2
 status_of (ImageUnwritten file why) = 4
-status_of SocketFailed = 6
+status_of (FolderUnsynced file why) = 4
+status_of (ListenFailed port why) = 6
+status_of (AcceptFailed port) = 6
 status_of NoThread = 7
 status_of (Unexplained asked) = 2
+status_of NothingAsked = 2
 
 -- the status that an ending explains
 abbrev pub status_of_ending : Ending → ℕ
+status_of_ending ending.Done = 0
+status_of_ending ending.AnswerIsNo = 1
 status_of_ending ending.BadArguments = 2
 status_of_ending ending.ReadFailed = 3
 status_of_ending ending.WriteFailed = 4
@@ -44,16 +51,16 @@ fault_of engine.ReadFailed = ReadFailed
 fault_of engine.WriteFailed = WriteFailed
 fault_of engine.NoMemory = NoMemory
 
--- the fault of the program that a fault of the server is
-abbrev pub fault_of_serving : ServeFault → Fault
-fault_of_serving serving.SocketFailed = SocketFailed
-fault_of_serving serving.NoThread = NoThread
-fault_of_serving serving.NoMemory = NoMemory
+-- the fault of the program that a fault of the server of a port is
+abbrev pub fault_of_serving : ServeFault → ℕ → Fault
+fault_of_serving serving.SocketFailed port = AcceptFailed port
+fault_of_serving serving.NoThread port = NoThread
+fault_of_serving serving.NoMemory port = NoMemory
 
 -- the fault where the words of the command line cannot be had as text, by the kind of the reason
 abbrev pub fault_of_words : ErrorKind → Fault
 fault_of_words reason.OutOfMemory = NoMemory
-fault_of_words _ = BadArguments
+fault_of_words _ = BadArguments NoText
 
 -- the fault where a file is not read or written, by the kind of the reason and what it is but for want of memory
 abbrev pub fault_on_file : ErrorKind → Fault → Fault

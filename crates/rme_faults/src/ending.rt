@@ -1,11 +1,13 @@
-//! What the statuses of a program that ended early mean.
+//! What the statuses of a program that ended mean.
 
 ghost use Rattle.std.specs.Prelude.{◌≡◌, ◌≤◌, IfSome, IsSome};
 ghost use Rattle.rme_faults.specs.Statuses.{status_of_ending};
 
-/// Why a program ended early, by its status.
+/// How a program ended, by its status.
 #[derive(Clone, Copy, Debug, PartialEq, Eq)]
 pub enum Ending {
+    Done,
+    AnswerIsNo,
     BadArguments,
     ReadFailed,
     WriteFailed,
@@ -14,16 +16,18 @@ pub enum Ending {
     NoThread,
 }
 
-/// The last status of a program that ended early.
+/// The last status of a program.
 pub const LAST_STATUS: u8 = 7;
 
 impl Ending {
-    /// The ending of a status, and none of a status that is not in the list: 2 to `LAST_STATUS`.
+    /// The ending of a status, and none of a status that is not in the list: 0 to `LAST_STATUS`.
     pub fn of_status(status: u8) -> Option<Ending>
         ensures some { IfSome result (λ ending. status_of_ending ending ≡ status) }
-        ensures listed { 2 ≤ status → status ≤ 7 → IsSome result }
+        ensures listed { status ≤ 7 → IsSome result }
     {
         match status {
+            0 => Some(Ending::Done),
+            1 => Some(Ending::AnswerIsNo),
             2 => Some(Ending::BadArguments),
             3 => Some(Ending::ReadFailed),
             4 => Some(Ending::WriteFailed),
@@ -37,6 +41,8 @@ impl Ending {
     /// Its name, for those who look it up.
     pub fn name(&self) -> &'static str {
         match self {
+            Ending::Done => "Done",
+            Ending::AnswerIsNo => "AnswerIsNo",
             Ending::BadArguments => "BadArguments",
             Ending::ReadFailed => "ReadFailed",
             Ending::WriteFailed => "WriteFailed",
@@ -49,6 +55,10 @@ impl Ending {
     /// When a program ends so.
     pub fn when(&self) -> &'static str {
         match self {
+            Ending::Done => "what was asked for was done",
+            Ending::AnswerIsNo => {
+                "rme check and rme draw: the verdict is no or bad; rme threads: a worker was not done; rme serve: a worker was not given back"
+            }
             Ending::BadArguments =>
                 "words of the command line, or a file that they name, are refused",
             Ending::ReadFailed => "reading failed",
@@ -62,6 +72,12 @@ impl Ending {
     /// What it means and what the caller does about it, in two or three sentences.
     pub fn advice(&self) -> &'static str {
         match self {
+            Ending::Done => {
+                "All input was read and all output written. A line that was refused changes nothing in it: its answer alone says so."
+            }
+            Ending::AnswerIsNo => {
+                "Nothing went wrong with the program: this is its answer. After rme check and rme draw the verdict names the first line that the abstract machine does not have, or that is no event line; mend what wrote the transcript, or find out what it did there."
+            }
             Ending::BadArguments => {
                 "Nothing was read and nothing done. The standard error says what is wrong; `rme --help` and the --help of each command say what is right."
             }

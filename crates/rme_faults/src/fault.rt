@@ -4,6 +4,7 @@ ghost use Rattle.std.specs.Prelude.{◌≡◌, ◌≤◌};
 ghost use Rattle.rme_faults.specs.Statuses.{fault_of, fault_of_serving, fault_of_words, fault_on_file, status_of, status_of_refusal};
 ghost use Rattle.rme_faults.specs.declared.fault.Fault.TheVariants.{NoMemory};
 
+use crate::argument::BadArgument;
 use rme_lines::EngineFault;
 use rme_server::ServeFault;
 use rme_words::Refusal;
@@ -12,12 +13,21 @@ use std::io;
 use std::io::ErrorKind;
 use thiserror::Error;
 
+/// What stands in the way of an image that is to be saved.
+#[derive(Debug, Drop, Error)]
+pub enum Hindrance {
+    #[error("it is no regular file")]
+    Irregular,
+    #[error("{0}")]
+    Unwritable(io::Error),
+}
+
 /// What ended the program early. Its text goes to the standard error.
 #[derive(Debug, Drop, Error)]
 pub enum Fault {
     /// The words of the command line can't be had as text, or ask for what can't be.
-    #[error("bad arguments")]
-    BadArguments,
+    #[error("bad arguments\n  {0}")]
+    BadArguments(BadArgument),
     #[error("read failed")]
     ReadFailed,
     #[error("write failed")]
@@ -39,15 +49,27 @@ pub enum Fault {
     /// The file for the world that is left can't be written.
     #[error("the image {0} can't be written: {1}")]
     ImageUnwritten(String, io::Error),
-    /// The server can't listen, or can accept no further connection.
-    #[error("socket failed")]
-    SocketFailed,
+    /// No image can be put in the place of the file for the world that is left.
+    #[error("the image {0} can't be saved: {1}")]
+    Unsavable(String, Hindrance),
+    /// The new image is in the file's place, and its folder could not be synced.
+    #[error("the image {0} is in its place, but its folder can't be synced: {1}")]
+    FolderUnsynced(String, io::Error),
+    /// The server can't listen on the port.
+    #[error("socket failed\n  port {0}: {1}")]
+    ListenFailed(u16, io::Error),
+    /// The server of the port can accept no further connection.
+    #[error("socket failed\n  port {0}: no further connection can be accepted")]
+    AcceptFailed(u16),
     /// A connection can't have a thread.
     #[error("no thread")]
     NoThread,
     /// Nothing that can be explained has this number or name.
     #[error("no refusal and no status is called {0}: rme explain names each")]
     Unexplained(String),
+    /// A word that is to be explained is empty.
+    #[error("an empty word is the name of no refusal and no status: rme explain names each")]
+    NothingAsked,
 }
 
 impl Fault {
@@ -58,7 +80,7 @@ impl Fault {
         ensures last { result ≤ 7 }
     {
         match self {
-            Fault::BadArguments => 2,
+            Fault::BadArguments(_) => 2,
             Fault::ReadFailed => 3,
             Fault::WriteFailed => 4,
             Fault::NoMemory => 5,
@@ -66,10 +88,14 @@ impl Fault {
             Fault::ImageUnread(_, _) => 3,
             Fault::BadImage(_) => 2,
             Fault::OtherLocks(_, _) => 2,
+            Fault::Unsavable(_, _) => 2,
             Fault::ImageUnwritten(_, _) => 4,
-            Fault::SocketFailed => 6,
+            Fault::FolderUnsynced(_, _) => 4,
+            Fault::ListenFailed(_, _) => 6,
+            Fault::AcceptFailed(_) => 6,
             Fault::NoThread => 7,
             Fault::Unexplained(_) => 2,
+            Fault::NothingAsked => 2,
         }
     }
 
@@ -79,7 +105,7 @@ impl Fault {
     {
         match kind {
             ErrorKind::OutOfMemory => Fault::NoMemory,
-            _ => Fault::BadArguments,
+            _ => Fault::BadArguments(BadArgument::NoText),
         }
     }
 
@@ -91,6 +117,17 @@ impl Fault {
             return Fault::NoMemory;
         }
         other
+    }
+
+    /// The fault where the server of a port ended early.
+    pub fn of_serving(fault: ServeFault, port: u16) -> Fault
+        ensures { result ≡ fault_of_serving fault port }
+    {
+        match fault {
+            ServeFault::SocketFailed => Fault::AcceptFailed(port),
+            ServeFault::NoThread => Fault::NoThread,
+            ServeFault::NoMemory => Fault::NoMemory,
+        }
     }
 
     /// The fault where the image of a file is not loaded under so many names.
@@ -113,18 +150,6 @@ impl From<EngineFault> for Fault {
             EngineFault::ReadFailed => Fault::ReadFailed,
             EngineFault::WriteFailed => Fault::WriteFailed,
             EngineFault::NoMemory => Fault::NoMemory,
-        }
-    }
-}
-
-impl From<ServeFault> for Fault {
-    ghost from_gives = { λ served fault. fault ≡ fault_of_serving served };
-
-    fn from(fault: ServeFault) -> Fault {
-        match fault {
-            ServeFault::SocketFailed => Fault::SocketFailed,
-            ServeFault::NoThread => Fault::NoThread,
-            ServeFault::NoMemory => Fault::NoMemory,
         }
     }
 }

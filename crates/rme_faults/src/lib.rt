@@ -10,13 +10,19 @@
 //! table of the refusals and `ending.rt` that of the statuses.
 #![tactic(auto)]
 
+mod argument;
 mod ending;
 mod explain;
+mod explanation;
 mod fault;
+mod refused;
 mod texts;
 mod told;
 
+pub use argument::{BadArgument, shown};
 pub use ending::{Ending, LAST_STATUS};
 pub use explain::{LAST_CODE, advice, refusal_of, when};
-pub use fault::Fault;
+pub use explanation::explanations;
+pub use fault::{Fault, Hindrance};
+pub use refused::{why_not_falls, why_not_locks, why_not_sizes};
 pub use told::answer_of;

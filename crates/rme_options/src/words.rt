@@ -1,36 +1,9 @@
-//! The words of the command line.
+//! What the words of the command line ask for.
 
-mod commands;
-mod texts;
-
-use crate::image::Images;
-use crate::serve::ServeTask;
-use crate::threads::ThreadsTask;
+use crate::commands::command;
+use crate::tasks::{Images, ServeTask, Task, ThreadsTask};
 use clap::{ArgMatches, Error};
-use commands::command;
-use rme_wire::GivenNames;
 use std::alloc::{AllocError, Global};
-
-/// What the words ask for.
-#[derive(Drop)]
-pub enum Task {
-    /// Answer the lines of the standard input.
-    Run,
-    /// Answer them over a saved world, save the world that they leave, or both.
-    Images(Images),
-    /// Obey the lines of the standard input, and write a transcript.
-    Transcript,
-    /// Check the transcript on the standard input.
-    Check,
-    /// Draw the transcript on the standard input.
-    Draw,
-    /// Explain what has this number or name, or, where it is empty, name all.
-    Explain(String),
-    /// Supervise workers that add to one cell.
-    Threads(ThreadsTask),
-    /// Serve workers to the sessions of so many connections.
-    Serve(ServeTask),
-}
 
 /// What the words ask for, the first of which is the program's own name.
 ///
@@ -57,7 +30,7 @@ fn service_task(alloc: Global, found: &ArgMatches<'_>) -> Result<Option<Task>, E
 /// What words that ask for something over lines, or for an explanation, ask for.
 fn line_task(alloc: Global, found: &ArgMatches<'_>) -> Result<Task, AllocError> {
     if let Some(explain) = found.subcommand_matches("explain") {
-        return Ok(Task::Explain(code_of(alloc, explain)?));
+        return Ok(Task::Explain(texts_of(alloc, explain, "CODE")?));
     }
     if found.subcommand_matches("draw").is_some() {
         return Ok(Task::Draw);
@@ -78,30 +51,21 @@ fn run_task(alloc: Global, found: &ArgMatches<'_>) -> Result<Task, AllocError> {
     if load.is_none() && save.is_none() {
         return Ok(Task::Run);
     }
-    let locks = names_of(alloc, found, "locks")?;
+    let locks = texts_of(alloc, found, "locks")?;
     Ok(Task::Images(Images { load, locks, save }))
 }
 
-/// The names that an argument gives, in order.
-fn names_of(
+/// The texts that an argument has, in order.
+fn texts_of(
     alloc: Global,
     found: &ArgMatches<'_>,
     argument: &str,
-) -> Result<GivenNames, AllocError> {
-    let mut names = Vec::new(alloc);
-    for name in found.get_strs(argument).unwrap_or(&[]) {
-        names.push(name.to_string(alloc)?)?;
+) -> Result<Vec<String>, AllocError> {
+    let mut texts = Vec::new(alloc);
+    for text in found.get_strs(argument).unwrap_or(&[]) {
+        texts.push(text.to_string(alloc)?)?;
     }
-    Ok(GivenNames::of(names))
-}
-
-/// The words after `explain`, as one name: `no memory`, as a fault is printed, is `nomemory`.
-fn code_of(alloc: Global, found: &ArgMatches<'_>) -> Result<String, AllocError> {
-    let mut code = String::new(alloc);
-    for word in found.get_strs("CODE").unwrap_or(&[]) {
-        code.push_str(word)?;
-    }
-    Ok(code)
+    Ok(texts)
 }
 
 /// The text of an option, if it was given.
@@ -140,6 +104,6 @@ fn serve_task(alloc: Global, found: &ArgMatches<'_>) -> Result<ServeTask, AllocE
         jobs: found.get_one("jobs").unwrap_or(0),
         port: found.get_one("port").unwrap_or(0),
         connections: found.get_one("connections").unwrap_or(0),
-        locks: names_of(alloc, found, "LOCK")?,
+        locks: texts_of(alloc, found, "LOCK")?,
     })
 }

@@ -1,7 +1,8 @@
 //! `rme threads`: supervised workers that add to one cell.
 
 use crate::progress::Progress;
-use rme_faults::Fault;
+use rme_faults::{Fault, why_not_falls, why_not_sizes};
+use rme_options::ThreadsTask;
 use rme_script::{Job, Op, Script};
 use rme_supervisor::{End, Free, Gate, Report, WorkerPlan, supervise};
 use rme_table::Service;
@@ -10,15 +11,6 @@ use std::alloc::{AllocError, Global};
 use std::fs;
 use std::sync::Wait;
 use std::thread::Threads;
-
-/// What `rme threads` is asked for: so many workers, with so many jobs each, all with the same falls.
-#[derive(Drop)]
-pub struct ThreadsTask {
-    pub workers: u32,
-    pub jobs: u32,
-    pub falls: Vec<u32>,
-    pub is_quiet: bool,
-}
 
 /// More than the blocked sweeps of any job here.
 const MOST_SWEEPS: u32 = 1_000_000_000;
@@ -34,13 +26,29 @@ pub fn run_threads<R: Threads + Wait + Sync>(
     threads: &R,
     task: &ThreadsTask,
 ) -> Result<u8, Fault> {
-    if task.is_quiet || !is_watched(rt) {
-        return run_with(rt, threads, task, &Free);
+    let ran = if task.is_quiet || !is_watched(rt) {
+        run_with(rt, threads, task, &Free)
+    } else {
+        run_watched(rt, threads, task)
+    };
+    match ran {
+        Ok(Some(report)) => print_report(rt, task, &report),
+        Ok(None) => Ok(1),
+        Err(fault) => Err(fault),
     }
+}
+
+/// Runs the workers, and shows meanwhile how far they are.
+fn run_watched<R: Threads + Wait + Sync>(
+    rt: &HostRuntime,
+    threads: &R,
+    task: &ThreadsTask,
+) -> Result<Option<Report>, Fault> {
     let jobs = u64::from(task.workers).saturating_mul(u64::from(task.jobs));
-    let told = run_with(rt, threads, task, &Progress::new(rt, jobs));
-    let _ = eprintln!(rt; "");
-    told
+    let progress = Progress::new(rt, jobs);
+    let ran = run_with(rt, threads, task, &progress);
+    progress.end();
+    ran
 }
 
 /// Whether the standard error is a terminal.
@@ -53,25 +61,26 @@ fn is_watched(rt: &HostRuntime) -> bool {
         .any(|start| path.as_str().starts_with(*start))
 }
 
-/// Runs the workers with this gate.
+/// Runs the workers with this gate. There is no report where a worker was not given back.
 fn run_with<G: Gate + Sync, R: Threads + Wait + Sync>(
     rt: &HostRuntime,
     threads: &R,
     task: &ThreadsTask,
     gate: &G,
-) -> Result<u8, Fault> {
+) -> Result<Option<Report>, Fault> {
     let Ok(shape) = Shape::new(task.workers, 1, 1, task.jobs) else {
-        return Err(Fault::BadArguments);
+        let why = why_not_sizes(("WORKERS", task.workers), ("", 1), ("JOBS", task.jobs));
+        return Err(Fault::BadArguments(why));
     };
     let plans = plans_of(rt.alloc(), task)?;
     let Ok((service, downs)) = Service::new(rt.alloc(), shape) else {
         return Err(Fault::NoMemory);
     };
     match supervise(threads, rt.alloc(), service, downs, plans, gate) {
-        Ok(report) => print_report(rt, task, &report),
+        Ok(report) => Ok(Some(report)),
         Err(fault) => match fault.why {
-            Refusal::BadShape => Err(Fault::BadArguments),
-            Refusal::NoWorker => Ok(1),
+            Refusal::BadShape => Err(Fault::BadArguments(why_not_falls(task.falls.as_slice()))),
+            Refusal::NoWorker => Ok(None),
             _ => Err(Fault::NoMemory),
         },
     }

@@ -1,5 +1,7 @@
 //! How far supervised workers are, shown while they run.
 
+ghost use Rattle.std.specs.Prelude.{◌<◌};
+
 use rme_supervisor::Gate;
 use std::io::Eprint;
 use std::sync::atomic::{AtomicU64, Ordering};
@@ -23,6 +25,22 @@ impl<'a, R> Progress<'a, R> {
             over: AtomicU64::new(0),
         }
     }
+
+    /// After how many jobs the line is written again.
+    fn every(&self) -> u64
+        ensures { 0 < result }
+    {
+        (self.jobs / MOST_LINES).max(1)
+    }
+}
+
+impl<R: Eprint> Progress<'_, R> {
+    /// Ends the line, if it was begun, so that nothing else is written into it.
+    pub fn end(&self) {
+        if self.over.load(Ordering::SeqCst) >= self.every() {
+            let _ = eprintln!(self.rt; "");
+        }
+    }
 }
 
 impl<R: Eprint> Gate for Progress<'_, R> {
@@ -32,8 +50,7 @@ impl<R: Eprint> Gate for Progress<'_, R> {
 
     fn over(&self, _worker: u32, _lock: u32, _number: u32) {
         let over = self.over.fetch_add(1, Ordering::SeqCst).saturating_add(1);
-        let every = (self.jobs / MOST_LINES).max(1);
-        if over % every == 0 || over == self.jobs {
+        if over % self.every() == 0 || over == self.jobs {
             // What can't be shown is left out.
             let _ = eprint!(self.rt; "\r{over} of {} jobs", self.jobs);
         }

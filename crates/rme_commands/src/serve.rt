@@ -6,7 +6,8 @@ ghost use Rattle.rme_server.specs.Slots.{AreInPlace};
 
 use log::sink::Console;
 use log::{Level, Logged, info};
-use rme_faults::Fault;
+use rme_faults::{Fault, why_not_locks, why_not_sizes};
+use rme_options::ServeTask;
 use rme_server::{Slots, serve};
 use rme_table::{Closed, ClosedLock, Down, Service, Tag};
 use rme_wire::{GivenNames, Names};
@@ -19,43 +20,47 @@ use std::net::{Ipv4Addr, TcpListener};
 use std::sync::Wait;
 use std::thread::Threads;
 
-/// What `rme serve` is asked for: a service of these sizes with these locks, and so many connections on this port.
-#[derive(Drop)]
-pub struct ServeTask {
-    pub workers: u32,
-    pub cells: u32,
-    pub jobs: u32,
-    pub port: u16,
-    pub connections: u32,
-    pub locks: GivenNames,
-}
-
 /// Serves the connections, prints what the locks then hold, and answers the status.
 pub fn run_serve<R: Threads + Wait + Sync>(
     rt: &HostRuntime,
     threads: &R,
-    task: &ServeTask,
+    task: ServeTask,
 ) -> Result<u8, Fault> {
-    if !task.locks.are_names() {
-        return Err(Fault::BadArguments);
+    let why = why_not_locks(rt.alloc(), &task.locks)?;
+    let shape = shape_of(&task);
+    let ServeTask {
+        port,
+        connections,
+        locks,
+        ..
+    } = task;
+    let locks = GivenNames::of(locks);
+    if !locks.are_names() {
+        return Err(Fault::BadArguments(why));
     }
-    let names = task.locks.names(rt.alloc())?;
-    let shape = shape_of(task, names.len())?;
-    let listener = listen(rt, task.port)?;
+    let shape = shape?;
+    let names = locks.names(rt.alloc())?;
+    let listener = listen(rt, port)?;
     let host = Host {
         rt,
         listener: &listener,
-        connections: task.connections,
+        port,
+        connections,
         names: &names,
     };
     serve_workers(threads, &host, shape)
 }
 
-/// The shape of the service that is asked for, with so many locks.
-fn shape_of(task: &ServeTask, locks: u32) -> Result<Shape, Fault> {
+/// The shape of the service that is asked for.
+fn shape_of(task: &ServeTask) -> Result<Shape, Fault> {
+    let locks = u32::try_from(task.locks.len()).unwrap_or(u32::MAX);
     match Shape::new(task.workers, locks, task.cells, task.jobs) {
         Ok(shape) => Ok(shape),
-        Err(_) => Err(Fault::BadArguments),
+        Err(_) => Err(Fault::BadArguments(why_not_sizes(
+            ("--workers", task.workers),
+            ("--cells", task.cells),
+            ("--jobs", task.jobs),
+        ))),
     }
 }
 
@@ -64,6 +69,8 @@ fn shape_of(task: &ServeTask, locks: u32) -> Result<Shape, Fault> {
 struct Host<'a> {
     rt: &'a HostRuntime,
     listener: &'a TcpListener,
+    /// The port that was asked for; the listener may have another for 0.
+    port: u16,
     connections: u32,
     names: &'a Names,
 }
@@ -73,7 +80,7 @@ fn listen(rt: &HostRuntime, port: u16) -> Result<TcpListener, Fault> {
     match TcpListener::bind(rt, (Ipv4Addr::LOCALHOST, port)) {
         Ok(listener) => Ok(listener),
         Err(error) if error.kind() == ErrorKind::OutOfMemory => Err(Fault::NoMemory),
-        Err(_) => Err(Fault::SocketFailed),
+        Err(error) => Err(Fault::ListenFailed(port, error)),
     }
 }
 
@@ -121,8 +128,8 @@ fn serve_all<K: Tag + Send + Sync, R: Threads + Wait + Sync>(
     let Ok(slots) = Slots::<K>::new(threads, alloc, downs) else {
         return Err(Fault::NoMemory);
     };
-    print_port(host.rt, host.listener)?;
-    serve(
+    let port = print_port(host)?;
+    let served = serve(
         threads,
         alloc,
         host.listener,
@@ -130,20 +137,24 @@ fn serve_all<K: Tag + Send + Sync, R: Threads + Wait + Sync>(
         service,
         &slots,
         host.names,
-    )?;
+    );
+    if let Err(fault) = served {
+        return Err(Fault::of_serving(fault, port));
+    }
     match slots.into_downs(threads) {
         Ok(downs) => Ok(downs),
         Err(_) => Err(Fault::NoMemory),
     }
 }
 
-/// Prints the port that clients connect to.
-fn print_port(rt: &HostRuntime, listener: &TcpListener) -> Result<(), Fault> {
-    let Ok(address) = listener.local_addr() else {
-        return Err(Fault::SocketFailed);
+/// Prints the port that clients connect to, and answers it.
+fn print_port(host: &Host<'_>) -> Result<u16, Fault> {
+    let port = match host.listener.local_addr() {
+        Ok(address) => address.port(),
+        Err(error) => return Err(Fault::ListenFailed(host.port, error)),
     };
-    match println!(rt; "listening {}", address.port()) {
-        Ok(()) => Ok(()),
+    match println!(host.rt; "listening {port}") {
+        Ok(()) => Ok(port),
         Err(_) => Err(Fault::WriteFailed),
     }
 }

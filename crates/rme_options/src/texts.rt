@@ -1,8 +1,13 @@
 //! The texts of help.
+//!
+//! They are functions and no constants: what a constant holds is known wherever it is used, and a long text is dear there.
 
-pub const ABOUT: &str = "A recoverable mutual exclusion lock service, over lines of JSON";
+pub fn about<'a>() -> &'a str {
+    "A recoverable mutual exclusion lock service, over lines of JSON"
+}
 
-pub const EXAMPLE: &str = "\
+pub fn example<'a>() -> &'a str {
+    "\
 Try it: a worker asks for a lock, enters, crashes inside, and goes on where it fell.
 
   rme run <<'END'
@@ -16,26 +21,35 @@ Try it: a worker asks for a lock, enters, crashes inside, and goes on where it f
   {\"do\":\"cells\",\"lock\":\"bank\"}
   END
 
-`rme run --help` says what the lines mean.";
+`rme run --help` says what the lines mean."
+}
 
-pub const RUN_ABOUT: &str =
-    "Answers each line of the standard input by one line of the standard output";
+pub fn run_about<'a>() -> &'a str {
+    "Answers each line of the standard input by one line of the standard output"
+}
 
-pub const TRANSCRIPT_HELP: &str =
-    "Writes what happened in the place of answers: each event that the world took, for `rme check`";
+pub fn transcript_help<'a>() -> &'a str {
+    "Writes what happened in the place of answers: each event that the world took, for `rme check`"
+}
 
-pub const IMAGE_HELP: &str =
-    "Begins with the world that was saved in this file; with nothing, where the file is not there";
+pub fn image_help<'a>() -> &'a str {
+    "Begins with the world that was saved in this file; with nothing, where the file is not there"
+}
 
-pub const LOCKS_HELP: &str =
-    "Names the locks of that world, in order and with commas between: an image has no names";
+pub fn locks_help<'a>() -> &'a str {
+    "Names the locks of that world, in order and with commas between: an image has no names"
+}
 
-pub const SAVE_HELP: &str = "Saves the world that is open at the end of the input in this file";
+pub fn save_help<'a>() -> &'a str {
+    "Saves the world that is open at the end of the input in this file"
+}
 
-pub const CHECK_ABOUT: &str =
-    "Checks a transcript on the standard input: whether the abstract machine has each of its steps";
+pub fn check_about<'a>() -> &'a str {
+    "Checks a transcript on the standard input: whether the abstract machine has each of its steps"
+}
 
-pub const CHECK_LINES: &str = "\
+pub fn check_lines<'a>() -> &'a str {
+    "\
 A transcript is what `rme run --transcript` writes, or another program in its form: a first line that
 opens a world, and then one line for each event, as
 
@@ -51,12 +65,15 @@ line whose step it does not have there; bad LINE for the first line that is no e
 first of all where it opens no world.
 
 Status: 0 after yes, 1 after no and bad, 2 for words that are refused, 3 where reading failed, 4 where
-writing failed, 5 where memory ran out.";
+writing failed, 5 where memory ran out."
+}
 
-pub const DRAW_ABOUT: &str =
-    "Draws a transcript on the standard input: a picture in SVG on the standard output";
+pub fn draw_about<'a>() -> &'a str {
+    "Draws a transcript on the standard input: a picture in SVG on the standard output"
+}
 
-pub const DRAW_LINES: &str = "\
+pub fn draw_lines<'a>() -> &'a str {
+    "\
 The picture has a row for each worker, with its phases, and a row for each lock, with its owner, its finished
 sections and what its cells held after them; there is a column for each line of the transcript. It opens in
 any browser. A worker that crashes in its section, and what becomes of the lock:
@@ -75,14 +92,18 @@ A transcript is checked as `rme check` does it, and drawn only where that says y
 and its verdict, no LINE or bad LINE, stands on the standard error.
 
 Status: 0 after a picture, 1 after no and bad, 2 for words that are refused, 3 where reading failed, 4 where
-writing failed, 5 where memory ran out.";
+writing failed, 5 where memory ran out."
+}
 
-pub const EXPLAIN_ABOUT: &str =
-    "Explains a refusal or a status of the program, by its number or its name";
+pub fn explain_about<'a>() -> &'a str {
+    "Explains a refusal or a status of the program, by its number or its name"
+}
 
-pub const EXPLAIN_LINES: &str = "\
-A refused line is answered {\"code\":N,\"error\":NAME}; a program that ends early has a status, 2 to 7. Where a
-refusal and a status have the same number or name, both are explained:
+pub fn explain_lines<'a>() -> &'a str {
+    "\
+A refused line is answered {\"code\":N,\"error\":NAME}; a program that ends has a status, 0 to 7. Where a refusal
+and a status have the same number or name, both are explained; `rme explain status 1` is about the status
+alone. Several are explained in turn:
 
   rme explain TooManyJobs
 
@@ -90,9 +111,11 @@ refusal and a status have the same number or name, both are explained:
     The world was opened with so many jobs for each worker, and a withdrawn one counts too. Use another worker, or open the next world with more `jobs`.
 
 Status: 0 after an explanation, 2 where no refusal and no status has the number or the name, 4 where writing
-failed, 5 where memory ran out.";
+failed, 5 where memory ran out."
+}
 
-pub const RUN_LINES: &str = "\
+pub fn run_lines<'a>() -> &'a str {
+    "\
 Each line is one JSON object; its keys may come in any order. A world must be open or loaded first.
 
   {\"do\":\"open\",\"workers\":N,\"locks\":[NAME,..],\"cells\":N,\"jobs\":N}
@@ -125,15 +148,20 @@ A run that begins with the world that the last one left, and leaves its own:
   rme run --image bank.rme --locks bank --save bank.rme
 
 A world is saved at the end of the input alone: a run that ends early leaves bank.rme as it was, and so does
-one that ends with no world open. bank.rme.new is written first, and then put in the place of bank.rme.
+one that ends with no world open. A new file beside it is written first, and then put in the place of
+bank.rme, with its mode.
 
-Status: 0 at the end of the input, 2 for words that are refused, for an image that is broken and for
---locks that don't fit it, 3 where reading failed, 4 where writing failed, 5 where memory ran out.";
+Status: 0 at the end of the input, 2 for words that are refused, for an image that is broken, for --locks that
+don't fit it and where nothing can be saved in the file, 3 where reading failed, 4 where writing failed, 5
+where memory ran out."
+}
 
-pub const THREADS_ABOUT: &str =
-    "Supervises workers in threads, which fall and go on, and prints what their lock then holds";
+pub fn threads_about<'a>() -> &'a str {
+    "Supervises workers in threads, which fall and go on, and prints what their lock then holds"
+}
 
-pub const THREADS_LINES: &str = "\
+pub fn threads_lines<'a>() -> &'a str {
+    "\
 Each worker makes JOBS jobs, one after another, on one lock with one cell; a job adds 1 to it. Where a
 worker falls its thread ends there and all that it knew is lost, and its next life goes on. Each job
 counts once all the same:
@@ -147,12 +175,15 @@ counts once all the same:
   entries 800
 
 Status: 0 where all workers were done, 1 where one was not, 2 for words that are refused (falls that do
-not rise, or more than 256 workers or 1000000 jobs), 4 where writing failed, 5 where memory ran out.";
+not rise, or more than 256 workers or 1000000 jobs), 4 where writing failed, 5 where memory ran out."
+}
 
-pub const SERVE_ABOUT: &str =
-    "Serves a lock service to clients over TCP on 127.0.0.1, a session for each connection";
+pub fn serve_about<'a>() -> &'a str {
+    "Serves a lock service to clients over TCP on 127.0.0.1, a session for each connection"
+}
 
-pub const SERVE_LINES: &str = "\
+pub fn serve_lines<'a>() -> &'a str {
+    "\
 It prints `listening PORT` as soon as clients can connect. When all of its connections have ended it logs
 `served n` to the standard error, closes the service, and prints a line for each lock:
 `lock NAME cells V V .. entries E`, with what its cells hold and how many jobs they have seen.
@@ -204,4 +235,5 @@ all that the service held is gone.
 Status: 0 after the closing lines, 1 with none of them where a worker was not given back, 2 for words that
 are refused (also 0 or more than 256 workers, 16 locks, 16 cells or 1000000 jobs, and a name that is none
 or stands twice), 4 where writing failed, 5 where memory ran out, 6 where it can't listen on the port or
-accept a connection, 7 where a connection can't have a thread.";
+accept a connection, 7 where a connection can't have a thread."
+}

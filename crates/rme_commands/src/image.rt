@@ -1,0 +1,93 @@
+//! `rme run` with images: the world that a run begins with, and the world that it leaves.
+
+use crate::saving::{ask_place, replace};
+use rme_engine::{Engine, answer_lines};
+use rme_faults::{BadArgument, Fault};
+use rme_options::Images;
+use rme_wire::{GivenNames, Image, LineReader, Loading};
+use std::io::ErrorKind;
+use std::{fs, io};
+
+/// Answers the lines of the standard input over the world to begin with, saves the world that they leave, and
+/// answers the status.
+///
+/// A fault before the end of the input saves nothing, and what can't be saved is refused before the first line is read.
+pub fn run_images(rt: &HostRuntime, images: Images) -> Result<u8, Fault> {
+    let Images { load, locks, save } = images;
+    ask_name("--image", &load)?;
+    ask_name("--save", &save)?;
+    if let Some(file) = &save {
+        ask_place(rt, file.as_str())?;
+    }
+    let mut engine = begin(rt, load, GivenNames::of(locks))?;
+    answer(rt, &mut engine)?;
+    match save {
+        None => Ok(0),
+        Some(file) => save_in(rt, &engine, file),
+    }
+}
+
+/// Asks whether the file of an option, if one was given, has a name.
+fn ask_name(option: &'static str, file: &Option<String>) -> Result<(), Fault> {
+    match file {
+        Some(name) if name.is_empty() => Err(Fault::BadArguments(BadArgument::NoFile(option))),
+        _ => Ok(()),
+    }
+}
+
+/// The engine with the world of a file, if one is named, or with none.
+fn begin(rt: &HostRuntime, file: Option<String>, locks: GivenNames) -> Result<Engine, Fault> {
+    let mut engine = Engine::new(rt.alloc())?;
+    if let Some(file) = file {
+        load(rt, &mut engine, file, locks)?;
+    }
+    Ok(engine)
+}
+
+/// Answers the lines of the standard input.
+fn answer(rt: &HostRuntime, engine: &mut Engine) -> Result<(), Fault> {
+    let mut lines = LineReader::new(rt.alloc(), rt.stdin())?;
+    answer_lines(engine, &mut lines, &mut io::writer(rt))?;
+    Ok(())
+}
+
+/// Loads the world of a file. Where the file is not there, which is so at a first start, nothing is open.
+fn load(
+    rt: &HostRuntime,
+    engine: &mut Engine,
+    file: String,
+    locks: GivenNames,
+) -> Result<(), Fault> {
+    if !locks.are_names() {
+        return Err(Fault::BadNames);
+    }
+    let bytes = match fs::read(rt, file.as_str()) {
+        Ok(bytes) => bytes,
+        Err(error) if error.kind() == ErrorKind::NotFound => {
+            let _ = eprintln!(rt; "nothing is open at the beginning: {file} is not there");
+            return Ok(());
+        }
+        Err(error) => {
+            let kind = error.kind();
+            return Err(Fault::on_file(kind, Fault::ImageUnread(file, error)));
+        }
+    };
+    let loading = Loading {
+        image: Some(Image::new(bytes)),
+        locks,
+    };
+    match engine.load(&loading) {
+        Ok(()) => Ok(()),
+        Err(refusal) => Err(Fault::of_loading(refusal, file, loading.locks.len())),
+    }
+}
+
+/// Saves the world that is open, and answers the status. Where none is, the file stays as it is.
+fn save_in(rt: &HostRuntime, engine: &Engine, file: String) -> Result<u8, Fault> {
+    let Some(image) = engine.save()? else {
+        let _ = eprintln!(rt; "nothing is open at the end: {file} stays as it is");
+        return Ok(0);
+    };
+    replace(rt, file, image.as_slice())?;
+    Ok(0)
+}

@@ -1,0 +1,270 @@
+//! The words that are expected: each command of the program, with its options and arguments.
+//!
+//! They are values of `Word`, of which a few functions make clap's arguments, since each function that names a type of clap
+//! takes seconds to check.
+
+use crate::texts;
+use clap::{Arg, ArgAction, Command, value_parser};
+use std::alloc::{AllocError, Global};
+
+/// An option or an argument of a command.
+#[derive(Clone, Copy)]
+struct Word<'a> {
+    name: &'a str,
+    help: &'a str,
+    kind: Kind<'a>,
+    value: Value,
+    is_required: bool,
+    /// The option that it has to stand with, if there is one.
+    needs: &'a [&'a str],
+    /// The options that it can't stand with.
+    conflicts: &'a [&'a str],
+}
+
+/// How a word is given.
+#[derive(Clone, Copy)]
+enum Kind<'a> {
+    /// An option with no value, which has this letter too.
+    Flag(char),
+    /// An option with a value, which help calls so.
+    Option(&'a str),
+    /// An option whose values have commas between; help calls them so.
+    List(&'a str),
+    /// An argument.
+    Argument,
+    /// So many arguments, or more.
+    Arguments(usize),
+}
+
+/// What its value is.
+#[derive(Clone, Copy)]
+enum Value {
+    Text,
+    Number,
+    Port,
+    Connections,
+}
+
+/// The command line of the program.
+pub fn command<'a>(alloc: Global) -> Result<Command<'a>, AllocError> {
+    program(alloc)?
+        .subcommand(run_command(alloc)?)?
+        .subcommand(command_of(
+            alloc,
+            "check",
+            texts::check_about(),
+            texts::check_lines(),
+            &[],
+        )?)?
+        .subcommand(command_of(alloc, "draw", texts::draw_about(), texts::draw_lines(), &[])?)?
+        .subcommand(explain_command(alloc)?)?
+        .subcommand(threads_command(alloc)?)?
+        .subcommand(serve_command(alloc)?)
+}
+
+/// The program, with no command yet.
+fn program<'a>(alloc: Global) -> Result<Command<'a>, AllocError> {
+    let program = asking(command_of(alloc, "rme", texts::about(), texts::example(), &[])?);
+    program.version("0.1.0").bin_name("rme")
+}
+
+/// The program, which asks for a command.
+fn asking(program: Command<'_>) -> Command<'_> {
+    program
+        .subcommand_required(true)
+        .arg_required_else_help(true)
+}
+
+fn run_command<'a>(alloc: Global) -> Result<Command<'a>, AllocError> {
+    let words = [
+        Word {
+            conflicts: &["image", "save"],
+            ..optional("transcript", Kind::Flag('t'), texts::transcript_help())
+        },
+        Word {
+            needs: &["locks"],
+            ..optional("image", Kind::Option("FILE"), texts::image_help())
+        },
+        Word {
+            needs: &["image"],
+            ..optional("locks", Kind::List("NAMES"), texts::locks_help())
+        },
+        optional("save", Kind::Option("FILE"), texts::save_help()),
+    ];
+    command_of(alloc, "run", texts::run_about(), texts::run_lines(), &words)
+}
+
+fn explain_command<'a>(alloc: Global) -> Result<Command<'a>, AllocError> {
+    let words = [optional(
+        "CODE",
+        Kind::Arguments(0),
+        "The number or the name of a refusal or of a status; without it each is named",
+    )];
+    command_of(
+        alloc,
+        "explain",
+        texts::explain_about(),
+        texts::explain_lines(),
+        &words,
+    )
+}
+
+fn threads_command<'a>(alloc: Global) -> Result<Command<'a>, AllocError> {
+    let words = [
+        required(
+            Kind::Argument,
+            Value::Number,
+            "WORKERS",
+            "How many workers, 1 to 256",
+        ),
+        required(
+            Kind::Argument,
+            Value::Number,
+            "JOBS",
+            "How many jobs each of them makes, 1 to 1000000",
+        ),
+        Word {
+            value: Value::Number,
+            ..optional(
+                "FALL",
+                Kind::Arguments(0),
+                "Each worker falls after so many own steps; the numbers rise",
+            )
+        },
+        optional("quiet", Kind::Flag('q'), "Shows no progress on a terminal"),
+    ];
+    command_of(
+        alloc,
+        "threads",
+        texts::threads_about(),
+        texts::threads_lines(),
+        &words,
+    )
+}
+
+fn serve_command<'a>(alloc: Global) -> Result<Command<'a>, AllocError> {
+    let number = Kind::Option("N");
+    let words = [
+        required(
+            number,
+            Value::Number,
+            "workers",
+            "How many workers the service has, 1 to 256",
+        ),
+        required(
+            number,
+            Value::Number,
+            "cells",
+            "How many cells each lock guards, 1 to 16",
+        ),
+        required(
+            number,
+            Value::Number,
+            "jobs",
+            "How many jobs each worker may make, 1 to 1000000",
+        ),
+        required(
+            number,
+            Value::Port,
+            "port",
+            "The port to listen on; 0 takes a free one",
+        ),
+        required(
+            number,
+            Value::Connections,
+            "connections",
+            "How many connections to serve, 1 to 1000",
+        ),
+        required(
+            Kind::Arguments(1),
+            Value::Text,
+            "LOCK",
+            "The names of the locks, 1 to 16, each of 1 to 32 of a-z 0-9 _ -",
+        ),
+    ];
+    command_of(
+        alloc,
+        "serve",
+        texts::serve_about(),
+        texts::serve_lines(),
+        &words,
+    )
+}
+
+/// A word that may be left out, and takes a text or nothing.
+fn optional<'a>(name: &'a str, kind: Kind<'a>, help: &'a str) -> Word<'a> {
+    Word {
+        name,
+        help,
+        kind,
+        value: Value::Text,
+        is_required: false,
+        needs: &[],
+        conflicts: &[],
+    }
+}
+
+/// A word that must be given.
+fn required<'a>(kind: Kind<'a>, value: Value, name: &'a str, help: &'a str) -> Word<'a> {
+    Word {
+        value,
+        is_required: true,
+        ..optional(name, kind, help)
+    }
+}
+
+/// A command with these texts and words.
+fn command_of<'a>(
+    alloc: Global,
+    name: &'a str,
+    about: &'a str,
+    lines: &'a str,
+    words: &[Word<'a>],
+) -> Result<Command<'a>, AllocError> {
+    let mut command = with_texts(Command::new(alloc, name), about, lines);
+    for word in words {
+        command = command.arg(arg_of(alloc, word)?)?;
+    }
+    Ok(command)
+}
+
+/// The command with these texts.
+fn with_texts<'a>(command: Command<'a>, about: &'a str, lines: &'a str) -> Command<'a> {
+    command.about(about).after_help(lines)
+}
+
+/// The word as clap knows it.
+fn arg_of<'a>(alloc: Global, word: &Word<'a>) -> Result<Arg<'a>, AllocError> {
+    let arg = Arg::new(alloc, word.name)
+        .help(word.help)
+        .required(word.is_required);
+    valued(given(arg, word), word.value)
+        .requires_all(word.needs)?
+        .conflicts_with_all(word.conflicts)
+}
+
+/// The argument as the word is given.
+fn given<'a>(arg: Arg<'a>, word: &Word<'a>) -> Arg<'a> {
+    match word.kind {
+        Kind::Flag(letter) => arg.long(word.name).short(letter).action(ArgAction::SetTrue),
+        Kind::Option(value) => arg.long(word.name).value_name(value).action(ArgAction::Set),
+        Kind::List(value) => listed(arg.long(word.name).value_name(value)),
+        Kind::Argument => arg.action(ArgAction::Set),
+        Kind::Arguments(least) => arg.action(ArgAction::Append).num_args(least..),
+    }
+}
+
+/// The argument with commas between its values.
+fn listed(arg: Arg<'_>) -> Arg<'_> {
+    arg.action(ArgAction::Set).value_delimiter(',')
+}
+
+/// The argument, which takes such a value.
+fn valued(arg: Arg<'_>, value: Value) -> Arg<'_> {
+    match value {
+        Value::Text => arg,
+        Value::Number => arg.value_parser(value_parser!(u32)),
+        Value::Port => arg.value_parser(value_parser!(u16)),
+        Value::Connections => arg.value_parser(value_parser!(u32).range(1..=1000)),
+    }
+}

@@ -1,0 +1,54 @@
+//! What the words of the command line ask for.
+
+/// What the words ask for.
+#[derive(Drop)]
+pub enum Task {
+    /// Answer the lines of the standard input.
+    Run,
+    /// Answer them over a saved world, save the world that they leave, or both.
+    Images(Images),
+    /// Obey the lines of the standard input, and write a transcript.
+    Transcript,
+    /// Check the transcript on the standard input.
+    Check,
+    /// Draw the transcript on the standard input.
+    Draw,
+    /// Explain what these words name, or, where there are none, name all.
+    Explain(Vec<String>),
+    /// Supervise workers that add to one cell.
+    Threads(ThreadsTask),
+    /// Serve workers to the sessions of so many connections.
+    Serve(ServeTask),
+}
+
+/// The images that a run begins and ends with.
+#[derive(Drop)]
+pub struct Images {
+    /// The file of the world to begin with, if one was named.
+    pub load: Option<String>,
+    /// The words for the names of that world's locks.
+    pub locks: Vec<String>,
+    /// The file for the world that is left, if one was named.
+    pub save: Option<String>,
+}
+
+/// What `rme threads` is asked for: so many workers, with so many jobs each, all with the same falls.
+#[derive(Drop)]
+pub struct ThreadsTask {
+    pub workers: u32,
+    pub jobs: u32,
+    pub falls: Vec<u32>,
+    pub is_quiet: bool,
+}
+
+/// What `rme serve` is asked for: a service of these sizes with these locks, and so many connections on this port.
+#[derive(Drop)]
+pub struct ServeTask {
+    pub workers: u32,
+    pub cells: u32,
+    pub jobs: u32,
+    pub port: u16,
+    pub connections: u32,
+    /// The words for the names of its locks.
+    pub locks: Vec<String>,
+}
