@@ -1,7 +1,7 @@
 //! Pairs that are no step of the machine, and pairs that are one though nothing is done.
 
-use crate::pairs::Check::{Admits, Owner, Refuses};
-use crate::pairs::{Check, Pair, check_all, check_run, job, refuse};
+use crate::checker::pairs::Check::{Admits, Owner, Refuses};
+use crate::checker::pairs::{Check, Pair, check_all, check_run, job, refuse};
 use rme_checker::Machine;
 use rme_program::{Answer, Event, Note, Receipt};
 use rme_script::{Job, Op, Script};

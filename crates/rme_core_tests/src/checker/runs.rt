@@ -1,7 +1,7 @@
 //! Runs that the machine admits whole.
 
-use crate::pairs::Check::{Admits, Finished, Owner, Refuses};
-use crate::pairs::{Check, Pair, check_run, finished_are, job, owner_is};
+use crate::checker::pairs::Check::{Admits, Finished, Owner, Refuses};
+use crate::checker::pairs::{Check, Pair, check_run, finished_are, job, owner_is};
 use rme_checker::Machine;
 use rme_program::Event;
 use rme_script::Op;

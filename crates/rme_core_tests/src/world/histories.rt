@@ -1,7 +1,6 @@
 //! Histories in the hands of an observer: in the order of their places, replayed, and the steps tallied.
 
-use crate::plays::{job, same};
-use crate::walks::{Until, walk};
+use crate::world::walks::{cells_are, job, step_times, walk};
 use rme_history::{ReplayFault, Tally, by_place, replay};
 use rme_program::{Entry, Phase};
 use rme_script::Op;
@@ -26,13 +25,13 @@ const PHASES: [Phase; 5] = [
 fn re_entry(alloc: Global, shape: Shape) -> Result<World, Fail> {
     let mut world = World::new(alloc, shape)?;
     world.submit(0, job(&[Op::Add(0, 5)]))?;
-    walk(&mut world, 0, Some(Until::Entered), MOST_STEPS)?;
+    step_times(&mut world, 0, 7)?;
     world.crash(0)?;
     world.submit(1, job(&[Op::Add(0, 1)]))?;
-    walk(&mut world, 1, None, MOST_STEPS)?;
+    walk(&mut world, 1)?;
     world.restart(0)?;
-    walk(&mut world, 0, None, MOST_STEPS)?;
-    walk(&mut world, 1, None, MOST_STEPS)?;
+    walk(&mut world, 0)?;
+    walk(&mut world, 1)?;
     Ok(world)
 }
 
@@ -48,7 +47,7 @@ fn are_same(these: &[Entry], others: &[Entry]) -> bool {
 fn order(rt: HostRuntime) -> Result<(), Fail> {
     let world = re_entry(rt.alloc(), Shape::new(2, 1, 1, 10)?)?;
     let history = world.history();
-    same(&rt, history.len(), 2, "the history");
+    assert!(rt; history.len() == 2);
     let sorted = by_place(Vec::from_slice(rt.alloc(), history)?);
     assert!(rt; are_same(&sorted, history));
     let mut turned = Vec::from_slice(rt.alloc(), history)?;
@@ -66,13 +65,11 @@ fn replayed(rt: HostRuntime) -> Result<(), Fail> {
     let Ok(rows) = replay(rt.alloc(), shape, &entries) else {
         return Err(Refusal::NoMemory.into());
     };
-    assert_eq!(rt; rows.len(), 1);
-    assert_eq!(rt; rows[0].len(), 1);
-    assert_eq!(rt; rows[0].get(0), 6);
-    assert_eq!(rt; entries.len(), 2);
+    assert!(rt; rows.len() == 1 && entries.len() == 2);
+    assert!(rt; cells_are(&rows[0], &[6]));
     entries[1].receipt.reply = 7;
     let broken = replay(rt.alloc(), shape, &entries).err();
-    same(&rt, broken, Some(ReplayFault::Broken(1)), "a wrong reply");
+    assert!(rt; broken == Some(ReplayFault::Broken(1)));
     Ok(())
 }
 
@@ -106,14 +103,14 @@ fn report_of(tally: &Tally) -> [u32; 5] {
 fn tallied(rt: HostRuntime) -> Result<(), Fail> {
     let mut world = World::new(rt.alloc(), Shape::new(2, 1, 1, 10)?)?;
     let mut tally = Tally::new();
-    same(&rt, report_of(&tally), [0; 5], "the beginning");
+    assert!(rt; report_of(&tally) == [0; 5]);
     world.submit(0, job(&[Op::Add(0, 5)]))?;
     tally_walk(&mut tally, &mut world, 0)?;
-    same(&rt, report_of(&tally), [0, 6, 1, 18, 3], "the first job");
+    assert!(rt; report_of(&tally) == [0, 6, 1, 18, 3]);
     world.submit(1, job(&[]))?;
     tally_walk(&mut tally, &mut world, 1)?;
     tally.see(Phase::Ready, 100);
-    same(&rt, report_of(&tally), [0, 6, 1, 18, 3], "the second job");
-    same(&rt, tally.most(Phase::Ready), 0, "Ready");
+    assert!(rt; report_of(&tally) == [0, 6, 1, 18, 3]);
+    assert!(rt; tally.most(Phase::Ready) == 0);
     Ok(())
 }

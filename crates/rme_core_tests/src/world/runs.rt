@@ -1,6 +1,6 @@
 //! Lists of events.
 
-use crate::plays::{job, same};
+use crate::world::walks::job;
 use rme_program::{Answer, Event, Note, Receipt};
 use rme_words::{Refusal, Shape};
 use rme_world::World;
@@ -45,6 +45,6 @@ fn run(rt: HostRuntime) -> Result<(), Fail> {
     let mut events = [Event::Step(0); 20];
     events[0] = Event::Submit(0, job(&[]));
     let answers = world.run(&events)?;
-    same(&rt, answers.as_slice(), ANSWERS.as_slice(), "the answers");
+    assert!(rt; answers.as_slice() == ANSWERS.as_slice());
     Ok(())
 }
