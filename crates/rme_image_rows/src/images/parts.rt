@@ -1,7 +1,6 @@
 //! The calls that an image is written, read and judged by, each on its own.
 
-use crate::images::bytes_of;
-use crate::smallest::SMALLEST;
+use super::smallest;
 use rme_good::is_good;
 use rme_image::{encode, parse};
 use rme_words::{Bank, Refusal, Shape};
@@ -9,10 +8,10 @@ use std::alloc::Global;
 use std::process::Abort;
 use std::test::Fail;
 
-/// `encode` of words and no entries is the row `smallest image`.
+/// `encode` of words and no entries is the smallest image.
 #[test]
 fn encoded(rt: HostRuntime) -> Result<(), Fail> {
-    let image = bytes_of(&rt, rt.alloc(), &SMALLEST)?;
+    let image = smallest(rt.alloc())?;
     let encoded = encode(rt.alloc(), Shape::new(1, 1, 1, 1)?, &[0; 37], &[])?;
     assert!(rt; encoded.as_slice() == image.as_slice());
     Ok(())
@@ -21,7 +20,7 @@ fn encoded(rt: HostRuntime) -> Result<(), Fail> {
 /// `parse` of it finds those words and no entries, and refuses it without its last byte.
 #[test]
 fn parsed(rt: HostRuntime) -> Result<(), Fail> {
-    let mut image = bytes_of(&rt, rt.alloc(), &SMALLEST)?;
+    let mut image = smallest(rt.alloc())?;
     let parsed = parse(rt.alloc(), &image)?;
     assert!(rt; parsed.version == 2);
     assert!(rt; parsed.shape.workers() == 1);
@@ -44,7 +43,7 @@ fn are_good(rt: &impl Abort, alloc: Global, words: &[u64]) -> Result<bool, Fail>
     Ok(is_good(alloc, &bank, &[])?)
 }
 
-/// Row `one byte`, by its words: `is_good` says yes to `Begun` 1, and no to `Turn` 1.
+/// `is_good` says yes to `Begun` 1, and no to `Turn` 1.
 #[test]
 fn judged(rt: HostRuntime) -> Result<(), Fail> {
     let mut words = [0; 37];
