@@ -1,5 +1,5 @@
 -- WHAT A RUN OF LINES WRITES: for the lines of the bytes read, the bytes of each in order, and nothing else. Which bytes a
--- line has, in what the lines before it left open, is a relation that the run is given: the answers of `Lines`, say.
+-- line has, in what the lines before it left open, is a relation that the run is given.
 use Rattle.std.specs.Prelude.{◌≡◌, ℕ, List, [], ◌∷◌, ◌++◌, Bool, true, false, Option, Some, None}
 use Rattle.std.specs.Io.KnownBytes.{Appends}
 use Rattle.rme_lines.specs.declared.fault.EngineFault.{EngineFault}
@@ -76,15 +76,22 @@ Turns has left later ended old new held kept holds keeps true =
     (line : InputLine) × (bytes : List ℕ) × CutsOff left later line × has old line bytes new × Gathers held kept bytes holds keeps × (ended ≡ false → TakesWhole left later)
 Turns has left later ended old new held kept holds keeps false = HasNone left × Appends held holds kept × (new ≡ old)
 
--- what is cut and written where no line was to be had
-abbrev pub Spills : EngineFault → Option (List ℕ) → Option (List ℕ) → Option (List ℕ) → List ℕ → Option (List ℕ) → Type 0
-Spills ReadFailed left later held kept holds = TakesPiece left later × Appends held holds kept
-Spills NoMemory left later held kept holds = Appends held holds kept
-Spills WriteFailed left later held kept holds = AppendsFront held holds kept
+-- what is cut and written where no line was to be had: after want of memory what was not written is kept back still
+abbrev pub Spills : EngineFault → Option (List ℕ) → Option (List ℕ) → Option (List ℕ) → List ℕ → Option (List ℕ) → List ℕ → Type 0
+Spills ReadFailed left later held kept holds keeps = TakesPiece left later × Appends held holds kept
+Spills NoMemory left later held kept holds keeps = Gathers held kept [] holds keeps
+Spills WriteFailed left later held kept holds keeps = AppendsFront held holds kept
 
 -- a turn that failed: where the writer did, perhaps after a line was taken
-abbrev pub TurnFails : {S : Type 0} → (S → InputLine → List ℕ → S → Type 0) → EngineFault → Option (List ℕ) → Option (List ℕ) → S → Option (List ℕ) → List ℕ → Option (List ℕ) → Type 0
-TurnFails has ReadFailed left later old held kept holds = TakesPiece left later × Appends held holds kept
-TurnFails has NoMemory left later old held kept holds = Appends held holds kept
-TurnFails {S = S} has WriteFailed left later old held kept holds =
+abbrev pub TurnFails : {S : Type 0} → (S → InputLine → List ℕ → S → Type 0) → EngineFault → Option (List ℕ) → Option (List ℕ) → S → Option (List ℕ) → List ℕ → Option (List ℕ) → List ℕ → Type 0
+TurnFails has ReadFailed left later old held kept holds keeps = TakesPiece left later × Appends held holds kept
+TurnFails has NoMemory left later old held kept holds keeps = Gathers held kept [] holds keeps
+TurnFails {S = S} has WriteFailed left later old held kept holds keeps =
     (taken : List InputLine) × (all : List (List ℕ)) × (new : S) × Run has old taken all new × BeginsWith left taken × AppendsFront held holds (kept ++ all_bytes all)
+
+-- what ends a run after a fault, and what is written yet: for want of memory all that is kept back
+abbrev pub GivesUp : EngineFault → Option (List ℕ) → List ℕ → Option (List ℕ) → EngineFault → Type 0
+GivesUp NoMemory held kept holds NoMemory = Appends held holds kept
+GivesUp NoMemory held kept holds WriteFailed = AppendsFront held holds kept
+GivesUp NoMemory held kept holds ReadFailed = ⊥
+GivesUp fault held kept holds last = (last ≡ fault) × (holds ≡ held)

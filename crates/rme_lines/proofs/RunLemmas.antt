@@ -14,7 +14,7 @@ use Rattle.rme_lines.specs.Readers.{FailsToRead, ReadsNoMore, most_lines}
 use Rattle.rme_lines.proofs.PutLemmas.{front_after, gathered_front, gathered_put}
 use Rattle.rme_lines.proofs.ReaderLemmas.{CameOn, came_no_more, came_to_fail}
 use Rattle.rme_lines.proofs.PieceLemmas.{lines_ended, whole_lines_ended, whole_lines_piece}
-use Rattle.rme_engine.specs.Runs.{AreLines, BeginsWith, CutsOff, HasNone, Run, Spills, TurnFails, Turns, WereRead, WritesFirst, WritesTo, all_bytes}
+use Rattle.rme_lines.specs.Runs.{AreLines, BeginsWith, CutsOff, GivesUp, HasNone, Run, Spills, TurnFails, Turns, WereRead, WritesFirst, WritesTo, all_bytes}
 
 -- ---- the lines of the input
 
@@ -173,13 +173,16 @@ module _ {S : Type 0} (has : S → InputLine → List ℕ → S → Type 0) wher
       let P : S → Type 0 = λ last. Run has first so.lines so.all last in
       (so.lines, so.all, subst P (sym same) so.run, left_none input left so.lines so.of none, all_put before held holds so.front kept (all_bytes so.all) so.put so.rest more)
 
-  pub failed : (fault : EngineFault) (input before left later held holds : Option (List ℕ)) (ended : Bool) (first now : S) (kept : List ℕ) → SoFar first input before left ended now held kept
-      → (fault ≡ ReadFailed → ended ≡ false) → TurnFails has fault left later now held kept holds → WritesFirst has first fault input later before holds
-  failed ReadFailed input before left later held holds ended first now kept so going (piece, more) =
-      (so.lines, so.all, now, so.run, (off_failed input left later so.lines (so.off (going refl)) piece, all_put before held holds so.front kept (all_bytes so.all) so.put so.rest more))
-  failed NoMemory input before left later held holds ended first now kept so going more =
+  -- the first lines were taken, and their bytes, or a front of them, were written
+  spilt_first : (input before left held holds : Option (List ℕ)) (ended : Bool) (first now : S) (kept : List ℕ) → SoFar first input before left ended now held kept → Appends held holds kept
+      → (last : Option (List ℕ)) → WritesFirst has first NoMemory input last before holds
+  spilt_first input before left held holds ended first now kept so more last =
       (so.lines, so.all, now, so.run, (left_begins input left so.lines so.of, all_put before held holds so.front kept (all_bytes so.all) so.put so.rest more))
-  failed WriteFailed input before left later held holds ended first now kept so going (taken, all, new, run, begins, front) =
+
+  front_first : (input before left held holds : Option (List ℕ)) (ended : Bool) (first now new : S) (kept : List ℕ) (taken : List InputLine) (all : List (List ℕ))
+      → SoFar first input before left ended now held kept → Run has now taken all new → BeginsWith left taken → AppendsFront held holds (kept ++ all_bytes all)
+      → (last : Option (List ℕ)) → WritesFirst has first WriteFailed input last before holds
+  front_first input before left held holds ended first now new kept taken all so run begins front last =
       let e : so.front ++ (kept ++ all_bytes all) ≡ all_bytes (so.all ++ all) =
       sym (append_assoc so.front kept (all_bytes all)) ∙ ap (λ l. l ++ all_bytes all) so.rest ∙ sym (all_bytes-append so.all all) in (
         so.lines ++ taken,
@@ -189,32 +192,49 @@ module _ {S : Type 0} (has : S → InputLine → List ℕ → S → Type 0) wher
         (left_begins_more input left so.lines taken so.of begins, front_after before held holds so.front (kept ++ all_bytes all) (all_bytes (so.all ++ all)) so.put front e),
       )
 
+  failed_still : (fault last : EngineFault) (input before left later held holds : Option (List ℕ)) (first : S) → last ≡ fault → WritesFirst has first fault input later before holds
+      → WritesFirst has first last input later before holds
+  failed_still fault last input before left later held holds first same writes = let P : EngineFault → Type 0 = λ f. WritesFirst has first f input later before holds in subst P (sym same) writes
+
+  module _ (input before left later held mid holds : Option (List ℕ)) (ended : Bool) (first now : S) (kept keeps : List ℕ) (so : SoFar first input before left ended now held kept) where
+    put_last : holds ≡ mid → Appends held mid kept → Appends held holds kept
+    put_last same put = let P : Option (List ℕ) → Type 0 = λ h. Appends held h kept in subst P (sym same) put
+
+    -- a turn failed, and the run gave up
+    pub failed : (fault last : EngineFault) → (fault ≡ ReadFailed → ended ≡ false) → TurnFails has fault left later now held kept mid keeps → GivesUp fault mid keeps holds last
+        → WritesFirst has first last input later before holds
+    failed ReadFailed last going (piece, put) (same, still_held) =
+        failed_still ReadFailed last input before left later held holds first same
+        (so.lines, so.all, now, so.run, (off_failed input left later so.lines (so.off (going refl)) piece, all_put before held holds so.front kept (all_bytes so.all) so.put so.rest (put_last still_held put)))
+    failed NoMemory NoMemory going gathers put = spilt_first input before left held holds ended first now kept so (gathered_put held mid holds kept keeps gathers put) later
+    failed NoMemory WriteFailed going gathers front =
+        let P : List ℕ → Type 0 = λ l. AppendsFront held holds l in
+        front_first input before left held holds ended first now now kept [] [] so refl (begins_none left) (subst P (sym (append-nil kept)) (gathered_front held mid holds kept keeps gathers front)) later
+    failed NoMemory ReadFailed going gathers never = absurd never
+    failed WriteFailed last going (taken, all, new, run, begins, front) (same, still_held) =
+        let P : Option (List ℕ) → Type 0 = λ h. AppendsFront held h (kept ++ all_bytes all) in
+        failed_still WriteFailed last input before left later held holds first same
+        (front_first input before left held holds ended first now new kept taken all so run begins (subst P (sym still_held) front) later)
+
   -- no memory before the first line
   pub failed_first : (first : S) (input held : Option (List ℕ)) → WritesFirst has first NoMemory input input held held
   failed_first first input held = ([], [], first, refl, (begins_none input, Appends-nil held))
 
   -- no line was to be had
-  pub spilt : (fault : EngineFault) (left later held holds : Option (List ℕ)) (old : S) (kept : List ℕ) → Spills fault left later held kept holds → TurnFails has fault left later old held kept holds
-  spilt ReadFailed left later held holds old kept s = s
-  spilt NoMemory left later held holds old kept s = s
-  spilt WriteFailed left later held holds old kept s =
+  pub spilt : (fault : EngineFault) (left later held holds : Option (List ℕ)) (old : S) (kept keeps : List ℕ) → Spills fault left later held kept holds keeps
+      → TurnFails has fault left later old held kept holds keeps
+  spilt ReadFailed left later held holds old kept keeps s = s
+  spilt NoMemory left later held holds old kept keeps s = s
+  spilt WriteFailed left later held holds old kept keeps s =
       let P : List ℕ → Type 0 = λ l. AppendsFront held holds l in ([], [], old, refl, begins_none left, subst P (sym (append-nil kept)) s)
 
   -- the line's bytes could not be written
-  pub put_failed : (left later held mid holds : Option (List ℕ)) (old new : S) (line : InputLine) (kept keeps bytes : List ℕ) → CutsOff left later line → has old line bytes new
-      → Gathers held kept [] mid keeps → AppendsFront mid holds (keeps ++ bytes) → TurnFails has WriteFailed left later old held kept holds
-  put_failed left later held mid holds old new line kept keeps bytes cuts had gathers front =
+  pub put_failed : (left later held mid holds : Option (List ℕ)) (old new : S) (line : InputLine) (kept keeps bytes last : List ℕ) → CutsOff left later line → has old line bytes new
+      → Gathers held kept [] mid keeps → AppendsFront mid holds (keeps ++ bytes) → TurnFails has WriteFailed left later old held kept holds last
+  put_failed left later held mid holds old new line kept keeps bytes last cuts had gathers front =
       let e : gathers.front ++ (keeps ++ bytes) ≡ kept ++ (bytes ++ []) =
       sym (append_assoc gathers.front keeps bytes) ∙ ap (λ l. l ++ bytes) (sym gathers.rest ∙ append-nil kept) ∙ ap (λ l. kept ++ l) (sym (append-nil bytes)) in
       (line ∷ [], bytes ∷ [], new, (new, had, refl), begins_off left later line cuts, front_after held mid holds gathers.front (keeps ++ bytes) (kept ++ (bytes ++ [])) gathers.put front e)
-
-  -- memory was refused after the line was cut, and what was kept back was written, or a front of it
-  pub gave_up : (fault : EngineFault) (left later held mid holds : Option (List ℕ)) (old : S) (kept keeps : List ℕ) → Gathers held kept [] mid keeps
-      → (fault ≡ NoMemory → Appends mid holds keeps) → (fault ≡ WriteFailed → AppendsFront mid holds keeps) → (fault ≡ ReadFailed → ⊥) → TurnFails has fault left later old held kept holds
-  gave_up ReadFailed left later held mid holds old kept keeps gathers memory write kind = absurd (kind refl)
-  gave_up NoMemory left later held mid holds old kept keeps gathers memory write kind = gathered_put held mid holds kept keeps gathers (memory refl)
-  gave_up WriteFailed left later held mid holds old kept keeps gathers memory write kind =
-      spilt WriteFailed left later held holds old kept (gathered_front held mid holds kept keeps gathers (write refl))
 
 -- ---- the reader
 
