@@ -8,6 +8,8 @@
 #[cfg(test)]
 mod checker;
 #[cfg(test)]
+mod images;
+#[cfg(test)]
 mod parts;
 #[cfg(test)]
 mod world;
