@@ -5,7 +5,7 @@
 //! meant, that a call with room succeeds, and that a job takes as many own steps as the algorithm is written
 //! to take. It stands on `rme_world` and `rme_history`, whose calls the rows make, and on the crates that name
 //! a job, a note and a shape. Begin with `plays.rt`, which has the words that the rows are written in, and then
-//! `one_at_a_time.rt`. The rows as lines are tests of rme_line_rows.
+//! `one_at_a_time.rt`. The rows as lines are files of `rows/`.
 #![tactic(auto)]
 
 #[cfg(test)]
