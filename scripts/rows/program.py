@@ -1,25 +1,17 @@
-"""The built program, and the count of the checks."""
+"""Runs of the built program that must write just what a row says."""
 
-import os
-import subprocess
-
-TOP = os.path.dirname(os.path.dirname(os.path.dirname(os.path.realpath(__file__))))
-RME = os.path.join(TOP, "crates", "rme_cli", "out", "rme_cli")
-
-checks = failed = 0
+from lib import checks
+from lib.programs import run as run_once
 
 
 def check(name, holds, told=""):
-    """Counts a check, and says which one failed and what was found."""
-    global checks, failed
-    checks += 1
-    if not holds:
-        failed += 1
-        print(f"FAIL {name}: {told}")
+    """A check of a row, of which nothing is said where it holds."""
+    return checks.check(name, holds, told, quiet=True)
 
 
 def run(words, given):
-    return subprocess.run([RME, *words], input=given, capture_output=True, timeout=120)
+    """A run, which a long row may keep busy for minutes on a slow machine."""
+    return run_once(words, given, timeout=600)
 
 
 def difference(found, wanted):

@@ -4,7 +4,7 @@ import os
 import re
 from collections import namedtuple
 
-from rows.program import TOP
+from lib.programs import TOP
 
 # A row: its name, its lines, and by the ends of their names the other files that it has.
 Row = namedtuple("Row", "name items files")
