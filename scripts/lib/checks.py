@@ -11,12 +11,14 @@ class Stop(Exception):
     """A part of a script cannot go on: it counts as a failed check, and the other parts are made."""
 
 
-def check(name, holds, told=""):
-    """Counts a check, says how it went, and answers whether it holds; `told` is said where it does not."""
+def check(name, holds, told="", quiet=False):
+    """Counts a check, says how it went, and answers whether it holds; `told` is said where it does not. Of a quiet one,
+    of which there are many, nothing is said where it holds."""
     global made, failed
     made += 1
     failed += not holds
-    print(("ok   " if holds else "FAIL ") + name + ("" if holds else f": {told}"), flush=True)
+    if not holds or not quiet:
+        print(("ok   " if holds else "FAIL ") + name + ("" if holds else f": {told}"), flush=True)
     return bool(holds)
 
 

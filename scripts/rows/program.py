@@ -1,25 +1,17 @@
-"""The built program, and the count of the checks."""
+"""Checks of rows: of those that hold nothing is said."""
 
-import os
-import subprocess
+from lib import checks
+from lib.programs import ends_with, run
 
-TOP = os.path.dirname(os.path.dirname(os.path.dirname(os.path.realpath(__file__))))
-RME = os.path.join(TOP, "crates", "rme_cli", "out", "rme_cli")
-
-checks = failed = 0
+SECONDS = 300
 
 
 def check(name, holds, told=""):
-    """Counts a check, and says which one failed and what was found."""
-    global checks, failed
-    checks += 1
-    if not holds:
-        failed += 1
-        print(f"FAIL {name}: {told}")
+    return checks.check(name, holds, told, quiet=True)
 
 
-def run(words, given):
-    return subprocess.run([RME, *words], input=given, capture_output=True, timeout=120)
+def run_lines(words, given):
+    return run(words, given, timeout=SECONDS)
 
 
 def difference(found, wanted):
@@ -32,9 +24,7 @@ def difference(found, wanted):
 
 
 def check_output(name, words, given, wanted, status=0):
-    """A run must write just this, end with this status and say nothing on the standard error. Gives what it wrote."""
-    ran = run(words, given)
-    holds = (ran.returncode, ran.stdout, ran.stderr) == (status, wanted, b"")
-    told = "" if holds else f"status {ran.returncode}, {ran.stderr!r}, {difference(ran.stdout, wanted)}"
-    check(name, holds, told)
-    return ran.stdout
+    """A run must write just this, end with this status and say nothing on the standard error."""
+    ran = run_lines(words, given)
+    told = f"status {ran.returncode}, {ran.stderr!r}, {difference(ran.stdout, wanted)}"
+    check(name, ends_with(ran) == (status, wanted, b""), told)

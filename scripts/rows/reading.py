@@ -4,7 +4,7 @@ import os
 import re
 from collections import namedtuple
 
-from rows.program import TOP
+from lib.programs import TOP
 
 # A row: its name, its lines, and by the ends of their names the other files that it has.
 Row = namedtuple("Row", "name items files")
@@ -35,7 +35,7 @@ def item_of(line):
     if not line.startswith(b"#"):
         return Line(line)
     if line.startswith(b"# serve "):
-        return Serve(line.decode().split()[1:])
+        return Serve(line.decode().split()[2:])
     for kind, form in ASKED:
         if found := form.fullmatch(line):
             return kind(*map(int, found.groups()))

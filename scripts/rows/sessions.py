@@ -1,69 +1,46 @@
 """Rows of sessions: `rme serve`, and clients that say their lines by turns."""
 
-import re
 import socket
-import subprocess
 
-from rows.program import RME, check, difference
-from rows.reading import Client, Line, Serve, of_cut, read, text_of
-
-SECONDS = 60
+from lib.servers import Server
+from rows.program import check, difference
+from rows.reading import Client, Line, Serve, of_cut, text_of
 
 
-class Server:
-    """A server of so many connections, which is listening."""
-
-    def __init__(self, words, connections):
-        words = [RME, *words, "--port", "0", "--connections", str(connections)]
-        self.program = subprocess.Popen(
-            words, stdin=subprocess.DEVNULL, stdout=subprocess.PIPE, stderr=subprocess.PIPE
-        )
-        self.served = f"[INFO  rme] served {connections}\n".encode()
-        first = self.program.stdout.readline()
-        self.port = int(re.fullmatch(rb"listening (\d+)\n", first).group(1))
-
-    def connect(self):
-        return Connection(socket.create_connection(("127.0.0.1", self.port), SECONDS))
-
-    def end(self):
-        """What it says of its locks. It must end by itself, and well."""
-        closed, told = self.program.communicate(timeout=SECONDS)
-        ended = (self.program.returncode, told)
-        return closed if ended == (0, self.served) else f"the server ended so: {ended}".encode()
+def started(words, connections):
+    """A server with these words, as `--workers 2 --cells 1 --jobs 10 a`, and so many connections."""
+    named = [word for word in words if word.startswith("--")]
+    options = {word[2:]: words[words.index(word) + 1] for word in named}
+    return Server(words[2 * len(named) :], connections=connections, **options)
 
 
-class Connection:
-    """The client's side of a session."""
+def closing(server, connections):
+    """What the server says of its locks. It must end by itself, and well."""
+    status, closed, told = server.end()
+    if (status, told) == (0, f"[INFO  rme] served {connections}\n".encode()):
+        return closed
+    return f"the server ended with {status}, {told!r}\n".encode()
 
-    def __init__(self, stream):
-        self.stream, self.lines = stream, stream.makefile("rb")
 
-    def say(self, line):
-        self.stream.sendall(line)
-
-    def hear(self):
-        return self.lines.readline()
-
-    def hang_up(self):
-        """Says that nothing more comes, and gives what is still answered up to the session's end."""
-        self.stream.shutdown(socket.SHUT_WR)
-        rest = self.lines.read()
-        self.lines.close()
-        self.stream.close()
-        return rest
+def hang_up(client):
+    """Says that nothing more comes, and gives what is still answered up to the session's end."""
+    client.connection.shutdown(socket.SHUT_WR)
+    rest = client.lines.read()
+    client.close()
+    return rest
 
 
 def heard(words, turns):
     """What the clients are answered, who wait for each answer before the next line, and what the server says at its end."""
     count = max(client for client, _ in turns)
-    server = Server(words, count)
-    clients = [server.connect() for _ in range(count)]
+    server = started(words, count)
+    clients = [server.session() for _ in range(count)]
     answers = []
     for client, line in turns:
-        clients[client - 1].say(line)
-        answers.append(clients[client - 1].hear())
-    answers += [client.hang_up() for client in clients]
-    return b"".join(answers) + server.end()
+        clients[client - 1].connection.sendall(line)
+        answers.append(clients[client - 1].lines.readline())
+    answers += [hang_up(client) for client in clients]
+    return b"".join(answers) + closing(server, count)
 
 
 def check_session(name, words, turns, wanted):
@@ -97,12 +74,12 @@ def try_cut_session(row):
     made_from = text.index(b"]]}") + len(b"]]}")
     attach = text.split(b"\n")[0] + b"\n"
     for length in range(len(text) + 1):
-        server = Server(words_of(row), 2)
-        first, second = server.connect(), server.connect()
-        first.say(text[:length])
-        first.hang_up()
-        second.say(attach)
-        found = second.hear() + second.hang_up() + server.end()
+        server = started(words_of(row), 2)
+        first, second = server.session(), server.session()
+        first.connection.sendall(text[:length])
+        hang_up(first)
+        second.connection.sendall(attach)
+        found = second.lines.readline() + hang_up(second) + closing(server, 2)
         made = int(length >= made_from)
         wanted = b'{"number":%d,"ok":"attach","stance":"ready"}\n' % made
         wanted += b"lock a cells %d entries %d\n" % (5 * made, made)
