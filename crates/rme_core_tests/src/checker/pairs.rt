@@ -137,15 +137,15 @@ fn check_one(rt: &impl Abort, machine: &mut Machine, check: Check) -> Result<(),
 
 /// A lock must have this owner.
 pub fn owner_is(rt: &impl Abort, machine: &Machine, lock: u32, owner: Option<u32>) {
-    assert_eq!(rt; machine.owner(lock), owner);
+    assert!(rt; machine.owner(lock) == owner);
 }
 
 /// The finished sections must have just these receipts and scripts.
 pub fn finished_are(rt: &impl Abort, machine: &Machine, told: &[Told]) {
     let entries = machine.finished();
-    assert_eq!(rt; entries.len(), told.len());
+    assert!(rt; entries.len() == told.len());
     for (entry, ((worker, number, place, reply), ops)) in entries.iter().zip(told) {
-        assert_eq!(rt; entry.receipt, receipt(*worker, *number, *place, *reply));
+        assert!(rt; entry.receipt == receipt(*worker, *number, *place, *reply));
         assert!(rt; entry.script == Script::of(ops));
     }
 }
@@ -169,7 +169,7 @@ pub fn refuse(
     let before = (machine.owner(0), machine.finished().len());
     assert!(rt; !machine.admits(&event, &answer)?, "{event:?} {answer:?}");
     let after = (machine.owner(0), machine.finished().len());
-    assert_eq!(rt; after, before, "{event:?} {answer:?}");
+    assert!(rt; after == before, "{event:?} {answer:?}");
     Ok(())
 }
 

@@ -45,7 +45,7 @@ fn run_and_admits(rt: HostRuntime) -> Result<(), Fail> {
     let mut world = World::new(rt.alloc(), shape)?;
     let events = run_of_steps(rt.alloc())?;
     let answers = world.run(&events)?;
-    assert_eq!(rt; answers.len(), 20);
+    assert!(rt; answers.len() == 20);
     let mut machine = Machine::new(rt.alloc(), shape)?;
     for (event, answer) in events.iter().zip(&answers) {
         assert!(rt; machine.admits(event, answer)?, "{event:?} {answer:?}");
