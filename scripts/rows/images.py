@@ -4,7 +4,7 @@ import json
 import re
 
 from rows.program import check, check_output, difference, run_lines
-from rows.reading import Line, Save, of_cut, read
+from rows.reading import Line, Save, read
 
 LOADED = b'{"ok":"load"}\n'
 REFUSED = b'{"code":15,"error":"BadImage"}\n'
@@ -285,10 +285,10 @@ def halves_of(items):
     return before, after, items[at].worker
 
 
-def try_saved(row, cut, answers):
+def try_saved(name, items, answers):
     """What comes after a save and a load is what comes after a crash of all workers there, up to the image at the end.
     After the load all workers are down, and no step is counted."""
-    before, after, worker = halves_of(of_cut(row.items, cut))
+    before, after, worker = halves_of(items)
     opening = json.loads(before[0])
     workers = range(opening["workers"])
     up, came = others_come_up(len(workers), worker)
@@ -298,7 +298,6 @@ def try_saved(row, cut, answers):
     found = whole.splitlines(keepends=True)
     image, end = found[len(before)], found[-1]
     wanted = [*told, image, *[line_of(ok="crash")] * len(crashes), image, *came, *then, end]
-    name = f"{row.name}, cut {cut}"
     check(f"{name}, crashed", found == wanted, difference(whole, b"".join(wanted)))
     steps = each(workers, do="step")
     loaded = line_of(do="load", image=json.loads(image)["image"], locks=opening["locks"])

@@ -4,7 +4,7 @@ import socket
 
 from lib.servers import Server
 from rows.program import check, difference
-from rows.reading import Client, Line, Serve, of_cut, text_of
+from rows.reading import Client, Line, Serve, text_of
 
 
 def started(words, connections):
@@ -63,8 +63,8 @@ def words_of(row):
     return next(item.words for item in row.items if isinstance(item, Serve))
 
 
-def try_session(row, cut, wanted):
-    check_session(f"{row.name}, cut {cut}", words_of(row), turns_of(of_cut(row.items, cut)), wanted)
+def try_session(name, words, items, wanted):
+    check_session(name, words, turns_of(items), wanted)
 
 
 def try_cut_session(row):
