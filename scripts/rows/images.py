@@ -3,13 +3,17 @@
 import json
 import re
 
-from rows.program import check, check_output, difference, run
-from rows.reading import Line, Save, of_cut, read
+from rows.program import check, check_output, difference, run_lines
+from rows.reading import Line, Save, read
 
 LOADED = b'{"ok":"load"}\n'
 REFUSED = b'{"code":15,"error":"BadImage"}\n'
 SAVE = b'{"do":"save"}\n'
 HEADER = 13
+
+# How many loads there are in a run.
+MOST_LOADS = 1000
+
 WORKER_WORDS = ("Begun", "Done", "Reply", "Place", "At", "SlateLock", "SlateLen")
 
 # The fields of an entry before its operations, and the operation's own, with their bytes.
@@ -121,14 +125,19 @@ def stands_for(image, layout):
 
 
 def check_loads(cases, locks):
-    """Loads and saves in one run: each case is a name, an image, and the image that is saved then, or None where it is
+    """Loads and saves, many in a run: each case is a name, an image, and the image that is saved then, or None where it is
     refused. After a refusal the last world is saved again."""
+    for at in range(0, len(cases), MOST_LOADS):
+        check_some_loads(cases[at : at + MOST_LOADS], locks)
+
+
+def check_some_loads(cases, locks):
     given, wanted, last = [], [], b'{"code":3,"error":"NotOpen"}\n'
     for _, image, back in cases:
         given += [load(image, locks), SAVE]
         last = last if back is None else saved(back)
         wanted.append((REFUSED if back is None else LOADED) + last)
-    ran = run(["run"], b"".join(given))
+    ran = run_lines(["run"], b"".join(given))
     answers = ran.stdout.splitlines(keepends=True)
     for at, (name, _, _) in enumerate(cases):
         found = b"".join(answers[2 * at : 2 * at + 2])
@@ -150,7 +159,7 @@ def try_changes(path, name):
     """A file of lines that make a world, and of changes that leave its image good or break it."""
     lines = [line for line in read(path).splitlines(keepends=True) if not line.startswith(b"#")]
     commands = [line for line in lines if line.startswith(b"{")]
-    ran = run(["run"], b"".join(commands) + SAVE)
+    ran = run_lines(["run"], b"".join(commands) + SAVE)
     answers = ran.stdout.splitlines()
     check(f"{name}: the world is made", ran.returncode == 0 and b'"code"' not in ran.stdout, ran.stdout)
     image = image_of(answers[-1])
@@ -276,20 +285,19 @@ def halves_of(items):
     return before, after, items[at].worker
 
 
-def try_saved(row, cut, answers):
+def try_saved(name, items, answers):
     """What comes after a save and a load is what comes after a crash of all workers there, up to the image at the end.
     After the load all workers are down, and no step is counted."""
-    before, after, worker = halves_of(of_cut(row.items, cut))
+    before, after, worker = halves_of(items)
     opening = json.loads(before[0])
     workers = range(opening["workers"])
     up, came = others_come_up(len(workers), worker)
     told, then = answers[: len(before)], answers[len(before) :]
     crashes = each(workers, do="crash")
-    whole = run(["run"], b"".join([*before, SAVE, *crashes, SAVE, *up, *after, SAVE])).stdout
+    whole = run_lines(["run"], b"".join([*before, SAVE, *crashes, SAVE, *up, *after, SAVE])).stdout
     found = whole.splitlines(keepends=True)
     image, end = found[len(before)], found[-1]
     wanted = [*told, image, *[line_of(ok="crash")] * len(crashes), image, *came, *then, end]
-    name = f"{row.name}, cut {cut}"
     check(f"{name}, crashed", found == wanted, difference(whole, b"".join(wanted)))
     steps = each(workers, do="step")
     loaded = line_of(do="load", image=json.loads(image)["image"], locks=opening["locks"])

@@ -31,7 +31,7 @@ def try_event_lines():
 
 
 def try_orders():
-    words = "serve --workers 1 --cells 1 --jobs 1 a".split()
+    words = "--workers 1 --cells 1 --jobs 1 a".split()
     for length, wanted in ((MOST, b'{"code":19,"error":"NotAttached"}\n'), (MOST + 1, TOO_LONG)):
         line = line_of(b'{"do":"last"}', length) + b"\n"
         check_session(f"an order of {length} bytes", words, [(1, line)], wanted + b"lock a cells 0 entries 0\n")

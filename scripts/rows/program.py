@@ -1,17 +1,17 @@
-"""Runs of the built program that must write just what a row says."""
+"""Checks of rows: of those that hold nothing is said."""
 
 from lib import checks
-from lib.programs import run as run_once
+from lib.programs import ends_with, run
+
+SECONDS = 300
 
 
 def check(name, holds, told=""):
-    """A check of a row, of which nothing is said where it holds."""
     return checks.check(name, holds, told, quiet=True)
 
 
-def run(words, given):
-    """A run, which a long row may keep busy for minutes on a slow machine."""
-    return run_once(words, given, timeout=600)
+def run_lines(words, given):
+    return run(words, given, timeout=SECONDS)
 
 
 def difference(found, wanted):
@@ -24,9 +24,7 @@ def difference(found, wanted):
 
 
 def check_output(name, words, given, wanted, status=0):
-    """A run must write just this, end with this status and say nothing on the standard error. Gives what it wrote."""
-    ran = run(words, given)
-    holds = (ran.returncode, ran.stdout, ran.stderr) == (status, wanted, b"")
-    told = "" if holds else f"status {ran.returncode}, {ran.stderr!r}, {difference(ran.stdout, wanted)}"
-    check(name, holds, told)
-    return ran.stdout
+    """A run must write just this, end with this status and say nothing on the standard error."""
+    ran = run_lines(words, given)
+    told = f"status {ran.returncode}, {ran.stderr!r}, {difference(ran.stdout, wanted)}"
+    check(name, ends_with(ran) == (status, wanted, b""), told)

@@ -35,7 +35,7 @@ def item_of(line):
     if not line.startswith(b"#"):
         return Line(line)
     if line.startswith(b"# serve "):
-        return Serve(line.decode().split()[1:])
+        return Serve(line.decode().split()[2:])
     for kind, form in ASKED:
         if found := form.fullmatch(line):
             return kind(*map(int, found.groups()))
@@ -60,9 +60,9 @@ def of_cut(items, cut):
     return chosen
 
 
-def cuts_of(row):
-    """The cuts of a row; one that is none has the cut 0 alone."""
-    return range(max([0, *(item.last for item in row.items if isinstance(item, Cut))]) + 1)
+def cuts_of(*files):
+    """The cuts that these files speak of, from 0 on; where they speak of none, the cut 0 alone."""
+    return range(max([0, *(item.last for items in files for item in items if isinstance(item, Cut))]) + 1)
 
 
 def text_of(items):

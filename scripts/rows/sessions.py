@@ -2,32 +2,33 @@
 
 from lib.servers import Server
 from rows.program import check, difference
-from rows.reading import Client, Line, Serve, of_cut, text_of
+from rows.reading import Client, Line, Serve, text_of
 
 
-def serve(words, connections):
-    """A server of a row's words, for so many connections."""
-    return Server(words=[*words, "--port", "0", "--connections", str(connections)])
+def started(words, connections):
+    """A server with these words, and so many connections."""
+    return Server(words=["serve", *words, "--port", "0", "--connections", str(connections)])
 
 
-def end_of(server):
-    """What a server says of its locks. It must end by itself, and well."""
+def closing(server, connections):
+    """What the server says of its locks. It must end by itself, and well."""
     status, closed, told = server.end()
-    served = b"[INFO  rme] served %d\n" % server.connections
-    return closed if (status, told) == (0, served) else f"the server ended so: {status}, {told}".encode()
+    if (status, told) == (0, f"[INFO  rme] served {connections}\n".encode()):
+        return closed
+    return f"the server ended with {status}, {told!r}\n".encode()
 
 
 def heard(words, turns):
     """What the clients are answered, who wait for each answer before the next line, and what the server says at its end."""
     count = max(client for client, _ in turns)
-    server = serve(words, count)
+    server = started(words, count)
     clients = [server.session() for _ in range(count)]
     answers = []
     for client, line in turns:
         clients[client - 1].send(line)
         answers.append(clients[client - 1].hear())
     answers += [client.hang_up() for client in clients]
-    return b"".join(answers) + end_of(server)
+    return b"".join(answers) + closing(server, count)
 
 
 def check_session(name, words, turns, wanted):
@@ -50,8 +51,8 @@ def words_of(row):
     return next(item.words for item in row.items if isinstance(item, Serve))
 
 
-def try_session(row, cut, wanted):
-    check_session(f"{row.name}, cut {cut}", words_of(row), turns_of(of_cut(row.items, cut)), wanted)
+def try_session(name, words, items, wanted):
+    check_session(name, words, turns_of(items), wanted)
 
 
 def try_cut_session(row):
@@ -61,12 +62,12 @@ def try_cut_session(row):
     made_from = text.index(b"]]}") + len(b"]]}")
     attach = text.split(b"\n")[0] + b"\n"
     for length in range(len(text) + 1):
-        server = serve(words_of(row), 2)
+        server = started(words_of(row), 2)
         first, second = server.session(), server.session()
         first.send(text[:length])
         first.hang_up()
         second.send(attach)
-        found = second.hear() + second.hang_up() + end_of(server)
+        found = second.hear() + second.hang_up() + closing(server, 2)
         made = int(length >= made_from)
         wanted = b'{"number":%d,"ok":"attach","stance":"ready"}\n' % made
         wanted += b"lock a cells %d entries %d\n" % (5 * made, made)
