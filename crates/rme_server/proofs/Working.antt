@@ -7,7 +7,7 @@ use Rattle.rme_script.specs.declared.job.Job.{Job}
 use Rattle.rme_program.specs.declared.note.Receipt.{Receipt}
 use Rattle.rme_seats.specs.Parts.{onward}
 use Rattle.rme_seats.specs.Stands.{Ident, Stand}
-use Rattle.rme_table.specs.Driving.{Drives, Goes, HasFinished as FinishedJob, Passes, StillHas}
+use Rattle.rme_table.specs.Driving.{Drives, Goes, HasFinished as FinishedJob, Passes}
 use Rattle.rme_table.specs.declared.driving.Driven.{Driven}
 use Rattle.rme_table.specs.declared.driving.Driven.TheVariants as driven
 use Rattle.rme_texts.specs.declared.session.Outcome.{Outcome}
@@ -21,7 +21,7 @@ use Rattle.rme_server.specs.Tasks.{IsSubmitted, Makes, holding_of, worked_of}
 use Rattle.rme_server.specs.Works.{Ends, GoesOn, IsSpared, IsUp, Spends, Works, next_task, steps_of}
 use Rattle.rme_server.specs.declared.planned.Planned.{Planned}
 use Rattle.rme_server.specs.declared.stand.Holding.{Holding}
-use Rattle.rme_server.specs.declared.stand.Holding.TheVariants.{Ready, Climb}
+use Rattle.rme_server.specs.declared.stand.Holding.TheVariants.{Ready}
 use Rattle.rme_server.specs.declared.stand.Stand.{Stand as Session}
 use Rattle.rme_server.specs.declared.work.Work.{Work}
 use Rattle.rme_server.specs.declared.work.Work.TheVariants.{Repeat, Post, GoIn, GoOn}

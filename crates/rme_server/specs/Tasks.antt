@@ -1,5 +1,5 @@
 -- The work that an order asks of a session's worker, and what it comes to.
-use Rattle.std.specs.Prelude.{◌≡◌, ℕ, ◌+◌, ◌<◌, None, Result, Ok, Err}
+use Rattle.std.specs.Prelude.{◌≡◌, ◌+◌, ◌<◌, None, Result, Ok, Err}
 use Rattle.rme_words.specs.declared.shape.Shape.{Shape}
 use Rattle.rme_seats.specs.Stands.{Stand}
 use Rattle.rme_table.specs.Calls.{post_refusal}

@@ -1,17 +1,16 @@
 -- A worker that goes on by one call after another.
-use Rattle.std.proofs.Common.{◌≡◌, ℕ, ◌∙◌, List, [], ◌∷◌, ◌++◌, refl, sym, ap, subst, arith}
+use Rattle.std.proofs.Common.{◌≡◌, ℕ, ◌∙◌, [], ◌∷◌, ◌++◌, refl, sym, ap, subst, arith}
 use Rattle.std.specs.Prelude.{Bool, true, false, Option, Some, None}
 use Rattle.rme_words.specs.declared.shape.Shape.{Shape}
 use Rattle.rme_program.specs.declared.note.Receipt.{Receipt}
 use Rattle.rme_program.specs.declared.private.Private.{Private}
-use Rattle.rme_script.specs.declared.job.Job.{Job}
 use Rattle.rme_seats.specs.Chances.{IsCounted, Tally}
-use Rattle.rme_seats.specs.Doing.{Falling, Walks}
+use Rattle.rme_seats.specs.Doing.{Falling}
 use Rattle.rme_seats.specs.Parts.{draft_script, onward}
 use Rattle.rme_seats.specs.Stands.{Stand}
 use Rattle.rme_seats.proofs.Chains.{walks_then}
-use Rattle.rme_table.specs.Calls.{Idles, IsTold, Made, Performed}
-use Rattle.rme_table.specs.Driving.{Drives, Finishes, Goes, HadFinished, HasFinished, StillHas}
+use Rattle.rme_table.specs.Calls.{Made, Performed}
+use Rattle.rme_table.specs.Driving.{Drives, Finishes, Goes, HasFinished, StillHas}
 use Rattle.rme_table.specs.declared.driving.Driven.{Driven}
 use Rattle.rme_table.specs.declared.driving.Driven.TheVariants.{Done, Waits, Stopped, Fell}
 
