@@ -12,13 +12,14 @@ class Stop(Exception):
 
 
 def check(name, holds, told="", quiet=False):
-    """Counts a check, says how it went, and answers whether it holds; `told` is said where it does not. Of a quiet one,
-    of which there are many, nothing is said where it holds."""
+    """Counts a check, says how it went, and answers whether it holds; `told` is said where it does not. One that is quiet
+    says nothing where it holds."""
     global made, failed
     made += 1
     failed += not holds
-    if not holds or not quiet:
-        print(("ok   " if holds else "FAIL ") + name + ("" if holds else f": {told}"), flush=True)
+    if holds and quiet:
+        return True
+    print(("ok   " if holds else "FAIL ") + name + ("" if holds else f": {told}"), flush=True)
     return bool(holds)
 
 

@@ -31,15 +31,16 @@ def words_of(locks=("bank",), without=None, **changed):
 class Server:
     """A server that is listening. One that is not ended is killed when the script ends."""
 
-    def __init__(self, locks=("bank",), how=(), program=None, **options):
-        """Takes the names of the locks, further arguments of Popen, and options."""
+    def __init__(self, locks=("bank",), how=(), program=None, words=None, **options):
+        """Takes the names of the locks and options, or all words after `rme`; and further arguments of Popen."""
+        words = words or words_of(locks, **options)
         how = {"stdin": subprocess.DEVNULL, "stdout": subprocess.PIPE, "stderr": subprocess.PIPE, **dict(how)}
-        self.program = subprocess.Popen([program or built(), *words_of(locks, **options)], **how)
+        self.program = subprocess.Popen([program or built(), *words], **how)
         atexit.register(self.program.kill)
         self.first = self.program.stdout.readline()
         found = re.fullmatch(rb"listening (\d+)\n", self.first)
         self.port = int(found.group(1)) if found else None
-        self.connections = self.left = int({**SMALL, **options}["connections"])
+        self.connections = self.left = int(words[words.index("--connections") + 1])
         self.counting = threading.Lock()
 
     def connect(self):
@@ -89,10 +90,25 @@ class Session:
         self.connection = connection
         self.lines = connection.makefile("rb")
 
+    def send(self, text):
+        """Sends bytes as they are."""
+        self.connection.sendall(text)
+
+    def hear(self):
+        """The next answer's line, or nothing at the end of the connection."""
+        return self.lines.readline()
+
+    def hang_up(self):
+        """Says that nothing more comes, and gives what is still answered up to the session's end."""
+        self.connection.shutdown(socket.SHUT_WR)
+        rest = self.lines.read()
+        self.close()
+        return rest
+
     def ask(self, order):
         """The answer's line without its newline. Without one, the connection is at its end."""
-        self.connection.sendall(line_of(**order))
-        return self.lines.readline().rstrip(b"\n")
+        self.send(line_of(**order))
+        return self.hear().rstrip(b"\n")
 
     def ask_all(self, *orders):
         return [self.ask(order) for order in orders]
@@ -109,9 +125,8 @@ class Session:
 
     def say(self, *orders):
         """What is answered to these orders up to the end of the connection, with no further line to come."""
-        self.connection.sendall(b"".join(line_of(**order) for order in orders))
-        self.connection.shutdown(socket.SHUT_WR)
-        return self.lines.read().splitlines()
+        self.send(b"".join(line_of(**order) for order in orders))
+        return self.hang_up().splitlines()
 
     def close(self):
         self.lines.close()

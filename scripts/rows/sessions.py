@@ -1,17 +1,13 @@
 """Rows of sessions: `rme serve`, and clients that say their lines by turns."""
 
-import socket
-
 from lib.servers import Server
 from rows.program import check, difference
 from rows.reading import Client, Line, Serve, text_of
 
 
 def started(words, connections):
-    """A server with these words, as `--workers 2 --cells 1 --jobs 10 a`, and so many connections."""
-    named = [word for word in words if word.startswith("--")]
-    options = {word[2:]: words[words.index(word) + 1] for word in named}
-    return Server(words[2 * len(named) :], connections=connections, **options)
+    """A server with these words, and so many connections."""
+    return Server(words=["serve", *words, "--port", "0", "--connections", str(connections)])
 
 
 def closing(server, connections):
@@ -22,14 +18,6 @@ def closing(server, connections):
     return f"the server ended with {status}, {told!r}\n".encode()
 
 
-def hang_up(client):
-    """Says that nothing more comes, and gives what is still answered up to the session's end."""
-    client.connection.shutdown(socket.SHUT_WR)
-    rest = client.lines.read()
-    client.close()
-    return rest
-
-
 def heard(words, turns):
     """What the clients are answered, who wait for each answer before the next line, and what the server says at its end."""
     count = max(client for client, _ in turns)
@@ -37,9 +25,9 @@ def heard(words, turns):
     clients = [server.session() for _ in range(count)]
     answers = []
     for client, line in turns:
-        clients[client - 1].connection.sendall(line)
-        answers.append(clients[client - 1].lines.readline())
-    answers += [hang_up(client) for client in clients]
+        clients[client - 1].send(line)
+        answers.append(clients[client - 1].hear())
+    answers += [client.hang_up() for client in clients]
     return b"".join(answers) + closing(server, count)
 
 
@@ -76,10 +64,10 @@ def try_cut_session(row):
     for length in range(len(text) + 1):
         server = started(words_of(row), 2)
         first, second = server.session(), server.session()
-        first.connection.sendall(text[:length])
-        hang_up(first)
-        second.connection.sendall(attach)
-        found = second.lines.readline() + hang_up(second) + closing(server, 2)
+        first.send(text[:length])
+        first.hang_up()
+        second.send(attach)
+        found = second.hear() + second.hang_up() + closing(server, 2)
         made = int(length >= made_from)
         wanted = b'{"number":%d,"ok":"attach","stance":"ready"}\n' % made
         wanted += b"lock a cells %d entries %d\n" % (5 * made, made)

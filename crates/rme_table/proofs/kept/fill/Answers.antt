@@ -1,6 +1,6 @@
 use Rattle.std.proofs.Common.{rules, ◌≡◌, ◌∷◌, suc, refl}
 use Rattle.std.specs.Vec.Iter.{into_iter_items}
-use Rattle.rme_supervisor.proofs.settling.fill.Goals as goal
+use Rattle.rme_table.proofs.kept.fill.Goals as goal
 
 pub invariant_of-kept : goal.invariant_of-kept
 invariant_of-kept g c =
