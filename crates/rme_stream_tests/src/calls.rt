@@ -1,14 +1,9 @@
-//! The slots, and a session's orders by calls.
-
-ghost use Rattle.std.specs.Prelude.{◌≡◌};
-ghost use Rattle.rme_server.specs.Stands.{MayHold};
+//! The slots, and what a session holds, by calls.
 
 use crate::desk::{Desk, Trial, at_desk, take};
-use rme_program::Receipt;
-use rme_script::{Job, Op, Script};
 use rme_server::{Stand, obey};
 use rme_table::Tag;
-use rme_wire::{Order, Outcome, SessionReply, Standing, Submission};
+use rme_wire::{Order, SessionReply, Standing};
 use rme_words::Refusal;
 use std::process::Abort;
 use std::sync::Wait;
@@ -26,48 +21,11 @@ pub fn take_twice<K: Tag, R: Abort + Wait>(rt: &R, desk: &Desk<'_, K>) {
     desk.slots.give(rt, down);
 }
 
-/// The order must have this answer.
-fn order<K: Tag, R: Abort + Wait>(
-    rt: &R,
-    desk: &Desk<'_, K>,
-    stand: Stand,
-    order: Order,
-    reply: SessionReply,
-) -> Stand
-    requires ours { MayHold K.ident desk.now.slots.now stand.value }
-    ensures ours { MayHold K.ident desk.now.slots.now result.value }
-{
-    let (stand, found) = obey(rt, stand, order, desk.service, desk.slots);
-    assert!(rt; found == reply);
-    stand
-}
-
-/// Orders by calls, with a worker that is spent by the test.
-pub fn give_orders<K: Tag, R: Abort + Wait>(rt: &R, desk: &Desk<'_, K>) {
-    let job = Job {
-        lock: 0,
-        script: Script::of(&[Op::Add(0, 5)]),
-    };
-    let submission = Submission {
-        number: 1,
-        job,
-        tries: 1,
-    };
-    let receipt = Receipt {
-        worker: 0,
-        lock: 0,
-        number: 1,
-        place: 0,
-        reply: 5,
-    };
-    let refused = SessionReply::Refused(Refusal::NotAttached);
-    let stand = order(rt, desk, Stand::empty(), Order::Detach, refused);
-    let ready = SessionReply::Attached(0, Standing::Ready);
-    let stand = order(rt, desk, stand, Order::Attach(0), ready);
-    let made = SessionReply::Submitted(Outcome::Receipt(receipt));
-    let stand = order(rt, desk, stand, Order::Submit(submission), made);
-    let last = SessionReply::Last(Some(receipt));
-    let stand = order(rt, desk, stand, Order::Last, last);
+/// A worker is attached by a call, and spent by the test.
+pub fn attach_and_crash<K: Tag, R: Abort + Wait>(rt: &R, desk: &Desk<'_, K>) {
+    let order = Order::Attach(0);
+    let (stand, reply) = obey(rt, Stand::empty(), order, desk.service, desk.slots);
+    assert!(rt; reply == SessionReply::Attached(0, Standing::Ready));
     match stand.crash() {
         Some(down) => desk.slots.give(rt, down),
         None => panic!(rt; "no worker is held"),
@@ -79,6 +37,6 @@ pub fn give_orders<K: Tag, R: Abort + Wait>(rt: &R, desk: &Desk<'_, K>) {
 fn small_calls(rt: HostRuntime) {
     let taken = at_desk(&rt, rt.alloc(), (2, 10), Trial::Takes);
     assert!(rt; taken == (0, true, 0));
-    let ordered = at_desk(&rt, rt.alloc(), (1, 10), Trial::Orders);
-    assert!(rt; ordered == (5, true, 1));
+    let attached = at_desk(&rt, rt.alloc(), (1, 10), Trial::Attaches);
+    assert!(rt; attached == (0, true, 0));
 }

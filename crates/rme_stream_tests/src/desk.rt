@@ -3,7 +3,7 @@
 ghost use Rattle.std.specs.Prelude.{◌≡◌, ◌<◌};
 ghost use Rattle.rme_server.specs.Slots.{AreInPlace};
 
-use crate::calls::{give_orders, take_twice};
+use crate::calls::{attach_and_crash, take_twice};
 use crate::flaky::Limits;
 use crate::sessions::{read_failing, write_failing};
 use rme_server::Slots;
@@ -29,7 +29,7 @@ pub struct Desk<'a, K: Tag> {
 #[derive(Clone, Copy)]
 pub enum Trial {
     Takes,
-    Orders,
+    Attaches,
     /// A session over a reader that fails.
     FailingReader(Limits),
     /// A session over a writer that fails.
@@ -39,7 +39,7 @@ pub enum Trial {
 fn make<K: Tag, R: Abort + Wait>(rt: &R, desk: &Desk<'_, K>, trial: Trial) {
     match trial {
         Trial::Takes => take_twice(rt, desk),
-        Trial::Orders => give_orders(rt, desk),
+        Trial::Attaches => attach_and_crash(rt, desk),
         Trial::FailingReader(limits) => read_failing(rt, desk, limits),
         Trial::FailingWriter(limits) => write_failing(rt, desk, limits),
     }
@@ -106,7 +106,7 @@ fn try_out<K: Tag, R: Abort + Wait>(
 }
 
 /// The name of the one lock.
-fn lock_names(rt: &impl Abort, alloc: Global) -> Names {
+pub fn lock_names(rt: &impl Abort, alloc: Global) -> Names {
     let mut names = Names::new(alloc).expect(rt, "names");
     assert!(rt; names.add("a") == Ok(0));
     names

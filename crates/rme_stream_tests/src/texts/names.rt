@@ -5,61 +5,53 @@ use rme_words::Refusal;
 use std::process::Abort;
 use std::test::Fail;
 
-/// A name is added once, and numbered in order.
-#[test]
-fn added_once(rt: HostRuntime) -> Result<(), Fail> {
-    let mut names = Names::new(rt.alloc())?;
-    assert_eq!(rt; names.add("a"), Ok(0));
-    assert_eq!(rt; names.add("a"), Err(Refusal::BadShape));
-    assert_eq!(rt; names.add("shop_2-b"), Ok(1));
-    assert_eq!(rt; names.len(), 2);
-    assert_eq!(rt; names.number("a"), Some(0));
-    assert_eq!(rt; names.number("shop_2-b"), Some(1));
-    assert_eq!(rt; names.number("b"), None);
-    assert_eq!(rt; names.name(1), "shop_2-b");
-    Ok(())
-}
+const BAD: Result<u32, Refusal> = Err(Refusal::BadShape);
 
-/// To add a name must be answered so. A function of its own, as each call of `add` in one body makes the proof of
-/// the next dearer.
+/// Texts, whether they are names, and what it is answered to add them one after another: a name has 1 to 32 bytes of
+/// `a` to `z`, `0` to `9`, `_` and `-`, is added once, and there are at most sixteen.
+const ADDED: &[(&str, bool, Result<u32, Refusal>)] = &[
+    ("a", true, Ok(0)),
+    ("a", true, BAD),
+    ("shop_2-b", true, Ok(1)),
+    ("abcdefghijklmnopqrstuvwxyz012345", true, Ok(2)),
+    ("abcdefghijklmnopqrstuvwxyz0123456", false, BAD),
+    ("", false, BAD),
+    ("A", false, BAD),
+    ("a b", false, BAD),
+    ("a.b", false, BAD),
+    ("\u{e9}", false, BAD),
+    ("d", true, Ok(3)),
+    ("e", true, Ok(4)),
+    ("f", true, Ok(5)),
+    ("g", true, Ok(6)),
+    ("h", true, Ok(7)),
+    ("i", true, Ok(8)),
+    ("j", true, Ok(9)),
+    ("k", true, Ok(10)),
+    ("l", true, Ok(11)),
+    ("m", true, Ok(12)),
+    ("n", true, Ok(13)),
+    ("o", true, Ok(14)),
+    ("p", true, Ok(15)),
+    ("q", true, BAD),
+];
+
+/// To add a text must be answered so. A function of its own, as each call of `add` in one body makes the proof of the
+/// next dearer.
 fn check_add(rt: &impl Abort, names: &mut Names, text: &str, wanted: Result<u32, Refusal>) {
     assert!(rt; names.add(text) == wanted, "{text}");
 }
 
-/// A name has 1 to 32 bytes of `a` to `z`, `0` to `9`, `_` and `-`.
 #[test]
-fn texts_that_are_names(rt: HostRuntime) -> Result<(), Fail> {
+fn added(rt: HostRuntime) -> Result<(), Fail> {
     let mut names = Names::new(rt.alloc())?;
-    let longest = "abcdefghijklmnopqrstuvwxyz012345";
-    assert!(rt; is_name(longest) == true, "{longest}");
-    check_add(&rt, &mut names, longest, Ok(0));
-    for text in [
-        "",
-        "A",
-        "a b",
-        "a.b",
-        "\u{e9}",
-        "abcdefghijklmnopqrstuvwxyz0123456",
-    ] {
-        assert!(rt; is_name(text) == false, "{text}");
-        check_add(&rt, &mut names, text, Err(Refusal::BadShape));
+    for (text, is, wanted) in ADDED {
+        assert!(rt; is_name(text) == *is, "{text}");
+        check_add(&rt, &mut names, text, *wanted);
     }
-    assert!(rt; names.len() == 1);
-    Ok(())
-}
-
-const SIXTEEN: [&str; 16] = [
-    "a", "b", "c", "d", "e", "f", "g", "h", "i", "j", "k", "l", "m", "n", "o", "p",
-];
-
-/// There are at most sixteen names.
-#[test]
-fn at_most_sixteen(rt: HostRuntime) -> Result<(), Fail> {
-    let mut names = Names::new(rt.alloc())?;
-    for (number, text) in SIXTEEN.iter().enumerate() {
-        check_add(&rt, &mut names, text, Ok(number as u32));
-    }
-    check_add(&rt, &mut names, "q", Err(Refusal::BadShape));
     assert!(rt; names.len() == 16);
+    assert!(rt; names.number("shop_2-b") == Some(1));
+    assert!(rt; names.number("b").is_none());
+    assert!(rt; names.name(1) == "shop_2-b");
     Ok(())
 }

@@ -1,14 +1,52 @@
 //! What the lines of sessions order.
 
-use super::event_lines::names_of;
+use crate::desk::lock_names;
 use rme_script::{Job, Op, Script};
-use rme_wire::{Order, Submission, order_of};
+use rme_wire::{Names, Order, Submission, order_of};
+use std::alloc::Global;
+use std::process::Abort;
 use std::test::Fail;
 
-/// The lines that order without a script.
+/// Lines that submit the job that adds 5, with its number, its lock and its tries. A lock that the service doesn't have
+/// is the number of its locks.
+const SUBMISSIONS: &[(&str, u32, u32, u32)] = &[
+    (
+        r#"{"do":"submit","lock":"a","number":1,"script":[["add",0,5]]}"#,
+        1,
+        0,
+        1_000,
+    ),
+    (
+        r#"{"do":"submit","lock":"a","number":0,"script":[["add",0,5]],"tries":1}"#,
+        0,
+        0,
+        1,
+    ),
+    (
+        r#"{"do":"submit","lock":"b","number":4294967295,"script":[["add",0,5]],"tries":1000000}"#,
+        4_294_967_295,
+        1,
+        1_000_000,
+    ),
+];
+
+/// A line must give this order.
+fn check_order(
+    rt: &impl Abort,
+    alloc: Global,
+    names: &Names,
+    line: &str,
+    wanted: Order,
+) -> Result<(), Fail> {
+    let order = order_of(alloc, names, line.as_bytes())?;
+    assert!(rt; order == Some(wanted), "{line}");
+    Ok(())
+}
+
+/// The lines that order without a script. One that does not say how often to try asks for 1,000 tries.
 #[test]
 fn orders(rt: HostRuntime) -> Result<(), Fail> {
-    let names = names_of(rt.alloc(), &["a"])?;
+    let names = lock_names(&rt, rt.alloc());
     for (line, wanted) in [
         (r#"{"do":"attach","worker":0}"#, Order::Attach(0)),
         (r#"{"worker":9,"do":"attach"}"#, Order::Attach(9)),
@@ -27,53 +65,25 @@ fn orders(rt: HostRuntime) -> Result<(), Fail> {
         ),
         (r#"{"do":"detach"}"#, Order::Detach),
     ] {
-        let order = order_of(rt.alloc(), &names, line.as_bytes())?;
-        assert!(rt; order == Some(wanted), "{line}");
+        check_order(&rt, rt.alloc(), &names, line, wanted)?;
     }
     Ok(())
 }
 
-/// Lines that submit the job that adds 5, with its number, its lock and its tries.
-const SUBMISSIONS: &[(&str, u32, u32, u32)] = &[
-    (
-        r#"{"do":"submit","lock":"a","number":1,"script":[["add",0,5]]}"#,
-        1,
-        0,
-        1_000,
-    ),
-    (
-        r#"{"do":"submit","lock":"b","number":0,"script":[["add",0,5]],"tries":1}"#,
-        0,
-        1,
-        1,
-    ),
-    (
-        r#"{"do":"submit","lock":"c","number":4294967295,"script":[["add",0,5]],"tries":1000000}"#,
-        4_294_967_295,
-        2,
-        1_000_000,
-    ),
-];
-
-/// An order to submit the job that adds 5.
-fn submission(number: u32, lock: u32, tries: u32) -> Order {
-    let script = Script::of(&[Op::Add(0, 5)]);
-    Order::Submit(Submission {
-        number,
-        job: Job { lock, script },
-        tries,
-    })
-}
-
-/// A lock that the service doesn't have is the number of its locks, and a line that doesn't say how often to
-/// try asks for 1,000 tries.
 #[test]
 fn submissions(rt: HostRuntime) -> Result<(), Fail> {
-    let names = names_of(rt.alloc(), &["a", "b"])?;
+    let names = lock_names(&rt, rt.alloc());
+    let script = Script::of(&[Op::Add(0, 5)]);
     for (line, number, lock, tries) in SUBMISSIONS {
-        let order = order_of(rt.alloc(), &names, line.as_bytes())?;
-        let wanted = submission(*number, *lock, *tries);
-        assert!(rt; order == Some(wanted), "{line}");
+        let submission = Submission {
+            number: *number,
+            job: Job {
+                lock: *lock,
+                script,
+            },
+            tries: *tries,
+        };
+        check_order(&rt, rt.alloc(), &names, line, Order::Submit(submission))?;
     }
     Ok(())
 }
