@@ -42,46 +42,72 @@ fn receipt(number: u32, place: u32, reply: u64) -> Receipt {
     }
 }
 
+/// Worker 0 is handed a job, which has this number, and makes it, with this receipt.
+fn make(rt: &impl Abort, world: &mut World, ops: &[Op], wanted: Receipt) -> Result<(), Fail> {
+    assert!(rt; world.submit(0, job(ops)) == Ok(wanted.number));
+    assert!(rt; walk(world, 0)? == Note::Left(0));
+    assert!(rt; world.last(0) == Ok(Some(wanted)));
+    Ok(())
+}
+
+/// Worker 0 is handed a job, and crashes after so many own steps: it has no receipt then.
+fn cut(rt: &impl Abort, world: &mut World, ops: &[Op], steps: u32) -> Result<(), Fail> {
+    world.submit(0, job(ops))?;
+    assert!(rt; step_times(world, 0, steps)? == steps);
+    world.crash(0)?;
+    assert!(rt; world.last(0) == Ok(None));
+    Ok(())
+}
+
+/// Worker 0 comes up and makes its job, with this receipt.
+fn come_back(rt: &impl Abort, world: &mut World, wanted: Receipt) -> Result<(), Fail> {
+    world.restart(0)?;
+    assert!(rt; walk(world, 0)? == Note::Left(0));
+    assert!(rt; world.last(0) == Ok(Some(wanted)));
+    Ok(())
+}
+
 /// Row `stale receipt`: the receipt of an earlier job is none as soon as a later one is asked for. Of the 22 steps the
 /// last stores the reply: 6 of Post, 1 of Enter, 15 of the section.
 #[test]
 fn stale_receipt(rt: HostRuntime) -> Result<(), Fail> {
     let mut world = World::new(rt.alloc(), Shape::new(2, 1, 1, 10)?)?;
-    assert!(rt; world.submit(0, job(&[Op::Set(0, 7)])) == Ok(1));
-    assert!(rt; walk(&mut world, 0)? == Note::Left(0));
+    make(&rt, &mut world, &[Op::Set(0, 7)], receipt(1, 0, 7))?;
     counts_are(&rt, &world, 0, [0, 6, 1, 18, 3]);
-    assert!(rt; world.last(0) == Ok(Some(receipt(1, 0, 7))));
-    assert!(rt; world.submit(0, job(&[Op::Add(0, 1)])) == Ok(2));
-    assert!(rt; step_times(&mut world, 0, 22)? == 22);
-    world.crash(0)?;
-    assert!(rt; world.last(0) == Ok(None));
-    world.restart(0)?;
-    assert!(rt; walk(&mut world, 0)? == Note::Left(0));
+    cut(&rt, &mut world, &[Op::Add(0, 1)], 22)?;
+    come_back(&rt, &mut world, receipt(2, 1, 8))?;
     counts_are(&rt, &world, 0, [4, 0, 0, 9, 3]);
-    assert!(rt; world.last(0) == Ok(Some(receipt(2, 1, 8))));
     lock_is(&rt, &world, None, 8, true);
-    assert!(rt; world.history().len() == 2);
     Ok(())
 }
 
-/// Row `withdrawal`, by its calls: a number that was given up is used, and has no receipt.
+/// Worker 1 waits for the lock, which worker 0 owns.
+fn waiting(rt: &impl Abort, world: &mut World) -> Result<(), Fail> {
+    world.submit(0, job(&[Op::Add(0, 5)]))?;
+    assert!(rt; step_times(world, 0, 7)? == 7);
+    world.submit(1, job(&[Op::Add(0, 1)]))?;
+    assert!(rt; walk(world, 1)? == Note::Blocked);
+    Ok(())
+}
+
+/// Worker 1 gives up: its number is used, and has no receipt.
+fn give_up(rt: &impl Abort, world: &mut World) -> Result<(), Fail> {
+    world.withdraw(1)?;
+    assert!(rt; walk(world, 1)? == Note::Withdrew(1));
+    assert!(rt; world.last(1) == Ok(None) && world.ready(1) == Ok(true));
+    assert!(rt; world.submit(1, job(&[])) == Ok(2));
+    Ok(())
+}
+
+/// Row `withdrawal`, by its calls.
 #[test]
 fn withdrawal(rt: HostRuntime) -> Result<(), Fail> {
     let mut world = World::new(rt.alloc(), Shape::new(2, 1, 1, 10)?)?;
-    world.submit(0, job(&[Op::Add(0, 5)]))?;
-    assert!(rt; step_times(&mut world, 0, 7)? == 7);
+    waiting(&rt, &mut world)?;
     lock_is(&rt, &world, Some(0), 0, false);
-    world.submit(1, job(&[Op::Add(0, 1)]))?;
-    assert!(rt; walk(&mut world, 1)? == Note::Blocked);
     assert!(rt; world.phase(1) == Some(Phase::Enter));
     assert!(rt; world.withdraw(0) == Err(Refusal::NotWaiting));
-    world.withdraw(1)?;
-    assert!(rt; walk(&mut world, 1)? == Note::Withdrew(1));
-    counts_are(&rt, &world, 1, [0, 6, 0, 0, 4]);
-    assert!(rt; world.last(1) == Ok(None));
-    assert!(rt; world.ready(1) == Ok(true));
-    assert!(rt; world.submit(1, job(&[])) == Ok(2));
-    Ok(())
+    give_up(&rt, &mut world)
 }
 
 /// A crash leaves the counts of own steps, and a restart sets them to 0.
