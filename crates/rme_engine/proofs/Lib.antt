@@ -6,4 +6,3 @@ pub mod WalkLemmas
 pub mod EngineLemmas
 pub mod ToldLemmas
 pub mod JudgeLemmas
-pub mod RunLemmas

@@ -1,6 +1,7 @@
--- In reading order: what the lines so far have opened, what each call of a world answers, what a tally sees of a step,
--- what a walk and each command do, what each line is answered and what its tally has seen, what a transcript tells of it,
--- what a run of lines writes, and what a transcript is found to be.
+-- In reading order, after what a run of lines writes: what the lines so far have opened, what each call of a world
+-- answers, what a tally sees of a step, what a walk and each command do, what each line is answered and what its tally has
+-- seen, what a transcript tells of it, and what a transcript is found to be.
+pub use Rattle.rme_lines.specs.Runs
 pub mod States
 pub mod Tallies
 pub mod Walks
@@ -9,7 +10,6 @@ pub mod Lines
 pub mod Laws
 pub mod Transcripts
 pub mod Outputs
-pub mod Runs
 pub mod Verdicts
 pub mod Judging
 pub mod Engines

@@ -31,9 +31,9 @@ pub enum Output {
 pub struct Engine {
     pub(crate) alloc: Global,
     /// The names of the locks, each at its number; none where no world is open.
-    pub names: Names,
+    names: Names,
     /// The world that is open, if one is.
-    pub world: Option<TalliedWorld>,
+    world: Option<TalliedWorld>,
 }
 
 impl Engine {

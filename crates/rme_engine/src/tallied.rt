@@ -1,11 +1,7 @@
 //! A world whose steps are tallied.
 
-ghost use Rattle.std.specs.Prelude.{◌≡◌, ◌<◌};
-ghost use Rattle.rme_history.specs.Tallies.{Sees};
-ghost use Rattle.rme_engine.specs.Tallies.{steps_of};
-
 use rme_history::Tally;
-use rme_program::{Note, Phase};
+use rme_program::Note;
 use rme_words::Refusal;
 use rme_world::World;
 
@@ -37,26 +33,11 @@ impl TalliedWorld {
     pub fn step(&mut self, worker: u32) -> Result<Note, Refusal>
         ensures { StepsTallied self.old worker result self.new }
     {
-        let phase = self.world.phase(worker);
-        let note = match self.world.step(worker) {
-            Ok(note) => note,
+        let stride = match self.world.stride(worker) {
+            Ok(stride) => stride,
             Err(refusal) => return Err(refusal),
         };
-        let Some(phase) = phase else {
-            unreachable!();
-        };
-        see_phase(&mut self.tally, &self.world, worker, phase);
-        Ok(note)
+        self.tally.see(stride.phase, stride.steps);
+        Ok(stride.note)
     }
-}
-
-/// Lets the tally see the steps of a phase of a worker.
-fn see_phase(tally: &mut Tally, world: &World, worker: u32, phase: Phase)
-    requires { worker < world.now.shape.workers }
-    ensures { Sees tally.old tally.new phase (steps_of world.now worker phase) }
-{
-    let Ok(steps) = world.steps(worker, phase) else {
-        unreachable!();
-    };
-    tally.see(phase, steps);
 }

@@ -1,3 +1,4 @@
 pub mod PutLemmas
 pub mod PieceLemmas
 pub mod ReaderLemmas
+pub mod RunLemmas

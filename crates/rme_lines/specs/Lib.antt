@@ -3,3 +3,4 @@ pub mod Puts
 pub mod Pieces
 pub mod Cuts
 pub mod Readers
+pub mod Runs

@@ -1,42 +1,106 @@
--- A worker that went on from where another order left it.
-use Rattle.std.proofs.Common.{◌≡◌, List, ◌∷◌, [], ◌++◌, Result, Ok, Err, sym, subst, ◌∙◌}
-use Rattle.rme_seats.specs.Stands.{Stand}
+-- A worker that went on with its job.
+use Rattle.std.proofs.Common.{◌≡◌, ℕ, ◌+◌, Result, Ok, Err, sym, subst, ◌∙◌, refl, arith}
+use Rattle.std.specs.Prelude.{false, None}
+use Rattle.std.proofs.lemmas.Bool.{eq-eqb, lt-ltb, ne_eqb}
+use Rattle.rme_words.specs.declared.shape.Shape.{Shape}
+use Rattle.rme_script.specs.declared.job.Job.{Job}
+use Rattle.rme_program.specs.declared.note.Receipt.{Receipt}
+use Rattle.rme_seats.specs.Parts.{onward}
+use Rattle.rme_seats.specs.Stands.{Ident, Stand}
+use Rattle.rme_table.specs.Driving.{Drives, Goes, HasFinished as FinishedJob, Passes}
+use Rattle.rme_table.specs.declared.driving.Driven.{Driven}
+use Rattle.rme_table.specs.declared.driving.Driven.TheVariants as driven
 use Rattle.rme_texts.specs.declared.session.Outcome.{Outcome}
 use Rattle.rme_texts.specs.declared.session.Outcome.TheVariants as outcome
-use Rattle.rme_server.specs.Works.{Ends, GoesOn, StillAwaits}
+use Rattle.rme_wire.specs.declared.order.Submission.{Submission}
+use Rattle.rme_server.specs.Obeyed.{IsLeft, Settles, Submits}
+use Rattle.rme_server.specs.Plans.{tally_of}
+use Rattle.rme_server.specs.Refusals.{SubmitRefuses}
+use Rattle.rme_server.specs.Stands.{HasSlot, MayWork}
+use Rattle.rme_server.specs.Tasks.{IsSubmitted, Makes, holding_of, worked_of}
+use Rattle.rme_server.specs.Works.{Ends, GoesOn, IsSpared, IsUp, Spends, Works, next_task, steps_of}
+use Rattle.rme_server.specs.declared.planned.Planned.{Planned}
 use Rattle.rme_server.specs.declared.stand.Holding.{Holding}
-use Rattle.rme_server.specs.declared.stand.Holding.TheVariants.{Empty, Ready, Climb, Held}
+use Rattle.rme_server.specs.declared.stand.Holding.TheVariants.{Ready}
+use Rattle.rme_server.specs.declared.stand.Stand.{Stand as Session}
+use Rattle.rme_server.specs.declared.work.Work.{Work}
+use Rattle.rme_server.specs.declared.work.Work.TheVariants.{Repeat, Post, GoIn, GoOn}
+use Rattle.rme_server.proofs.Planning.{spared, was_planned}
 
-module _ (start now : Stand) (still : StillAwaits start now) where
-  went_on : (value : Holding) (its : Outcome) → GoesOn now value its → GoesOn start value its
-  went_on (Ready ready) (outcome.Receipt receipt) (job, drafted, (entry, finished, told)) = (
-    job,
-    sym still.draft ∙ drafted,
+-- What a drive leaves the session with, which a gate that lets all pass never stops.
+module _ (shape : Shape) (start : Stand) (old now : Planned) where
+  done_did : (ready : Stand) (receipt : Receipt) → Goes shape start ready (tally_of old) (tally_of now) 0 → FinishedJob start ready receipt
+      → ready.part.private.begun ≡ start.part.private.begun → GoesOn start (Ready ready) (outcome.Receipt receipt)
+  done_did ready receipt goes its number = (
+    its.job,
+    its.draft,
     (
-      entry,
+      record { receipt = receipt; script = its.job.script },
       record {
-        is_of = record { by = finished.is_of.by ∙ still.own; number = finished.is_of.number ∙ still.number; lock = finished.is_of.lock; script = finished.is_of.script };
-        entries = subst (λ (before : List _). ready.part.entries ≡ before ++ entry ∷ []) still.entries finished.entries;
-        own = finished.own ∙ still.own;
-        number = finished.number ∙ still.number;
+        is_of = record { by = its.by; number = its.number; lock = its.lock; script = refl };
+        entries = its.entries;
+        own = goes.own;
+        number = number;
       },
-      told,
+      refl,
     ),
   )
-  went_on (Climb climb) outcome.Waiting waits =
-      record { draft = waits.draft ∙ still.draft; entries = waits.entries ∙ still.entries; own = waits.own ∙ still.own; number = waits.number ∙ still.number }
-  went_on Empty outcome.Fell went = went
-  went_on Empty (outcome.Receipt receipt) went = elim went [ ]
-  went_on Empty outcome.Withdrawn went = elim went [ ]
-  went_on Empty outcome.Waiting went = elim went [ ]
-  went_on (Ready ready) outcome.Withdrawn went = elim went [ ]
-  went_on (Ready ready) outcome.Waiting went = elim went [ ]
-  went_on (Ready ready) outcome.Fell went = elim went [ ]
-  went_on (Climb climb) (outcome.Receipt receipt) went = elim went [ ]
-  went_on (Climb climb) outcome.Withdrawn went = elim went [ ]
-  went_on (Climb climb) outcome.Fell went = elim went [ ]
-  went_on (Held held) its went = elim went [ ]
 
-  pub ended_on : (worked : Result (Holding × Outcome) Stand) → Ends worked (GoesOn now) → Ends worked (GoesOn start)
-  ended_on (Ok done) ends = (went_on done.0 done.1 ends.0, ends.1)
-  ended_on (Err down) ends = ends
+  pub driven_did : (drive : Driven) → Drives shape false start (tally_of old) (tally_of now) drive → Passes drive → Ends (worked_of drive) (GoesOn start)
+  driven_did (driven.Done ready receipt) (goes, its, number) passes = (done_did ready receipt goes its number, tt)
+  driven_did (driven.Waits climb) (goes, still) passes = (record { draft = still.draft; entries = still.entries; own = goes.own; number = still.number }, tt)
+  driven_did (driven.Stopped held) drives passes = absurd passes
+  driven_did (driven.Fell down) drives passes = tt
+
+  has_slot : (ident : Ident) (count : ℕ) (falls : ℕ) (later : Stand) → Goes shape start later (tally_of old) (tally_of now) falls → HasSlot ident count start → HasSlot ident count later
+  has_slot ident count falls later goes slot = record { ident_is = goes.ident ∙ slot.ident_is; slot = rw goes.own slot.slot }
+
+  pub driven_ours : (ident : Ident) (drive : Driven) → Drives shape false start (tally_of old) (tally_of now) drive → Passes drive
+      → (count : ℕ) → HasSlot ident count start → MayWork ident count (worked_of drive)
+  driven_ours ident (driven.Done ready receipt) (goes, its, number) passes count slot = has_slot ident count 0 ready goes slot
+  driven_ours ident (driven.Waits climb) (goes, still) passes count slot = has_slot ident count 0 climb goes slot
+  driven_ours ident (driven.Stopped held) drives passes count slot = absurd passes
+  driven_ours ident (driven.Fell down) goes passes count slot = has_slot ident count 1 down goes slot
+
+  pub driven_plan : (drive : Driven) → Drives shape false start (tally_of old) (tally_of now) drive → Passes drive → Spends old start.part.steps now (worked_of drive)
+  driven_plan (driven.Done ready receipt) (goes, its, number) passes = spared shape onward start.part ready.part old now goes.walks
+  driven_plan (driven.Waits climb) (goes, still) passes = spared shape onward start.part climb.part old now goes.walks
+  driven_plan (driven.Stopped held) drives passes = absurd passes
+  driven_plan (driven.Fell down) goes passes = was_planned old now _ goes.walks.asks
+
+-- What the session is left with: a worker that did not fall was spared.
+left_up : (old now : Session) (its : Outcome) → IsUp its → IsSpared old.planned (steps_of old.value) now.planned now.value → IsLeft old now its
+left_up old now (outcome.Receipt receipt) up spares = spares
+left_up old now outcome.Withdrawn up spares = spares
+left_up old now outcome.Waiting up spares = spares
+left_up old now outcome.Fell up spares = absurd up
+
+pub left_so : (old : Session) (Has : Holding → Outcome → Type 0) (planned : Planned) (worked : Result (Holding × Outcome) Stand) (now : Session) (its : Outcome) → Ends worked Has
+    → Spends old.planned (steps_of old.value) planned worked → Settles worked planned now its → Has now.value its × IsLeft old now its
+left_so old Has planned (Ok (value, became)) now its (has, up) spares (now_is, its_is) = rw (now_is, its_is) (has, left_up old (record { value = value; planned = planned }) became up spares)
+left_so old Has planned (Err down) now its has was (now_is, its_is) = rw (now_is, its_is) (has, (was, refl))
+
+-- A submission that is not refused, and the work that it asks.
+not_refused : (shape : Shape) (its : Submission) (work : Work) → IsSubmitted shape its work → SubmitRefuses shape (holding_of work) its None
+not_refused shape its (Repeat ready) (some, same) =
+    rw (ne_eqb its.number (ready.part.private.begun + 1) (omega (arith, same)), lt-ltb 0 its.number some, eq-eqb its.number ready.part.private.begun same) refl
+not_refused shape its (Post admitted tries) (next, same, none) = rw (eq-eqb its.number (admitted.ready.part.private.begun + 1) next) (sym none)
+not_refused shape its (GoIn climb tries) pending = pending
+not_refused shape its (GoOn held) pending = pending
+
+submits : (shape : Shape) (its : Submission) (work : Work) (value : Holding) (became : Outcome) → IsSubmitted shape its work → Makes shape work value became
+    → Submits shape (holding_of work) its value became
+submits shape its (Repeat ready) value became (some, same) makes = rw (eq-eqb its.number ready.part.private.begun same) makes
+submits shape its (Post admitted tries) value became (next, same, none) makes =
+    let P : Job → Type 0 = λ job. Works (next_task admitted.ready job) admitted.ready.part.entries value became in
+    rw (ne_eqb its.number admitted.ready.part.private.begun (omega (arith, next))) (subst P same makes)
+submits shape its (GoIn climb tries) value became pending makes = makes
+submits shape its (GoOn held) value became pending makes = makes
+
+pub submitted : (shape : Shape) (its : Submission) (work : Work) (old now : Session) (became : Outcome) → holding_of work ≡ old.value → IsSubmitted shape its work
+    → Makes shape work now.value became × IsLeft (record { value = holding_of work; planned = old.planned }) now became
+    → SubmitRefuses shape old.value its None × (Submits shape old.value its now.value became × IsLeft old now became)
+submitted shape its work old now became same asked (makes, left) =
+    let P : Holding → Type 0 =
+    λ value. SubmitRefuses shape value its None × (Submits shape value its now.value became × IsLeft (record { value = value; planned = old.planned }) now became) in
+    subst P same (not_refused shape its work asked, (submits shape its work now.value became asked makes, left))

@@ -1,8 +1,11 @@
 -- In reading order: the slots, in which workers wait; the crash that a client plans; what a session holds; which orders it
--- refuses; what becomes of a job; and what each order does.
+-- refuses; what becomes of a job; the work that an order asks; what each order does; and what the lines of a session are
+-- answered.
 pub mod Slots
 pub mod Plans
 pub mod Stands
 pub mod Refusals
 pub mod Works
+pub mod Tasks
 pub mod Obeyed
+pub mod Sessions

@@ -1,85 +1,60 @@
-//! The line that a session reads, and the answers that it writes.
+//! The lines that a session takes, and the texts of its answers.
 
-use rme_wire::{Cut, EngineFault, LineReader, Names, Pending, SessionReply, push_session_reply};
+ghost use Rattle.std.specs.Prelude.{◌≡◌, ◌++◌, OnOk, string_bytes};
+ghost use Rattle.rme_server.specs.Sessions.{session_line};
+
+use rme_wire::{EngineFault, Exchange, Names, SessionReply, push_session_reply};
 use std::alloc::{AllocError, Global};
-use std::io::{Read, Write};
+use std::io::Write;
 
 /// Room for the answer of most orders.
 const USUAL_ROOM: usize = 256;
 
-/// The line that was cut, its answer, and the answers that were not written yet.
-///
-/// Answers to lines that came together are written together: all before the reader is read again.
+/// The lines of a session and the answers that are kept back, and the answer to the last line.
 #[derive(Drop)]
 pub(crate) struct Buffers {
-    pub(crate) line: Vec<u8>,
+    pub(crate) exchange: Exchange,
     text: String,
-    pending: Pending,
 }
 
 impl Buffers {
-    pub(crate) fn new(alloc: Global) -> Result<Buffers, AllocError> {
+    ghost use Rattle.std.specs.Prelude.{◌≡◌, ◌≢◌, ◌++◌, [], IfOk, IfErr, OnOk};
+    ghost use Rattle.rme_lines.specs.Puts.{AppendsFront, Gathers};
+    ghost use Rattle.rme_server.specs.Sessions.{session_line};
+
+    pub(crate) fn new(alloc: Global) -> Result<Buffers, AllocError>
+        ensures { IfOk result (λ buffers. buffers.exchange.pending ≡ []) }
+    {
         Ok(Buffers {
-            line: Vec::new(alloc),
             text: String::with_capacity(alloc, USUAL_ROOM)?,
-            pending: Pending::new(alloc)?,
+            exchange: Exchange::new(alloc)?,
         })
     }
 
-    /// Whether answers are kept back.
-    pub(crate) fn keeps_back(&self) -> bool {
-        !self.pending.is_empty()
-    }
-
-    /// Writes the answers that are kept back.
-    pub(crate) fn write<O: Write>(&mut self, writer: &mut O) -> Result<(), EngineFault> {
-        self.pending.write(writer)
-    }
-
-    /// Cuts the next line. Where none is at hand the answers are written before the reader is read.
-    pub(crate) fn next_cut<I: Read + Drop, O: Write>(
-        &mut self,
-        lines: &mut LineReader<I>,
-        writer: &mut O,
-    ) -> Result<Cut, EngineFault> {
-        match lines.take_line(&mut self.line) {
-            Ok(Some(cut)) => return Ok(cut),
-            Ok(None) => {}
-            Err(_) => return Err(EngineFault::NoMemory),
-        }
-        match self.pending.write(writer) {
-            Ok(()) => lines.next_line(&mut self.line),
-            Err(fault) => Err(fault),
-        }
-    }
-
-    /// Keeps an answer and its newline back, behind the others; where they have no room they are written.
+    /// Answers the line that was taken last. After `NoMemory` nothing was written, and what was kept back still is;
+    /// after `WriteFailed` a front of all answers was written.
     pub(crate) fn answer<O: Write>(
         &mut self,
         names: &Names,
         reply: SessionReply,
         writer: &mut O,
-    ) -> Result<(), EngineFault> {
+    ) -> Result<(), EngineFault>
+        ensures gathers { OnOk result (Gathers (O.contents writer.old) self.old.exchange.pending (session_line names.now reply) (O.contents writer.new) self.new.exchange.pending) }
+        ensures kind { IfErr result (λ fault. fault ≢ EngineFault.ReadFailed) }
+        ensures memory { IfErr result (λ fault. fault ≡ EngineFault.NoMemory → Gathers (O.contents writer.old) self.old.exchange.pending [] (O.contents writer.new) self.new.exchange.pending) }
+        ensures front { IfErr result (λ fault. fault ≡ EngineFault.WriteFailed → AppendsFront (O.contents writer.old) (O.contents writer.new) (self.old.exchange.pending ++ session_line names.now reply)) }
+    {
         self.text.clear();
         match push_line(&mut self.text, names, reply) {
-            Ok(()) => self.pending.gather(self.text.as_bytes(), writer),
+            Ok(()) => self.exchange.answer(self.text.as_bytes(), writer),
             Err(_) => Err(EngineFault::NoMemory),
-        }
-    }
-
-    /// What ends the session: where memory is wanting, the answers that are kept back are written yet.
-    pub(crate) fn give_up<O: Write>(&mut self, fault: EngineFault, writer: &mut O) -> EngineFault {
-        if fault != EngineFault::NoMemory {
-            return fault;
-        }
-        match self.pending.write(writer) {
-            Ok(()) => fault,
-            Err(failed) => failed,
         }
     }
 }
 
-fn push_line(text: &mut String, names: &Names, reply: SessionReply) -> Result<(), AllocError> {
+fn push_line(text: &mut String, names: &Names, reply: SessionReply) -> Result<(), AllocError>
+    ensures { OnOk result (string_bytes text.new ≡ string_bytes text.old ++ session_line names.now reply) }
+{
     push_session_reply(text, names, reply)?;
     text.push_str("\n")
 }

@@ -9,14 +9,14 @@ ghost use Rattle.rme_server.specs.Slots.{IsOf};
 ghost use Rattle.rme_server.specs.Stands.{MayHold, MayWork};
 ghost use Rattle.rme_server.specs.declared.stand.Holding.TheVariants as spec;
 ghost use Rattle.rme_server.specs.declared.planned.Planned.TheVariants as planned;
-ghost use Rattle.rme_server.specs.Refusals.{Refuses, SubmitRefuses, attach_refusal, resume_refusal, withdraw_refusal, last_refusal};
-ghost use Rattle.rme_server.specs.Obeyed.{AnswersOf, IsLeft, Lasts, Obeys, Resumes, Settles, Submits};
+ghost use Rattle.rme_server.specs.Tasks.{Makes, holding_of};
+ghost use Rattle.rme_server.specs.Obeyed.{AnswersOf, IsLeft, Obeys, Settles};
 
 use crate::planned::Planned;
-use crate::refusal::refusal;
+use crate::refusal::{Refused, to_attach, to_hold, to_resume, to_submit, to_tell, to_withdraw};
 use crate::slots::Slots;
 use crate::stand::{Holding, Stand};
-use crate::work::{Worked, resume, submit};
+use crate::work::{Work, Worked, carry_out};
 use rme_table::{Climb, Down, Held, Leave, Never, Ready, Service, Stance, Tag};
 use rme_wire::{Order, Outcome, SessionReply, Standing, Submission};
 use std::sync::Wait;
@@ -34,10 +34,14 @@ pub fn obey<K: Tag, R: Wait>(
     ensures ours { MayHold K.ident slots.now result.0.value }
     ensures obeys { Obeys K.ident slots.now stand order result.0 result.1 }
 {
-    let Stand { mut value, planned } = stand;
-    match refusal(&mut value, &order, service) {
-        Some(why) => (Stand { value, planned }, SessionReply::Refused(why)),
-        None => carry_out(rt, Stand { value, planned }, order, service, slots),
+    match order {
+        Order::Attach(worker) => attach(rt, stand, worker, service, slots),
+        Order::Submit(submission) => submit(rt, stand, &submission, service, slots),
+        Order::Resume(tries) => resume(rt, stand, tries, service, slots),
+        Order::Withdraw => withdraw(rt, stand, service, slots),
+        Order::Last => last(stand, service, slots),
+        Order::CrashAfter(steps) => crash_after(stand, steps, slots),
+        Order::Detach => detach(rt, stand, slots),
     }
 }
 
@@ -50,75 +54,74 @@ pub(crate) fn let_go<K: Tag, R: Wait>(rt: &R, stand: Stand, slots: &Slots<K>)
     }
 }
 
-/// Does what an order asks that is not refused.
-fn carry_out<K: Tag, R: Wait>(
-    rt: &R,
-    stand: Stand,
-    order: Order,
-    service: &Service,
-    slots: &Slots<K>,
-) -> (Stand, SessionReply)
-    requires service { service.now ≡ K.ident }
-    requires ours { MayHold K.ident slots.now stand.value }
-    requires allowed { Refuses service.now.shape stand.value order None }
-    ensures ours { MayHold K.ident slots.now result.0.value }
-    ensures obeys { Obeys K.ident slots.now stand order result.0 result.1 }
+/// A refused order leaves the session as it was.
+fn refuse(refused: Refused, planned: Planned) -> (Stand, SessionReply)
+    ensures { (result.0 ≡ record { value = refused.0; planned = planned }) × (result.1 ≡ reply.Refused refused.1) }
 {
-    match order {
-        Order::Attach(worker) => attach(rt, stand, worker, service, slots),
-        Order::Submit(submission) => {
-            let (stand, outcome) = hand_over(rt, stand, &submission, service, slots);
-            (stand, SessionReply::Submitted(outcome))
-        }
-        Order::Resume(tries) => {
-            let (stand, outcome) = go_on(rt, stand, tries, service, slots);
-            (stand, SessionReply::Resumed(outcome))
-        }
-        Order::Withdraw => withdraw(rt, stand, service, slots),
-        Order::Last => last(stand, service),
-        Order::CrashAfter(steps) => (plan(stand, steps), SessionReply::CrashPlanned),
-        Order::Detach => {
-            let_go(rt, stand, slots);
-            (Stand::empty(), SessionReply::Detached)
-        }
-    }
+    let (value, why) = refused;
+    (Stand { value, planned }, SessionReply::Refused(why))
 }
 
 /// Hands the worker a job, or goes on with the one that it has.
-fn hand_over<K: Tag, R: Wait>(
+fn submit<K: Tag, R: Wait>(
     rt: &R,
     stand: Stand,
     submission: &Submission,
     service: &Service,
     slots: &Slots<K>,
-) -> (Stand, Outcome)
+) -> (Stand, SessionReply)
     requires service { service.now ≡ K.ident }
     requires ours { MayHold K.ident slots.now stand.value }
-    requires allowed { SubmitRefuses service.now.shape stand.value submission.now None }
     ensures ours { MayHold K.ident slots.now result.0.value }
-    ensures did { Submits service.now.shape stand.value submission.now result.0.value result.1 × IsLeft stand result.0 result.1 }
+    ensures obeys { Obeys K.ident slots.now stand (order.Submit submission.now) result.0 result.1 }
 {
-    let Stand { value, mut planned } = stand;
-    let worked = submit(value, submission, &mut planned, service);
-    settle(rt, worked, planned, slots)
+    let Stand { value, planned } = stand;
+    match to_submit(value, submission, service) {
+        Ok(work) => {
+            let (stand, outcome) = make(rt, work, planned, service, slots);
+            (stand, SessionReply::Submitted(outcome))
+        }
+        Err(refused) => refuse(refused, planned),
+    }
 }
 
 /// Goes on with the job that the worker has.
-fn go_on<K: Tag, R: Wait>(
+fn resume<K: Tag, R: Wait>(
     rt: &R,
     stand: Stand,
     tries: u32,
     service: &Service,
     slots: &Slots<K>,
-) -> (Stand, Outcome)
+) -> (Stand, SessionReply)
     requires service { service.now ≡ K.ident }
     requires ours { MayHold K.ident slots.now stand.value }
-    requires allowed { resume_refusal stand.value ≡ None }
     ensures ours { MayHold K.ident slots.now result.0.value }
-    ensures did { Resumes stand.value result.0.value result.1 × IsLeft stand result.0 result.1 }
+    ensures obeys { Obeys K.ident slots.now stand (order.Resume tries) result.0 result.1 }
 {
-    let Stand { value, mut planned } = stand;
-    let worked = resume(value, tries, &mut planned, service);
+    let Stand { value, planned } = stand;
+    match to_resume(value, tries) {
+        Ok(work) => {
+            let (stand, outcome) = make(rt, work, planned, service, slots);
+            (stand, SessionReply::Resumed(outcome))
+        }
+        Err(refused) => refuse(refused, planned),
+    }
+}
+
+/// Lets the worker do its work. Where it fell it is back in its slot.
+fn make<K: Tag, R: Wait>(
+    rt: &R,
+    work: Work,
+    mut planned: Planned,
+    service: &Service,
+    slots: &Slots<K>,
+) -> (Stand, Outcome)
+    requires service { service.now ≡ K.ident }
+    requires ours { MayHold K.ident slots.now (holding_of work) }
+    ensures ours { MayHold K.ident slots.now result.0.value }
+    ensures did { Makes service.now.shape work result.0.value result.1 × IsLeft (record { value = holding_of work; planned = planned }) result.0 result.1 }
+{
+    let worked = carry_out(work, &mut planned, service);
     settle(rt, worked, planned, slots)
 }
 
@@ -152,15 +155,18 @@ fn attach<K: Tag, R: Wait>(
 ) -> (Stand, SessionReply)
     requires service { service.now ≡ K.ident }
     requires ours { MayHold K.ident slots.now stand.value }
-    requires allowed { attach_refusal service.now.shape worker stand.value ≡ None }
     ensures ours { MayHold K.ident slots.now result.0.value }
     ensures obeys { Obeys K.ident slots.now stand (order.Attach worker) result.0 result.1 }
 {
+    let Stand { value, planned } = stand;
+    match to_attach(value, worker, service.shape()) {
+        Ok(()) => {}
+        Err(refused) => return refuse(refused, planned),
+    }
     let down = match slots.take(rt, worker) {
         Ok(down) => down,
-        Err(why) => return (stand, SessionReply::Refused(why)),
+        Err(why) => return refuse((Holding::Empty, why), planned),
     };
-    let_go(rt, stand, slots);
     let (value, reply) = match down.recover(service, &mut Never) {
         Ok(Stance::Ready(ready)) => attached(ready),
         Ok(Stance::Climb(climb)) => attached_waiting(climb),
@@ -238,14 +244,13 @@ fn withdraw<K: Tag, R: Wait>(
 ) -> (Stand, SessionReply)
     requires service { service.now ≡ K.ident }
     requires ours { MayHold K.ident slots.now stand.value }
-    requires allowed { withdraw_refusal stand.value ≡ None }
     ensures ours { MayHold K.ident slots.now result.0.value }
     ensures obeys { Obeys K.ident slots.now stand order.Withdraw result.0 result.1 }
 {
     let Stand { value, mut planned } = stand;
-    let climb = match value {
-        Holding::Climb(climb) => climb,
-        _ => unreachable!(),
+    let climb = match to_withdraw(value) {
+        Ok(climb) => climb,
+        Err(refused) => return refuse(refused, planned),
     };
     match climb.withdraw(service, &mut planned) {
         Ok(ready) => {
@@ -261,27 +266,49 @@ fn withdraw<K: Tag, R: Wait>(
 }
 
 /// Answers the last receipt.
-fn last(stand: Stand, service: &Service) -> (Stand, SessionReply)
-    requires ours { (count : ℕ) × MayHold service.now count stand.value }
-    requires allowed { last_refusal stand.value ≡ None }
-    ensures same { result.0 ≡ stand }
-    ensures last { (receipt : Option Receipt) × (result.1 ≡ reply.Last receipt) × Lasts service.now.shape stand.value receipt }
+fn last<K: Tag>(stand: Stand, service: &Service, slots: &Slots<K>) -> (Stand, SessionReply)
+    requires service { service.now ≡ K.ident }
+    requires ours { MayHold K.ident slots.now stand.value }
+    ensures ours { MayHold K.ident slots.now result.0.value }
+    ensures obeys { Obeys K.ident slots.now stand order.Last result.0 result.1 }
 {
     let Stand { value, planned } = stand;
-    let mut ready = match value {
-        Holding::Ready(ready) => ready,
-        _ => unreachable!(),
+    let mut ready = match to_tell(value) {
+        Ok(ready) => ready,
+        Err(refused) => return refuse(refused, planned),
     };
     let last = ready.last(service);
     let value = Holding::Ready(ready);
     (Stand { value, planned }, SessionReply::Last(last))
 }
 
-/// Plans a crash, in the place of one that was planned before.
-fn plan(stand: Stand, steps: u32) -> Stand
-    ensures { result ≡ record { value = stand.value; planned = planned.After steps } }
+/// Plans the worker's crash.
+fn crash_after<K: Tag>(stand: Stand, steps: u32, slots: &Slots<K>) -> (Stand, SessionReply)
+    requires ours { MayHold K.ident slots.now stand.value }
+    ensures ours { MayHold K.ident slots.now result.0.value }
+    ensures obeys { Obeys K.ident slots.now stand (order.CrashAfter steps) result.0 result.1 }
 {
-    let Stand { value, planned: _ } = stand;
+    let Stand { value, planned } = stand;
+    let value = match to_hold(value) {
+        Ok(value) => value,
+        Err(refused) => return refuse(refused, planned),
+    };
     let planned = Planned::After(steps);
-    Stand { value, planned }
+    (Stand { value, planned }, SessionReply::CrashPlanned)
+}
+
+/// Lets the worker go.
+fn detach<K: Tag, R: Wait>(rt: &R, stand: Stand, slots: &Slots<K>) -> (Stand, SessionReply)
+    requires ours { MayHold K.ident slots.now stand.value }
+    ensures ours { MayHold K.ident slots.now result.0.value }
+    ensures obeys { Obeys K.ident slots.now stand order.Detach result.0 result.1 }
+{
+    let Stand { value, planned } = stand;
+    match to_hold(value) {
+        Ok(value) => {
+            let_go(rt, Stand { value, planned }, slots);
+            (Stand::empty(), SessionReply::Detached)
+        }
+        Err(refused) => refuse(refused, planned),
+    }
 }

@@ -1,91 +1,75 @@
-//! Which orders a session refuses.
+//! Which orders a session refuses, and what it goes on with where it does not.
+//!
+//! Each order takes what the session holds by value: what is refused gives it back, and what is not gives the step that
+//! is to be made of it.
 
-ghost use Rattle.std.specs.Prelude.{◌≡◌, ◌≤◌, ◌+◌, ℕ, Some};
+ghost use Rattle.std.specs.Prelude.{◌≡◌, ◌≢◌, ◌≤◌, ◌+◌, ℕ, Some, None, IfOk, IfErr, OnOk};
 ghost use Rattle.rme_server.specs.Stands.{MayHold};
 ghost use Rattle.rme_server.specs.Refusals as spec;
+ghost use Rattle.rme_server.specs.Tasks.{IsResumed, IsSubmitted, holding_of};
+ghost use Rattle.rme_server.specs.declared.stand.Holding.TheVariants as holds;
 
 use crate::stand::Holding;
+use crate::work::Work;
 use rme_script::Job;
-use rme_table::{Ready, Service};
-use rme_wire::{Order, Submission};
+use rme_table::{Climb, Held, Ready, Service};
+use rme_wire::Submission;
 use rme_words::{Refusal, Shape};
 
-/// Why an order is refused, by what the session holds: everything but the state of a slot. Nothing is changed.
-pub(crate) fn refusal(value: &mut Holding, order: &Order, service: &Service) -> Option<Refusal>
-    requires ours { (count : ℕ) × MayHold service.now count value.old }
-    ensures same { value.new ≡ value.old }
-    ensures refuses { spec.Refuses service.now.shape value.old order.now result }
-{
-    match order {
-        Order::Attach(worker) => attach_refusal(value, *worker, service.shape()),
-        Order::Submit(submission) => submit_refusal(value, submission, service),
-        Order::Resume(_) => resume_refusal(value),
-        Order::Withdraw => withdraw_refusal(value),
-        Order::Last => last_refusal(value),
-        Order::CrashAfter(_) | Order::Detach => bare_refusal(value),
-    }
-}
+/// An order that is refused: what the session holds still, and why.
+pub(crate) type Refused = (Holding, Refusal);
 
-fn attach_refusal(value: &Holding, worker: u32, shape: Shape) -> Option<Refusal>
-    ensures { result ≡ spec.attach_refusal shape worker value.now }
+/// A session that is asked to attach a worker has none.
+pub(crate) fn to_attach(value: Holding, worker: u32, shape: Shape) -> Result<(), Refused>
+    ensures none { OnOk result ((value ≡ holds.Empty) × (spec.attach_refusal shape worker value ≡ None)) }
+    ensures refused { IfErr result (λ refused. (refused.0 ≡ value) × (spec.attach_refusal shape worker value ≡ Some refused.1)) }
 {
     if worker >= shape.workers() {
-        return Some(Refusal::NoWorker);
+        return Err((value, Refusal::NoWorker));
     }
-    busy_refusal(value)
-}
-
-fn busy_refusal(value: &Holding) -> Option<Refusal>
-    ensures { result ≡ spec.busy_refusal value.now }
-{
     match value {
-        Holding::Empty => None,
-        _ => Some(Refusal::Busy),
+        Holding::Empty => Ok(()),
+        value => Err((value, Refusal::Busy)),
     }
 }
 
-fn submit_refusal(
-    value: &mut Holding,
+/// The work that a submission asks.
+pub(crate) fn to_submit(
+    value: Holding,
     submission: &Submission,
     service: &Service,
-) -> Option<Refusal>
-    requires ours { (count : ℕ) × MayHold service.now count value.old }
-    ensures same { value.new ≡ value.old }
-    ensures refuses { spec.SubmitRefuses service.now.shape value.old submission.now result }
+) -> Result<Work, Refused>
+    requires ours { (count : ℕ) × MayHold service.now count value }
+    ensures work { IfOk result (λ work. (holding_of work ≡ value) × IsSubmitted service.now.shape submission.now work) }
+    ensures refused { IfErr result (λ refused. (refused.0 ≡ value) × spec.SubmitRefuses service.now.shape value submission.now (Some refused.1)) }
 {
     match value {
-        Holding::Empty => Some(Refusal::NotAttached),
-        Holding::Ready(ready) => posting_refusal(ready, submission, service),
-        Holding::Climb(climb) => {
-            let job = climb.job(service);
-            pending_refusal(climb.number(), &job, submission)
-        }
-        Holding::Held(held) => {
-            let job = held.job(service);
-            pending_refusal(held.number(), &job, submission)
-        }
+        Holding::Empty => Err((Holding::Empty, Refusal::NotAttached)),
+        Holding::Ready(ready) => to_post(ready, submission, service),
+        Holding::Climb(climb) => to_go_in(climb, submission, service),
+        Holding::Held(held) => to_go_on(held, submission, service),
     }
 }
 
-/// Why a worker that is ready refuses a submission: its number is the next and the job may not be posted, or it
-/// is neither the next nor the last.
-fn posting_refusal(ready: &Ready, submission: &Submission, service: &Service) -> Option<Refusal>
-    requires ours { ready.now.ident ≡ service.now }
-    ensures { result ≡ spec.posting_refusal service.now.shape ready.now.part.private.begun submission.now }
+/// The work that a submission asks of a worker that is ready: its number is the next and the job may be posted, or
+/// it is the last.
+fn to_post(ready: Ready, submission: &Submission, service: &Service) -> Result<Work, Refused>
+    requires ours { ready.ident ≡ service.now }
+    ensures work { IfOk result (λ work. (holding_of work ≡ holds.Ready ready) × IsSubmitted service.now.shape submission.now work) }
+    ensures refused { IfErr result (λ refused. (refused.0 ≡ holds.Ready ready) × (spec.posting_refusal service.now.shape ready.part.private.begun submission.now ≡ Some refused.1)) }
 {
-    let shape = service.shape();
     let last = ready.number();
-    let next = next_after(last, shape);
+    let next = next_after(last, service.shape());
     if submission.number == next {
-        return match ready.may_post(service, &submission.job) {
-            Ok(()) => None,
-            Err(why) => Some(why),
+        return match ready.admit(service, submission.job) {
+            Ok(admitted) => Ok(Work::Post(admitted, submission.tries)),
+            Err((ready, why)) => Err((Holding::Ready(ready), why)),
         };
     }
     if submission.number > 0 && submission.number == last {
-        return None;
+        return Ok(Work::Repeat(ready));
     }
-    Some(Refusal::WrongNumber(next))
+    Err((Holding::Ready(ready), Refusal::WrongNumber(next)))
 }
 
 /// The number after one of a job, which is at most as many as there are.
@@ -95,6 +79,32 @@ fn next_after(last: u32, shape: Shape) -> u32
 {
     let _most = shape.jobs();
     last + 1
+}
+
+/// The work that a submission asks of a worker that waits.
+fn to_go_in(mut climb: Climb, submission: &Submission, service: &Service) -> Result<Work, Refused>
+    requires ours { climb.ident ≡ service.now }
+    ensures work { IfOk result (λ work. (holding_of work ≡ holds.Climb climb) × IsSubmitted service.now.shape submission.now work) }
+    ensures refused { IfErr result (λ refused. (refused.0 ≡ holds.Climb climb) × spec.PendingRefuses climb.part.private.begun climb.part.draft submission.now (Some refused.1)) }
+{
+    let job = climb.job(service);
+    match pending_refusal(climb.number(), &job, submission) {
+        None => Ok(Work::GoIn(climb, submission.tries)),
+        Some(why) => Err((Holding::Climb(climb), why)),
+    }
+}
+
+/// The work that a submission asks of a worker that is inside.
+fn to_go_on(mut held: Held, submission: &Submission, service: &Service) -> Result<Work, Refused>
+    requires ours { (count : ℕ) × MayHold service.now count (holds.Held held) }
+    ensures work { IfOk result (λ work. (holding_of work ≡ holds.Held held) × IsSubmitted service.now.shape submission.now work) }
+    ensures refused { IfErr result (λ refused. (refused.0 ≡ holds.Held held) × spec.PendingRefuses held.part.private.begun held.part.draft submission.now (Some refused.1)) }
+{
+    let job = held.job(service);
+    match pending_refusal(held.number(), &job, submission) {
+        None => Ok(Work::GoOn(held)),
+        Some(why) => Err((Holding::Held(held), why)),
+    }
 }
 
 /// Why a worker with a pending job refuses a submission: it is of another number, or another job.
@@ -110,41 +120,50 @@ fn pending_refusal(number: u32, job: &Job, submission: &Submission) -> Option<Re
     None
 }
 
-fn resume_refusal(value: &Holding) -> Option<Refusal>
-    ensures { result ≡ spec.resume_refusal value.now }
+/// The work that is left of the job that is pending.
+pub(crate) fn to_resume(value: Holding, tries: u32) -> Result<Work, Refused>
+    ensures work { IfOk result (λ work. (holding_of work ≡ value) × IsResumed work) }
+    ensures refused { IfErr result (λ refused. (refused.0 ≡ value) × (spec.resume_refusal value ≡ Some refused.1)) }
 {
     match value {
-        Holding::Empty => Some(Refusal::NotAttached),
-        Holding::Ready(_) => Some(Refusal::Idle),
-        _ => None,
+        Holding::Empty => Err((Holding::Empty, Refusal::NotAttached)),
+        Holding::Ready(ready) => Err((Holding::Ready(ready), Refusal::Idle)),
+        Holding::Climb(climb) => Ok(Work::GoIn(climb, tries)),
+        Holding::Held(held) => Ok(Work::GoOn(held)),
     }
 }
 
-fn withdraw_refusal(value: &Holding) -> Option<Refusal>
-    ensures { result ≡ spec.withdraw_refusal value.now }
+/// The worker that waits, to withdraw its job.
+pub(crate) fn to_withdraw(value: Holding) -> Result<Climb, Refused>
+    ensures waits { IfOk result (λ climb. value ≡ holds.Climb climb) }
+    ensures refused { IfErr result (λ refused. (refused.0 ≡ value) × (spec.withdraw_refusal value ≡ Some refused.1)) }
 {
     match value {
-        Holding::Empty => Some(Refusal::NotAttached),
-        Holding::Climb(_) => None,
-        _ => Some(Refusal::NotWaiting),
+        Holding::Climb(climb) => Ok(climb),
+        Holding::Empty => Err((Holding::Empty, Refusal::NotAttached)),
+        value => Err((value, Refusal::NotWaiting)),
     }
 }
 
-fn last_refusal(value: &Holding) -> Option<Refusal>
-    ensures { result ≡ spec.last_refusal value.now }
+/// The worker that is ready, to tell its last receipt.
+pub(crate) fn to_tell(value: Holding) -> Result<Ready, Refused>
+    ensures ready { IfOk result (λ ready. value ≡ holds.Ready ready) }
+    ensures refused { IfErr result (λ refused. (refused.0 ≡ value) × (spec.last_refusal value ≡ Some refused.1)) }
 {
     match value {
-        Holding::Empty => Some(Refusal::NotAttached),
-        Holding::Ready(_) => None,
-        _ => Some(Refusal::Busy),
+        Holding::Ready(ready) => Ok(ready),
+        Holding::Empty => Err((Holding::Empty, Refusal::NotAttached)),
+        value => Err((value, Refusal::Busy)),
     }
 }
 
-fn bare_refusal(value: &Holding) -> Option<Refusal>
-    ensures { result ≡ spec.bare_refusal value.now }
+/// What a session with a worker holds, to plan its crash or to let it go.
+pub(crate) fn to_hold(value: Holding) -> Result<Holding, Refused>
+    ensures holds { IfOk result (λ holding. (holding ≡ value) × (spec.bare_refusal value ≡ None)) }
+    ensures refused { IfErr result (λ refused. (refused.0 ≡ value) × (spec.bare_refusal value ≡ Some refused.1)) }
 {
     match value {
-        Holding::Empty => Some(Refusal::NotAttached),
-        _ => None,
+        Holding::Empty => Err((Holding::Empty, Refusal::NotAttached)),
+        value => Ok(value),
     }
 }

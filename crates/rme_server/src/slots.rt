@@ -3,7 +3,7 @@
 ghost use Rattle.std.specs.Prelude.{◌≡◌, ◌≤◌, [], length, vec_capacity, IfSome};
 ghost use Rattle.rme_server.specs.Slots.{AreInPlace, AreInOrder, IsOf};
 
-use rme_table::{Down, Kept, Tag};
+use rme_table::{Down, Kept, Tag, fill};
 use rme_words::Refusal;
 use std::alloc::Global;
 use std::marker::{Model, PhantomData};
@@ -96,23 +96,6 @@ impl<K: Tag> Slots<K> {
         let Slots { alloc: _, slots } = self;
         Ok(gather(slots, downs))
     }
-}
-
-/// Puts each Down into a slot.
-fn fill<K: Tag>(downs: Vec<Down>, mut slots: Vec<Slot<K>>) -> Vec<Slot<K>>
-    requires ours { AreInPlace K.ident downs.items }
-    requires none { slots.items ≡ [] }
-    requires room { length downs.items ≤ vec_capacity slots }
-    ensures { length result.items ≡ length downs.items }
-{
-    for down in downs {
-        let kept = Kept {
-            down,
-            of: PhantomData,
-        };
-        slots.push_reserved(Slot::new(Some(kept)));
-    }
-    slots
 }
 
 /// Takes the Downs out of the slots.

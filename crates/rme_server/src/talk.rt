@@ -58,7 +58,7 @@ pub fn session<K: Tag, R: Wait, I: Read + Drop, O: Write>(
     let_go(rt, stand, slots);
     match ended {
         Ok(()) => Ok(()),
-        Err(fault) => Err(buffers.give_up(fault, writer)),
+        Err(fault) => Err(buffers.exchange.give_up(fault, writer)),
     }
 }
 
@@ -98,14 +98,14 @@ fn turn<K: Tag, R: Wait, I: Read + Drop, O: Write>(
     requires stand { MayHold K.ident shared.now.slots.now stand.value }
     ensures { MayHold K.ident shared.now.slots.now result.0.value }
 {
-    let cut = match buffers.next_cut(lines, writer) {
+    let cut = match buffers.exchange.next_line(lines, writer) {
         Ok(Cut::End) => return (stand, Ok(false)),
         Ok(cut) => cut,
         Err(fault) => return (stand, Err(fault)),
     };
     let (stand, replied) = match order_in(
         cut,
-        buffers.line.as_slice(),
+        buffers.exchange.line(),
         shared.alloc,
         shared.names,
     ) {
@@ -154,7 +154,7 @@ fn obey_in_time<K: Tag, R: Wait, O: Write>(
     requires stand { MayHold K.ident shared.now.slots.now stand.value }
     ensures { MayHold K.ident shared.now.slots.now result.0.value }
 {
-    let (first, tries) = if buffers.keeps_back() {
+    let (first, tries) = if buffers.exchange.keeps_back() {
         first_try(order)
     } else {
         (order, 0)
@@ -163,7 +163,7 @@ fn obey_in_time<K: Tag, R: Wait, O: Write>(
     if tries == 0 || !is_waiting(reply) {
         return (stand, Ok(reply));
     }
-    if let Err(fault) = buffers.write(writer) {
+    if let Err(fault) = buffers.exchange.write(writer) {
         return (stand, Err(fault));
     }
     let (stand, last) = obey(

@@ -1,6 +1,9 @@
 -- Where a life stops.
-use Rattle.std.specs.Prelude.{◌≡◌, ℕ}
+use Rattle.std.specs.Prelude.{◌≡◌, ℕ, Result, Ok, Err}
 use Rattle.rme_seats.specs.Stands.{Ident, Stand}
+use Rattle.rme_table.specs.declared.driving.Driven.{Driven}
+use Rattle.rme_table.specs.declared.driving.Driven.TheVariants as driven
+use Rattle.rme_supervisor.specs.declared.end.End.TheVariants.{Stalled}
 use Rattle.rme_supervisor.specs.declared.plan.WorkerPlan.{WorkerPlan}
 use Rattle.rme_supervisor.specs.declared.stop.Stop.{Stop}
 use Rattle.rme_supervisor.specs.declared.stop.Stop.TheVariants.{Fell, Ended}
@@ -15,3 +18,11 @@ pub record IsOf (ident : Ident) (worker : ℕ) (stand : Stand) : Type 0 where
 abbrev pub IsStop : Ident → ℕ → WorkerPlan → Stop → Type 0
 IsStop ident worker plan (Fell down) = IsOf ident worker down
 IsStop ident worker plan (Ended down end) = IsOf ident worker down × IsEarned ident.shape plan down.part.private.begun end
+
+-- What a life has of a worker that went on: it is ready, or the life stopped. One that waits still, or that the gate did not
+-- let pass, has stalled.
+abbrev pub driven_to : Driven → Result Stand Stop
+driven_to (driven.Done ready receipt) = Ok ready
+driven_to (driven.Waits climb) = Err (Ended climb Stalled)
+driven_to (driven.Stopped held) = Err (Ended held Stalled)
+driven_to (driven.Fell down) = Err (Fell down)

@@ -6,10 +6,9 @@ ghost use Rattle.rme_supervisor.specs.declared.end.End.TheVariants.{OutOfLives};
 use crate::course::Course;
 use crate::end::End;
 use crate::falls::Falls;
-use crate::gate::Gate;
 use crate::life::{Orders, Trail, live};
 use crate::stop::Stop;
-use rme_table::Kept;
+use rme_table::{Gate, Kept, Tries};
 use std::marker::Model;
 use std::sync::Wait;
 
@@ -83,7 +82,10 @@ impl<K: Course> Berth<K> {
         let falls = Falls::after(orders.plan.falls.as_slice(), past.steps, past.fallen);
         let mut trail = Trail {
             falls,
-            blocked: past.blocked,
+            tries: Tries {
+                blocked: past.blocked,
+                most: orders.plan.sweeps,
+            },
         };
         let stop = live(rt, orders, down, &mut trail);
         // A fall is one of the plan's.
@@ -91,7 +93,7 @@ impl<K: Course> Berth<K> {
         let past = Past {
             steps: trail.falls.steps(),
             fallen,
-            blocked: trail.blocked,
+            blocked: trail.tries.blocked,
             lives: past.lives.saturating_add(1),
         };
         match stop {
@@ -106,6 +108,12 @@ impl<K: Course> Berth<K> {
                 end: end_after(fallen, orders.plan.lives),
             },
         }
+    }
+}
+
+impl<K: Course> From<Kept<K>> for Berth<K> {
+    fn from(kept: Kept<K>) -> Berth<K> {
+        Berth::new(kept)
     }
 }
 

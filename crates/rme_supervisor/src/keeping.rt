@@ -3,11 +3,10 @@
 ghost use Rattle.std.specs.Prelude.{◌≡◌, ◌≤◌, slice_get, length, Some};
 
 use crate::course::Course;
-use crate::gate::Gate;
 use crate::life::Orders;
 use crate::plan::WorkerPlan;
 use crate::slots::{Slot, has_ended, live_in};
-use rme_table::Service;
+use rme_table::{Gate, Service};
 use std::sync::Wait;
 use std::thread;
 use std::thread::Threads;

@@ -14,7 +14,6 @@ mod checking;
 mod course;
 mod end;
 mod falls;
-mod gate;
 mod keeping;
 mod life;
 mod plan;
@@ -25,7 +24,7 @@ mod slots;
 mod stop;
 
 pub use end::End;
-pub use gate::{Free, Gate};
 pub use plan::WorkerPlan;
 pub use report::{Fault, Report};
+pub use rme_table::{Free, Gate};
 pub use run::supervise;

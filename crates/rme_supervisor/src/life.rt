@@ -2,15 +2,14 @@
 
 ghost use Rattle.std.specs.Prelude.{◌≡◌, MatchResult};
 ghost use Rattle.rme_supervisor.specs.Ends.{IsEarned};
-ghost use Rattle.rme_supervisor.specs.Stops.{IsOf, IsStop};
+ghost use Rattle.rme_supervisor.specs.Stops.{IsOf, IsStop, driven_to};
 
 use crate::end::End;
 use crate::falls::Falls;
-use crate::gate::Gate;
 use crate::plan::WorkerPlan;
 use crate::stop::Stop;
 use crossbeam_utils::Backoff;
-use rme_table::{Climb, Down, Held, Leave, Posted, Ready, Service, Stance, Sweep};
+use rme_table::{Climb, Down, Driven, Gate, Held, Leave, Posted, Ready, Service, Stance, Tries};
 use std::sync::Wait;
 
 /// What the lives of a worker go by.
@@ -25,7 +24,7 @@ pub(crate) struct Orders<'a, G> {
 #[derive(Drop)]
 pub(crate) struct Trail<'a> {
     pub falls: Falls<'a>,
-    pub blocked: u32,
+    pub tries: Tries,
 }
 
 /// A life: the worker comes up, finishes what it was at, and makes the jobs of its plan from the next one on.
@@ -77,7 +76,7 @@ fn make_jobs<G: Gate, R: Wait>(
         let Some(job) = orders.plan.jobs.get(ready.number() as usize) else {
             return Stop::Ended(ready.crash(), End::AllDone);
         };
-        trail.blocked = 0;
+        trail.tries.blocked = 0;
         match ready.post(orders.service, *job, &mut trail.falls) {
             Posted::Fell(down) => return Stop::Fell(down),
             Posted::Refused(ready, refusal) => {
@@ -92,26 +91,23 @@ fn make_jobs<G: Gate, R: Wait>(
     unreachable!()
 }
 
-/// From waiting to readiness: sweep after sweep, with a pause after each blocked one.
+/// From waiting to readiness.
 fn go_in<G: Gate>(
     orders: &Orders<'_, G>,
-    mut climb: Climb,
+    climb: Climb,
     trail: &mut Trail<'_>,
 ) -> Result<Ready, Stop>
     requires ours { climb.ident ≡ orders.now.service.now }
     ensures { MatchResult result (λ ready. IsOf orders.now.service.now climb.part.worker ready) (λ stop. IsStop orders.now.service.now climb.part.worker orders.now.plan.now stop) }
 {
     let backoff = Backoff::new();
-    for blocked in trail.blocked..orders.plan.sweeps {
-        match climb.try_enter(orders.service, &mut trail.falls) {
-            Sweep::Got(held) => return go_on(orders, held, trail),
-            Sweep::Fell(down) => return Err(Stop::Fell(down)),
-            Sweep::Blocked(again) => climb = again,
-        }
-        trail.blocked = blocked + 1;
-        backoff.snooze();
-    }
-    Err(Stop::Ended(climb.crash(), End::Stalled))
+    driven(climb.go_in(
+        orders.service,
+        &mut trail.falls,
+        orders.gate,
+        &mut trail.tries,
+        || backoff.snooze(),
+    ))
 }
 
 /// From the lock's entry to readiness.
@@ -119,16 +115,22 @@ fn go_on<G: Gate>(orders: &Orders<'_, G>, held: Held, trail: &mut Trail<'_>) -> 
     requires ours { held.ident ≡ orders.now.service.now }
     ensures { MatchResult result (λ ready. IsOf orders.now.service.now held.part.worker ready) (λ stop. IsStop orders.now.service.now held.part.worker orders.now.plan.now stop) }
 {
-    if !held.finished() && !orders.gate.inside(held.worker(), held.lock()) {
-        return Err(Stop::Ended(held.crash(), End::Stalled));
-    }
-    match held.perform(orders.service, &mut trail.falls) {
-        Ok((leave, _receipt)) => go_out(orders, leave, trail),
-        Err(down) => Err(Stop::Fell(down)),
+    driven(held.go_on(orders.service, &mut trail.falls, orders.gate))
+}
+
+/// Where a life is after its worker went on: one that waits still, or that the gate stopped, has stalled.
+fn driven(driven: Driven) -> Result<Ready, Stop>
+    ensures { result ≡ driven_to driven }
+{
+    match driven {
+        Driven::Done(ready, _receipt) => Ok(ready),
+        Driven::Waits(climb) => Err(Stop::Ended(climb.crash(), End::Stalled)),
+        Driven::Stopped(held) => Err(Stop::Ended(held.crash(), End::Stalled)),
+        Driven::Fell(down) => Err(Stop::Fell(down)),
     }
 }
 
-/// From a finished job to readiness. The gate is told of the job.
+/// From a job that was over before the worker came up to readiness. The gate is told of the job.
 fn go_out<G: Gate>(
     orders: &Orders<'_, G>,
     leave: Leave,

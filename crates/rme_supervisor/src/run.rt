@@ -8,13 +8,12 @@ ghost use Rattle.rme_supervisor.specs.Supervised.{AreAll, IsReport, IsFault, IsO
 
 use crate::checking::{all_follow, are_all, are_fresh, are_plans};
 use crate::course::Course;
-use crate::gate::Gate;
 use crate::keeping::keep_all;
 use crate::plan::WorkerPlan;
 use crate::report::{Fault, Report};
-use crate::settling::{Settled, fill, settle};
+use crate::settling::{Settled, settle};
 use crate::slots::Slot;
-use rme_table::{Down, Service, Unclosed};
+use rme_table::{Down, Gate, Service, Unclosed, fill};
 use rme_words::{NoMemory, Refusal};
 use std::alloc::Global;
 use std::marker::Brand;

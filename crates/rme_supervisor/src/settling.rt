@@ -11,7 +11,6 @@ use crate::slots::Slot;
 use rme_table::{Down, Kept};
 use rme_words::NoMemory;
 use std::alloc::Global;
-use std::marker::PhantomData;
 
 /// The workers that were found in the slots, how the lives of each ended, and how many were started.
 #[derive(Drop)]
@@ -54,23 +53,6 @@ impl Settled {
         self.ends.push_reserved(end.unwrap_or(End::NoStart));
         self.lives.push_reserved(past.lives);
     }
-}
-
-/// Puts each Down into a slot.
-pub(crate) fn fill<K: Course>(downs: Vec<Down>, mut slots: Vec<Slot<K>>) -> Vec<Slot<K>>
-    requires ours { AreOf K.Tag.ident downs.items }
-    requires none { slots.items ≡ [] }
-    requires room { length downs.items ≤ vec_capacity slots }
-    ensures { length result.items ≡ length downs.items }
-{
-    for down in downs {
-        let kept = Kept {
-            down,
-            of: PhantomData,
-        };
-        slots.push_reserved(Slot::new(Some(Berth::new(kept))));
-    }
-    slots
 }
 
 /// Takes the workers out of the slots.

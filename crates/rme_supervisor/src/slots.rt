@@ -4,8 +4,8 @@ ghost use Rattle.std.specs.Prelude.{◌≡◌, slice_get, Some};
 
 use crate::berth::Berth;
 use crate::course::Course;
-use crate::gate::Gate;
 use crate::life::Orders;
+use rme_table::Gate;
 use std::sync::{Mutex, Wait};
 
 /// A worker's place: empty while a life has the worker.

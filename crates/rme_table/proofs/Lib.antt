@@ -7,3 +7,4 @@ pub mod Lasts
 pub mod Drafts
 pub mod Owners
 pub mod Leavings
+pub mod GoingOn

@@ -9,10 +9,12 @@
 //! what a closed service shows (`specs/Closing.antt`). Begin with `kinds.rt`.
 #![tactic(auto)]
 
+mod admitted;
 mod climb;
 mod closed;
 mod closing;
 mod down;
+mod driving;
 mod filling;
 mod held;
 mod job;
@@ -26,9 +28,11 @@ mod room;
 mod service;
 mod way;
 
+pub use admitted::Admitted;
 pub use closed::{Closed, ClosedLock, Unclosed};
 pub use down::Down;
-pub use kept::{Kept, Tag};
+pub use driving::{Driven, Free, Gate, Tries};
+pub use kept::{Kept, Tag, fill};
 pub use kinds::{Climb, Held, Leave, Posted, Ready, Stance, Sweep};
 pub use rme_seats::{Chance, Never};
 pub use service::Service;

@@ -3,6 +3,7 @@
 ghost use Rattle.std.specs.Prelude.{◌≡◌};
 ghost use Rattle.rme_table.specs.Calls.{last_receipt};
 
+use crate::admitted::Admitted;
 use crate::down::Down;
 use crate::kinds::{Climb, Posted, Ready};
 use crate::service::Service;
@@ -11,7 +12,6 @@ use rme_program::{Entry, Receipt, WITHDRAWN_PLACE};
 use rme_script::Job;
 use rme_seats::{Chance, Posting};
 use rme_words::Refusal;
-use std::marker::Brand;
 
 impl Ready {
     ghost use Rattle.std.specs.Prelude.{◌≡◌, ◌≢◌, ◌+◌, ◌*◌, ◌<◌, ◌≤◌, MatchResult};
@@ -20,9 +20,10 @@ impl Ready {
     ghost use Rattle.rme_seats.specs.Doing.{Falling};
     ghost use Rattle.rme_script.specs.declared.job.Job.{Job};
     ghost use Rattle.rme_words.specs.declared.refusal.Refusal.{Refusal};
-    ghost use Rattle.std.specs.Prelude.{OnOk, IfErr, None, Some};
+    ghost use Rattle.std.specs.Prelude.{OnOk, IfOk, IfErr, None, Some};
+    ghost use Rattle.rme_seats.specs.Parts.{submitted};
     ghost use Rattle.rme_program.specs.Conditions.{IsJob};
-    ghost use Rattle.rme_table.specs.Calls.{HoldsNone, Posts, IsLast, post_refusal};
+    ghost use Rattle.rme_table.specs.Calls.{HoldsNone, IsPosted, Made, Posts, IsLast, post_refusal};
 
     /// The worker's number.
     pub fn worker(&self) -> u32
@@ -50,9 +51,24 @@ impl Ready {
         requires ours { self.ident ≡ service.now }
         ensures { Posts service.now.shape job self (C.tally chance.old) (C.tally chance.new) result }
     {
+        match self.admit(service, job) {
+            Ok(admitted) => match admitted.post(service, chance) {
+                Ok(climb) => Posted::Asked(climb),
+                Err(down) => Posted::Fell(down),
+            },
+            Err((ready, refusal)) => Posted::Refused(ready, refusal),
+        }
+    }
+
+    /// The worker with a job that it may post; or the worker, and why `post` would refuse the job. Nothing is done.
+    pub fn admit(self, service: &Service, job: Job) -> Result<Admitted, (Ready, Refusal)>
+        requires ours { self.ident ≡ service.now }
+        ensures admitted { IfOk result (λ admitted. (admitted ≡ record { ready = self; job = job }) × (post_refusal service.now.shape self.part.private.begun job ≡ None)) }
+        ensures refused { IfErr result (λ refused. (refused.0 ≡ self) × (post_refusal service.now.shape self.part.private.begun job ≡ Some refused.1)) }
+    {
         match self.may_post(service, &job) {
-            Ok(()) => self.put::<Brand, C>(service, &job, chance),
-            Err(refusal) => Posted::Refused(self, refusal),
+            Ok(()) => Ok(Admitted { ready: self, job }),
+            Err(refusal) => Err((self, refusal)),
         }
     }
 
@@ -76,19 +92,26 @@ impl Ready {
     }
 
     /// Posts a job that may be posted.
-    fn put<J: Posting, C: Chance>(self, service: &Service, job: &Job, chance: &mut C) -> Posted
+    pub(crate) fn put<J: Posting, C: Chance>(
+        self,
+        service: &Service,
+        job: &Job,
+        chance: &mut C,
+    ) -> Result<Climb, Down>
         requires ours { self.ident ≡ service.now }
         requires named { job.now ≡ J.job }
         requires good { IsJob service.now.shape job.now }
         requires few { self.part.private.begun < service.now.shape.jobs }
-        requires none { post_refusal service.now.shape self.part.private.begun job.now ≡ None }
-        ensures { Posts service.now.shape job.now self (C.tally chance.old) (C.tally chance.new) result }
+        ensures posted { MatchResult result (λ climb. IsPosted self climb job.now) (λ _. Unit {0}) }
+        ensures made { MatchResult result
+            (λ climb. Made service.now.shape (submitted job.now) self climb (C.tally chance.old) (C.tally chance.new) (3 + 3 * job.now.script.n) (3 + 3 * job.now.script.n))
+            (λ down. Falling service.now.shape (submitted job.now) self down (C.tally chance.old) (C.tally chance.new) (3 + 3 * job.now.script.n)) }
     {
         let Ready { mut seat, begun } = self;
         if post::<J, C>(&mut seat, &service.words, chance, begun, job).is_err() {
-            return Posted::Fell(Down { seat });
+            return Err(Down { seat });
         }
-        Posted::Asked(Climb {
+        Ok(Climb {
             seat,
             begun: begun + 1,
             lock: job.lock,

@@ -3,6 +3,7 @@ pub use Rattle.rme_lines.specs.Pieces
 pub use Rattle.rme_lines.specs.Cuts
 pub use Rattle.rme_lines.specs.Puts
 pub use Rattle.rme_lines.specs.Readers
+pub use Rattle.rme_lines.specs.Runs
 pub use Rattle.rme_texts.specs.Names
 pub use Rattle.rme_texts.specs.Texts
 pub use Rattle.rme_texts.specs.Replies

@@ -1,5 +1,6 @@
 -- In reading order: the counts of steps, what contracts see of a world, the world at opening, when each event is
--- refused, what each changes, what steps and look-ups show, the headline, what each call promises, a list of events, and saved worlds.
+-- refused, what each changes, what steps and look-ups show, the headline, what each call promises, a list of events, saved
+-- worlds, and what a step tells.
 pub mod Counting
 pub mod Seen
 pub mod Opening
@@ -10,3 +11,4 @@ pub mod Running
 pub mod Calls
 pub mod EventLists
 pub mod Images
+pub mod Strides

@@ -22,4 +22,5 @@ mod step;
 mod world;
 
 pub use counts::Counts;
+pub use step::Stride;
 pub use world::World;

@@ -11,10 +11,10 @@ use rme_tree::owner;
 use rme_words::{Address, Refusal};
 
 impl World {
-    ghost use Rattle.std.specs.Prelude.{◌≡◌, ◌<◌, slice_get};
+    ghost use Rattle.std.specs.Prelude.{◌≡◌, ◌<◌};
     ghost use Rattle.rme_machine.specs.ShownCells.{ShownCells, is_settled};
     ghost use Rattle.rme_machine.specs.Views.{lock_words};
-    ghost use Rattle.rme_world.specs.Seen.{IsKept, memory_seen, shown_by};
+    ghost use Rattle.rme_world.specs.Seen.{memory_seen, shown_by};
     ghost use Rattle.rme_world.specs.Calls.{Owned, ShowsCells, ShowsReady, ShowsLast, ShowsSteps};
 
     /// The worker that owns a lock, if one does. `NoLock` where there is no such lock.
@@ -75,19 +75,11 @@ impl World {
     pub fn ready(&self, worker: u32) -> Result<bool, Refusal>
         ensures { ShowsReady self.now worker result }
     {
-        match self.private_of(worker) {
+        match self.privates.get(worker as usize) {
             None => Err(Refusal::NoWorker),
             Some(None) => Ok(false),
-            Some(Some(private)) => Ok(is_resting(private.stage)),
+            Some(Some(private)) => Ok(is_resting(private)),
         }
-    }
-
-    /// What a worker knows, if there is the worker and it is up.
-    fn private_of(&self, worker: u32) -> Option<Option<Private>>
-        ensures kept { IsKept self.now }
-        ensures found { result ≡ slice_get self.now.privates worker }
-    {
-        self.privates.get(worker as usize).copied()
     }
 
     /// The receipt of a worker's last job, by the words alone, so that a worker that is down is answered
@@ -126,11 +118,11 @@ impl World {
     }
 }
 
-/// A worker at this stage has nothing to do.
-fn is_resting(stage: Stage) -> bool
-    ensures { IsTrue result ↔ (stage ≡ Stage.Resting) }
+/// A worker that knows this has nothing to do.
+fn is_resting(private: &Private) -> bool
+    ensures { IsTrue result ↔ (private.now.stage ≡ Stage.Resting) }
 {
-    matches!(stage, Stage::Resting)
+    matches!(private.stage, Stage::Resting)
 }
 
 /// A word of a world that holds a number of 32 bits.

@@ -9,16 +9,29 @@ ghost use Rattle.rme_words.specs.Words.{memory_of};
 use crate::perform::perform;
 use crate::world::World;
 use rme_good::slate;
-use rme_program::{Entry, Note, Stage, after, next, phase};
+use rme_program::{Entry, Note, Phase, Stage, after, next, phase};
 use rme_words::{Bank, Refusal};
 
+/// An own step that was made.
+#[derive(Clone, Copy, Debug, PartialEq, Eq)]
+pub struct Stride {
+    /// What it brought about.
+    pub note: Note,
+    /// The phase in which it was made.
+    pub phase: Phase,
+    /// How many own steps the worker has then made in its latest stay in that phase, blocked ones aside.
+    pub steps: u32,
+}
+
 impl World {
-    ghost use Rattle.std.specs.Prelude.{◌≡◌, Some, OnOk, IfErr};
+    ghost use Rattle.std.specs.Prelude.{◌≡◌, Some, OnOk, IfOk, IfErr};
     ghost use Rattle.rme_program.specs.declared.stage.Stage.{Stage};
-    ghost use Rattle.rme_world.specs.Seen.{IsKept};
+    ghost use Rattle.rme_world.specs.Counting.{count_of};
+    ghost use Rattle.rme_world.specs.Seen.{IsKept, counts_of};
+    ghost use Rattle.rme_world.specs.Strides.{note_of};
     ghost use Rattle.rme_world.specs.Refused.{step_refusal};
     ghost use Rattle.rme_world.specs.Events.{Steps};
-    ghost use Rattle.rme_world.specs.Looks.{IsBusy};
+    ghost use Rattle.rme_world.specs.Looks.{IsBusy, phase_seen};
     ghost use Rattle.rme_world.specs.Calls.{Stepped};
 
     /// Lets a worker make its next own step, one operation on one word, and answers what it brought about.
@@ -28,10 +41,25 @@ impl World {
     pub fn step(&mut self, worker: u32) -> Result<Note, Refusal>
         ensures { Stepped self.old worker result self.new }
     {
+        match self.stride(worker) {
+            Ok(stride) => Ok(stride.note),
+            Err(refusal) => Err(refusal),
+        }
+    }
+
+    /// Lets a worker make its next own step, as `step` does, and answers also the phase in which it was made, and
+    /// what `steps` answers for that phase then.
+    pub fn stride(&mut self, worker: u32) -> Result<Stride, Refusal>
+        ensures stepped { Stepped self.old worker (note_of result) self.new }
+        ensures phase { IfOk result (λ stride. phase_seen self.old worker ≡ Some stride.phase) }
+        ensures steps { IfOk result (λ stride. stride.steps ≡ count_of (counts_of self.new worker) stride.phase) }
+    {
         if let Err(refusal) = self.may_step(worker) {
             return Err(refusal);
         }
-        Ok(self.go(worker))
+        let (note, phase) = self.go(worker);
+        let steps = self.counts_at(worker).of(phase);
+        Ok(Stride { note, phase, steps })
     }
 
     /// Whether a worker is up and not ready, or why it may not step.
@@ -52,10 +80,11 @@ impl World {
         }
     }
 
-    /// The step of a worker that is up and not ready.
-    fn go(&mut self, worker: u32) -> Note
+    /// The step of a worker that is up and not ready, and the phase in which it is made.
+    fn go(&mut self, worker: u32) -> (Note, Phase)
         requires busy { IsBusy self.old worker }
-        ensures { Steps self.old worker result self.new }
+        ensures steps { Steps self.old worker result.0 self.new }
+        ensures phase { phase_seen self.old worker ≡ Some result.1 }
     {
         let shape = self.bank.shape();
         let Some(private) = &mut self.privates[worker as usize] else {
@@ -68,7 +97,7 @@ impl World {
         record(&mut self.history, &self.bank, worker, note);
         let counts = &mut self.counts[worker as usize];
         counts.after_step(before, now, note);
-        note
+        (note, before)
     }
 }
 

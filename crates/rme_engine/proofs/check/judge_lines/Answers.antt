@@ -6,7 +6,7 @@ use Rattle.rme_engine.specs.declared.check.Verdict.TheVariants.{Yes, No, Bad}
 use Rattle.rme_engine.specs.declared.judge.Found.{Found}
 use Rattle.rme_engine.specs.Judging.{IsFound}
 use Rattle.rme_engine.proofs.JudgeLemmas.{judged_all, judged_bad, judged_no, leads_more}
-use Rattle.rme_engine.proofs.RunLemmas.{came_turn, cut_off, none_left}
+use Rattle.rme_lines.proofs.RunLemmas.{came_turn, cut_off, none_left}
 use Rattle.rme_engine.proofs.check.judge_lines.Goals as goal
 
 pub returns-then-eq-clause-verdict : goal.returns-then-eq-clause-verdict

@@ -5,7 +5,7 @@ use Rattle.rme_lines.specs.Readers.{bytes_left}
 use Rattle.rme_engine.specs.declared.judge.Judge.{Judge}
 use Rattle.rme_engine.specs.Judging.{HasOpened}
 use Rattle.rme_engine.proofs.JudgeLemmas.{found_by, found_closed}
-use Rattle.rme_engine.proofs.RunLemmas.{cut_off}
+use Rattle.rme_lines.proofs.RunLemmas.{cut_off}
 use Rattle.rme_engine.proofs.check.watch_lines.Goals as goal
 
 pub returns-in-Ok-None-clause-verdict : goal.returns-in-Ok-None-clause-verdict

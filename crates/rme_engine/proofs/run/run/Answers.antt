@@ -3,30 +3,33 @@ use Rattle.rme_lines.proofs.ReaderLemmas.{came_first}
 use Rattle.rme_lines.specs.Readers.{bytes_left}
 use Rattle.rme_engine.specs.Engines.{state_of}
 use Rattle.rme_engine.specs.Outputs.{Tells}
-use Rattle.rme_engine.specs.Runs.{Turns}
-use Rattle.rme_engine.proofs.RunLemmas.{came_turn, failed, failed_first, finished, so_far_first, so_far_more}
+use Rattle.rme_lines.specs.Runs.{Turns}
+use Rattle.rme_lines.proofs.RunLemmas.{came_turn, failed, failed_first, finished, so_far_first, so_far_more}
 use Rattle.rme_engine.proofs.run.run.Goals as goal
 
 pub returns-in_default-clause-err : goal.returns-in_default-clause-err
 returns-in_default-clause-err g c = failed_first (Tells c.args.output) (state_of c.args.engine.now) (bytes_left g.R.Read.remaining c.args.lines.now) (g.W.Write.contents c.args.writer.now)
 
-pub loop-buffers-init : goal.loop-buffers-init
-loop-buffers-init g c = record {
+pub returns-in_default-new-clause-err : goal.returns-in_default-new-clause-err
+returns-in_default-new-clause-err g c = failed_first (Tells c.args.output) (state_of c.args.engine.now) (bytes_left g.R.Read.remaining c.args.lines.now) (g.W.Write.contents c.args.writer.now)
+
+pub loop-exchange-init : goal.loop-exchange-init
+loop-exchange-init g c = record {
   so_far = so_far_first (Tells c.args.output) (bytes_left g.R.Read.remaining c.args.lines.now) (g.W.Write.contents c.args.writer.now) c.args.lines.now.ended (state_of c.args.engine.now) (state_of c.args.engine.now)
-      c.in-Ok.buffers.pending refl c.in-Ok.ensures;
+      c.in-Ok-new.exchange.pending refl c.in-Ok-new.ensures;
   came_on = came_first c.args.lines.now [] refl;
 }
 
-pub loop-buffers-preserved : goal.loop-buffers-preserved
-loop-buffers-preserved g c =
+pub loop-exchange-preserved : goal.loop-exchange-preserved
+loop-exchange-preserved g c =
     let held = g.W.Write.contents in
     let left = bytes_left g.R.Read.remaining in
-    let now = c.loop-buffers in
+    let now = c.loop-exchange in
     let new = c.turn.new in
-    let P : Bool → Type 0 = λ more. Turns (Tells c.args.output) (left now.lines) (left new.lines) new.lines.ended (state_of now.engine) (state_of new.engine) (held now.writer) now.buffers.pending (held new.writer)
-    new.buffers.pending more in record {
+    let P : Bool → Type 0 = λ more. Turns (Tells c.args.output) (left now.lines) (left new.lines) new.lines.ended (state_of now.engine) (state_of new.engine) (held now.writer) now.exchange.pending (held new.writer)
+    new.exchange.pending more in record {
       so_far = so_far_more (Tells c.args.output) (left c.args.lines.now) (held c.args.writer.now) (left now.lines) (left new.lines) (held now.writer) (held new.writer) now.lines.ended new.lines.ended (state_of c.args.engine.now)
-          (state_of now.engine) (state_of new.engine) now.buffers.pending new.buffers.pending now.invariant.so_far (λ e. (c.in-Ok-true.ensures.ended e).ended)
+          (state_of now.engine) (state_of new.engine) now.exchange.pending new.exchange.pending now.invariant.so_far (λ e. (c.in-Ok-true.ensures.ended e).ended)
           (subst P c.in-Ok-true.field-0-test c.in-Ok-true.ensures.ok);
       came_on = came_turn c.args.lines.now now.lines new.lines now.invariant.came_on c.in-Ok-true.ensures.ended c.in-Ok-true.ensures.reads (c.in-Ok-true.ensures.fewer c.in-Ok-true.field-0-test);
     }
@@ -35,18 +38,19 @@ pub returns-in-Ok-false-clause-ok : goal.returns-in-Ok-false-clause-ok
 returns-in-Ok-false-clause-ok g c =
     let held = g.W.Write.contents in
     let left = bytes_left g.R.Read.remaining in
-    let now = c.loop-buffers in
+    let now = c.loop-exchange in
     let new = c.turn.new in
-    let P : Bool → Type 0 = λ more. Turns (Tells c.args.output) (left now.lines) (left new.lines) new.lines.ended (state_of now.engine) (state_of new.engine) (held now.writer) now.buffers.pending (held new.writer)
-    new.buffers.pending more in
+    let P : Bool → Type 0 = λ more. Turns (Tells c.args.output) (left now.lines) (left new.lines) new.lines.ended (state_of now.engine) (state_of new.engine) (held now.writer) now.exchange.pending (held new.writer)
+    new.exchange.pending more in
     finished (Tells c.args.output) (left c.args.lines.now) (held c.args.writer.now) (left now.lines) (left new.lines) (held now.writer) (held new.writer) now.lines.ended new.lines.ended (state_of c.args.engine.now)
-    (state_of now.engine) (state_of new.engine) now.buffers.pending new.buffers.pending now.invariant.so_far (subst P c.in-Ok-false.field-0-test c.in-Ok-false.ensures.ok)
+    (state_of now.engine) (state_of new.engine) now.exchange.pending new.exchange.pending now.invariant.so_far (subst P c.in-Ok-false.field-0-test c.in-Ok-false.ensures.ok)
 
 pub returns-in-Err-clause-err : goal.returns-in-Err-clause-err
 returns-in-Err-clause-err g c =
     let held = g.W.Write.contents in
     let left = bytes_left g.R.Read.remaining in
-    let now = c.loop-buffers in
+    let now = c.loop-exchange in
     let new = c.turn.new in
-    failed (Tells c.args.output) c.in-Err.fault (left c.args.lines.now) (held c.args.writer.now) (left now.lines) (left new.lines) (held now.writer) (held new.writer) now.lines.ended (state_of c.args.engine.now)
-    (state_of now.engine) now.buffers.pending now.invariant.so_far (λ e. (c.in-Err.ensures.failed e).going) c.in-Err.ensures.err
+    failed (Tells c.args.output) (left c.args.lines.now) (held c.args.writer.now) (left now.lines) (left new.lines) (held now.writer) (held new.writer) (held c.give_up.new.writer) now.lines.ended
+    (state_of c.args.engine.now) (state_of now.engine) now.exchange.pending new.exchange.pending now.invariant.so_far c.in-Err.fault c.give_up.result (λ e. (c.in-Err.ensures.failed e).going) c.in-Err.ensures.err
+    c.give_up.ensures

@@ -5,15 +5,15 @@ use Rattle.rme_lines.specs.Readers.{bytes_left, most_lines}
 use Rattle.rme_lines.proofs.ReaderLemmas.{CameOn}
 use Rattle.rme_engine.specs.Engines.{state_of}
 use Rattle.rme_engine.specs.Outputs.{Tells}
-use Rattle.rme_engine.proofs.RunLemmas.{SoFar}
+use Rattle.rme_lines.proofs.RunLemmas.{SoFar}
 use Rattle.rme_engine.proofs.run.run.Given as goal
 
-abbrev pub invariant-loop-buffers : goal.invariant-loop-buffers
-invariant-loop-buffers g l = record {
+abbrev pub invariant-loop-exchange : goal.invariant-loop-exchange
+invariant-loop-exchange g l = record {
   so_far : SoFar (Tells l.fn.output) (state_of l.fn.engine) (bytes_left g.R.Read.remaining l.fn.lines) (g.W.Write.contents l.fn.writer) (bytes_left g.R.Read.remaining l.lines) l.lines.ended (state_of l.engine)
-      (g.W.Write.contents l.writer) l.buffers.pending;
+      (g.W.Write.contents l.writer) l.exchange.pending;
   came_on : CameOn l.fn.lines l.lines [];
 }
 
-abbrev pub decreases-loop-buffers : goal.decreases-loop-buffers
-decreases-loop-buffers g l = most_lines l.lines
+abbrev pub decreases-loop-exchange : goal.decreases-loop-exchange
+decreases-loop-exchange g l = most_lines l.lines

@@ -1,7 +1,7 @@
 use Rattle.rme_lines.specs.Readers.{bytes_left}
 use Rattle.rme_engine.specs.Outputs.{Tells}
 use Rattle.rme_engine.specs.States.{nothing_open}
-use Rattle.rme_engine.proofs.RunLemmas.{failed_first}
+use Rattle.rme_lines.proofs.RunLemmas.{failed_first}
 use Rattle.rme_engine.proofs.run.start.Goals as goal
 
 pub returns-in_default-clause-err : goal.returns-in_default-clause-err

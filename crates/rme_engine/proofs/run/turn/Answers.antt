@@ -5,47 +5,43 @@ use Rattle.rme_lines.specs.Readers.{bytes_left}
 use Rattle.rme_engine.specs.Engines.{state_of}
 use Rattle.rme_engine.specs.Outputs.{Tells}
 use Rattle.rme_lines.proofs.PutLemmas.{gathers_more}
-use Rattle.rme_engine.proofs.RunLemmas.{cut_off, gave_up, put_failed, spilt}
+use Rattle.rme_lines.proofs.RunLemmas.{cut_off, put_failed, spilt}
 use Rattle.rme_engine.proofs.run.turn.Goals as goal
 
 pub returns-in-Err-clause-err : goal.returns-in-Err-clause-err
 returns-in-Err-clause-err g c =
     let left = bytes_left g.R.Read.remaining in
     let held = g.W.Write.contents in
-    spilt (Tells c.args.output) c.in-Err.fault (left c.args.lines.now) (left c.next_cut.new.lines) (held c.args.writer.now) (held c.next_cut.new.writer) (state_of c.args.engine.now) c.args.buffers.now.pending
-    c.in-Err.ensures.err
+    spilt (Tells c.args.output) c.in-Err.fault (left c.args.lines.now) (left c.next_line.new.lines) (held c.args.writer.now) (held c.next_line.new.writer) (state_of c.args.engine.now) c.args.exchange.now.pending
+    c.next_line.new.self.pending c.in-Err.ensures.err
 
 pub returns-in-Err-tell-clause-err : goal.returns-in-Err-tell-clause-err
-returns-in-Err-tell-clause-err g c =
-    let left = bytes_left g.R.Read.remaining in
-    let held = g.W.Write.contents in
-    gave_up (Tells c.args.output) c.give_up.result (left c.args.lines.now) (left c.next_cut.new.lines) (held c.args.writer.now) (held c.next_cut.new.writer) (held c.give_up.new.writer) (state_of c.args.engine.now)
-    c.args.buffers.now.pending c.next_cut.new.buffers.pending c.in-Ok.ensures.gathers c.give_up.ensures.memory c.give_up.ensures.write c.give_up.ensures.kind
+returns-in-Err-tell-clause-err g c = rw c.in-Err-tell.ensures.kind c.in-Ok.ensures.gathers
 
-pub returns-in-Err-gather-clause-err : goal.returns-in-Err-gather-clause-err
-returns-in-Err-gather-clause-err g c =
+pub returns-in-Err-answer-clause-err : goal.returns-in-Err-answer-clause-err
+returns-in-Err-answer-clause-err g c =
     let left = bytes_left g.R.Read.remaining in
     let held = g.W.Write.contents in
-    let cuts = rw (← c.as_slice.ensures.value) at c.in-Ok.ensures.cut in
-    let front = rw c.as_bytes.ensures.value at c.in-Err-gather.ensures.front in
+    let cuts = rw (← c.line.ensures) at c.in-Ok.ensures.cut in
+    let front = rw c.as_bytes.ensures.value at c.in-Err-answer.ensures.front in
     let more : c.in-Ok.cut ≢ End = search rules in
-    rw c.in-Err-gather.ensures.kind
-    (put_failed (Tells c.args.output) (left c.args.lines.now) (left c.next_cut.new.lines) (held c.args.writer.now) (held c.next_cut.new.writer) (held c.gather.new.writer) (state_of c.args.engine.now)
-    (state_of c.tell.new.self) (line_read c.in-Ok.cut c.as_slice.result.now) c.args.buffers.now.pending c.next_cut.new.buffers.pending (string_bytes c.tell.new.out)
-    (cut_off (left c.args.lines.now) (left c.next_cut.new.lines) c.in-Ok.cut c.as_slice.result.now cuts more) c.in-Ok-tell.ensures.told c.in-Ok.ensures.gathers front)
+    rw c.in-Err-answer.ensures.kind
+    (put_failed (Tells c.args.output) (left c.args.lines.now) (left c.next_line.new.lines) (held c.args.writer.now) (held c.next_line.new.writer) (held c.answer.new.writer) (state_of c.args.engine.now)
+    (state_of c.tell.new.self) (line_read c.in-Ok.cut c.line.result.now) c.args.exchange.now.pending c.next_line.new.self.pending (string_bytes c.tell.new.out) c.answer.new.self.pending
+    (cut_off (left c.args.lines.now) (left c.next_line.new.lines) c.in-Ok.cut c.line.result.now cuts more) c.in-Ok-tell.ensures.told c.in-Ok.ensures.gathers front)
 
 pub returns-clause-ok : goal.returns-clause-ok
 returns-clause-ok g c =
     let left = bytes_left g.R.Read.remaining in
     let held = g.W.Write.contents in
-    let cuts = rw (← c.as_slice.ensures.value) at c.in-Ok.ensures.cut in
-    let gathers = rw c.as_bytes.ensures.value at c.in-Ok-gather.ensures.gathers in
+    let cuts = rw (← c.line.ensures) at c.in-Ok.ensures.cut in
+    let gathers = rw c.as_bytes.ensures.value at c.in-Ok-answer.ensures.gathers in
     let more : c.in-Ok.cut ≢ End = search rules in (
-      line_read c.in-Ok.cut c.as_slice.result.now,
+      line_read c.in-Ok.cut c.line.result.now,
       string_bytes c.tell.new.out,
-      cut_off (left c.args.lines.now) (left c.next_cut.new.lines) c.in-Ok.cut c.as_slice.result.now cuts more,
+      cut_off (left c.args.lines.now) (left c.next_line.new.lines) c.in-Ok.cut c.line.result.now cuts more,
       c.in-Ok-tell.ensures.told,
-      gathers_more (held c.args.writer.now) (held c.next_cut.new.writer) (held c.gather.new.writer) c.args.buffers.now.pending c.next_cut.new.buffers.pending c.gather.new.self [] (string_bytes c.tell.new.out)
+      gathers_more (held c.args.writer.now) (held c.next_line.new.writer) (held c.answer.new.writer) c.args.exchange.now.pending c.next_line.new.self.pending c.answer.new.self.pending [] (string_bytes c.tell.new.out)
           c.in-Ok.ensures.gathers gathers,
       c.in-Ok.ensures.whole,
     )

@@ -1,21 +1,24 @@
-use Rattle.rme_seats.specs.Parts.{onward}
-use Rattle.rme_table.specs.Calls.{Performed}
-use Rattle.std.proofs.Common.{subst}
-use Rattle.std.specs.Prelude.{Bool, false}
+use Rattle.std.proofs.Common.{refl, subst}
+use Rattle.std.specs.Prelude.{Bool}
+use Rattle.rme_table.specs.Driving.{Drives}
 use Rattle.rme_server.specs.Plans.{tally_of}
-use Rattle.rme_server.proofs.Planning.{spared, spared_on}
+use Rattle.rme_server.proofs.Working.{driven_did, driven_ours, driven_plan}
 use Rattle.rme_server.proofs.work.go_on.Goals as goal
 
-pub returns-in-Ok-exit-clause-plan : goal.returns-in-Ok-exit-clause-plan
-returns-in-Ok-exit-clause-plan c =
-    let shape = c.args.service.now.shape in
-    let held = c.args.held.part in
-    let leave = c.in-Ok.done.0.part in
-    let ready = c.in-Ok-exit.ready.part in
-    let old = c.args.planned.now in
-    let mid = c.perform.new.chance in
-    let now = c.exit.new.chance in
-    let performed : Performed shape false c.args.held c.in-Ok.done.0 (tally_of old) (tally_of mid) c.in-Ok.done.1 =
-    subst (λ (over : Bool). Performed shape over c.args.held c.in-Ok.done.0 (tally_of old) (tally_of mid) c.in-Ok.done.1) c.requires.pending c.in-Ok.ensures in
-    spared_on old mid held.steps leave.steps (spared shape onward held leave old mid performed.2.finishes.walks) now ready.steps
-    (spared shape onward leave ready mid now c.in-Ok-exit.ensures.made.walks)
+pub returns-clause-ours : goal.returns-clause-ours
+returns-clause-ours c =
+    let P : Bool → Type 0 = λ over. Drives c.args.service.now.shape over c.args.held (tally_of c.args.planned.now) (tally_of c.go_on.new.chance) c.go_on.result in
+    let drives = subst P c.requires.pending c.go_on.ensures.drives in
+    rw c.worked.ensures (driven_ours c.args.service.now.shape c.args.held c.args.planned.now c.go_on.new.chance c.args.service.now c.go_on.result drives (c.go_on.ensures.passes refl))
+
+pub returns-clause-did : goal.returns-clause-did
+returns-clause-did c =
+    let P : Bool → Type 0 = λ over. Drives c.args.service.now.shape over c.args.held (tally_of c.args.planned.now) (tally_of c.go_on.new.chance) c.go_on.result in
+    let drives = subst P c.requires.pending c.go_on.ensures.drives in
+    rw c.worked.ensures (driven_did c.args.service.now.shape c.args.held c.args.planned.now c.go_on.new.chance c.go_on.result drives (c.go_on.ensures.passes refl))
+
+pub returns-clause-plan : goal.returns-clause-plan
+returns-clause-plan c =
+    let P : Bool → Type 0 = λ over. Drives c.args.service.now.shape over c.args.held (tally_of c.args.planned.now) (tally_of c.go_on.new.chance) c.go_on.result in
+    let drives = subst P c.requires.pending c.go_on.ensures.drives in
+    rw c.worked.ensures (driven_plan c.args.service.now.shape c.args.held c.args.planned.now c.go_on.new.chance c.go_on.result drives (c.go_on.ensures.passes refl))

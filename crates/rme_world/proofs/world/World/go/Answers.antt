@@ -58,8 +58,8 @@ invariant_of-self c =
     (counts_lie _ c.args.worker c.index_mut-counts.result.now c.self.invariant (busy_within _ c.args.worker c.self.invariant (rw (← c.self.view_is) at c.requires.busy)) c.index_mut-counts.ensures.value) c.phase-before.ensures c.phase-now.ensures c.after_step.ensures)
     c.self.invariant
 
-pub returns : goal.returns
-returns c =
+pub returns-clause-steps : goal.returns-clause-steps
+returns-clause-steps c =
     let its = lies _ c.args.worker c.in-Some.private c.index_mut.result.now c.self.invariant (rw (← c.self.view_is) at c.requires.busy) c.index_mut.ensures.value c.in-Some.is in
     subst (λ (old : Seen). Steps old c.args.worker c.after-note.result record {
       shape = c.perform-found.new.bank.shape;

@@ -1,0 +1,5 @@
+use Rattle.std.proofs.Common.{◌≡◌}
+use Rattle.rme_helpers.proofs.jobs.life.live.Given as goal
+
+abbrev pub invariant-loop : goal.invariant-loop
+invariant-loop g l = l.ready.ident ≡ l.initial.service

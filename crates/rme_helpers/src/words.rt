@@ -1,0 +1,85 @@
+//! The words that the program is called with.
+
+use crate::fault::Fault;
+use crate::jobs::Run;
+use std::env;
+
+/// More threads, jobs or worlds than this are refused.
+const MOST_THREADS: u32 = 256;
+
+const MOST_JOBS: u32 = 1_000_000;
+
+/// What is asked for.
+#[derive(Drop)]
+pub enum Task {
+    /// No word: each call that takes memory.
+    Growths,
+    /// `steps WORLDS OPERATIONS`.
+    Steps { worlds: u32, operations: u32 },
+    /// `jobs THREADS JOBS one|own`.
+    Jobs(Run),
+    /// `all`: each part, as short as it can be.
+    All,
+}
+
+/// What the words ask for. Where they can't be had for want of memory there are none.
+pub fn read_words(rt: &HostRuntime) -> Result<Task, Fault> {
+    let Ok(mut words) = env::args(rt) else {
+        return Ok(Task::Growths);
+    };
+    let _program = words.next();
+    let Some(part) = words.next() else {
+        return Ok(Task::Growths);
+    };
+    let given = (words.next(), words.next(), words.next());
+    match part.as_str() {
+        "all" => Ok(Task::All),
+        "steps" => steps_of(given.0, given.1),
+        "jobs" => jobs_of(given.0, given.1, given.2),
+        _ => Err(Fault),
+    }
+}
+
+/// The words `WORLDS OPERATIONS`.
+fn steps_of(worlds: Option<String>, operations: Option<String>) -> Result<Task, Fault> {
+    let (Some(worlds), Some(operations)) = (worlds, operations) else {
+        return Err(Fault);
+    };
+    Ok(Task::Steps {
+        worlds: number_of(worlds.as_str(), MOST_JOBS)?,
+        operations: number_of(operations.as_str(), MOST_JOBS)?,
+    })
+}
+
+/// The words `THREADS JOBS one|own`.
+fn jobs_of(
+    threads: Option<String>,
+    jobs: Option<String>,
+    setting: Option<String>,
+) -> Result<Task, Fault> {
+    let (Some(threads), Some(jobs), Some(setting)) = (threads, jobs, setting) else {
+        return Err(Fault);
+    };
+    Ok(Task::Jobs(Run {
+        threads: number_of(threads.as_str(), MOST_THREADS)?,
+        jobs: number_of(jobs.as_str(), MOST_JOBS)?,
+        own: is_own(setting.as_str())?,
+    }))
+}
+
+/// Whether each thread has a lock of its own, or all have one.
+fn is_own(setting: &str) -> Result<bool, Fault> {
+    match setting {
+        "own" => Ok(true),
+        "one" => Ok(false),
+        _ => Err(Fault),
+    }
+}
+
+/// A number up to a most one.
+fn number_of(word: &str, most: u32) -> Result<u32, Fault> {
+    match word.parse() {
+        Ok(number) if number <= most => Ok(number),
+        _ => Err(Fault),
+    }
+}

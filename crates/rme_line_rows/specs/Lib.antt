@@ -1,2 +1,0 @@
--- What a caller of the engine over bytes in memory may rely on.
-pub mod Answered

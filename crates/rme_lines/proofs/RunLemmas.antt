@@ -1,0 +1,250 @@
+-- A run goes on by one line.
+use Rattle.std.proofs.Common.{◌≡◌, ℕ, List, [], ◌∷◌, ◌++◌, ◌<◌, ◌≤◌, arith, Bool, true, false, Option, Some, None, refl, sym, ap, subst, ◌∙◌, append_assoc, append-nil}
+use Rattle.std.specs.Io.KnownBytes.{Appends}
+use Rattle.std.proofs.KnownBytes.{Appends-nil, Appends-trans}
+use Rattle.rme_lines.specs.declared.cut.Cut.{Cut}
+use Rattle.rme_lines.specs.declared.cut.Cut.TheVariants.{Line, TooLong, End}
+use Rattle.rme_lines.specs.declared.fault.EngineFault.{EngineFault}
+use Rattle.rme_lines.specs.declared.fault.EngineFault.TheVariants.{ReadFailed, WriteFailed, NoMemory}
+use Rattle.rme_lines.specs.Cuts.{Cuts, line_read}
+use Rattle.rme_lines.specs.Pieces.{InputLine, TakesPiece, TakesWhole, line_of, lines_of, whole_lines_of}
+use Rattle.rme_lines.specs.Puts.{AppendsFront, Gathers}
+use Rattle.rme_lines.specs.declared.lines.LineReader.{LineReader}
+use Rattle.rme_lines.specs.Readers.{FailsToRead, ReadsNoMore, most_lines}
+use Rattle.rme_lines.proofs.PutLemmas.{front_after, gathered_front, gathered_put}
+use Rattle.rme_lines.proofs.ReaderLemmas.{CameOn, came_no_more, came_to_fail}
+use Rattle.rme_lines.proofs.PieceLemmas.{lines_ended, whole_lines_ended, whole_lines_piece}
+use Rattle.rme_lines.specs.Runs.{AreLines, BeginsWith, CutsOff, GivesUp, HasNone, Run, Spills, TurnFails, Turns, WereRead, WritesFirst, WritesTo, all_bytes}
+
+-- ---- the lines of the input
+
+-- the input's lines are those that were taken, and those that are left
+abbrev pub LeftOf : Option (List ℕ) → Option (List ℕ) → List InputLine → Type 0
+LeftOf None left lines = Unit {0}
+LeftOf (Some bytes) None lines = ⊥
+LeftOf (Some bytes) (Some left) lines = lines_of bytes ≡ lines ++ lines_of left
+
+left_first : (input : Option (List ℕ)) → LeftOf input input []
+left_first None = tt
+left_first (Some bytes) = refl
+
+left_more : (input left later : Option (List ℕ)) (lines : List InputLine) (line : InputLine) → LeftOf input left lines → CutsOff left later line → LeftOf input later (lines ++ line ∷ [])
+left_more None left later lines line l c = tt
+left_more (Some bytes) None later lines line l c = absurd l
+left_more (Some bytes) (Some left) None lines line l c = absurd c
+left_more (Some bytes) (Some left) (Some later) lines line l c = l ∙ ap (λ ls. lines ++ ls) c ∙ sym (append_assoc lines (line ∷ []) (lines_of later))
+
+left_none : (input left : Option (List ℕ)) (lines : List InputLine) → LeftOf input left lines → HasNone left → AreLines input lines
+left_none None left lines l n = tt
+left_none (Some bytes) None lines l n = absurd l
+left_none (Some bytes) (Some left) lines l n = l ∙ ap (λ ls. lines ++ ls) n ∙ append-nil lines
+
+left_begins : (input left : Option (List ℕ)) (lines : List InputLine) → LeftOf input left lines → BeginsWith input lines
+left_begins None left lines l = tt
+left_begins (Some bytes) None lines l = absurd l
+left_begins (Some bytes) (Some left) lines l = (lines_of left, l)
+
+left_begins_more : (input left : Option (List ℕ)) (lines more : List InputLine) → LeftOf input left lines → BeginsWith left more → BeginsWith input (lines ++ more)
+left_begins_more None left lines more l b = tt
+left_begins_more (Some bytes) None lines more l b = absurd l
+left_begins_more (Some bytes) (Some left) lines more l (rest, e) = (rest, l ∙ ap (λ ls. lines ++ ls) e ∙ sym (append_assoc lines more rest))
+
+begins_none : (input : Option (List ℕ)) → BeginsWith input []
+begins_none None = tt
+begins_none (Some bytes) = (lines_of bytes, refl)
+
+-- the bytes that were taken are those of whole lines, whatever comes after them
+abbrev pub ReadOff : Option (List ℕ) → Option (List ℕ) → List InputLine → Type 0
+ReadOff None left lines = Unit {0}
+ReadOff (Some bytes) None lines = ⊥
+ReadOff (Some bytes) (Some left) lines =
+    (front : List ℕ) × (bytes ≡ front ++ left) × ((rest : List ℕ) → whole_lines_of (front ++ rest) ≡ lines ++ whole_lines_of rest)
+
+off_first : (input : Option (List ℕ)) → ReadOff input input []
+off_first None = tt
+off_first (Some bytes) = ([], refl, λ rest. refl)
+
+abbrev first_of : List InputLine → InputLine → InputLine
+first_of [] other = other
+first_of (line ∷ lines) other = line
+
+same_line : (line other : InputLine) (lines : List InputLine) → line ∷ lines ≡ other ∷ lines → line ≡ other
+same_line line other lines e = ap (λ (ls : List InputLine). first_of ls line) e
+
+off_more : (input left later : Option (List ℕ)) (lines : List InputLine) (line : InputLine) → ReadOff input left lines → CutsOff left later line → TakesWhole left later
+    → ReadOff input later (lines ++ line ∷ [])
+off_more None left later lines line o c t = tt
+off_more (Some bytes) None later lines line o c t = absurd o
+off_more (Some bytes) (Some left) None lines line o c t = absurd c
+off_more (Some bytes) (Some left) (Some later) lines line (front, e, closes) c (piece, is, f) =
+    let one : line ≡ line_of piece = same_line line (line_of piece) (lines_of later) (sym c ∙ ap lines_of f ∙ lines_ended piece later is) in (
+      front ++ (piece ++ 10 ∷ []),
+      e ∙ ap (λ l. front ++ l) (f ∙ sym (append_assoc piece (10 ∷ []) later)) ∙ sym (append_assoc front (piece ++ 10 ∷ []) later),
+      λ rest.
+          ap whole_lines_of (append_assoc front (piece ++ 10 ∷ []) rest ∙ ap (λ l. front ++ l) (append_assoc piece (10 ∷ []) rest)) ∙ closes (piece ++ 10 ∷ rest)
+          ∙ ap (λ ls. lines ++ ls) (whole_lines_ended piece rest is ∙ ap (λ (l : InputLine). l ∷ whole_lines_of rest) (sym one)) ∙ sym (append_assoc lines (line ∷ []) (whole_lines_of rest)),
+    )
+
+-- the reader failed within a line
+off_failed : (input left later : Option (List ℕ)) (lines : List InputLine) → ReadOff input left lines → TakesPiece left later → WereRead input later lines
+off_failed None left later lines o t = tt
+off_failed (Some bytes) None later lines o t = absurd o
+off_failed (Some bytes) (Some left) None lines o t = absurd t
+off_failed (Some bytes) (Some left) (Some later) lines (front, e, closes) (piece, is, f) =
+    (front ++ piece, e ∙ ap (λ l. front ++ l) f ∙ sym (append_assoc front piece later), closes piece ∙ ap (λ ls. lines ++ ls) (whole_lines_piece piece is) ∙ append-nil lines)
+
+none_read : (input : Option (List ℕ)) → WereRead input input []
+none_read None = tt
+none_read (Some bytes) = ([], refl, whole_lines_piece [] tt)
+
+-- ---- a turn's cut
+
+pub cut_off : (left later : Option (List ℕ)) (cut : Cut) (line : List ℕ) → Cuts left later cut line → (cut ≡ End → ⊥) → CutsOff left later (line_read cut line)
+cut_off None later cut line c ne = tt
+cut_off (Some before) None cut line c ne = absurd c
+cut_off (Some before) (Some after) Line line c ne = c
+cut_off (Some before) (Some after) TooLong line c ne = c
+cut_off (Some before) (Some after) End line c ne = absurd (ne refl)
+
+pub none_left : (left later : Option (List ℕ)) (cut : Cut) (line : List ℕ) → Cuts left later cut line → cut ≡ End → HasNone left
+none_left None later cut line c e = tt
+none_left (Some before) None cut line c e = absurd c
+none_left (Some before) (Some after) cut line c e = let P : Cut → Type 0 = λ x. Cuts (Some before) (Some after) x line in subst P e c
+
+begins_off : (left later : Option (List ℕ)) (line : InputLine) → CutsOff left later line → BeginsWith left (line ∷ [])
+begins_off None later line c = tt
+begins_off (Some before) None line c = absurd c
+begins_off (Some before) (Some after) line c = (lines_of after, c)
+
+-- ---- the run so far
+
+all_bytes-append : (all more : List (List ℕ)) → all_bytes (all ++ more) ≡ all_bytes all ++ all_bytes more
+all_bytes-append [] more = refl
+all_bytes-append (a ∷ all) more = ap (λ l. a ++ l) (all_bytes-append all more) ∙ sym (append_assoc a (all_bytes all) (all_bytes more))
+
+still : (ended ends : Bool) → (ended ≡ true → ends ≡ true) → ends ≡ false → ended ≡ false
+still true ends stays going = let bad : true ≡ false = sym (stays refl) ∙ going in cc
+still false ends stays going = refl
+
+module _ {S : Type 0} (has : S → InputLine → List ℕ → S → Type 0) where
+  run_on : (old mid new : S) (lines more : List InputLine) (all others : List (List ℕ)) → Run has old lines all mid → Run has mid more others new → Run has old (lines ++ more) (all ++ others) new
+  run_on old mid new [] more [] others run rest = let P : S → Type 0 = λ s. Run has s more others new in subst P run rest
+  run_on old mid new [] more (a ∷ all) others run rest = absurd run
+  run_on old mid new (l ∷ lines) more [] others run rest = absurd run
+  run_on old mid new (l ∷ lines) more (a ∷ all) others (next, first, run) rest = (next, first, run_on next mid new lines more all others run rest)
+
+  -- the bytes of the lines before were written, but for those that are kept back; the others are left
+  pub record SoFar (first : S) (input before left : Option (List ℕ)) (ended : Bool) (now : S) (held : Option (List ℕ)) (kept : List ℕ) : Type 0 where
+    pub lines : List InputLine
+    pub all : List (List ℕ)
+    pub run : Run has first lines all now
+    pub front : List ℕ
+    pub put : Appends before held front
+    pub rest : front ++ kept ≡ all_bytes all
+    pub of : LeftOf input left lines
+    pub off : ended ≡ false → ReadOff input left lines
+
+  pub so_far_first : (input held : Option (List ℕ)) (ended : Bool) (first now : S) (kept : List ℕ) → now ≡ first → kept ≡ [] → SoFar first input held input ended now held kept
+  so_far_first input held ended first now kept e none =
+      record { lines = []; all = []; run = e; front = []; put = Appends-nil held; rest = none; of = left_first input; off = λ _. off_first input }
+
+  pub so_far_more : (input before left later held holds : Option (List ℕ)) (ended ends : Bool) (first now new : S) (kept keeps : List ℕ) → SoFar first input before left ended now held kept
+      → (ended ≡ true → ends ≡ true) → Turns has left later ends now new held kept holds keeps true → SoFar first input before later ends new holds keeps
+  so_far_more input before left later held holds ended ends first now new kept keeps so stays (line, bytes, cuts, had, gathers, whole) = record {
+    lines = so.lines ++ line ∷ [];
+    all = so.all ++ bytes ∷ [];
+    run = run_on first now new so.lines (line ∷ []) so.all (bytes ∷ []) so.run (new, had, refl);
+    front = so.front ++ gathers.front;
+    put = Appends-trans before held holds so.front gathers.front so.put gathers.put;
+    rest = append_assoc so.front gathers.front keeps ∙ ap (λ l. so.front ++ l) (sym gathers.rest) ∙ sym (append_assoc so.front kept bytes) ∙ ap (λ l. l ++ bytes) so.rest
+        ∙ sym (all_bytes-append so.all (bytes ∷ []) ∙ ap (λ l. all_bytes so.all ++ l) (append-nil bytes));
+    of = left_more input left later so.lines line so.of cuts;
+    off = λ going. off_more input left later so.lines line (so.off (still ended ends stays going)) cuts (whole going);
+  }
+
+  -- what was kept back was written
+  all_put : (before held holds : Option (List ℕ)) (front kept all : List ℕ) → Appends before held front → front ++ kept ≡ all → Appends held holds kept → Appends before holds all
+  all_put before held holds front kept all put e more =
+      let P : List ℕ → Type 0 = λ l. Appends before holds l in subst P e (Appends-trans before held holds front kept put more)
+
+  pub finished : (input before left later held holds : Option (List ℕ)) (ended ends : Bool) (first now new : S) (kept keeps : List ℕ) → SoFar first input before left ended now held kept
+      → Turns has left later ends now new held kept holds keeps false → WritesTo has first input before holds new
+  finished input before left later held holds ended ends first now new kept keeps so (none, more, same) =
+      let P : S → Type 0 = λ last. Run has first so.lines so.all last in
+      (so.lines, so.all, subst P (sym same) so.run, left_none input left so.lines so.of none, all_put before held holds so.front kept (all_bytes so.all) so.put so.rest more)
+
+  -- the first lines were taken, and their bytes, or a front of them, were written
+  spilt_first : (input before left held holds : Option (List ℕ)) (ended : Bool) (first now : S) (kept : List ℕ) → SoFar first input before left ended now held kept → Appends held holds kept
+      → (last : Option (List ℕ)) → WritesFirst has first NoMemory input last before holds
+  spilt_first input before left held holds ended first now kept so more last =
+      (so.lines, so.all, now, so.run, (left_begins input left so.lines so.of, all_put before held holds so.front kept (all_bytes so.all) so.put so.rest more))
+
+  front_first : (input before left held holds : Option (List ℕ)) (ended : Bool) (first now new : S) (kept : List ℕ) (taken : List InputLine) (all : List (List ℕ))
+      → SoFar first input before left ended now held kept → Run has now taken all new → BeginsWith left taken → AppendsFront held holds (kept ++ all_bytes all)
+      → (last : Option (List ℕ)) → WritesFirst has first WriteFailed input last before holds
+  front_first input before left held holds ended first now new kept taken all so run begins front last =
+      let e : so.front ++ (kept ++ all_bytes all) ≡ all_bytes (so.all ++ all) =
+      sym (append_assoc so.front kept (all_bytes all)) ∙ ap (λ l. l ++ all_bytes all) so.rest ∙ sym (all_bytes-append so.all all) in (
+        so.lines ++ taken,
+        so.all ++ all,
+        new,
+        run_on first now new so.lines taken so.all all so.run run,
+        (left_begins_more input left so.lines taken so.of begins, front_after before held holds so.front (kept ++ all_bytes all) (all_bytes (so.all ++ all)) so.put front e),
+      )
+
+  failed_still : (fault last : EngineFault) (input before left later held holds : Option (List ℕ)) (first : S) → last ≡ fault → WritesFirst has first fault input later before holds
+      → WritesFirst has first last input later before holds
+  failed_still fault last input before left later held holds first same writes = let P : EngineFault → Type 0 = λ f. WritesFirst has first f input later before holds in subst P (sym same) writes
+
+  module _ (input before left later held mid holds : Option (List ℕ)) (ended : Bool) (first now : S) (kept keeps : List ℕ) (so : SoFar first input before left ended now held kept) where
+    put_last : holds ≡ mid → Appends held mid kept → Appends held holds kept
+    put_last same put = let P : Option (List ℕ) → Type 0 = λ h. Appends held h kept in subst P (sym same) put
+
+    -- a turn failed, and the run gave up
+    pub failed : (fault last : EngineFault) → (fault ≡ ReadFailed → ended ≡ false) → TurnFails has fault left later now held kept mid keeps → GivesUp fault mid keeps holds last
+        → WritesFirst has first last input later before holds
+    failed ReadFailed last going (piece, put) (same, still_held) =
+        failed_still ReadFailed last input before left later held holds first same
+        (so.lines, so.all, now, so.run, (off_failed input left later so.lines (so.off (going refl)) piece, all_put before held holds so.front kept (all_bytes so.all) so.put so.rest (put_last still_held put)))
+    failed NoMemory NoMemory going gathers put = spilt_first input before left held holds ended first now kept so (gathered_put held mid holds kept keeps gathers put) later
+    failed NoMemory WriteFailed going gathers front =
+        let P : List ℕ → Type 0 = λ l. AppendsFront held holds l in
+        front_first input before left held holds ended first now now kept [] [] so refl (begins_none left) (subst P (sym (append-nil kept)) (gathered_front held mid holds kept keeps gathers front)) later
+    failed NoMemory ReadFailed going gathers never = absurd never
+    failed WriteFailed last going (taken, all, new, run, begins, front) (same, still_held) =
+        let P : Option (List ℕ) → Type 0 = λ h. AppendsFront held h (kept ++ all_bytes all) in
+        failed_still WriteFailed last input before left later held holds first same
+        (front_first input before left held holds ended first now new kept taken all so run begins (subst P (sym still_held) front) later)
+
+  -- no memory before the first line
+  pub failed_first : (first : S) (input held : Option (List ℕ)) → WritesFirst has first NoMemory input input held held
+  failed_first first input held = ([], [], first, refl, (begins_none input, Appends-nil held))
+
+  -- no line was to be had
+  pub spilt : (fault : EngineFault) (left later held holds : Option (List ℕ)) (old : S) (kept keeps : List ℕ) → Spills fault left later held kept holds keeps
+      → TurnFails has fault left later old held kept holds keeps
+  spilt ReadFailed left later held holds old kept keeps s = s
+  spilt NoMemory left later held holds old kept keeps s = s
+  spilt WriteFailed left later held holds old kept keeps s =
+      let P : List ℕ → Type 0 = λ l. AppendsFront held holds l in ([], [], old, refl, begins_none left, subst P (sym (append-nil kept)) s)
+
+  -- the line's bytes could not be written
+  pub put_failed : (left later held mid holds : Option (List ℕ)) (old new : S) (line : InputLine) (kept keeps bytes last : List ℕ) → CutsOff left later line → has old line bytes new
+      → Gathers held kept [] mid keeps → AppendsFront mid holds (keeps ++ bytes) → TurnFails has WriteFailed left later old held kept holds last
+  put_failed left later held mid holds old new line kept keeps bytes last cuts had gathers front =
+      let e : gathers.front ++ (keeps ++ bytes) ≡ kept ++ (bytes ++ []) =
+      sym (append_assoc gathers.front keeps bytes) ∙ ap (λ l. l ++ bytes) (sym gathers.rest ∙ append-nil kept) ∙ ap (λ l. kept ++ l) (sym (append-nil bytes)) in
+      (line ∷ [], bytes ∷ [], new, (new, had, refl), begins_off left later line cuts, front_after held mid holds gathers.front (keeps ++ bytes) (kept ++ (bytes ++ [])) gathers.put front e)
+
+-- ---- the reader
+
+pub came_turn : {R : Type 0} (old now new : LineReader R) → CameOn old now [] → (now.ended ≡ true → ReadsNoMore now new) → new.reads ≤ now.reads → most_lines new < most_lines now → CameOn old new []
+came_turn old now new came ended reads fewer = record {
+  ended = came_no_more old now new came.ended ended;
+  reads = omega (arith, came.reads, reads);
+  most = omega (arith, came.most, fewer);
+  fewer = λ some. absurd (omega (arith, some));
+}
+
+pub fails_to_read : {R : Type 0} (old now new : LineReader R) → CameOn old now [] → FailsToRead now new → FailsToRead old new
+fails_to_read old now new came failed = came_to_fail old now new [] came failed

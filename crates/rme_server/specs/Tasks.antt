@@ -1,0 +1,53 @@
+-- The work that an order asks of a session's worker, and what it comes to.
+use Rattle.std.specs.Prelude.{◌≡◌, ◌+◌, ◌<◌, None, Result, Ok, Err}
+use Rattle.rme_words.specs.declared.shape.Shape.{Shape}
+use Rattle.rme_seats.specs.Stands.{Stand}
+use Rattle.rme_table.specs.Calls.{post_refusal}
+use Rattle.rme_table.specs.declared.driving.Driven.{Driven}
+use Rattle.rme_table.specs.declared.driving.Driven.TheVariants as driven
+use Rattle.rme_texts.specs.declared.session.Outcome.{Outcome}
+use Rattle.rme_texts.specs.declared.session.Outcome.TheVariants as outcome
+use Rattle.rme_wire.specs.declared.order.Submission.{Submission}
+use Rattle.rme_server.specs.Refusals.{PendingRefuses}
+use Rattle.rme_server.specs.Works.{GoesOn, Repeats, Works, next_task}
+use Rattle.rme_server.specs.declared.stand.Holding.{Holding}
+use Rattle.rme_server.specs.declared.stand.Holding.TheVariants as holds
+use Rattle.rme_server.specs.declared.work.Work.{Work}
+use Rattle.rme_server.specs.declared.work.Work.TheVariants.{Repeat, Post, GoIn, GoOn}
+
+-- What the session holds whose worker is to do the work.
+abbrev pub holding_of : Work → Holding
+holding_of (Repeat ready) = holds.Ready ready
+holding_of (Post admitted tries) = holds.Ready admitted.ready
+holding_of (GoIn climb tries) = holds.Climb climb
+holding_of (GoOn held) = holds.Held held
+
+-- The work that a submission asks, which is not refused: the last number again; or the next one, whose job may be posted; or
+-- the job that is pending.
+abbrev pub IsSubmitted : Shape → Submission → Work → Type 0
+IsSubmitted shape its (Repeat ready) = (0 < its.number) × (its.number ≡ ready.part.private.begun)
+IsSubmitted shape its (Post admitted tries) =
+    (its.number ≡ admitted.ready.part.private.begun + 1) × (admitted.job ≡ its.job) × (post_refusal shape admitted.ready.part.private.begun its.job ≡ None)
+IsSubmitted shape its (GoIn climb tries) = PendingRefuses climb.part.private.begun climb.part.draft its None
+IsSubmitted shape its (GoOn held) = PendingRefuses held.part.private.begun held.part.draft its None
+
+-- The work that going on asks.
+abbrev pub IsResumed : Work → Type 0
+IsResumed (Repeat ready) = ⊥
+IsResumed (Post admitted tries) = ⊥
+IsResumed (GoIn climb tries) = Unit {0}
+IsResumed (GoOn held) = Unit {0}
+
+-- What the work leaves the session with, and what became of the job.
+abbrev pub Makes : Shape → Work → Holding → Outcome → Type 0
+Makes shape (Repeat ready) value its = Repeats shape ready value its
+Makes shape (Post admitted tries) value its = Works (next_task admitted.ready admitted.job) admitted.ready.part.entries value its
+Makes shape (GoIn climb tries) value its = GoesOn climb value its
+Makes shape (GoOn held) value its = GoesOn held value its
+
+-- What the session holds of a worker that went on.
+abbrev pub worked_of : Driven → Result (Holding × Outcome) Stand
+worked_of (driven.Done ready receipt) = Ok (holds.Ready ready, outcome.Receipt receipt)
+worked_of (driven.Waits climb) = Ok (holds.Climb climb, outcome.Waiting)
+worked_of (driven.Stopped held) = Ok (holds.Held held, outcome.Waiting)
+worked_of (driven.Fell down) = Err down

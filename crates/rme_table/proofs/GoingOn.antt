@@ -1,0 +1,97 @@
+-- A worker that goes on by one call after another.
+use Rattle.std.proofs.Common.{◌≡◌, ℕ, ◌∙◌, [], ◌∷◌, ◌++◌, refl, sym, ap, subst, arith}
+use Rattle.std.specs.Prelude.{Bool, true, false, Option, Some, None}
+use Rattle.rme_words.specs.declared.shape.Shape.{Shape}
+use Rattle.rme_program.specs.declared.note.Receipt.{Receipt}
+use Rattle.rme_program.specs.declared.private.Private.{Private}
+use Rattle.rme_seats.specs.Chances.{IsCounted, Tally}
+use Rattle.rme_seats.specs.Doing.{Falling}
+use Rattle.rme_seats.specs.Parts.{draft_script, onward}
+use Rattle.rme_seats.specs.Stands.{Stand}
+use Rattle.rme_seats.proofs.Chains.{walks_then}
+use Rattle.rme_table.specs.Calls.{Made, Performed}
+use Rattle.rme_table.specs.Driving.{Drives, Finishes, Goes, HasFinished, StillHas}
+use Rattle.rme_table.specs.declared.driving.Driven.{Driven}
+use Rattle.rme_table.specs.declared.driving.Driven.TheVariants.{Done, Waits, Stopped, Fell}
+
+pub goes_on : (s : Shape) (a b c : Stand) (t u v : Tally) (falls : ℕ) → Goes s a b t u 0 → Goes s b c u v falls → Goes s a c t v falls
+goes_on s a b c t u v falls one two =
+    record { ident = two.ident ∙ one.ident; own = two.own ∙ one.own; walks = walks_then s a.part b.part c.part t u v falls one.walks two.walks }
+
+-- Nothing was done yet.
+counted_none : (count : Option ℕ) → IsCounted count count 0
+counted_none None = tt
+counted_none (Some x) = omega arith
+
+pub goes_none : (s : Shape) (a : Stand) (t : Tally) → Goes s a a t t 0
+goes_none s a t = record {
+  ident = refl;
+  own = refl;
+  walks = record { values = []; walk = refl; steps = omega arith; asks = record { yes = omega arith; asked = counted_none t.questions } };
+}
+
+pub still_none : (a : Stand) → StillHas a a
+still_none a = record { draft = refl; entries = refl; number = refl }
+
+pub goes_made : (s : Shape) (a b : Stand) (t u : Tally) (least most : ℕ) → Made s onward a b t u least most → Goes s a b t u 0
+goes_made s a b t u least most made = record { ident = made.stays.ident; own = made.stays.own; walks = made.walks }
+
+pub goes_fell : (s : Shape) (a b : Stand) (t u : Tally) (most : ℕ) → Falling s onward a b t u most → Goes s a b t u 1
+goes_fell s a b t u most fell = record { ident = fell.ident; own = fell.own; walks = fell.walks }
+
+pub still_on : (a b c : Stand) → StillHas a b → StillHas b c → StillHas a c
+still_on a b c one two = record { draft = two.draft ∙ one.draft; entries = two.entries ∙ one.entries; number = two.number ∙ one.number }
+
+pub still_made : (s : Shape) (a b : Stand) (t u : Tally) (least most : ℕ) → Made s onward a b t u least most → b.part.private.begun ≡ a.part.private.begun → StillHas a b
+still_made s a b t u least most made number = record { draft = made.stays.draft; entries = made.stays.entries; number = number }
+
+-- A worker that still had its job went on.
+module _ (s : Shape) (a b : Stand) (t u v : Tally) (one : Goes s a b t u 0) (still : StillHas a b) where
+  finished_on : (ready : Stand) (receipt : Receipt) → HasFinished b ready receipt → HasFinished a ready receipt
+  finished_on ready receipt its = record {
+    job = its.job;
+    draft = sym still.draft ∙ its.draft;
+    entries = its.entries ∙ ap (λ es. es ++ record { receipt = receipt; script = its.job.script } ∷ []) still.entries;
+    by = its.by ∙ one.own;
+    number = its.number ∙ still.number;
+    lock = its.lock;
+  }
+
+  pub drives_on : (driven : Driven) → Drives s false b u v driven → Drives s false a t v driven
+  drives_on (Done ready receipt) (went, its, number) = (goes_on s a b ready t u v 0 one went, finished_on ready receipt its, number ∙ still.number)
+  drives_on (Waits climb) (went, has) = (goes_on s a b climb t u v 0 one went, still_on a b climb still has)
+  drives_on (Stopped held) (went, has) = (goes_on s a b held t u v 0 one went, still_on a b held still has)
+  drives_on (Fell down) went = goes_on s a b down t u v 1 one went
+
+-- The section, and then the exit.
+module _ (s : Shape) (start leave : Stand) (t u : Tally) (receipt : Receipt) where
+  same_goes : leave ≡ start → u ≡ t → Goes s start leave t u 0
+  same_goes same unasked =
+      let P : Stand → Type 0 = λ x. Goes s start x t u 0 in
+      let Q : Tally → Type 0 = λ x. Goes s start start t x 0 in subst P (sym same) (subst Q (sym unasked) (goes_none s start t))
+
+  pub performed : (over : Bool) → Performed s over start leave t u receipt → Goes s start leave t u 0
+  performed true told = same_goes told.idles.same told.idles.unasked
+  performed false (job, draft, performs, owns) = let f = performs.finishes in record { ident = f.ident; own = f.own; walks = f.walks }
+
+  pub finishes_so : (ready : Stand) (over : Bool) → Performed s over start leave t u receipt → ready.part.entries ≡ leave.part.entries → Finishes over start ready receipt
+  finishes_so ready true told same = record {
+    before = told.before;
+    last = told.last;
+    entries = told.entries;
+    same = same ∙ ap (λ (x : Stand). x.part.entries) told.idles.same;
+    told = told.receipt_is;
+  }
+  finishes_so ready false (job, draft, performs, owns) same =
+      let f = performs.finishes in record {
+        job = job;
+        draft = draft;
+        entries = same ∙ f.entries ∙ ap (λ d. start.part.entries ++ record { receipt = receipt; script = draft_script d } ∷ []) draft;
+        by = f.by;
+        number = f.number;
+        lock = f.at_lock;
+      }
+
+  pub same_number : (over : Bool) → Performed s over start leave t u receipt → leave.part.private.begun ≡ start.part.private.begun
+  same_number true told = ap (λ (x : Stand). x.part.private.begun) told.idles.same
+  same_number false (job, draft, performs, owns) = ap (λ (q : Private). q.begun) performs.finishes.at.private

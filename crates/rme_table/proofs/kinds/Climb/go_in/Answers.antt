@@ -1,0 +1,45 @@
+use Rattle.std.proofs.Common.{subst}
+use Rattle.std.specs.Prelude.{Bool}
+use Rattle.rme_table.specs.Driving.{Drives}
+use Rattle.rme_table.proofs.GoingOn.{drives_on, goes_fell, goes_made, goes_on, still_made, still_on}
+use Rattle.rme_table.proofs.kinds.Climb.go_in.Goals as goal
+
+pub returns-in-Got-clause-drives : goal.returns-in-Got-clause-drives
+returns-in-Got-clause-drives g c =
+    let s = c.args.service.now.shape in
+    let start = c.args.self in
+    let climb = c.loop-blocked.climb in
+    let held = c.in-Got.held in
+    let old = g.C.Chance.tally c.args.chance.now in
+    let before = g.C.Chance.tally c.loop-blocked.chance in
+    let mid = g.C.Chance.tally c.try_enter.new.chance in
+    let new = g.C.Chance.tally c.go_on.new.chance in
+    let got = c.in-Got.ensures in
+    let so = c.loop-blocked.invariant in
+    let P : Bool → Type 0 = λ over. Drives s over held mid new c.go_on.result in
+    drives_on s start held old mid new (goes_on s start climb held old before mid 0 so.0 (goes_made s climb held before mid _ _ got.1))
+    (still_on start climb held so.1 (still_made s climb held before mid _ _ got.1 got.2)) c.go_on.result (subst P got.3 c.go_on.ensures.drives)
+
+pub returns-in-Fell-clause-drives : goal.returns-in-Fell-clause-drives
+returns-in-Fell-clause-drives g c =
+    let s = c.args.service.now.shape in
+    let climb = c.loop-blocked.climb in
+    let old = g.C.Chance.tally c.args.chance.now in
+    let before = g.C.Chance.tally c.loop-blocked.chance in
+    let mid = g.C.Chance.tally c.try_enter.new.chance in
+    goes_on s c.args.self climb c.in-Fell.down old before mid 1 c.loop-blocked.invariant.0 (goes_fell s climb c.in-Fell.down before mid _ c.in-Fell.ensures)
+
+pub loop-blocked-preserved : goal.loop-blocked-preserved
+loop-blocked-preserved g c =
+    let s = c.args.service.now.shape in
+    let start = c.args.self in
+    let climb = c.loop-blocked.climb in
+    let again = c.in-Blocked.again in
+    let old = g.C.Chance.tally c.args.chance.now in
+    let before = g.C.Chance.tally c.loop-blocked.chance in
+    let mid = g.C.Chance.tally c.try_enter.new.chance in
+    let made = c.in-Blocked.ensures in
+    let so = c.loop-blocked.invariant in (
+      goes_on s start climb again old before mid 0 so.0 (goes_made s climb again before mid _ _ made.1),
+      still_on start climb again so.1 (still_made s climb again before mid _ _ made.1 made.2),
+    )

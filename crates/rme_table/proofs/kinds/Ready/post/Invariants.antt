@@ -1,4 +1,0 @@
-use Rattle.rme_table.proofs.kinds.Ready.post.Given as goal
-
-abbrev pub ghosts-put : goal.ghosts-put
-ghosts-put g a = record { job = a.job.now }

@@ -1,0 +1,60 @@
+-- What becomes of a worker that goes on with its job, up to readiness.
+use Rattle.std.specs.Prelude.{◌≡◌, ℕ, Bool, true, false, List, [], ◌∷◌, ◌++◌, Some}
+use Rattle.rme_words.specs.declared.shape.Shape.{Shape}
+use Rattle.rme_script.specs.declared.job.Job.{Job}
+use Rattle.rme_program.specs.declared.note.Entry.{Entry}
+use Rattle.rme_program.specs.declared.note.Receipt.{Receipt}
+use Rattle.rme_seats.specs.Chances.{Tally}
+use Rattle.rme_seats.specs.Doing.{Walks}
+use Rattle.rme_seats.specs.Parts.{onward}
+use Rattle.rme_seats.specs.Stands.{Stand}
+use Rattle.rme_table.specs.declared.driving.Driven.{Driven}
+use Rattle.rme_table.specs.declared.driving.Driven.TheVariants.{Done, Waits, Stopped, Fell}
+
+-- The worker went on by own steps, with a question before each: they are the core's; where it fell there was one more
+-- question, answered yes.
+pub record Goes (shape : Shape) (start now : Stand) (old new : Tally) (falls : ℕ) : Type 0 where
+  pub ident : now.ident ≡ start.ident
+  pub own : now.part.worker ≡ start.part.worker
+  pub walks : Walks shape onward start.part now.part old new falls
+
+-- The worker has the job and the entries that it had.
+pub record StillHas (start now : Stand) : Type 0 where
+  pub draft : now.part.draft ≡ start.part.draft
+  pub entries : now.part.entries ≡ start.part.entries
+  pub number : now.part.private.begun ≡ start.part.private.begun
+
+-- The worker finished its job: its entries are those before and, behind them, the one of the job.
+pub record HasFinished (start ready : Stand) (receipt : Receipt) : Type 0 where
+  pub job : Job
+  pub draft : start.part.draft ≡ Some job
+  pub entries : ready.part.entries ≡ start.part.entries ++ record { receipt = receipt; script = job.script } ∷ []
+  pub by : receipt.worker ≡ start.part.worker
+  pub number : receipt.number ≡ start.part.private.begun
+  pub lock : receipt.lock ≡ job.lock
+
+-- It had finished it before: the last of its entries is the one of the job.
+pub record HadFinished (start ready : Stand) (receipt : Receipt) : Type 0 where
+  pub before : List Entry
+  pub last : Entry
+  pub entries : start.part.entries ≡ before ++ last ∷ []
+  pub same : ready.part.entries ≡ start.part.entries
+  pub told : last.receipt ≡ receipt
+
+abbrev pub Finishes : Bool → Stand → Stand → Receipt → Type 0
+Finishes true start ready receipt = HadFinished start ready receipt
+Finishes false start ready receipt = HasFinished start ready receipt
+
+-- A worker went on from here, its job being finished already or not: it is finished, and the worker ready; or the job waits;
+-- or the gate did not let the worker begin; or it fell.
+abbrev pub Drives : Shape → Bool → Stand → Tally → Tally → Driven → Type 0
+Drives shape over start old new (Done ready receipt) =
+    Goes shape start ready old new 0 × Finishes over start ready receipt × (ready.part.private.begun ≡ start.part.private.begun)
+Drives shape over start old new (Waits climb) = Goes shape start climb old new 0 × StillHas start climb
+Drives shape over start old new (Stopped held) = Goes shape start held old new 0 × StillHas start held
+Drives shape over start old new (Fell down) = Goes shape start down old new 1
+
+-- The gate let the worker pass.
+abbrev pub Passes : Driven → Type 0
+Passes (Stopped held) = ⊥
+Passes driven = Unit {0}

@@ -1,0 +1,46 @@
+//! A worker that is ready, with a job that it may post.
+
+use crate::down::Down;
+use crate::kinds::{Climb, Ready};
+use crate::service::Service;
+use rme_script::Job;
+use rme_seats::Chance;
+use std::marker::{Brand, Model};
+
+/// A worker that is ready, with a job that it may post: `Ready::admit` has looked at it.
+///
+/// It may be dropped. That worker never comes back then.
+#[derive(Drop)]
+pub struct Admitted {
+    pub(crate) ready: Ready,
+    pub(crate) job: Job,
+}
+
+impl Model for Admitted {
+    ghost use Rattle.rme_table.specs.Admissions.{Admission, MayPost};
+
+    ghost Value = { Admission };
+
+    ghost view = { λ admitted. record { ready = admitted.ready; job = admitted.job } };
+
+    ghost invariant = { λ admitted. MayPost admitted.ready.ident.shape admitted.ready.part.private.begun admitted.job };
+}
+
+impl Admitted {
+    ghost use Rattle.std.specs.Prelude.{◌≡◌, ◌+◌, ◌*◌, MatchResult};
+    ghost use Rattle.rme_seats.specs.Doing.{Falling};
+    ghost use Rattle.rme_seats.specs.Parts.{submitted};
+    ghost use Rattle.rme_table.specs.Calls.{IsPosted, Made};
+
+    /// Posts the job: it has its number then, and waits for its lock. `Err` is a fall.
+    pub fn post<C: Chance>(self, service: &Service, chance: &mut C) -> Result<Climb, Down>
+        requires ours { self.ready.ident ≡ service.now }
+        ensures posted { MatchResult result (λ climb. IsPosted self.ready climb self.job) (λ _. Unit {0}) }
+        ensures made { MatchResult result
+            (λ climb. Made service.now.shape (submitted self.job) self.ready climb (C.tally chance.old) (C.tally chance.new) (3 + 3 * self.job.script.n) (3 + 3 * self.job.script.n))
+            (λ down. Falling service.now.shape (submitted self.job) self.ready down (C.tally chance.old) (C.tally chance.new) (3 + 3 * self.job.script.n)) }
+    {
+        let Admitted { ready, job } = self;
+        ready.put::<Brand, C>(service, &job, chance)
+    }
+}

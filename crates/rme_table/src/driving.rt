@@ -1,0 +1,120 @@
+//! A worker that goes on with its job: from waiting, or from inside, to readiness.
+
+use crate::down::Down;
+use crate::kinds::{Climb, Held, Ready, Sweep};
+use crate::service::Service;
+use rme_program::Receipt;
+use rme_seats::Chance;
+
+/// Who watches the sections of workers that go on. It may be asked by many threads at the same time.
+pub trait Gate {
+    ghost use Rattle.std.specs.Prelude.{◌≡◌, Bool, true, false, IsTrue};
+
+    // Whether it is known to let every worker pass.
+    ghost lets_all: { Bool } = { false };
+
+    /// The worker owns the lock, having entered or re-entered, and is to begin its section, which is not
+    /// finished. Where the answer is false it does not begin.
+    fn inside(&self, worker: u32, lock: u32) -> bool
+        ensures { lets_all ≡ true → IsTrue result };
+
+    /// The worker has left the lock after the job of this number.
+    fn over(&self, worker: u32, lock: u32, number: u32);
+}
+
+/// Lets all pass.
+#[derive(Clone, Copy, Debug, Drop)]
+pub struct Free;
+
+impl Gate for Free {
+    ghost use Rattle.std.specs.Prelude.{true};
+
+    ghost lets_all = { true };
+
+    fn inside(&self, _worker: u32, _lock: u32) -> bool {
+        true
+    }
+
+    fn over(&self, _worker: u32, _lock: u32, _number: u32) {}
+}
+
+/// The blocked sweeps on one job: how many were made, and the most that may be.
+#[derive(Clone, Copy, Debug, PartialEq, Eq)]
+pub struct Tries {
+    pub blocked: u32,
+    pub most: u32,
+}
+
+/// What became of a worker that went on with its job.
+pub enum Driven {
+    /// The job is finished, with this receipt, and the worker is ready.
+    Done(Ready, Receipt),
+    /// The job waits still: all the sweeps that may be were blocked.
+    Waits(Climb),
+    /// The gate did not let the worker begin its section.
+    Stopped(Held),
+    /// The worker fell.
+    Fell(Down),
+}
+
+impl Climb {
+    ghost use Rattle.std.specs.Prelude.{◌≡◌, true, false};
+    ghost use Rattle.rme_table.specs.Driving.{Drives, Passes};
+
+    /// Goes on to readiness: sweep after sweep as long as there are tries, with a pause after each blocked one, and
+    /// then as `Held::go_on`.
+    pub fn go_in<C: Chance, G: Gate, P: Fn()>(
+        self,
+        service: &Service,
+        chance: &mut C,
+        gate: &G,
+        tries: &mut Tries,
+        pause: P,
+    ) -> Driven
+        requires ours { self.ident ≡ service.now }
+        requires pause { P.IsAlwaysCallable pause }
+        ensures drives { Drives service.now.shape false self (C.tally chance.old) (C.tally chance.new) result }
+        ensures passes { G.lets_all ≡ true → Passes result }
+    {
+        let mut climb = self;
+        for blocked in tries.blocked..tries.most {
+            match climb.try_enter(service, chance) {
+                Sweep::Got(held) => return held.go_on(service, chance, gate),
+                Sweep::Fell(down) => return Driven::Fell(down),
+                Sweep::Blocked(again) => climb = again,
+            }
+            tries.blocked = blocked + 1;
+            pause();
+        }
+        Driven::Waits(climb)
+    }
+}
+
+impl Held {
+    ghost use Rattle.std.specs.Prelude.{◌≡◌, true};
+    ghost use Rattle.rme_table.specs.Calls.{is_over};
+    ghost use Rattle.rme_table.specs.Driving.{Drives, Passes};
+
+    /// Goes on to readiness: the section, where the gate lets the worker begin it, and the exit. A section that is
+    /// finished already is not begun, and the gate is told alone that it is over.
+    pub fn go_on<C: Chance, G: Gate>(self, service: &Service, chance: &mut C, gate: &G) -> Driven
+        requires ours { self.ident ≡ service.now }
+        ensures drives { Drives service.now.shape (is_over self.part.private.stage) self (C.tally chance.old) (C.tally chance.new) result }
+        ensures passes { G.lets_all ≡ true → Passes result }
+    {
+        if !self.finished() && !gate.inside(self.worker(), self.lock()) {
+            return Driven::Stopped(self);
+        }
+        let (leave, receipt) = match self.perform(service, chance) {
+            Ok(done) => done,
+            Err(down) => return Driven::Fell(down),
+        };
+        match leave.exit(service, chance) {
+            Ok(ready) => {
+                gate.over(receipt.worker, receipt.lock, receipt.number);
+                Driven::Done(ready, receipt)
+            }
+            Err(down) => Driven::Fell(down),
+        }
+    }
+}

@@ -1,0 +1,14 @@
+//! Calls on the values of the running service.
+
+mod calls;
+mod chances;
+mod cuts;
+mod lives;
+mod plans;
+mod plays;
+mod services;
+mod stress;
+mod turns;
+mod values;
+mod watch;
+mod withdrawal;

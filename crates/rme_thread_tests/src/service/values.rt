@@ -1,0 +1,287 @@
+//! Each call of the service's values, with the answer that it must have.
+
+ghost use Rattle.std.specs.Prelude.{◌≡◌, IfOk, IfSome};
+ghost use Rattle.rme_seats.specs.Closing.{AreOf};
+ghost use Rattle.rme_table.specs.Calls.{is_over};
+
+use crate::service::chances::Counting;
+use crate::told::{Numbers, is_job, receipt};
+use rme_program::Receipt;
+use rme_script::{Job, Op};
+use rme_table::{Chance, Climb, Closed, Down, Held, Leave, Posted, Ready, Service, Stance, Sweep};
+use std::alloc::Global;
+use std::process::Abort;
+use std::test::Fail;
+
+/// The next of the Downs, from the last worker's on.
+pub fn next(rt: &impl Abort, service: &Service, downs: &mut Vec<Down>) -> Down
+    requires ours { AreOf service.now downs.old.items }
+    ensures ours { result.ident ≡ service.now }
+    ensures rest { AreOf service.now downs.new.items }
+{
+    downs.pop().expect(rt, "a Down")
+}
+
+/// A Down as a list.
+pub fn alone(alloc: Global, service: &Service, down: Down) -> Result<Vec<Down>, Fail>
+    requires ours { down.ident ≡ service.now }
+    ensures { IfOk result (λ downs. AreOf service.now downs.items) }
+{
+    let mut downs = Vec::with_capacity(alloc, 1)?;
+    downs.push_reserved(down);
+    Ok(downs)
+}
+
+/// Two Downs as a list.
+pub fn both(alloc: Global, service: &Service, first: Down, second: Down) -> Result<Vec<Down>, Fail>
+    requires first { first.ident ≡ service.now }
+    requires second { second.ident ≡ service.now }
+    ensures { IfOk result (λ downs. AreOf service.now downs.items) }
+{
+    let mut downs = Vec::with_capacity(alloc, 2)?;
+    downs.push_reserved(first);
+    downs.push_reserved(second);
+    Ok(downs)
+}
+
+/// The worker comes up, and must be ready.
+pub fn come_up<C: Chance>(rt: &impl Abort, service: &Service, down: Down, chance: &mut C) -> Ready
+    requires ours { down.ident ≡ service.now }
+    ensures ours { result.ident ≡ service.now }
+{
+    match down.recover(service, chance) {
+        Ok(Stance::Ready(ready)) => ready,
+        _ => panic!(rt; "it is not ready"),
+    }
+}
+
+/// The worker comes up, and must be waiting.
+pub fn come_up_waiting<C: Chance>(
+    rt: &impl Abort,
+    service: &Service,
+    down: Down,
+    chance: &mut C,
+) -> Climb
+    requires ours { down.ident ≡ service.now }
+    ensures ours { result.ident ≡ service.now }
+{
+    match down.recover(service, chance) {
+        Ok(Stance::Climb(climb)) => climb,
+        _ => panic!(rt; "it does not wait"),
+    }
+}
+
+/// The worker comes up, and must own the lock of its job.
+pub fn come_up_inside<C: Chance>(
+    rt: &impl Abort,
+    service: &Service,
+    down: Down,
+    chance: &mut C,
+) -> Held
+    requires ours { down.ident ≡ service.now }
+    ensures ours { result.ident ≡ service.now }
+{
+    match down.recover(service, chance) {
+        Ok(Stance::Held(held)) => held,
+        _ => panic!(rt; "it owns no lock"),
+    }
+}
+
+/// The worker comes up, and must have nodes to release.
+pub fn come_up_leaving<C: Chance>(
+    rt: &impl Abort,
+    service: &Service,
+    down: Down,
+    chance: &mut C,
+) -> Leave
+    requires ours { down.ident ≡ service.now }
+    ensures ours { result.ident ≡ service.now }
+{
+    match down.recover(service, chance) {
+        Ok(Stance::Leave(leave)) => leave,
+        _ => panic!(rt; "it has nothing to release"),
+    }
+}
+
+/// The job is posted, and must be accepted.
+pub fn ask<C: Chance>(
+    rt: &impl Abort,
+    service: &Service,
+    ready: Ready,
+    job: Job,
+    chance: &mut C,
+) -> Climb
+    requires ours { ready.ident ≡ service.now }
+    ensures ours { result.ident ≡ service.now }
+{
+    match ready.post(service, job, chance) {
+        Posted::Asked(climb) => climb,
+        _ => panic!(rt; "it was not asked for"),
+    }
+}
+
+/// A sweep, which must end with the lock.
+pub fn enter<C: Chance>(rt: &impl Abort, service: &Service, climb: Climb, chance: &mut C) -> Held
+    requires ours { climb.ident ≡ service.now }
+    ensures ours { result.ident ≡ service.now }
+{
+    match climb.try_enter(service, chance) {
+        Sweep::Got(held) => held,
+        _ => panic!(rt; "it did not enter"),
+    }
+}
+
+/// A sweep, which must be blocked.
+pub fn meet<C: Chance>(rt: &impl Abort, service: &Service, climb: Climb, chance: &mut C) -> Climb
+    requires ours { climb.ident ≡ service.now }
+    ensures ours { result.ident ≡ service.now }
+{
+    match climb.try_enter(service, chance) {
+        Sweep::Blocked(climb) => climb,
+        _ => panic!(rt; "it was not blocked"),
+    }
+}
+
+/// The job is performed, and must have this receipt.
+pub fn perform<C: Chance>(
+    rt: &impl Abort,
+    service: &Service,
+    held: Held,
+    told: Numbers,
+    chance: &mut C,
+) -> Leave
+    requires ours { held.ident ≡ service.now }
+    ensures ours { result.ident ≡ service.now }
+{
+    match held.perform(service, chance) {
+        Ok((leave, found)) => {
+            assert!(rt; found == receipt(told));
+            leave
+        }
+        _ => panic!(rt; "it fell"),
+    }
+}
+
+/// The worker must fall before its job is performed.
+pub fn fall_inside<C: Chance>(
+    rt: &impl Abort,
+    service: &Service,
+    held: Held,
+    chance: &mut C,
+) -> Down
+    requires ours { held.ident ≡ service.now }
+    ensures ours { result.ident ≡ service.now }
+{
+    match held.perform(service, chance) {
+        Err(down) => down,
+        _ => panic!(rt; "it did not fall"),
+    }
+}
+
+/// The worker leaves, and must be ready then.
+pub fn exit<C: Chance>(rt: &impl Abort, service: &Service, leave: Leave, chance: &mut C) -> Ready
+    requires ours { leave.ident ≡ service.now }
+    ensures ours { result.ident ≡ service.now }
+{
+    match leave.exit(service, chance) {
+        Ok(ready) => ready,
+        _ => panic!(rt; "it fell"),
+    }
+}
+
+/// The job is given up, and the worker must be ready then.
+pub fn give_up<C: Chance>(rt: &impl Abort, service: &Service, climb: Climb, chance: &mut C) -> Ready
+    requires ours { climb.ident ≡ service.now }
+    ensures ours { result.ident ≡ service.now }
+{
+    match climb.withdraw(service, chance) {
+        Ok(ready) => ready,
+        _ => panic!(rt; "it fell"),
+    }
+}
+
+/// The worker must fall before it has given its job up.
+pub fn fall_back<C: Chance>(
+    rt: &impl Abort,
+    service: &Service,
+    climb: Climb,
+    chance: &mut C,
+) -> Down
+    requires ours { climb.ident ≡ service.now }
+    ensures ours { result.ident ≡ service.now }
+{
+    match climb.withdraw(service, chance) {
+        Err(down) => down,
+        _ => panic!(rt; "it did not fall"),
+    }
+}
+
+/// The chance must have been asked so often since it was looked at last.
+pub fn asked(rt: &impl Abort, chance: &mut Counting, times: u32) {
+    assert!(rt; chance.take() == times);
+}
+
+/// A waiting worker must have this number and this job, on this lock.
+pub fn climb_is(
+    rt: &impl Abort,
+    service: &Service,
+    climb: &mut Climb,
+    number: u32,
+    lock: u32,
+    operations: &[Op],
+)
+    requires ours { climb.old.ident ≡ service.now }
+    ensures same { climb.new ≡ climb.old }
+{
+    assert!(rt; climb.number() == number);
+    assert!(rt; is_job(&climb.job(service), lock, operations));
+}
+
+/// A ready worker must have this number and this last receipt.
+pub fn ready_is(
+    rt: &impl Abort,
+    service: &Service,
+    ready: &mut Ready,
+    number: u32,
+    last: Option<Receipt>,
+)
+    requires ours { ready.old.ident ≡ service.now }
+    ensures same { ready.new ≡ ready.old }
+{
+    assert!(rt; ready.number() == number);
+    assert!(rt; ready.last(service) == last);
+}
+
+/// A worker inside must have this number and this lock, and its job is finished already or not.
+pub fn held_is(rt: &impl Abort, held: &Held, number: u32, lock: u32, finished: bool)
+    ensures { finished ≡ is_over held.now.part.private.stage }
+{
+    assert!(rt; held.number() == number && held.lock() == lock);
+    assert!(rt; held.finished() == finished);
+}
+
+/// The service is closed, and must answer what its locks are.
+pub fn close(rt: &impl Abort, service: Service, downs: Vec<Down>) -> Closed
+    requires { AreOf service downs.items }
+{
+    match service.close(downs) {
+        Ok(closed) => closed,
+        Err(_) => panic!(rt; "it is not closed"),
+    }
+}
+
+/// The job is posted, and must be refused by the refusal of this number, without a question.
+pub fn refuse(rt: &impl Abort, service: &Service, ready: Ready, job: Job, code: u32) -> Ready
+    requires ours { ready.ident ≡ service.now }
+    ensures ours { result.ident ≡ service.now }
+{
+    let mut chance = Counting::new();
+    match ready.post(service, job, &mut chance) {
+        Posted::Refused(ready, refusal) => {
+            assert!(rt; refusal.code() == code);
+            assert!(rt; chance.take() == 0);
+            ready
+        }
+        _ => panic!(rt; "it was not refused"),
+    }
+}

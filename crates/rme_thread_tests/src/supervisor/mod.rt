@@ -1,0 +1,8 @@
+//! Supervised runs.
+
+mod begun;
+mod cuts;
+mod faults;
+mod gates;
+mod runs;
+mod values;

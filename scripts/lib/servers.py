@@ -1,0 +1,139 @@
+"""`rme serve` in a process of its own, and the other side of its sessions."""
+
+import atexit
+import json
+import re
+import socket
+import struct
+import subprocess
+import threading
+import time
+
+from lib.programs import built
+
+HOST = "127.0.0.1"
+SMALL = {"workers": 2, "cells": 2, "jobs": 10, "port": 0, "connections": 1}
+RESET = struct.pack("ii", 1, 0)
+
+
+def line_of(**order):
+    """The bytes of an order's line."""
+    return json.dumps(order).encode() + b"\n"
+
+
+def words_of(locks=("bank",), without=None, **changed):
+    """The words after `rme`, with these options in place of those of a small server."""
+    options = {**SMALL, **changed}
+    given = [word for name, value in options.items() if name != without for word in ("--" + name, str(value))]
+    return ["serve", *given, *locks]
+
+
+class Server:
+    """A server that is listening. One that is not ended is killed when the script ends."""
+
+    def __init__(self, locks=("bank",), how=(), program=None, words=None, **options):
+        """Takes the names of the locks and options, or all words after `rme`; and further arguments of Popen."""
+        words = words or words_of(locks, **options)
+        how = {"stdin": subprocess.DEVNULL, "stdout": subprocess.PIPE, "stderr": subprocess.PIPE, **dict(how)}
+        self.program = subprocess.Popen([program or built(), *words], **how)
+        atexit.register(self.program.kill)
+        self.first = self.program.stdout.readline()
+        found = re.fullmatch(rb"listening (\d+)\n", self.first)
+        self.port = int(found.group(1)) if found else None
+        self.connections = self.left = int(words[words.index("--connections") + 1])
+        self.counting = threading.Lock()
+
+    def connect(self):
+        """A connection without a Session, which counts as one of those that the server takes."""
+        with self.counting:
+            self.left -= 1
+        connection = socket.create_connection((HOST, self.port), timeout=60)
+        connection.setsockopt(socket.IPPROTO_TCP, socket.TCP_NODELAY, 1)
+        return connection
+
+    def session(self):
+        return Session(self.connect())
+
+    def most_memory(self):
+        """The most memory that the server had so far, in KiB."""
+        with open(f"/proc/{self.program.pid}/status", encoding="utf-8") as status:
+            return next(int(line.split()[1]) for line in status if line.startswith("VmHWM"))
+
+    def end(self):
+        """The status, and what was written after the first line to the standard output and to the standard error."""
+        try:
+            rest, told = self.program.communicate(timeout=60)
+        except subprocess.TimeoutExpired:
+            self.program.kill()
+            rest, told = self.program.communicate()
+            return "no end", rest, told
+        return self.program.returncode, rest, told
+
+    def use_up(self):
+        """Uses up the connections that are left, and ends as `end` does."""
+        while self.left > 0:
+            self.connect().close()
+        # A connection that was reset while it waited to be accepted may not have counted.
+        for _ in range(20):
+            try:
+                self.program.wait(2)
+                break
+            except subprocess.TimeoutExpired:
+                self.connect().close()
+        return self.end()
+
+
+class Session:
+    """A session's other side: orders are sent one by one or together, and answers are read as bytes."""
+
+    def __init__(self, connection):
+        self.connection = connection
+        self.lines = connection.makefile("rb")
+
+    def send(self, text):
+        """Sends bytes as they are."""
+        self.connection.sendall(text)
+
+    def hear(self):
+        """The next answer's line, or nothing at the end of the connection."""
+        return self.lines.readline()
+
+    def hang_up(self):
+        """Says that nothing more comes, and gives what is still answered up to the session's end."""
+        self.connection.shutdown(socket.SHUT_WR)
+        rest = self.lines.read()
+        self.close()
+        return rest
+
+    def ask(self, order):
+        """The answer's line without its newline. Without one, the connection is at its end."""
+        self.send(line_of(**order))
+        return self.hear().rstrip(b"\n")
+
+    def ask_all(self, *orders):
+        return [self.ask(order) for order in orders]
+
+    def told(self, **order):
+        """The answer as an object."""
+        return json.loads(self.ask(order))
+
+    def attach(self, worker):
+        """The answer, once the worker's last session has ended."""
+        while (answer := self.told(do="attach", worker=worker)).get("code") == 18:
+            time.sleep(0.01)
+        return answer
+
+    def say(self, *orders):
+        """What is answered to these orders up to the end of the connection, with no further line to come."""
+        self.send(b"".join(line_of(**order) for order in orders))
+        return self.hang_up().splitlines()
+
+    def close(self):
+        self.lines.close()
+        self.connection.close()
+
+
+def reset(connection):
+    """Closes a connection by a reset: what was not sent yet is thrown away."""
+    connection.setsockopt(socket.SOL_SOCKET, socket.SO_LINGER, RESET)
+    connection.close()
