@@ -8,8 +8,8 @@ use Rattle.rme_words.specs.declared.refusal.Refusal.{Refusal}
 use Rattle.rme_words.specs.declared.refusal.Refusal.TheVariants as refusal
 use Rattle.rme_lines.specs.declared.fault.EngineFault.{EngineFault}
 use Rattle.rme_lines.specs.declared.fault.EngineFault.TheVariants as engine
-use Rattle.rme_server.specs.declared.fault.ServeFault.{ServeFault}
-use Rattle.rme_server.specs.declared.fault.ServeFault.TheVariants as serving
+use Rattle.rme_lines.specs.declared.fault.ServeFault.{ServeFault}
+use Rattle.rme_lines.specs.declared.fault.ServeFault.TheVariants as serving
 use Rattle.rme_faults.specs.declared.ending.Ending.{Ending}
 use Rattle.rme_faults.specs.declared.ending.Ending.TheVariants as ending
 use Rattle.rme_faults.specs.declared.fault.Fault.{Fault}

@@ -5,8 +5,7 @@ ghost use Rattle.rme_faults.specs.Statuses.{fault_of, fault_of_serving, fault_of
 ghost use Rattle.rme_faults.specs.declared.fault.Fault.TheVariants.{NoMemory};
 
 use crate::argument::BadArgument;
-use rme_lines::EngineFault;
-use rme_server::ServeFault;
+use rme_lines::{EngineFault, ServeFault};
 use rme_words::Refusal;
 use std::alloc::AllocError;
 use std::io;

@@ -1,4 +1,4 @@
-//! Why an engine over lines gave up.
+//! Why an engine over lines gave up, or a server of sessions.
 
 ghost use Rattle.std.specs.Prelude.{◌≡◌};
 ghost use Rattle.rme_lines.specs.declared.fault.EngineFault.TheVariants.{NoMemory};
@@ -18,6 +18,21 @@ pub enum EngineFault {
     #[error("write failed")]
     WriteFailed,
     /// There was no room for a buffer, a line's value or an answer's text.
+    #[error("no memory")]
+    NoMemory,
+}
+
+/// Why a server of sessions gave up. The sessions that were running then went on to their ends, and each worker is back in
+/// its slot.
+#[derive(Clone, Copy, Debug, PartialEq, Eq, Error)]
+pub enum ServeFault {
+    /// No further connection could be accepted.
+    #[error("socket failed")]
+    SocketFailed,
+    /// No thread could be made for a connection, which was closed.
+    #[error("no thread")]
+    NoThread,
+    /// There was no memory for a connection.
     #[error("no memory")]
     NoMemory,
 }

@@ -16,7 +16,7 @@ mod put;
 
 pub use cut::Cut;
 pub use exchange::Exchange;
-pub use fault::EngineFault;
+pub use fault::{EngineFault, ServeFault};
 pub use lines::LineReader;
 pub use pending::Pending;
 pub use put::put_all;

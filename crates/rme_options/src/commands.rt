@@ -45,21 +45,54 @@ enum Value {
     Connections,
 }
 
+/// A command of the program.
+#[derive(Clone, Copy)]
+enum Named {
+    Run,
+    Check,
+    Draw,
+    Explain,
+    Threads,
+    Serve,
+}
+
+/// The commands, as help lists them.
+const COMMANDS: [Named; 6] = [
+    Named::Run,
+    Named::Check,
+    Named::Draw,
+    Named::Explain,
+    Named::Threads,
+    Named::Serve,
+];
+
 /// The command line of the program.
 pub fn command<'a>(alloc: Global) -> Result<Command<'a>, AllocError> {
-    program(alloc)?
-        .subcommand(run_command(alloc)?)?
-        .subcommand(command_of(
-            alloc,
-            "check",
-            texts::check_about(),
-            texts::check_lines(),
-            &[],
-        )?)?
-        .subcommand(command_of(alloc, "draw", texts::draw_about(), texts::draw_lines(), &[])?)?
-        .subcommand(explain_command(alloc)?)?
-        .subcommand(threads_command(alloc)?)?
-        .subcommand(serve_command(alloc)?)
+    let mut program = program(alloc)?;
+    for named in COMMANDS {
+        program = program.subcommand(command_named(alloc, named)?)?;
+    }
+    Ok(program)
+}
+
+/// One of its commands.
+fn command_named<'a>(alloc: Global, named: Named) -> Result<Command<'a>, AllocError> {
+    match named {
+        Named::Run => run_command(alloc),
+        Named::Check => {
+            command_of(
+                alloc,
+                "check",
+                texts::check_about(),
+                texts::check_lines(),
+                &[],
+            )
+        }
+        Named::Draw => command_of(alloc, "draw", texts::draw_about(), texts::draw_lines(), &[]),
+        Named::Explain => explain_command(alloc),
+        Named::Threads => threads_command(alloc),
+        Named::Serve => serve_command(alloc),
+    }
 }
 
 /// The program, with no command yet.

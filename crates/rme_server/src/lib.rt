@@ -10,7 +10,6 @@
 #![tactic(auto)]
 
 mod buffers;
-mod fault;
 mod orders;
 mod planned;
 mod refusal;
@@ -20,9 +19,9 @@ mod stand;
 mod talk;
 mod work;
 
-pub use fault::ServeFault;
 pub use orders::obey;
 pub use planned::Planned;
+pub use rme_lines::ServeFault;
 pub use server::serve;
 pub use slots::Slots;
 pub use stand::{Holding, Stand};

@@ -2,9 +2,9 @@
 
 ghost use Rattle.std.specs.Prelude.{◌≡◌};
 
-use crate::fault::ServeFault;
 use crate::slots::Slots;
 use crate::talk::session;
+use rme_lines::ServeFault;
 use rme_table::{Service, Tag};
 use rme_wire::Names;
 use std::alloc::Global;

@@ -1,7 +1,10 @@
 //! A session: the orders of one client's lines, and their answers.
 
-ghost use Rattle.std.specs.Prelude.{◌≡◌};
+ghost use Rattle.std.specs.Prelude.{◌≡◌, IfOk};
+ghost use Rattle.std.specs.Option.{ok_or};
 ghost use Rattle.rme_server.specs.Stands.{MayHold};
+ghost use Rattle.rme_wire.specs.Orders.{order_of_line};
+ghost use Rattle.rme_words.specs.declared.refusal.Refusal.TheVariants.{BadLine};
 
 use crate::buffers::Buffers;
 use crate::orders::{let_go, obey};
@@ -98,17 +101,13 @@ fn turn<K: Tag, R: Wait, I: Read + Drop, O: Write>(
     requires stand { MayHold K.ident shared.now.slots.now stand.value }
     ensures { MayHold K.ident shared.now.slots.now result.0.value }
 {
-    let cut = match buffers.exchange.next_line(lines, writer) {
+    let asked = match buffers.exchange.next_line(lines, writer) {
         Ok(Cut::End) => return (stand, Ok(false)),
-        Ok(cut) => cut,
+        Ok(Cut::TooLong) => Ok(Err(Refusal::LineTooLong)),
+        Ok(Cut::Line) => order_in(buffers.exchange.line(), shared.alloc, shared.names),
         Err(fault) => return (stand, Err(fault)),
     };
-    let (stand, replied) = match order_in(
-        cut,
-        buffers.exchange.line(),
-        shared.alloc,
-        shared.names,
-    ) {
+    let (stand, replied) = match asked {
         Ok(Ok(order)) => obey_in_time(rt, stand, order, buffers, writer, shared),
         Ok(Err(why)) => (stand, Ok(SessionReply::Refused(why))),
         Err(_) => (stand, Err(EngineFault::NoMemory)),
@@ -123,19 +122,12 @@ fn turn<K: Tag, R: Wait, I: Read + Drop, O: Write>(
     }
 }
 
-/// The order of the line that was cut, or why the line is none.
-fn order_in(
-    cut: Cut,
-    line: &[u8],
-    alloc: Global,
-    names: &Names,
-) -> Result<Result<Order, Refusal>, NoMemory> {
-    if cut == Cut::TooLong {
-        return Ok(Err(Refusal::LineTooLong));
-    }
+/// The order of a line, or that it is none.
+fn order_in(line: &[u8], alloc: Global, names: &Names) -> Result<Result<Order, Refusal>, NoMemory>
+    ensures { IfOk result (λ asked. asked ≡ ok_or (order_of_line names.now line.now) BadLine) }
+{
     match order_of(alloc, names, line) {
-        Ok(Some(order)) => Ok(Ok(order)),
-        Ok(None) => Ok(Err(Refusal::BadLine)),
+        Ok(order) => Ok(order.ok_or(Refusal::BadLine)),
         Err(_) => Err(NoMemory),
     }
 }
