@@ -98,28 +98,16 @@ fn submit_of(names: &Names, count: usize, value: &Value) -> Option<Command>
 fn until_of(word: &str) -> Option<Until>
     ensures { result ≡ spec.until_of word.now }
 {
-    if word == "asked" {
-        return Some(Until::Asked);
+    match word {
+        "asked" => Some(Until::Asked),
+        "entered" => Some(Until::Entered),
+        "reentered" => Some(Until::Reentered),
+        "finished" => Some(Until::Finished),
+        "left" => Some(Until::Left),
+        "ready" => Some(Until::Ready),
+        "withdrew" => Some(Until::Withdrew),
+        _ => None,
     }
-    if word == "entered" {
-        return Some(Until::Entered);
-    }
-    if word == "reentered" {
-        return Some(Until::Reentered);
-    }
-    if word == "finished" {
-        return Some(Until::Finished);
-    }
-    if word == "left" {
-        return Some(Until::Left);
-    }
-    if word == "ready" {
-        return Some(Until::Ready);
-    }
-    if word == "withdrew" {
-        return Some(Until::Withdrew);
-    }
-    None
 }
 
 /// How many steps a walk may take: 1 to 10,000.
@@ -166,22 +154,21 @@ fn of_worker(word: &str, count: usize, value: &Value) -> Option<Command>
         return None;
     }
     let worker = worker_of(value)?;
-    if word == "step" {
-        return Some(Command::Step(worker));
+    worker_command(word, worker)
+}
+
+/// The command that this word says of a worker.
+fn worker_command(word: &str, worker: u32) -> Option<Command>
+    ensures { result ≡ spec.worker_command word.now worker }
+{
+    match word {
+        "step" => Some(Command::Step(worker)),
+        "crash" => Some(Command::Crash(worker)),
+        "restart" => Some(Command::Restart(worker)),
+        "withdraw" => Some(Command::Withdraw(worker)),
+        "last" => Some(Command::Last(worker)),
+        _ => None,
     }
-    if word == "crash" {
-        return Some(Command::Crash(worker));
-    }
-    if word == "restart" {
-        return Some(Command::Restart(worker));
-    }
-    if word == "withdraw" {
-        return Some(Command::Withdraw(worker));
-    }
-    if word == "last" {
-        return Some(Command::Last(worker));
-    }
-    None
 }
 
 /// A look-up that names a lock alone.
@@ -193,13 +180,18 @@ fn of_lock(names: &Names, word: &str, count: usize, value: &Value) -> Option<Com
         return None;
     }
     let lock = lock_of(names, value)?;
-    if word == "owner" {
-        return Some(Command::Owner(lock));
+    lock_command(word, lock)
+}
+
+/// The command that this word says of a lock.
+fn lock_command(word: &str, lock: u32) -> Option<Command>
+    ensures { result ≡ spec.lock_command word.now lock }
+{
+    match word {
+        "owner" => Some(Command::Owner(lock)),
+        "cells" => Some(Command::Cells(lock)),
+        _ => None,
     }
-    if word == "cells" {
-        return Some(Command::Cells(lock));
-    }
-    None
 }
 
 /// A look-up that names no worker and no lock.
@@ -210,16 +202,12 @@ fn of_world(word: &str, count: usize) -> Option<Command>
     if count != 1 {
         return None;
     }
-    if word == "history" {
-        return Some(Command::History);
+    match word {
+        "history" => Some(Command::History),
+        "report" => Some(Command::Report),
+        "save" => Some(Command::Save),
+        _ => None,
     }
-    if word == "report" {
-        return Some(Command::Report);
-    }
-    if word == "save" {
-        return Some(Command::Save);
-    }
-    None
 }
 
 /// The command that a value is, where its member `do` is a word and it has so many members.
@@ -227,17 +215,11 @@ fn of_world(word: &str, count: usize) -> Option<Command>
 pub fn command_named(names: &Names, word: &str, count: usize, value: &Value) -> Option<Command>
     ensures { result ≡ spec.command_named names.now word.now count (view value.now) }
 {
-    if word == "submit" {
-        return submit_of(names, count, value);
+    match word {
+        "submit" => submit_of(names, count, value),
+        "walk" => walk_of(count, value),
+        "history" | "report" | "save" => of_world(word, count),
+        "owner" | "cells" => of_lock(names, word, count, value),
+        _ => of_worker(word, count, value),
     }
-    if word == "walk" {
-        return walk_of(count, value);
-    }
-    if word == "history" || word == "report" || word == "save" {
-        return of_world(word, count);
-    }
-    if word == "owner" || word == "cells" {
-        return of_lock(names, word, count, value);
-    }
-    of_worker(word, count, value)
 }

@@ -41,13 +41,11 @@ fn event_of_value(names: &Names, value: &Value) -> Option<EventLine>
 fn event_named(names: &Names, word: &str, count: usize, value: &Value) -> Option<EventLine>
     ensures { result ≡ spec.event_named names.now word.now count (view value.now) }
 {
-    if word == "submit" {
-        return handed_of(names, count, value);
+    match word {
+        "submit" => handed_of(names, count, value),
+        "note" => noted_of(names, count, value),
+        _ => worker_event(word, count, value),
     }
-    if word == "note" {
-        return noted_of(names, count, value);
-    }
-    worker_event(word, count, value)
 }
 
 /// A text that is the name of a lock.
@@ -85,16 +83,19 @@ fn worker_event(word: &str, count: usize, value: &Value) -> Option<EventLine>
         return None;
     }
     let worker = worker_of(value)?;
-    if word == "crash" {
-        return Some(EventLine::Crash(worker));
+    event_by(word, worker)
+}
+
+/// The event that this word says of a worker.
+fn event_by(word: &str, worker: u32) -> Option<EventLine>
+    ensures { result ≡ spec.event_by word.now worker }
+{
+    match word {
+        "crash" => Some(EventLine::Crash(worker)),
+        "restart" => Some(EventLine::Restart(worker)),
+        "withdraw" => Some(EventLine::Withdraw(worker)),
+        _ => None,
     }
-    if word == "restart" {
-        return Some(EventLine::Restart(worker));
-    }
-    if word == "withdraw" {
-        return Some(EventLine::Withdraw(worker));
-    }
-    None
 }
 
 /// A step, by its note.
@@ -134,16 +135,12 @@ fn note_of(names: &Names, worker: u32, value: &Value) -> Option<Note>
 fn bare_note(word: &str) -> Option<Note>
     ensures { result ≡ spec.bare_note word.now }
 {
-    if word == "quiet" {
-        return Some(Note::Quiet);
+    match word {
+        "quiet" => Some(Note::Quiet),
+        "blocked" => Some(Note::Blocked),
+        "ready" => Some(Note::Ready),
+        _ => None,
     }
-    if word == "blocked" {
-        return Some(Note::Blocked);
-    }
-    if word == "ready" {
-        return Some(Note::Ready);
-    }
-    None
 }
 
 /// A note of a job's number or of a lock.
@@ -151,22 +148,14 @@ fn bare_note(word: &str) -> Option<Note>
 fn telling_note(names: &Names, word: &str, value: &Value) -> Option<Note>
     ensures { result ≡ spec.telling_note names.now word.now (view value.now) }
 {
-    if word == "asked" {
-        return Some(Note::Asked(small(value)?));
+    match word {
+        "asked" => Some(Note::Asked(small(value)?)),
+        "withdrew" => Some(Note::Withdrew(small(value)?)),
+        "entered" => Some(Note::Entered(opened_lock(names, value)?)),
+        "reentered" => Some(Note::Reentered(opened_lock(names, value)?)),
+        "left" => Some(Note::Left(opened_lock(names, value)?)),
+        _ => None,
     }
-    if word == "withdrew" {
-        return Some(Note::Withdrew(small(value)?));
-    }
-    if word == "entered" {
-        return Some(Note::Entered(opened_lock(names, value)?));
-    }
-    if word == "reentered" {
-        return Some(Note::Reentered(opened_lock(names, value)?));
-    }
-    if word == "left" {
-        return Some(Note::Left(opened_lock(names, value)?));
-    }
-    None
 }
 
 /// The note of a finished job: its lock, number, place and reply.

@@ -19,29 +19,37 @@ fn op_of(value: &Value) -> Option<Op>
     let count = item_count(value)?;
     let word = value.get(0)?.as_str()?;
     let first = small(value.get(1)?)?;
+    op_named(count, word, first, value)
+}
+
+/// The operation of a list of so many items, whose first two are this word and this number.
+fn op_named(count: usize, word: &str, first: u32, value: &Value) -> Option<Op>
+    ensures { result ≡ spec.op_named count word.now first (view value.now) }
+{
     if word == "get" {
-        if count != 2 {
-            return None;
-        }
-        return Some(Op::Get(first));
+        return if count == 2 {
+            Some(Op::Get(first))
+        } else {
+            None
+        };
     }
     if count != 3 {
         return None;
     }
-    let second = value.get(2)?;
-    if word == "set" {
-        return Some(Op::Set(first, second.as_u64()?));
+    op_of_two(word, first, value.get(2)?)
+}
+
+/// The operation of this word on two numbers, the first of which is read.
+fn op_of_two(word: &str, first: u32, second: &Value) -> Option<Op>
+    ensures { result ≡ spec.op_of_two word.now first (view second.now) }
+{
+    match word {
+        "set" => Some(Op::Set(first, second.as_u64()?)),
+        "add" => Some(Op::Add(first, second.as_u64()?)),
+        "copy" => Some(Op::Copy(first, small(second)?)),
+        "swap" => Some(Op::Swap(first, small(second)?)),
+        _ => None,
     }
-    if word == "add" {
-        return Some(Op::Add(first, second.as_u64()?));
-    }
-    if word == "copy" {
-        return Some(Op::Copy(first, small(second)?));
-    }
-    if word == "swap" {
-        return Some(Op::Swap(first, small(second)?));
-    }
-    None
 }
 
 /// A script: a list of operations.

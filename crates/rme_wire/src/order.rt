@@ -79,19 +79,13 @@ fn order_of_value(names: &Names, value: &Value) -> Option<Order>
 fn order_named(names: &Names, word: &str, count: usize, value: &Value) -> Option<Order>
     ensures { result ≡ spec.order_named names.now word.now count (view value.now) }
 {
-    if word == "attach" {
-        return attach_of(count, value);
+    match word {
+        "attach" => attach_of(count, value),
+        "submit" => submit_of(names, count, value),
+        "resume" => resume_of(count, value),
+        "crash_after" => crash_after_of(count, value),
+        _ => bare_order(word, count),
     }
-    if word == "submit" {
-        return submit_of(names, count, value);
-    }
-    if word == "resume" {
-        return resume_of(count, value);
-    }
-    if word == "crash_after" {
-        return crash_after_of(count, value);
-    }
-    bare_order(word, count)
 }
 
 #[tactic(auto, unfolding(crate::specs::Orders::attach_of))]
