@@ -1,7 +1,9 @@
 //! A session: the orders of one client's lines, and their answers.
 
-ghost use Rattle.std.specs.Prelude.{◌≡◌};
+ghost use Rattle.std.specs.Prelude.{◌≡◌, IfOk};
+ghost use Rattle.rme_server.specs.Sessions.{order_or_bad};
 ghost use Rattle.rme_server.specs.Stands.{MayHold};
+ghost use Rattle.rme_wire.specs.Orders.{order_of_line};
 
 use crate::buffers::Buffers;
 use crate::orders::{let_go, obey};
@@ -133,6 +135,17 @@ fn order_in(
     if cut == Cut::TooLong {
         return Ok(Err(Refusal::LineTooLong));
     }
+    order_or_bad(alloc, names, line)
+}
+
+/// The order of a line that is not too long, or `BadLine`.
+fn order_or_bad(
+    alloc: Global,
+    names: &Names,
+    line: &[u8],
+) -> Result<Result<Order, Refusal>, NoMemory>
+    ensures { IfOk result (λ found. found ≡ order_or_bad (order_of_line names.now line.now)) }
+{
     match order_of(alloc, names, line) {
         Ok(Some(order)) => Ok(Ok(order)),
         Ok(None) => Ok(Err(Refusal::BadLine)),
