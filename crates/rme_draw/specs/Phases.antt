@@ -3,8 +3,8 @@ use Rattle.std.specs.Prelude.{Bool, true, false}
 use Rattle.rme_machine.specs.declared.stance.Stance.{Stance}
 use Rattle.rme_machine.specs.declared.stance.Stance.TheVariants.{Idle, Handed, Waiting, Inside, Finished}
 use Rattle.rme_machine.specs.Machine.{WorkerState}
-use Rattle.rme_draw.specs.declared.phase.Phase.{Phase}
-use Rattle.rme_draw.specs.declared.phase.Phase.TheVariants as phase
+use Rattle.rme_picture.specs.declared.phase.Phase.{Phase}
+use Rattle.rme_picture.specs.declared.phase.Phase.TheVariants as phase
 
 abbrev pub is_inside : Stance → Bool
 is_inside Idle = false

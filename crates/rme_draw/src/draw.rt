@@ -4,8 +4,7 @@ ghost use Rattle.std.specs.Prelude.{◌≡◌, ◌≢◌, IfOk, IfErr};
 ghost use Rattle.rme_lines.specs.Readers.{FailsToRead, HasEnded, ReadsNoMore, bytes_left};
 ghost use Rattle.rme_engine.specs.Verdicts.{Finds};
 
-use crate::drawing::Drawing;
-use crate::svg::svg_of;
+use crate::follower::Follower;
 use rme_engine::{Verdict, watch_lines};
 use rme_wire::{EngineFault, LineReader, put_all};
 use std::alloc::Global;
@@ -28,13 +27,13 @@ pub fn draw_lines<R: Read + Drop, W: Write>(
     ensures ended { HasEnded lines.old → ReadsNoMore lines.old lines.new }
     ensures failed { IfErr result (λ fault. fault ≡ EngineFault.ReadFailed → FailsToRead lines.old lines.new) }
 {
-    let mut drawing = Drawing::new(alloc);
-    match watch_lines(alloc, lines, &mut drawing) {
+    let mut follower = Follower::new(alloc);
+    match watch_lines(alloc, lines, &mut follower) {
         Ok(Verdict::Yes) => {}
         Ok(verdict) => return Ok(verdict),
         Err(fault) => return Err(fault),
     }
-    let Ok(text) = svg_of(alloc, &mut drawing) else {
+    let Ok(text) = follower.picture() else {
         return Err(EngineFault::NoMemory);
     };
     match put_all(writer, text.as_bytes()) {

@@ -5,27 +5,9 @@ ghost use Rattle.rme_draw.specs.Phases.{is_in_section, is_without_lock};
 
 use rme_checker::Worker;
 use rme_machine::Stance;
+use rme_picture::Phase;
 use rme_program::Note;
 use rme_texts::EventLine;
-
-/// What a worker is at, as far as the machine and its events tell.
-#[derive(Clone, Copy, Debug, PartialEq, Eq)]
-pub enum Phase {
-    /// May be handed a job.
-    Ready,
-    /// Was handed a job, and writes it down.
-    Post,
-    /// Waits for its lock.
-    Enter,
-    /// Owns its lock, and its job is not finished.
-    Section,
-    /// Releases what it holds, or gives its job up.
-    Exit,
-    /// Came up after a crash, and no note has told yet where it goes on.
-    Recover,
-    /// Went down.
-    Down,
-}
 
 /// The phase of a worker of which the machine knows this after a line that told of it.
 ///

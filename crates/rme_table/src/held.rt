@@ -109,16 +109,13 @@ impl Held {
             unreachable!();
         };
         let receipt = entry.receipt;
-        let way = Way::Whole;
-        (
-            Leave {
-                seat,
-                begun,
-                lock,
-                way,
-            },
-            receipt,
-        )
+        let leave = Leave {
+            seat,
+            begun,
+            lock,
+            way: Way::Whole,
+        };
+        (leave, receipt)
     }
 
     /// The worker falls.

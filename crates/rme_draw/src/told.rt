@@ -1,26 +1,8 @@
-//! What a line of a transcript tells of a worker, and the words for it.
+//! What a line of a transcript tells.
 
+use rme_picture::Told;
 use rme_program::Note;
 use rme_texts::EventLine;
-use std::alloc::AllocError;
-use std::fmt::Write;
-
-/// What a line told of a worker. The numbers are those of its jobs.
-#[derive(Clone, Copy, Debug, PartialEq, Eq)]
-pub enum Told {
-    Submit(u32),
-    Crash,
-    Restart,
-    Withdraw,
-    Asked(u32),
-    Blocked,
-    Entered,
-    Reentered,
-    Finished(u32),
-    Left,
-    Ready,
-    Withdrew(u32),
-}
 
 /// What a line tells of its worker; a quiet step tells nothing.
 pub fn told_of(line: &EventLine) -> Option<Told> {
@@ -58,20 +40,23 @@ pub fn worker_of(line: &EventLine) -> u32 {
     }
 }
 
-/// Appends the words for what was told.
-pub fn push_told(out: &mut String, told: Told) -> Result<(), AllocError> {
+/// The number of a job that a line tells, or 0.
+pub fn number_of(told: &EventLine) -> u32 {
     match told {
-        Told::Submit(number) => write!(out, "submit {number}"),
-        Told::Crash => out.push_str("crash"),
-        Told::Restart => out.push_str("restart"),
-        Told::Withdraw => out.push_str("withdraw"),
-        Told::Asked(number) => write!(out, "asked {number}"),
-        Told::Blocked => out.push_str("blocked"),
-        Told::Entered => out.push_str("entered"),
-        Told::Reentered => out.push_str("re-entered"),
-        Told::Finished(number) => write!(out, "finished {number}"),
-        Told::Left => out.push_str("left"),
-        Told::Ready => out.push_str("ready"),
-        Told::Withdrew(number) => write!(out, "withdrew {number}"),
+        EventLine::Submit(handed) => handed.number,
+        _ => 0,
     }
+}
+
+/// The line, where it tells that the worker gave its job up.
+pub fn line_of_giving_up(told: &EventLine, line: u64) -> Option<u64> {
+    match told {
+        EventLine::Note(_, Note::Withdrew(_)) => Some(line),
+        _ => None,
+    }
+}
+
+/// Whether it tells that the worker became ready.
+pub fn tells_ready(told: &EventLine) -> bool {
+    matches!(told, EventLine::Note(_, Note::Ready))
 }

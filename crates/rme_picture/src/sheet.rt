@@ -86,7 +86,7 @@ impl Sheet {
             width: width.max(LEAST_WIDTH),
             lines,
             locks: Vec::new(alloc),
-            bottom: top_of_worker(drawing.workers() as u64).saturating_add(8),
+            bottom: top_of_worker(u64::from(drawing.workers)).saturating_add(8),
         };
         sheet.place_locks(alloc, drawing, used.as_slice())?;
         Ok(sheet)

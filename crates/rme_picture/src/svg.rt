@@ -22,9 +22,8 @@ const PHASES: [Phase; 7] = [
 /// The names of rows are written again after so many columns.
 const NAMES_EVERY: u64 = 20;
 
-/// The picture of all that was seen, which ends here.
-pub fn svg_of(alloc: Global, drawing: &mut Drawing) -> Result<String, AllocError> {
-    drawing.end()?;
+/// The picture of a drawing.
+pub fn svg_of(alloc: Global, drawing: &Drawing) -> Result<String, AllocError> {
     let sheet = Sheet::of(alloc, drawing)?;
     let strips = strips_of(alloc, drawing, sheet.lines)?;
     let mut out = String::new(alloc);
@@ -87,7 +86,7 @@ fn push_head(
 /// Appends what the picture shows.
 fn push_title(out: &mut String, drawing: &Drawing) -> Result<(), AllocError> {
     out.push_str("A run of ")?;
-    push_count(out, drawing.workers() as u64, "worker")?;
+    push_count(out, u64::from(drawing.workers), "worker")?;
     out.push_str(" and ")?;
     push_count(out, drawing.names.len() as u64, "lock")?;
     out.push_str(", ")?;
@@ -154,7 +153,7 @@ fn push_names(
     strip: &Strip,
 ) -> Result<(), AllocError> {
     let columns = strip.column(strip.last);
-    for worker in 0..drawing.workers() as u64 {
+    for worker in 0..u64::from(drawing.workers) {
         let name = format!(in alloc; "worker {worker}")?;
         push_name(out, sheet, columns, top_of_worker(worker), name.as_str())?;
     }

@@ -1,52 +1,15 @@
-//! What was seen of a run: how long each worker stayed in each phase, who held each lock, and what happened when.
+//! What follows a run, and gathers what its picture shows.
 
-use crate::labels::{Told, told_of, worker_of};
-use crate::phase::{Phase, phase_after};
+use crate::phase::phase_after;
+use crate::told::{line_of_giving_up, number_of, tells_ready, told_of, worker_of};
 use rme_checker::{Machine, Worker};
 use rme_engine::Watch;
 use rme_machine::Stance;
+use rme_picture::{Drawing, Finish, Hold, Mark, Phase, Stay, svg_of};
 use rme_program::{Note, Receipt};
-use rme_script::Row;
 use rme_texts::{EventLine, Names};
 use rme_words::NoMemory;
 use std::alloc::{AllocError, Global};
-
-/// A worker's stay in a phase, from one line of the transcript to another.
-#[derive(Clone, Copy, Debug)]
-pub struct Stay {
-    pub worker: u32,
-    pub phase: Phase,
-    /// The lock of the job that it began with, if it had one.
-    pub lock: Option<u32>,
-    pub from: u64,
-    pub to: u64,
-}
-
-/// A stretch in which a lock had one owner, who was up or was down all the while.
-#[derive(Clone, Copy, Debug)]
-pub struct Hold {
-    pub lock: u32,
-    pub owner: u32,
-    pub is_up: bool,
-    pub from: u64,
-    pub to: u64,
-}
-
-/// What a line told of a worker.
-#[derive(Clone, Copy, Debug)]
-pub struct Mark {
-    pub line: u64,
-    pub worker: u32,
-    pub told: Told,
-}
-
-/// A finished section, and what the cells of its lock then held.
-#[derive(Clone, Copy, Debug)]
-pub struct Finish {
-    pub line: u64,
-    pub receipt: Receipt,
-    pub cells: Row,
-}
 
 /// The stay that a worker is in.
 #[derive(Clone, Copy, Debug)]
@@ -59,25 +22,16 @@ struct Staying {
 
 /// What was seen of a run so far.
 #[derive(Drop)]
-pub struct Drawing {
+pub struct Follower {
     alloc: Global,
-    /// The locks' names, in order.
-    pub names: Vec<String>,
-    /// The last line that was seen.
-    pub line: u64,
-    /// The greatest number of a job.
-    pub number: u32,
-    pub stays: Vec<Stay>,
-    pub holds: Vec<Hold>,
-    pub marks: Vec<Mark>,
-    pub finishes: Vec<Finish>,
+    drawing: Drawing,
     /// For each worker the stay that it is in.
     staying: Vec<Staying>,
     /// For each lock the stretch that it is in, if it has an owner.
     holding: Vec<Option<Hold>>,
 }
 
-impl Watch for Drawing {
+impl Watch for Follower {
     fn opened(&mut self, names: &Names, machine: &Machine) -> Result<(), NoMemory> {
         match self.open(names, machine) {
             Ok(()) => Ok(()),
@@ -86,7 +40,7 @@ impl Watch for Drawing {
     }
 
     fn stepped(&mut self, line: &EventLine, machine: &Machine) -> Result<(), NoMemory> {
-        self.line = self.line.saturating_add(1);
+        self.drawing.line = self.drawing.line.saturating_add(1);
         match self.see(*line, machine) {
             Ok(()) => Ok(()),
             Err(_) => Err(NoMemory),
@@ -94,51 +48,47 @@ impl Watch for Drawing {
     }
 }
 
-impl Drawing {
+impl Follower {
     /// Nothing was seen yet.
-    pub fn new(alloc: Global) -> Drawing {
-        Drawing {
+    pub fn new(alloc: Global) -> Follower {
+        Follower {
             alloc,
-            names: Vec::new(alloc),
-            line: 0,
-            number: 0,
-            stays: Vec::new(alloc),
-            holds: Vec::new(alloc),
-            marks: Vec::new(alloc),
-            finishes: Vec::new(alloc),
+            drawing: Drawing::new(alloc),
             staying: Vec::new(alloc),
             holding: Vec::new(alloc),
         }
     }
 
-    /// How many workers there are.
-    pub fn workers(&self) -> usize {
-        self.staying.len()
-    }
-
     /// Ends all that goes on, one line behind the last.
-    pub fn end(&mut self) -> Result<(), AllocError> {
-        let end = self.line.saturating_add(1);
+    fn end(&mut self) -> Result<(), AllocError> {
+        let end = self.drawing.line.saturating_add(1);
         for staying in &self.staying {
-            push_over(&mut self.stays, *staying, end, false)?;
+            push_over(&mut self.drawing.stays, *staying, end, false)?;
         }
         for hold in &self.holding {
             if let Some(hold) = hold {
-                self.holds.push(Hold { to: end, ..*hold })?;
+                self.drawing.holds.push(Hold { to: end, ..*hold })?;
             }
         }
         Ok(())
     }
 
+    /// The picture of all that was seen, which ends here.
+    pub fn picture(&mut self) -> Result<String, AllocError> {
+        self.end()?;
+        svg_of(self.alloc, &self.drawing)
+    }
+
     /// Begins with all workers ready and all locks free.
     fn open(&mut self, names: &Names, machine: &Machine) -> Result<(), AllocError> {
-        self.line = 1;
+        self.drawing.line = 1;
+        self.drawing.workers = machine.shape().workers();
         for lock in 0..names.len() {
-            self.names
-                .push(String::from_str(self.alloc, names.name(lock))?)?;
+            let name = String::from_str(self.alloc, names.name(lock))?;
+            self.drawing.names.push(name)?;
             self.holding.push(None)?;
         }
-        for worker in 0..machine.shape().workers() {
+        for worker in 0..self.drawing.workers {
             self.staying.push(Staying {
                 stay: ready_from(worker, 1),
                 gave_up: None,
@@ -149,11 +99,11 @@ impl Drawing {
 
     /// Notes what the last line told, and where the machine is after it.
     fn see(&mut self, told: EventLine, machine: &Machine) -> Result<(), AllocError> {
-        let line = self.line;
+        let line = self.drawing.line;
         let worker = worker_of(&told);
-        self.number = self.number.max(number_of(&told));
+        self.drawing.number = self.drawing.number.max(number_of(&told));
         if let Some(told) = told_of(&told) {
-            self.marks.push(Mark { line, worker, told })?;
+            self.drawing.marks.push(Mark { line, worker, told })?;
         }
         if let EventLine::Note(_, Note::Finished(receipt)) = told {
             self.see_finish(receipt, machine)?;
@@ -166,9 +116,9 @@ impl Drawing {
 
     /// Notes a finished section, and the cells after it.
     fn see_finish(&mut self, receipt: Receipt, machine: &Machine) -> Result<(), AllocError> {
-        let line = self.line;
+        let line = self.drawing.line;
         if let Some(cells) = machine.cells(receipt.lock) {
-            self.finishes.push(Finish {
+            self.drawing.finishes.push(Finish {
                 line,
                 receipt,
                 cells,
@@ -180,7 +130,7 @@ impl Drawing {
     /// Begins a new stay where the worker is in another phase now.
     fn see_worker(&mut self, worker: u32, me: &Worker, told: &EventLine) -> Result<(), AllocError> {
         let are_few = self.staying.len() <= 2;
-        let line = self.line;
+        let line = self.drawing.line;
         let Some(staying) = self.staying.get_mut(worker as usize) else {
             return Ok(());
         };
@@ -199,12 +149,12 @@ impl Drawing {
             to: line,
         };
         *staying = Staying { stay, gave_up };
-        push_over(&mut self.stays, over, line, tells_ready(told))
+        push_over(&mut self.drawing.stays, over, line, tells_ready(told))
     }
 
     /// Ends and begins stretches of locks whose owner is another now, fell or came up.
     fn see_locks(&mut self, machine: &Machine) -> Result<(), AllocError> {
-        let line = self.line;
+        let line = self.drawing.line;
         for lock in 0..machine.shape().locks() {
             let now = hold_now(machine, lock, line);
             let Some(hold) = self.holding.get_mut(lock as usize) else {
@@ -216,7 +166,7 @@ impl Drawing {
             let before = *hold;
             *hold = now;
             if let Some(over) = before {
-                self.holds.push(Hold { to: line, ..over })?;
+                self.drawing.holds.push(Hold { to: line, ..over })?;
             }
         }
         Ok(())
@@ -260,18 +210,6 @@ fn ready_from(worker: u32, line: u64) -> Stay {
     }
 }
 
-/// The line, where it tells that the worker gave its job up.
-fn line_of_giving_up(told: &EventLine, line: u64) -> Option<u64> {
-    match told {
-        EventLine::Note(_, Note::Withdrew(_)) => Some(line),
-        _ => None,
-    }
-}
-
-fn tells_ready(told: &EventLine) -> bool {
-    matches!(told, EventLine::Note(_, Note::Ready))
-}
-
 /// The stretch of a lock that begins at a line, if the lock has an owner there.
 fn hold_now(machine: &Machine, lock: u32, line: u64) -> Option<Hold> {
     let owner = machine.owner(lock)?;
@@ -294,14 +232,6 @@ fn are_alike(before: &Option<Hold>, now: &Option<Hold>) -> bool {
         (None, None) => true,
         (Some(before), Some(now)) => before.owner == now.owner && before.is_up == now.is_up,
         _ => false,
-    }
-}
-
-/// The number of a job that a line tells, or 0.
-fn number_of(told: &EventLine) -> u32 {
-    match told {
-        EventLine::Submit(handed) => handed.number,
-        _ => 0,
     }
 }
 
