@@ -29,9 +29,25 @@ pub fn draw_lines<R: Read + Drop, W: Write>(
 {
     let mut follower = Follower::new(alloc);
     match watch_lines(alloc, lines, &mut follower) {
-        Ok(Verdict::Yes) => {}
-        Ok(verdict) => return Ok(verdict),
-        Err(fault) => return Err(fault),
+        Ok(verdict) => write_if_yes(verdict, &mut follower, writer),
+        Err(fault) => Err(fault),
+    }
+}
+
+/// Writes the picture of all that was seen after the verdict yes, and nothing after another.
+fn write_if_yes<W: Write>(
+    verdict: Verdict,
+    follower: &mut Follower,
+    writer: &mut W,
+) -> Result<Verdict, EngineFault>
+    ensures same { IfOk result (λ answered. answered ≡ verdict) }
+    ensures silent { verdict ≢ Verdict.Yes → W.contents writer.new ≡ W.contents writer.old }
+    ensures unwritten { IfErr result (λ fault. fault ≢ EngineFault.WriteFailed → W.contents writer.new ≡ W.contents writer.old) }
+    ensures kind { IfErr result (λ fault. fault ≢ EngineFault.ReadFailed) }
+{
+    match verdict {
+        Verdict::Yes => {}
+        verdict => return Ok(verdict),
     }
     let Ok(text) = follower.picture() else {
         return Err(EngineFault::NoMemory);
