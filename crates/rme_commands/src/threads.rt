@@ -86,7 +86,7 @@ fn run_with<G: Gate + Sync, R: Threads + Wait + Sync>(
     }
 }
 
-/// The plan of each worker: its jobs add 1, and it has one life more than falls.
+/// The plan of each worker: a job that adds 1, as often as the task says, and one life more than falls.
 fn plans_of(alloc: Global, task: &ThreadsTask) -> Result<Vec<WorkerPlan>, AllocError> {
     let mut plans = Vec::with_capacity(alloc, task.workers as usize)?;
     for _ in 0..task.workers {
@@ -102,7 +102,8 @@ fn plan_of(alloc: Global, task: &ThreadsTask) -> Result<WorkerPlan, AllocError> 
     };
     let lives = u32::try_from(task.falls.len()).unwrap_or(u32::MAX);
     Ok(WorkerPlan {
-        jobs: vec![in alloc; job; task.jobs as usize]?,
+        jobs: vec![in alloc; job]?,
+        rounds: task.jobs,
         falls: task.falls.clone()?,
         lives: lives.saturating_add(1),
         sweeps: MOST_SWEEPS,

@@ -1,4 +1,5 @@
 mod Lists
+mod Rounds
 mod Rests
 mod Following
 mod Ending

@@ -1,4 +1,4 @@
--- In reading order: which plans may be supervised; how a worker's lives may end; where one life stops; a worker between two
+-- In reading order: what plans have their workers do, and which may be supervised; how a worker's lives may end; where one life stops; a worker between two
 -- lives; what the slots held in the end; and what a run answers.
 pub mod Plans
 pub mod Ends

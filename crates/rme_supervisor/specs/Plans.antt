@@ -1,6 +1,16 @@
--- Which plans may be supervised.
-use Rattle.std.specs.Prelude.{◌≡◌, ℕ, ◌+◌, ◌<◌, List, length, slice_get, Some}
+-- What a plan has its worker do, and which plans may be supervised.
+use Rattle.std.specs.Prelude.{◌≡◌, ℕ, zero, suc, ◌+◌, ◌<◌, List, [], ◌++◌, length, slice_get, Some}
+use Rattle.rme_script.specs.declared.job.Job.{Job}
 use Rattle.rme_supervisor.specs.declared.plan.WorkerPlan.{WorkerPlan}
+
+-- Jobs that are made so many times over, in order.
+unfoldable pub repeated : ℕ → List Job → List Job
+repeated zero jobs = []
+repeated (suc n) jobs = jobs ++ repeated n jobs
+
+-- All that a plan has its worker do, in order: its jobs, in each round.
+abbrev pub planned : WorkerPlan → List Job
+planned plan = repeated plan.rounds plan.jobs.items
 
 -- Each number is less than the next.
 abbrev pub IsRising : List ℕ → Type 0

@@ -16,7 +16,7 @@ use Rattle.rme_supervisor.specs.declared.plan.WorkerPlan.{WorkerPlan}
 use Rattle.rme_supervisor.specs.declared.report.Report.{Report}
 use Rattle.rme_supervisor.specs.declared.report.Fault.{Fault}
 use Rattle.rme_supervisor.specs.Ends.{IsEarned}
-use Rattle.rme_supervisor.specs.Plans.{ArePlans}
+use Rattle.rme_supervisor.specs.Plans.{ArePlans, planned}
 
 -- These are the Downs of all workers, in order.
 pub record AreAll (shape : Shape) (downs : List Stand) : Type 0 where
@@ -36,8 +36,8 @@ jobs_in entries = map job_of entries
 
 -- The entries are the first jobs of the plan, in order, each once, and all of them where the end is AllDone.
 pub record Follows (plan : WorkerPlan) (entries : List Entry) (end : End) : Type 0 where
-  pub first : jobs_in entries ≡ take (length entries) plan.jobs.items
-  pub all : end ≡ AllDone → jobs_in entries ≡ plan.jobs.items
+  pub first : jobs_in entries ≡ take (length entries) (planned plan)
+  pub all : end ≡ AllDone → jobs_in entries ≡ planned plan
 
 -- The entries of each worker follow its plan.
 abbrev pub AllFollow : List WorkerPlan → List Stand → List End → Type 0

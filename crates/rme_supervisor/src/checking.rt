@@ -1,7 +1,7 @@
 //! What a run looks at before it begins, and when it is over.
 
 ghost use Rattle.std.specs.Prelude.{◌≡◌, ◌↔◌, IsTrue, true, length, take};
-ghost use Rattle.rme_supervisor.specs.Plans.{IsRising, IsPlan, ArePlans};
+ghost use Rattle.rme_supervisor.specs.Plans.{IsRising, IsPlan, ArePlans, planned};
 ghost use Rattle.rme_supervisor.specs.Supervised.{AreAll, AllFollow, Follows, all_fresh, job_of, jobs_in};
 
 use crate::end::End;
@@ -93,19 +93,18 @@ pub(crate) fn all_follow(fresh: bool, plans: &[WorkerPlan], downs: &[Down], ends
 fn follows(plan: &WorkerPlan, entries: &[Entry], end: End) -> bool
     ensures { IsTrue result ↔ Follows plan.now entries.now end }
 {
-    are_first(plan.jobs.as_slice(), entries)
-        && (end != End::AllDone || entries.len() == plan.jobs.len())
+    are_first(plan, entries) && (end != End::AllDone || plan.job(entries.len()).is_none())
 }
 
-/// Whether entries are the first of these jobs, in order, each once.
-fn are_first(jobs: &[Job], entries: &[Entry]) -> bool
-    ensures { IsTrue result ↔ (jobs_in entries.now ≡ take (length entries.now) jobs.now) }
+/// Whether entries are the first jobs of a plan, in order, each once.
+fn are_first(plan: &WorkerPlan, entries: &[Entry]) -> bool
+    ensures { IsTrue result ↔ (jobs_in entries.now ≡ take (length entries.now) (planned plan.now)) }
 {
-    if entries.len() > jobs.len() {
-        return false;
-    }
     for i in 0..entries.len() {
-        if !is_of_job(&entries[i], &jobs[i]) {
+        let Some(job) = plan.job(i) else {
+            return false;
+        };
+        if !is_of_job(&entries[i], job) {
             return false;
         }
     }

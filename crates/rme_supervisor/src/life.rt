@@ -73,7 +73,7 @@ fn make_jobs<G: Gate, R: Wait>(
     ensures { IsStop orders.now.service.now ready.part.worker orders.now.plan.now result }
 {
     for _ in rt.forever() {
-        let Some(job) = orders.plan.jobs.get(ready.number() as usize) else {
+        let Some(job) = orders.plan.job(ready.number() as usize) else {
             return Stop::Ended(ready.crash(), End::AllDone);
         };
         trail.tries.blocked = 0;

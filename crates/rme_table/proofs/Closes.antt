@@ -1,8 +1,10 @@
 -- What was gathered, with each lock filled from it, is a close.
 use Rattle.std.proofs.Common.{◌≡◌, ℕ, ◌<◌, List, [], ◌++◌, length, refl, sym, ◌∙◌, ap, subst, arith}
-use Rattle.std.specs.Prelude.{true, slice_get, Option, Some, None}
+use Rattle.std.specs.Prelude.{Bool, true, false, ◌==◌, if◌then◌else◌, slice_get, Option, Some, None}
+use Rattle.std.specs.List.{All}
 use Rattle.std.specs.List.Sorted.{IsPermutation, IsSorted}
-use Rattle.std.proofs.lemmas.List.Sorted.{IsPermutation-trans}
+use Rattle.std.proofs.lemmas.Bool.{eq-eqb}
+use Rattle.std.proofs.lemmas.List.Sorted.{IsPermutation-trans, All-permutation}
 use Rattle.std.proofs.lemmas.Option.{slice_get_within}
 use Rattle.rme_words.specs.declared.shape.Shape.{Shape}
 use Rattle.rme_words.specs.declared.address.Address.{Address}
@@ -23,9 +25,9 @@ use Rattle.rme_seats.specs.Stands.{Stand}
 use Rattle.rme_seats.specs.Closing.{entries_given, Gathers}
 use Rattle.rme_table.specs.declared.closed.ClosedLock.{ClosedLock}
 use Rattle.rme_table.specs.Downs.{all_given}
-use Rattle.rme_table.specs.Filling.{HasRoom, HaveRoom, IsFilled, is_done}
+use Rattle.rme_table.specs.Filling.{HasRoom, HaveRoom, IsFilled, copied, is_done}
 use Rattle.rme_table.specs.Closing.{IsClose, IsClosedLock, shown_in}
-use Rattle.rme_table.proofs.Mixed.{history_mixed, lock_mixed}
+use Rattle.rme_table.proofs.Mixed.{all_kept, history_mixed, lock_mixed}
 
 -- What the words say of a lock being settled is what the state shows.
 settled_as : (s : Shape) (mem : Address → ℕ) (privs : Privates) (es : List Entry) (lock : ℕ) (owner : Option ℕ) → Fact s mem privs es → lock < s.locks → owner_in s mem lock ≡ owner
@@ -46,19 +48,36 @@ module _ (s : Shape) (downs : List Stand) (before after : List ℕ) (old new sor
   sorts : IsPermutation (entries_given downs) sorted
   sorts = subst (λ (es : List Entry). IsPermutation es sorted) entries_are mixes
 
+  mixed : IsPermutation g.history sorted
+  mixed = IsPermutation-trans _ _ _ (history_mixed s g.history downs g.world.fact.legal all own g.apart) sorts
+
   back : (lock : ℕ) → entries_at sorted lock ≡ entries_at g.history lock
-  back =
-      returning s g.history sorted ((legal_both s g.history).0 g.world.fact.legal).1
-      (IsPermutation-trans _ _ _ (history_mixed s g.history downs g.world.fact.legal all own g.apart) sorts) order
+  back = returning s g.history sorted ((legal_both s g.history).0 g.world.fact.legal).1 mixed order
+
+  -- Where there is one lock, all entries are its own.
+  only : s.locks ≡ 1 → entries_at sorted 0 ≡ sorted
+  only one =
+      let jobs = ((legal_both s g.history).0 g.world.fact.legal).1.jobs in
+      let first : All (λ (e : Entry). (e.receipt.lock == 0) ≡ true) g.history = λ k d within. eq-eqb _ _ (omega (arith, one, (jobs k d within).lock)) in
+      all_kept (λ (e : Entry). e.receipt.lock == 0) sorted (All-permutation (λ (e : Entry). (e.receipt.lock == 0) ≡ true) g.history sorted mixed first)
+
+  pub still_only : (bank : Memory) (entries : List Entry) → bank.shape ≡ s → entries ≡ sorted → bank.shape.locks ≡ 1 → entries_at entries 0 ≡ entries
+  still_only bank entries shaped same one =
+      subst (λ (es : List Entry). entries_at es 0 ≡ es) (sym same) (only (ap (λ (x : Shape). x.locks) (sym shaped) ∙ one))
+
+  room_by : (few : Bool) (rooms : List ClosedLock) → HaveRoom s (if few then [] else entries_given downs) rooms → HaveRoom s (if few then [] else sorted) rooms
+  room_by true rooms have = have
+  room_by false rooms have = record {
+    count = have.count;
+    each = λ lock room at. subst (λ (n : ℕ). HasRoom s n room) (sym (lock_mixed lock (entries_given downs) sorted sorts)) (have.each lock room at);
+  }
 
   -- The room that was taken is room for the entries as they are sorted.
-  pub still_room : (bank : Memory) (entries : List Entry) (rooms : List ClosedLock) → bank.shape ≡ s → entries ≡ sorted → HaveRoom s (entries_given downs) rooms → HaveRoom bank.shape entries rooms
+  pub still_room : (bank : Memory) (entries : List Entry) (rooms : List ClosedLock) → bank.shape ≡ s → entries ≡ sorted → HaveRoom s (copied s (entries_given downs)) rooms
+      → HaveRoom bank.shape (copied bank.shape entries) rooms
   still_room bank entries rooms shaped same have =
-      let P : Shape → List Entry → Type 0 = λ (x : Shape) (es : List Entry). HaveRoom x es rooms in
-      let here : P s sorted = record {
-        count = have.count;
-        each = λ lock room at. subst (λ (n : ℕ). HasRoom s n room) (sym (lock_mixed lock (entries_given downs) sorted sorts)) (have.each lock room at);
-      } in
+      let P : Shape → List Entry → Type 0 = λ (x : Shape) (es : List Entry). HaveRoom x (copied x es) rooms in
+      let here : P s sorted = room_by (s.locks == 1) rooms have in
       subst (λ (x : Shape). P x entries) (sym shaped) (subst (λ (es : List Entry). P s es) (sym same) here)
 
   one_lock : (lock : ℕ) (closed : ClosedLock) → lock < s.locks → IsFilled record { shape = s; words = bank_words g.words } sorted lock closed

@@ -21,7 +21,7 @@ cells_more f n v cells later is here grows =
     grows ∙ ap (λ (xs : List ℕ). xs ++ v ∷ []) is ∙ ap (λ (x : ℕ). map f (range_with_len 0 n) ++ x ∷ []) here ∙ sym (map-range_with_len_more f 0 n n (omega arith))
 
 -- A member of a list that was written at one place is what was written there, or what the list had elsewhere.
-written : {A : Type 0} (xs : List A) (i : ℕ) (x : A) (k : ℕ) (y : A) → slice_get (slice_set xs i x) k ≡ Some y → ((k ≡ i) × (y ≡ x)) ⊎ ((k ≢ i) × (slice_get xs k ≡ Some y))
+pub written : {A : Type 0} (xs : List A) (i : ℕ) (x : A) (k : ℕ) (y : A) → slice_get (slice_set xs i x) k ≡ Some y → ((k ≡ i) × (y ≡ x)) ⊎ ((k ≢ i) × (slice_get xs k ≡ Some y))
 written [] i x k y at = cc
 written (z ∷ xs) zero x zero y at = inl (refl, sym (same_Some _ _ at))
 written (z ∷ xs) zero x (suc k) y at = inr ((λ e. omega (arith, e)), at)

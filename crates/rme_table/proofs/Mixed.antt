@@ -32,7 +32,7 @@ split_both p q (x ∷ xs) apart =
       ]
     ]
 
-all_kept : {A : Type 0} (p : A → Bool) (xs : List A) → All (λ (x : A). p x ≡ true) xs → filter p xs ≡ xs
+pub all_kept : {A : Type 0} (p : A → Bool) (xs : List A) → All (λ (x : A). p x ≡ true) xs → filter p xs ≡ xs
 all_kept p [] all = refl
 all_kept p (x ∷ xs) all =
     rw (All-head (λ (y : _). p y ≡ true) x xs all) (ap (λ (ys : List _). x ∷ ys) (all_kept p xs (All-tail (λ (y : _). p y ≡ true) x xs all)))

@@ -1,5 +1,5 @@
 -- The room that a close takes first, and how each lock's is filled.
-use Rattle.std.specs.Prelude.{◌≡◌, ℕ, ◌≤◌, Bool, true, not, List, [], length, slice_get, vec_capacity, Option, Some, None}
+use Rattle.std.specs.Prelude.{◌≡◌, ℕ, ◌≤◌, Bool, true, not, ◌==◌, if◌then◌else◌, List, [], length, slice_get, vec_capacity, Option, Some, None}
 use Rattle.rme_words.specs.declared.shape.Shape.{Shape}
 use Rattle.rme_words.specs.declared.address.Address.{Address}
 use Rattle.rme_words.specs.Words.{Memory, memory_of, word_count}
@@ -24,6 +24,10 @@ pub record HaveRoom (shape : Shape) (entries : List Entry) (rooms : List ClosedL
   pub count : length rooms ≡ shape.locks
   pub each : (lock : ℕ) (room : ClosedLock) → slice_get rooms lock ≡ Some room → HasRoom shape (length (entries_at entries lock)) room
 
+-- The entries that are copied to their locks: none where there is only one lock, since it is given the list as it is.
+abbrev pub copied : Shape → List Entry → List Entry
+copied shape entries = if shape.locks == 1 then [] else entries
+
 -- All that a close of these workers wants.
 pub record IsRoom (shape : Shape) (downs : List Stand) (room : Room) : Type 0 where
   pub no_words : room.words.items ≡ []
@@ -32,7 +36,7 @@ pub record IsRoom (shape : Shape) (downs : List Stand) (room : Room) : Type 0 wh
   pub history : length (entries_given downs) ≤ vec_capacity room.history
   pub no_seats : room.seats.items ≡ []
   pub seats : length downs ≤ vec_capacity room.seats
-  pub locks : HaveRoom shape (entries_given downs) room.locks.items
+  pub locks : HaveRoom shape (copied shape (entries_given downs)) room.locks.items
 
 -- A lock is settled by its words: it has no owner, or its owner's job is done.
 abbrev pub is_done : (Address → ℕ) → Option ℕ → Bool

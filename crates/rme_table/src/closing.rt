@@ -5,7 +5,7 @@ ghost use Rattle.rme_table.specs.Downs.{has_down, all_given};
 
 use crate::closed::{Closed, Unclosed};
 use crate::down::Down;
-use crate::filling::fill_all;
+use crate::filling::fill_locks;
 use crate::room::{Room, room_for};
 use crate::service::Service;
 use rme_history::by_place;
@@ -68,7 +68,7 @@ impl Service {
         let (words, history) = table.gather(all_seats(downs, seats), words, history);
         let entries = by_place(history);
         Closed {
-            locks: fill_all(locks, &Bank::of(shape, words), &entries),
+            locks: fill_locks(locks, &Bank::of(shape, words), entries),
         }
     }
 }

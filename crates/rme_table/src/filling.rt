@@ -6,19 +6,45 @@ ghost use Rattle.rme_tree.specs.Nodes.{owner_in};
 ghost use Rattle.rme_machine.specs.Histories.{entries_at};
 ghost use Rattle.rme_machine.specs.Views.{lock_words, worker_words, is_pending};
 ghost use Rattle.rme_table.specs.declared.closed.ClosedLock.{ClosedLock};
-ghost use Rattle.rme_table.specs.Filling.{HasRoom, HaveRoom, IsFilled, is_done};
+ghost use Rattle.rme_table.specs.Filling.{HasRoom, HaveRoom, IsFilled, copied, is_done};
 
 use crate::closed::ClosedLock;
 use rme_program::Entry;
 use rme_tree::owner;
 use rme_words::{Address, Bank};
 
-/// Fills the room of all locks.
-pub(crate) fn fill_all(
+/// Fills the room of all locks. All entries are those of the only lock, where there is one.
+pub(crate) fn fill_locks(
     mut locks: Vec<ClosedLock>,
     bank: &Bank,
-    entries: &[Entry],
+    entries: Vec<Entry>,
 ) -> Vec<ClosedLock>
+    requires room { HaveRoom bank.now.shape (copied bank.now.shape entries.items) locks.items }
+    requires only { bank.now.shape.locks ≡ 1 → entries_at entries.items 0 ≡ entries.items }
+    ensures count { length result.items ≡ bank.now.shape.locks }
+    ensures filled { (lock : ℕ) (closed : ClosedLock) → slice_get result.items lock ≡ Some closed → IsFilled bank.now entries.items lock closed }
+{
+    if bank.shape().locks != 1 {
+        return fill_all(locks, bank, &entries);
+    }
+    fill_only(&mut locks[0], bank, entries);
+    locks
+}
+
+/// Fills the room of the only lock, to which all entries are given as they are.
+fn fill_only(room: &mut ClosedLock, bank: &Bank, entries: Vec<Entry>)
+    requires lock { 0 < bank.now.shape.locks }
+    requires room { HasRoom bank.now.shape 0 room.old }
+    requires only { entries_at entries.items 0 ≡ entries.items }
+    ensures { IsFilled bank.now entries.items 0 room.new }
+{
+    put_cells(&mut room.cells, bank, 0);
+    room.settled = settled(bank, 0);
+    room.entries = entries;
+}
+
+/// Fills the room of all locks, each with copies of its entries.
+fn fill_all(mut locks: Vec<ClosedLock>, bank: &Bank, entries: &[Entry]) -> Vec<ClosedLock>
     requires { HaveRoom bank.now.shape entries.now locks.items }
     ensures count { length result.items ≡ bank.now.shape.locks }
     ensures filled { (lock : ℕ) (closed : ClosedLock) → slice_get result.items lock ≡ Some closed → IsFilled bank.now entries.now lock closed }

@@ -5,7 +5,7 @@ ghost use Rattle.rme_machine.specs.Histories.{entries_at};
 ghost use Rattle.rme_seats.specs.Closing.{entries_given};
 ghost use Rattle.rme_seats.specs.Rule.{total};
 ghost use Rattle.rme_seats.specs.Stands.{Stand};
-ghost use Rattle.rme_table.specs.Filling.{HasRoom, HaveRoom, IsRoom};
+ghost use Rattle.rme_table.specs.Filling.{HasRoom, HaveRoom, IsRoom, copied};
 
 use crate::closed::ClosedLock;
 use crate::down::Down;
@@ -33,7 +33,7 @@ pub(crate) fn room_for(alloc: Global, shape: Shape, downs: &[Down]) -> Result<Ro
     let words = room_for_words(alloc, shape.words())?;
     let history = room_for_entries(alloc, count)?;
     let seats = room_for_seats(alloc, downs.len())?;
-    let locks = room_for_locks(alloc, shape, downs)?;
+    let locks = room_for_copies(alloc, shape, downs)?;
     Ok(Room {
         words,
         history,
@@ -77,7 +77,17 @@ fn count_in(entries: &[Entry], lock: u32) -> usize
     count
 }
 
-/// Room for each lock, in order.
+/// Room for each lock, in order. The only lock wants none for entries, since it is given all of them as they are.
+fn room_for_copies(alloc: Global, shape: Shape, downs: &[Down]) -> Result<Vec<ClosedLock>, NoMemory>
+    ensures { IfOk result (λ locks. HaveRoom shape (copied shape (entries_given downs.now)) locks.items) }
+{
+    if shape.locks == 1 {
+        return room_for_locks(alloc, shape, &[]);
+    }
+    room_for_locks(alloc, shape, downs)
+}
+
+/// Room for each lock, in order, with that for copies of its entries.
 fn room_for_locks(alloc: Global, shape: Shape, downs: &[Down]) -> Result<Vec<ClosedLock>, NoMemory>
     ensures { IfOk result (λ locks. HaveRoom shape (entries_given downs.now) locks.items) }
 {

@@ -76,6 +76,7 @@ fn plans_of(alloc: Global, workers: usize) -> Result<Vec<WorkerPlan>, AllocError
     for _ in 0..workers {
         plans.push(WorkerPlan {
             jobs: vec![in alloc; job; 2]?,
+            rounds: 1,
             falls: Vec::new(alloc),
             lives: 1,
             sweeps: 1_000_000,

@@ -123,3 +123,27 @@ fn falls_from_the_first_step(rt: HostRuntime) -> Result<(), Fail> {
     assert!(rt; report.lives.as_slice() == [3].as_slice());
     Ok(())
 }
+
+/// Two jobs in three rounds, with a fall on the way: six entries, in the order of the rounds, each once.
+#[test]
+fn rounds(rt: HostRuntime) -> Result<(), Fail> {
+    let jobs = [job(0, &[Op::Add(0, 1)]), job(0, &[Op::Add(0, 10)])];
+    let mut thrice = plan(rt.alloc(), &jobs, &[50], 2, 1)?;
+    thrice.rounds = 3;
+    let mut plans = Vec::new(rt.alloc());
+    plans.push(thrice)?;
+    let report = report_of(&rt, rt.alloc(), (1, 1, 1, 10), plans, &Free)?;
+    assert!(rt; report.ends.as_slice() == [End::AllDone].as_slice());
+    assert!(rt; report.lives.as_slice() == [2].as_slice());
+    let told = [
+        ((0, 0, 1, 0, 1), [Op::Add(0, 1)].as_slice()),
+        ((0, 0, 2, 1, 11), [Op::Add(0, 10)].as_slice()),
+        ((0, 0, 3, 2, 12), [Op::Add(0, 1)].as_slice()),
+        ((0, 0, 4, 3, 22), [Op::Add(0, 10)].as_slice()),
+        ((0, 0, 5, 4, 23), [Op::Add(0, 1)].as_slice()),
+        ((0, 0, 6, 5, 33), [Op::Add(0, 10)].as_slice()),
+    ];
+    assert!(rt; report.closed.locks.len() == 1);
+    assert!(rt; lock_is(&report.closed.locks[0], &[33], true, &told));
+    Ok(())
+}

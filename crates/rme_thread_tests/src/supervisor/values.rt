@@ -9,7 +9,7 @@ use std::sync::Wait;
 use std::test::Fail;
 use std::thread::Threads;
 
-/// A plan of these jobs, falls, lives and sweeps.
+/// A plan of these jobs, in one round, and of these falls, lives and sweeps.
 pub fn plan(
     alloc: Global,
     jobs: &[Job],
@@ -19,6 +19,7 @@ pub fn plan(
 ) -> Result<WorkerPlan, AllocError> {
     Ok(WorkerPlan {
         jobs: all_of(alloc, jobs)?,
+        rounds: 1,
         falls: all_of(alloc, falls)?,
         lives,
         sweeps,

@@ -1,11 +1,11 @@
-use Rattle.std.proofs.Common.{◌≡◌, List, length, ◌∙◌, ap, subst, ℕ, arith}
+use Rattle.std.proofs.Common.{◌≡◌, List, length, refl, ◌∙◌, ap, subst, ℕ, arith}
 use Rattle.rme_words.specs.declared.shape.Shape.{Shape}
 use Rattle.rme_words.specs.Words.{Memory}
 use Rattle.rme_program.specs.declared.note.Entry.{Entry}
 use Rattle.rme_seats.specs.Stands.{Ident, Stand}
 use Rattle.rme_seats.specs.Closing.{Gathers}
 use Rattle.rme_table.proofs.Mixed.{some_given}
-use Rattle.rme_table.proofs.Closes.{still_room, closes}
+use Rattle.rme_table.proofs.Closes.{still_room, still_only, closes}
 use Rattle.rme_table.proofs.service.Service.close_into.Goals as goal
 
 pub gather-words-requires-clause-some_seat : goal.gather-words-requires-clause-some_seat
@@ -20,16 +20,22 @@ gathered : (one two : Ident) (seats downs : List Stand) (before after : List ℕ
 gathered one two seats downs before after old new idents same g =
     subst (λ (x : Ident). Gathers x.shape downs before old after new) idents (subst (λ (xs : List Stand). Gathers one.shape xs before old after new) same g)
 
-pub fill_all-requires : goal.fill_all-requires
-fill_all-requires c =
+pub fill_locks-requires-clause-room : goal.fill_locks-requires-clause-room
+fill_locks-requires-clause-room c =
     let g = gathered c.self.inside.words c.args.self _ _ _ _ _ _ c.self.view_is c.all_seats.ensures c.gather-words.ensures in
     still_room c.args.self.shape c.args.downs.items _ _ _ _ c.by_place-entries.result.items g c.requires.room.no_words c.requires.room.no_history c.requires.given
-    c.by_place-entries.ensures.permutation c.by_place-entries.ensures.order c.of.result c.deref.result.now c.args.room.locks.items
-    (ap (λ (m : Memory). m.shape) c.of.ensures ∙ c.shape-shape.ensures) c.deref.ensures.value c.requires.room.locks
+    c.by_place-entries.ensures.permutation c.by_place-entries.ensures.order c.of.result c.by_place-entries.result.items c.args.room.locks.items
+    (ap (λ (m : Memory). m.shape) c.of.ensures ∙ c.shape-shape.ensures) refl c.requires.room.locks
+
+pub fill_locks-requires-clause-only : goal.fill_locks-requires-clause-only
+fill_locks-requires-clause-only c =
+    let g = gathered c.self.inside.words c.args.self _ _ _ _ _ _ c.self.view_is c.all_seats.ensures c.gather-words.ensures in
+    still_only c.args.self.shape c.args.downs.items _ _ _ _ c.by_place-entries.result.items g c.requires.room.no_words c.requires.room.no_history c.requires.given
+    c.by_place-entries.ensures.permutation c.by_place-entries.ensures.order c.of.result c.by_place-entries.result.items (ap (λ (m : Memory). m.shape) c.of.ensures ∙ c.shape-shape.ensures) refl
 
 pub returns : goal.returns
 returns c =
     let g = gathered c.self.inside.words c.args.self _ _ _ _ _ _ c.self.view_is c.all_seats.ensures c.gather-words.ensures in
     closes c.args.self.shape c.args.downs.items _ _ _ _ c.by_place-entries.result.items g c.requires.room.no_words c.requires.room.no_history c.requires.given
-    c.by_place-entries.ensures.permutation c.by_place-entries.ensures.order c.of.result c.deref.result.now c.fill_all-2.result.items
-    (c.of.ensures ∙ ap {B = Memory} (λ (s : Shape). record { shape = s; words = c.gather-words.result.0.items }) c.shape-shape.ensures) c.deref.ensures.value c.fill_all-2.ensures.count c.fill_all-2.ensures.filled
+    c.by_place-entries.ensures.permutation c.by_place-entries.ensures.order c.of.result c.by_place-entries.result.items c.fill_locks-2.result.items
+    (c.of.ensures ∙ ap {B = Memory} (λ (s : Shape). record { shape = s; words = c.gather-words.result.0.items }) c.shape-shape.ensures) refl c.fill_locks-2.ensures.count c.fill_locks-2.ensures.filled
