@@ -84,11 +84,12 @@ module _ (ident : Ident) (a : Stand) (t : Tally) (lock held : ℕ) where
         climb_fell fell = falls_on ident.shape a now next t u v state.doing (falls_at ident.shape onward now next u v 1 fell (omega arith)) (let b = below in omega (arith, b))
 
         module _ (found : ℕ) (made : MadeStep ident.shape onward now next u v found) where
-          pub climb_blocked : found ≢ 0 → Swept ident.shape a next t v lock (Blocked level)
+          pub climb_blocked : found ≢ 0 → Swept ident.shape a next t v lock held (Blocked level)
           climb_blocked taken =
               let leads = blocked_by ident.shape now.part.worker a.part.private.begun lock level found taken in
               record {
                 count = level - held + 1;
+                tried = let l = state.least in omega (arith, l);
                 some_step = omega arith;
                 few = let b = below in omega (arith, b);
                 doing = then_on ident.shape a now next t u v (climbing below) (did ident.shape now next u v found made (climbing below).at refl leads refl);
@@ -109,7 +110,7 @@ module _ (ident : Ident) (a : Stand) (t : Tally) (lock held : ℕ) where
                 told = λ more. note_led ident.shape onward now next u v found a.part.private.begun (Climbing record { lock = lock; held = level }) made (climbing below).at.private {out = (after_taken ident.shape lock (level + 1)).0} leads;
               }
 
-    pub climb_ends : (s : Shape) → s ≡ ident.shape → s.height ≤ level → Swept ident.shape a now t u lock Entered
+    pub climb_ends : (s : Shape) → s ≡ ident.shape → s.height ≤ level → Swept ident.shape a now t u lock held Entered
     climb_ends s same all =
         let up : ident.shape.height ≤ level = subst (λ (x : Shape). x.height ≤ level) same all in
         let few = state.few in
@@ -117,6 +118,7 @@ module _ (ident : Ident) (a : Stand) (t : Tally) (lock held : ℕ) where
         let top : level ≡ ident.shape.height = omega (arith, up, few) in
         record {
           count = level - held;
+          tried = let l = state.least in omega (arith, l, top);
           some_step = omega (arith, wants, top);
           few = omega (arith, top);
           doing = subst (λ (o : Stage × Note). Doing ident.shape onward a now t u (level - held) a.part.private.begun o.0) (at_root ident.shape lock level top) state.doing;

@@ -101,6 +101,7 @@ module _ (s : Shape) (a c d : Stand) (t u v : Tally) (b lock turn mask reply beg
       walks = walks_then s a.part c.part d.part t u v 0 done.walks record {
         values = begun ∷ [];
         walk = made.took;
+        found = (made.told, tt);
         steps = ap (λ (p : Part). p.steps) made.took;
         asks = made.asks;
       };

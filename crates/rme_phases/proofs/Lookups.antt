@@ -19,7 +19,7 @@ use Rattle.rme_seats.specs.Doing.{IsAt, IsBefore, Doing, Falling, Fallen, MadeSt
 use Rattle.rme_seats.proofs.Chains.{nothing, did, note_led, then_on, falls_on, falls_at, is_stage}
 use Rattle.rme_phases.specs.declared.recovering.Found.{Found}
 use Rattle.rme_phases.specs.declared.recovering.Found.TheVariants.{Inside}
-use Rattle.rme_phases.specs.Finds.{found_stage, found_note, is_inside, Finds}
+use Rattle.rme_phases.specs.Finds.{found_stage, found_note, levels_read, Finds}
 use Rattle.rme_phases.proofs.Joins.{next_load}
 use Rattle.rme_phases.proofs.PathNodes.{on_path, path_number}
 
@@ -84,17 +84,15 @@ module _ (ident : Ident) (a : Stand) (t : Tally) (lock : ℕ) (pending : Bool) w
           at_path : IsAt ident.shape now.part a.part.private.begun (Recovering (LoadPath pending lock held))
           at_path = (looking below).at
 
-          pub path_ends_below : found ≢ own → (out : Found) → after_other pending lock held ≡ (found_stage out, found_note out) → is_inside out ≡ false
-              → Finds ident.shape onward a next t v a.part.private.begun out 1 ident.shape.height
-          path_ends_below apart out leads outside =
+          pub path_ends_below : found ≢ own → (out : Found) → after_other pending lock held ≡ (found_stage out, found_note out) → ((y : Shape) → levels_read y out ≡ held + 1)
+              → Finds ident.shape onward a next t v a.part.private.begun out (levels_read ident.shape out) 1 ident.shape.height
+          path_ends_below apart out leads read =
               let after = other_by ident.shape now.part.worker a.part.private.begun lock held found pending (λ e. apart (e ∙ sym own_side)) ∙ leads in
               record {
-                count = held + 1;
-                enough = omega arith;
-                few = let b = below in omega (arith, b);
-                doing = then_on ident.shape a now next t u v (looking below) (did ident.shape now next u v found made at_path refl after refl);
+                enough = let r = read ident.shape in omega (arith, r);
+                few = let b = below in let r = read ident.shape in omega (arith, b, r);
+                doing = subst (λ (n : ℕ). Doing ident.shape onward a next t v n a.part.private.begun (found_stage out)) (sym (read ident.shape)) (then_on ident.shape a now next t u v (looking below) (did ident.shape now next u v found made at_path refl after refl));
                 note = note_led ident.shape onward now next u v found a.part.private.begun (Recovering (LoadPath pending lock held)) made at_path.private after;
-                whole = λ inside. let no : true ≡ false = sym inside ∙ outside in cc;
               }
 
           pub path_more : found ≡ own → Looking ident a t lock pending next v (held + 1)
@@ -109,17 +107,16 @@ module _ (ident : Ident) (a : Stand) (t : Tally) (lock : ℕ) (pending : Bool) w
                 told = λ more. note_led ident.shape onward now next u v found a.part.private.begun (Recovering (LoadPath pending lock held)) made at_path.private {out = (after_own ident.shape pending lock (held + 1)).0} after;
               }
 
-    pub path_ends : (s : Shape) → s ≡ ident.shape → s.height ≤ held → Finds ident.shape onward a now t u a.part.private.begun (Inside lock pending) 1 ident.shape.height
+    pub path_ends : (s : Shape) → s ≡ ident.shape → s.height ≤ held → Finds ident.shape onward a now t u a.part.private.begun (Inside lock pending) ident.shape.height 1 ident.shape.height
     path_ends s same all =
         let up : ident.shape.height ≤ held = subst (λ (x : Shape). x.height ≤ held) same all in
         let few = state.few in
         let some_level = ident.shape.counted.tree.some_level in
         let top : held ≡ ident.shape.height = omega (arith, up, few) in
         record {
-          count = held;
-          enough = omega (arith, some_level, top);
-          few = few;
-          doing = subst (λ (o : Stage × Note). Doing ident.shape onward a now t u held a.part.private.begun o.0) (at_root ident.shape pending lock held top) state.doing;
+          enough = omega (arith, some_level);
+          few = omega arith;
+          doing = subst (λ (n : ℕ). Doing ident.shape onward a now t u n a.part.private.begun (re_entry pending lock)) top
+              (subst (λ (o : Stage × Note). Doing ident.shape onward a now t u held a.part.private.begun o.0) (at_root ident.shape pending lock held top) state.doing);
           note = state.told (omega (arith, some_level, top)) ∙ ap (λ (o : Stage × Note). o.1) (at_root ident.shape pending lock held top);
-          whole = λ inside. top;
         }

@@ -19,7 +19,7 @@ use Rattle.rme_seats.proofs.Leading.{leads_restart}
 use Rattle.rme_seats.proofs.Chains.{did_led, note_led, falls_led, falls_at, few_begun, takes_value}
 use Rattle.rme_phases.specs.declared.recovering.Found.{Found}
 use Rattle.rme_phases.specs.declared.recovering.Found.TheVariants as found
-use Rattle.rme_phases.specs.Finds.{lock_address, Finds}
+use Rattle.rme_phases.specs.Finds.{lock_address, found_stage, levels_read, steps_of_recover, Finds}
 use Rattle.rme_phases.proofs.Joins.{is_before, call_led, next_load, next_did, next_fell}
 
 none_begun : (s : Shape) (worker begun done : ℕ) → begun ≡ 0 → after_at s worker begun (Recovering LoadDone) done ≡ (Resting, Ready)
@@ -27,6 +27,12 @@ none_begun s worker begun done none = rw (eq-eqb begun 0 none) refl
 
 some_begun : (s : Shape) (worker begun done : ℕ) → begun ≢ 0 → after_at s worker begun (Recovering LoadDone) done ≡ (Recovering (LoadLock (nat_lt done begun)), Quiet)
 some_begun s worker begun done some_job = rw (ne_eqb begun 0 some_job) refl
+
+exact_steps : (s : Shape) (begun : ℕ) → begun ≢ 0 → (its : Found) → 3 + levels_read s its ≡ steps_of_recover s begun its
+exact_steps s begun some_job found.Ready = rw (ne_eqb begun 0 some_job) refl
+exact_steps s begun some_job (found.Climbing lock held) = refl
+exact_steps s begun some_job (found.Inside lock pending) = refl
+exact_steps s begun some_job (found.Leaving lock level) = refl
 
 names_lock : (s : Shape) (pending : Bool) (begun worker : ℕ) → action_at s worker begun (Recovering (LoadLock pending)) ≡ Load (lock_address pending worker)
 names_lock s true begun worker = refl
@@ -81,15 +87,13 @@ module _ (ident : Ident) (a : Stand) (ours : a.ident ≡ ident) (stood : Stood a
           done_fell fell = next_fell ident.shape restarted a b t u restarts c v (ident.shape.height + 3) (omega arith) fell (omega arith)
 
           module _ (done : ℕ) (two : MadeStep ident.shape onward b c u v done) where
-            pub none_ready : begun ≡ 0 → Finds ident.shape restarted a c t v 0 found.Ready 2 (ident.shape.height + 3)
+            pub none_ready : begun ≡ 0 → Finds ident.shape restarted a c t v 0 found.Ready 2 2 (ident.shape.height + 3)
             none_ready none = record {
-              count = 2;
               enough = omega arith;
               few = omega arith;
               doing = subst (λ (n : ℕ). Doing ident.shape restarted a c t v 2 n Resting) none
                   (next_did ident.shape restarted a b t u restarts c v (omega arith) two refl (none_begun ident.shape b.part.worker begun done none) refl);
               note = note_led ident.shape onward b c u v done begun (Recovering LoadDone) two restarts.at.private (none_begun ident.shape b.part.worker begun done none);
-              whole = λ inside. let no : false ≡ true = inside in cc;
             }
 
             module _ (some_job : begun ≢ 0) (pending : Bool) (is : pending ≡ nat_lt done begun) where
@@ -121,16 +125,16 @@ module _ (ident : Ident) (a : Stand) (ours : a.ident ≡ ident) (stood : Stood a
                     pub path_falls : Falling ident.shape onward d e w y ident.shape.height → Falling ident.shape restarted a e t y (ident.shape.height + 3)
                     path_falls fell = falls_led ident.shape a d e t w y (omega arith) named fell (omega arith)
 
-                    pub path_found : (found : Found) → Finds ident.shape onward d e w y d.part.private.begun found 1 ident.shape.height
-                        → Finds ident.shape restarted a e t y begun found 2 (ident.shape.height + 3)
+                    pub path_found : (found : Found) → Finds ident.shape onward d e w y d.part.private.begun found (levels_read ident.shape found) 1 ident.shape.height
+                        → Finds ident.shape restarted a e t y begun found (steps_of_recover ident.shape begun found) 2 (ident.shape.height + 3)
                     path_found found finds =
                         let enough = finds.enough in
                         let few = finds.few in
+                        let exact : 3 + levels_read ident.shape found ≡ steps_of_recover ident.shape begun found = exact_steps ident.shape begun some_job found in
                         record {
-                          count = 3 + finds.count;
-                          enough = omega (arith, enough);
-                          few = omega (arith, few);
-                          doing = call_led ident.shape a d e t w y restarted (omega arith) named finds.doing;
+                          enough = omega (arith, enough, exact);
+                          few = omega (arith, few, exact);
+                          doing = subst (λ (n : ℕ). Doing ident.shape restarted a e t y n begun (found_stage found)) exact
+                              (call_led ident.shape a d e t w y restarted (omega arith) named finds.doing);
                           note = finds.note;
-                          whole = λ inside. let all = finds.whole inside in omega (arith, all);
                         }

@@ -1,5 +1,5 @@
 -- What a sweep of phase Enter has done.
-use Rattle.std.specs.Prelude.{◌≡◌, ℕ, ◌≤◌}
+use Rattle.std.specs.Prelude.{◌≡◌, ℕ, ◌+◌, ◌≤◌}
 use Rattle.rme_words.specs.declared.shape.Shape.{Shape}
 use Rattle.rme_program.specs.declared.stage.Stage.{Stage}
 use Rattle.rme_program.specs.declared.stage.Stage.TheVariants.{Climbing, Logging}
@@ -22,9 +22,17 @@ abbrev pub climbed_note : ℕ → Climbed → Note
 climbed_note lock Entered = note.Entered lock
 climbed_note lock (Blocked held) = note.Blocked
 
--- The sweep took one step for each node that it tried, and ended with the lock or with a node that is not free.
-pub record Swept (shape : Shape) (start now : Stand) (old new : Tally) (lock : ℕ) (climbed : Climbed) : Type 0 where
+-- The nodes that were tried, from the leaf on: with those that the worker had, the whole path, or those that it then has and
+-- the one that is not free.
+abbrev pub levels_tried : Shape → Climbed → ℕ
+levels_tried shape Entered = shape.height
+levels_tried shape (Blocked held) = held + 1
+
+-- The sweep took one step for each node that it tried, and ended with the lock or with the first node that is not free: each
+-- step before the last took its node, so none of them was blocked.
+pub record Swept (shape : Shape) (start now : Stand) (old new : Tally) (lock held : ℕ) (climbed : Climbed) : Type 0 where
   pub count : ℕ
+  pub tried : held + count ≡ levels_tried shape climbed
   pub some_step : 1 ≤ count
   pub few : count ≤ shape.height
   pub doing : Doing shape onward start now old new count start.part.private.begun (climbed_to lock climbed)

@@ -1,5 +1,5 @@
 -- What phase Recover finds.
-use Rattle.std.specs.Prelude.{◌≡◌, ℕ, ◌≤◌, Bool, true, false}
+use Rattle.std.specs.Prelude.{◌≡◌, ℕ, ◌+◌, ◌≤◌, ◌==◌, if◌then◌else◌, Bool, true, false}
 use Rattle.rme_words.specs.declared.shape.Shape.{Shape}
 use Rattle.rme_words.specs.declared.address.Address.{Address}
 use Rattle.rme_words.specs.declared.address.Address.TheVariants.{At, SlateLock}
@@ -35,19 +35,23 @@ found_note (Climbing lock held) = note.Quiet
 found_note (Inside lock pending) = note.Reentered lock
 found_note (Leaving lock level) = note.Quiet
 
--- The worker has its whole path.
-abbrev pub is_inside : Found → Bool
-is_inside Ready = false
-is_inside (Climbing lock held) = false
-is_inside (Inside lock pending) = true
-is_inside (Leaving lock level) = false
+-- The nodes of the path that were read: those that the worker holds, and the next one where it has not its whole path.
+abbrev pub levels_read : Shape → Found → ℕ
+levels_read shape Ready = 1
+levels_read shape (Climbing lock held) = held + 1
+levels_read shape (Inside lock pending) = shape.height
+levels_read shape (Leaving lock level) = level + 1
 
--- So many steps, from the least number to the most, have led to where the worker goes on. Where it has its whole path they
--- were the most.
-pub record Finds (shape : Shape) (lead : Part → Part) (start now : Stand) (old new : Tally) (begun : ℕ) (found : Found) (least most : ℕ) : Type 0 where
-  pub count : ℕ
+-- The steps of Recover: two where nothing was ever begun, and else three and one for each node read.
+abbrev pub steps_of_recover : Shape → ℕ → Found → ℕ
+steps_of_recover shape begun Ready = if begun == 0 then 2 else 3 + levels_read shape Ready
+steps_of_recover shape begun (Climbing lock held) = 3 + levels_read shape (Climbing lock held)
+steps_of_recover shape begun (Inside lock pending) = 3 + levels_read shape (Inside lock pending)
+steps_of_recover shape begun (Leaving lock level) = 3 + levels_read shape (Leaving lock level)
+
+-- So many steps, from the least number to the most, have led to where the worker goes on.
+pub record Finds (shape : Shape) (lead : Part → Part) (start now : Stand) (old new : Tally) (begun : ℕ) (found : Found) (count least most : ℕ) : Type 0 where
   pub enough : least ≤ count
   pub few : count ≤ most
   pub doing : Doing shape lead start now old new count begun (found_stage found)
   pub note : now.part.note ≡ found_note found
-  pub whole : is_inside found ≡ true → count ≡ most

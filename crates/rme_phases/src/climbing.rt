@@ -29,7 +29,7 @@ pub fn climb<C: Chance>(
 ) -> Result<Climbed, Fell>
     requires ours { seat.old.ident ≡ service.now }
     requires at { IsBefore service.now.shape seat.old.part (Climbing record { lock = lock; held = held }) }
-    ensures { MatchResult result (λ climbed. Swept service.now.shape seat.old seat.new (C.tally chance.old) (C.tally chance.new) lock climbed) (λ _. Falling service.now.shape onward seat.old seat.new (C.tally chance.old) (C.tally chance.new) service.now.shape.height) }
+    ensures { MatchResult result (λ climbed. Swept service.now.shape seat.old seat.new (C.tally chance.old) (C.tally chance.new) lock held climbed) (λ _. Falling service.now.shape onward seat.old seat.new (C.tally chance.old) (C.tally chance.new) service.now.shape.height) }
 {
     let shape = service.shape();
     let worker = seat.worker();

@@ -1,13 +1,14 @@
 //! Phase Recover: what a worker that comes up after a crash finds.
 
-ghost use Rattle.std.specs.Prelude.{◌≡◌, ◌+◌, ◌<◌, false, MatchResult};
+ghost use Rattle.std.specs.Prelude.{◌≡◌, ◌+◌, ◌<◌, MatchResult};
+ghost use Rattle.rme_words.specs.declared.shape.Shape.{Shape};
 ghost use Rattle.rme_words.specs.Words.{word};
 ghost use Rattle.rme_program.specs.declared.stage.Stage.TheVariants.{Recovering};
 ghost use Rattle.rme_program.specs.declared.stage.Recovery.TheVariants.{LoadPath};
 ghost use Rattle.rme_program.specs.Steps.{after_other};
 ghost use Rattle.rme_seats.specs.Parts.{onward, restarted};
 ghost use Rattle.rme_seats.specs.Doing.{Falling, IsBefore};
-ghost use Rattle.rme_phases.specs.Finds.{lock_address, found_stage, found_note, is_inside, Finds};
+ghost use Rattle.rme_phases.specs.Finds.{lock_address, found_stage, found_note, levels_read, steps_of_recover, Finds};
 
 use rme_seats::{Chance, Fell, Onward, Restart, Service, WorkerSeat};
 use rme_tree::{node, side};
@@ -47,7 +48,7 @@ fn lock_at(shape: Shape, worker: u32, pending: bool) -> usize
 /// What is found where so many nodes are the worker's, and the next is not.
 fn partly(lock: u32, held: u32, pending: bool) -> Found
     ensures leads { after_other pending lock held ≡ (found_stage result, found_note result) }
-    ensures outside { is_inside result ≡ false }
+    ensures read { (shape : Shape) → levels_read shape result ≡ held + 1 }
 {
     if pending {
         return Found::Climbing { lock, held };
@@ -68,7 +69,7 @@ fn find_path<C: Chance>(
 ) -> Result<Found, Fell>
     requires ours { seat.old.ident ≡ service.now }
     requires at { IsBefore service.now.shape seat.old.part (Recovering (LoadPath pending lock 0)) }
-    ensures { MatchResult result (λ found. Finds service.now.shape onward seat.old seat.new (C.tally chance.old) (C.tally chance.new) seat.old.part.private.begun found 1 service.now.shape.height) (λ _. Falling service.now.shape onward seat.old seat.new (C.tally chance.old) (C.tally chance.new) service.now.shape.height) }
+    ensures { MatchResult result (λ found. Finds service.now.shape onward seat.old seat.new (C.tally chance.old) (C.tally chance.new) seat.old.part.private.begun found (levels_read service.now.shape found) 1 service.now.shape.height) (λ _. Falling service.now.shape onward seat.old seat.new (C.tally chance.old) (C.tally chance.new) service.now.shape.height) }
 {
     let shape = service.shape();
     let worker = seat.worker();
@@ -92,7 +93,7 @@ pub fn recover<C: Chance>(
     chance: &mut C,
 ) -> Result<Recovered, Fell>
     requires ours { seat.old.ident ≡ service.now }
-    ensures { MatchResult result (λ its. Finds service.now.shape restarted seat.old seat.new (C.tally chance.old) (C.tally chance.new) its.begun its.found 2 (service.now.shape.height + 3)) (λ _. Falling service.now.shape restarted seat.old seat.new (C.tally chance.old) (C.tally chance.new) (service.now.shape.height + 3)) }
+    ensures { MatchResult result (λ its. Finds service.now.shape restarted seat.old seat.new (C.tally chance.old) (C.tally chance.new) its.begun its.found (steps_of_recover service.now.shape its.begun its.found) 2 (service.now.shape.height + 3)) (λ _. Falling service.now.shape restarted seat.old seat.new (C.tally chance.old) (C.tally chance.new) (service.now.shape.height + 3)) }
 {
     let shape = service.shape();
     let worker = seat.worker();

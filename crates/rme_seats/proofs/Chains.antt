@@ -19,7 +19,7 @@ use Rattle.rme_seats.specs.Parts.{advanced, walked, led, onward}
 use Rattle.rme_seats.specs.Steps.{Stood, Stepped}
 use Rattle.rme_seats.specs.Chances.{Tally, Asks, IsCounted}
 use Rattle.rme_seats.specs.Stands.{Stand}
-use Rattle.rme_seats.specs.Doing.{Walks, Stays, IsAt, Doing, Falling, is_plain, MayPlainly, MayLoad, MayStore, MaySwap, MadeStep, Fallen}
+use Rattle.rme_seats.specs.Doing.{AllFound, AllStepped, Walks, Stays, IsAt, Doing, Falling, is_plain, MayPlainly, MayLoad, MayStore, MaySwap, MadeStep, Fallen}
 use Rattle.rme_machine.proofs.Further.{fitting}
 use Rattle.rme_machine.proofs.Taking.{taking}
 use Rattle.rme_seats.specs.Rule.{memory_in, privates_of}
@@ -51,12 +51,34 @@ led_on : (s : Shape) (lead : Part → Part) (p : Part) (vs ws : List ℕ) → 0 
 led_on s lead p [] ws some_step = absurd (omega (arith, some_step))
 led_on s lead p (v ∷ vs) ws some_step = walked_on s (advanced s (lead p) v) vs ws
 
+all_on : (s : Shape) (p : Part) (vs ws : List ℕ) → AllStepped s p vs → AllStepped s (walked s p vs) ws → AllStepped s p (vs ++ ws)
+all_on s p [] ws one two = two
+all_on s p (v ∷ vs) ws one two = (one.0, all_on s (advanced s p v) vs ws one.1 two)
+
+all_onward : (s : Shape) (p : Part) (vs : List ℕ) → AllFound s onward p vs → AllStepped s p vs
+all_onward s p [] found = tt
+all_onward s p (v ∷ vs) found = found
+
+found_onward : (s : Shape) (p : Part) (vs : List ℕ) → AllStepped s p vs → AllFound s onward p vs
+found_onward s p [] all = tt
+found_onward s p (v ∷ vs) all = all
+
+found_led : (s : Shape) (lead : Part → Part) (p : Part) (vs ws : List ℕ) → 0 < length vs → AllFound s lead p vs → AllStepped s (led s lead p vs) ws → AllFound s lead p (vs ++ ws)
+found_led s lead p [] ws some_step one two = absurd (omega (arith, some_step))
+found_led s lead p (v ∷ vs) ws some_step one two = (one.0, all_on s (advanced s (lead p) v) vs ws one.1 two)
+
 module _ (s : Shape) (a b c : Part) (t u v : Tally) (falls : ℕ) where
+  -- What the second walk found, from where the first has led.
+  then_found : (lead : Part → Part) (one : Walks s lead a b t u 0) (two : Walks s onward b c u v falls) → AllStepped s (led s lead a one.values) two.values
+  then_found lead one two = subst (λ (p : Part). AllStepped s p two.values) one.walk (all_onward s b two.values two.found)
+
   join_walks : (lead : Part → Part) (one : Walks s lead a b t u 0) (two : Walks s onward b c u v falls)
-      → led s lead a (one.values ++ two.values) ≡ walked s (led s lead a one.values) two.values → Walks s lead a c t v falls
-  join_walks lead one two joined = record {
+      → led s lead a (one.values ++ two.values) ≡ walked s (led s lead a one.values) two.values → AllFound s lead a (one.values ++ two.values)
+      → Walks s lead a c t v falls
+  join_walks lead one two joined found = record {
     values = one.values ++ two.values;
     walk = two.walk ∙ led_onward s b two.values ∙ ap (λ (p : Part). walked s p two.values) one.walk ∙ sym joined;
+    found = found;
     steps = let l = length-append one.values two.values in omega (arith, l, one.steps, two.steps);
     asks = let l = length-append one.values two.values in
         let asks = asked_on t u v _ _ 0 falls one.asks two.asks in
@@ -66,9 +88,13 @@ module _ (s : Shape) (a b c : Part) (t u v : Tally) (falls : ℕ) where
   pub walks_then : Walks s onward a b t u 0 → Walks s onward b c u v falls → Walks s onward a c t v falls
   walks_then one two = join_walks onward one two
       (led_onward s a (one.values ++ two.values) ∙ walked_on s a one.values two.values ∙ ap (λ (p : Part). walked s p two.values) (sym (led_onward s a one.values)))
+      (found_onward s a (one.values ++ two.values)
+      (all_on s a one.values two.values (all_onward s a one.values one.found)
+      (subst (λ (p : Part). AllStepped s p two.values) (led_onward s a one.values) (then_found onward one two))))
 
   pub led_then : (lead : Part → Part) (one : Walks s lead a b t u 0) → Walks s onward b c u v falls → 0 < length one.values → Walks s lead a c t v falls
   led_then lead one two some_step = join_walks lead one two (led_on s lead a one.values two.values some_step)
+      (found_led s lead a one.values two.values some_step one.found (then_found lead one two))
 
 -- ---- what several steps have done
 
@@ -120,7 +146,7 @@ counted_none (Some x) = omega arith
 
 pub nothing : (s : Shape) (a : Stand) (t : Tally) (b : ℕ) (st : Stage) → IsAt s a.part b st → Doing s onward a a t t 0 b st
 nothing s a t b st at = record {
-  walks = record { values = []; walk = refl; steps = omega arith; asks = record { yes = omega arith; asked = counted_none t.questions } };
+  walks = record { values = []; walk = refl; found = tt; steps = omega arith; asks = record { yes = omega arith; asked = counted_none t.questions } };
   counted = omega arith;
   stays = record { ident = refl; own = refl; draft = refl; entries = refl };
   at = at;
@@ -129,7 +155,7 @@ nothing s a t b st at = record {
 -- A fall before the first step.
 pub falls_at : (s : Shape) (lead : Part → Part) (a b : Stand) (t u : Tally) (most : ℕ) → Fallen a b t u → 1 ≤ most → Falling s lead a b t u most
 falls_at s lead a b t u most fell some_step = record {
-  walks = record { values = []; walk = ap (λ (x : Stand). x.part) fell.same; steps = ap (λ (x : Stand). x.part.steps) fell.same ∙ omega arith; asks = fell.asks };
+  walks = record { values = []; walk = ap (λ (x : Stand). x.part) fell.same; found = tt; steps = ap (λ (x : Stand). x.part.steps) fell.same ∙ omega arith; asks = fell.asks };
   fewer = let e : b.part.steps ≡ a.part.steps = ap (λ (x : Stand). x.part.steps) fell.same in omega (arith, e, some_step);
   ident = ap (λ (x : Stand). x.ident) fell.same;
   own = ap (λ (x : Stand). x.part.worker) fell.same;
@@ -177,6 +203,7 @@ module _ (s : Shape) (lead : Part → Part) (a c : Stand) (t v : Tally) (value b
     walks = record {
       values = value ∷ [];
       walk = made.took;
+      found = (made.told, tt);
       steps = ap (λ (p : Part). p.steps) made.took ∙ ap (λ (n : ℕ). n + 1) steps;
       asks = made.asks;
     };

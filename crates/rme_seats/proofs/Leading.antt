@@ -11,11 +11,13 @@ use Rattle.rme_program.specs.Conditions.{IsJob}
 use Rattle.rme_program.specs.Steps.{restarted_private}
 use Rattle.rme_machine.specs.declared.label.Act.TheVariants.{Hand, Crash, Restart, Wait}
 use Rattle.rme_machine.specs.Changes.{Became}
+use Rattle.rme_machine.specs.Laws.{Goes}
 use Rattle.rme_machine.specs.Shown.{Privates, shown}
 use Rattle.rme_machine.proofs.Events.{submit, crash, restart, withdraw}
 use Rattle.rme_seats.specs.declared.record.Part.{Part}
 use Rattle.rme_seats.specs.Parts.{onward, restarted, submitted, withdrawing}
 use Rattle.rme_seats.specs.Rule.{World, memory_in, privates_of, updated}
+use Rattle.rme_seats.specs.Running.{IsLed, IsRunTo, restart_labels, submit_labels, withdraw_labels}
 use Rattle.rme_seats.specs.Steps.{Leads}
 use Rattle.rme_seats.proofs.Worlds.{became, world_of, drafts_of, drafts_same, same_parts, books_of}
 
@@ -45,11 +47,17 @@ module _ (s : Shape) (p : Part) (words : List ℕ) (parts : ℕ → Part) (es : 
     off = λ u apart. (became parts p.worker (restarted p)).off u apart ∙ rw (ne_eqb u p.worker apart) refl;
   }
 
+  crashes : Goes s (memory_in s words) (memory_in s words) (privates_of parts) without es es p.worker Crash
+  crashes = crash s (memory_in s words) (privates_of parts) without es p.worker p.private world.fact worker was fell
+
+  restarts : Goes s (memory_in s words) (memory_in s words) without (privates_of (updated parts p.worker (restarted p))) es es p.worker Restart
+  restarts = restart s (memory_in s words) without (privates_of (updated parts p.worker (restarted p))) es p.worker crashes.0 worker fell.at rose
+
   restart_world : World s words (updated parts p.worker (restarted p)) es
   restart_world =
       let mem = memory_in s words in
-      let down = crash s mem (privates_of parts) without es p.worker p.private world.fact worker was fell in
-      let up = restart s mem without (privates_of (updated parts p.worker (restarted p))) es p.worker down.0 worker fell.at rose in
+      let down = crashes in
+      let up = restarts in
       let drafts = drafts_of s Crash _ (shown s mem without es) parts p p down.1 here refl world.drafts in
       let still = drafts_same (shown s mem without es) _ (λ (u : ℕ). (parts u).draft) drafts (λ u. ap (λ (f : ℕ → Part). (f u).draft) (same_parts parts p here)) in
       world_of s words (updated parts p.worker (restarted p)) es world.long world.idle up.0 (books_of s words parts es p (restarted p) world here refl refl)
@@ -69,6 +77,39 @@ module _ (s : Shape) (p : Part) (words : List ℕ) (parts : ℕ → Part) (es : 
       world_of s words (updated parts p.worker (withdrawing p)) es world.long world.idle goes.0 (books_of s words parts es p (withdrawing p) world here refl refl)
       (drafts_of s Wait _ _ parts p (withdrawing p) goes.1 here refl world.drafts)
 
+  -- As steps of the abstract machine.
+  pub restart_runs : IsRunTo s record { words = words; parts = parts; history = es } (restart_labels p) record { words = words; parts = updated parts p.worker (restarted p); history = es }
+  restart_runs = record {
+    world = restart_world;
+    run = (
+      shown s (memory_in s words) without es,
+      crashes.1,
+      (shown s (memory_in s words) (privates_of (updated parts p.worker (restarted p))) es, restarts.1, refl),
+    );
+  }
+
+  pub submit_runs : (job : Job) → p.private.stage ≡ Resting → p.private.begun < s.jobs → IsJob s job
+      → IsRunTo s record { words = words; parts = parts; history = es } (submit_labels p job) record { words = words; parts = updated parts p.worker (submitted job p); history = es }
+  submit_runs job rests few is = record {
+    world = submit_world job rests few is;
+    run = (
+      shown s (memory_in s words) (privates_of (updated parts p.worker (submitted job p))) es,
+      (submit s (memory_in s words) (privates_of parts) _ es p.worker p.private job world.fact worker was rests few is (became parts p.worker (submitted job p))).1,
+      refl,
+    );
+  }
+
+  pub withdraw_runs : (ascent : Ascent) → p.private.stage ≡ Climbing ascent
+      → IsRunTo s record { words = words; parts = parts; history = es } (withdraw_labels p) record { words = words; parts = updated parts p.worker (withdrawing p); history = es }
+  withdraw_runs ascent climbs = record {
+    world = withdraw_world ascent climbs;
+    run = (
+      shown s (memory_in s words) (privates_of (updated parts p.worker (withdrawing p))) es,
+      (withdraw s (memory_in s words) (privates_of parts) _ es p.worker p.private ascent world.fact worker was climbs (became parts p.worker (withdrawing p))).1,
+      refl,
+    );
+  }
+
 pub leads_restart : (s : Shape) (p : Part) → Leads s restarted p
 leads_restart s p = record { worker = refl; busy = λ e. cc; world = λ words parts es world worker here. restart_world s p words parts es world worker here }
 
@@ -82,3 +123,13 @@ leads_withdraw s p ascent climbs = record {
   busy = rw climbs (λ e. cc);
   world = λ words parts es world worker here. withdraw_world s p words parts es world worker here ascent climbs;
 }
+
+-- What each is to the machine.
+pub led_restart : (s : Shape) (p : Part) → IsLed s p restarted (restart_labels p)
+led_restart s p = λ old world worker here. restart_runs s p old.words old.parts old.history world worker here
+
+pub led_submit : (s : Shape) (p : Part) (job : Job) → p.private.stage ≡ Resting → p.private.begun < s.jobs → IsJob s job → IsLed s p (submitted job) (submit_labels p job)
+led_submit s p job rests few is = λ old world worker here. submit_runs s p old.words old.parts old.history world worker here job rests few is
+
+pub led_withdraw : (s : Shape) (p : Part) (ascent : Ascent) → p.private.stage ≡ Climbing ascent → IsLed s p withdrawing (withdraw_labels p)
+led_withdraw s p ascent climbs = λ old world worker here. withdraw_runs s p old.words old.parts old.history world worker here ascent climbs

@@ -9,3 +9,4 @@ pub mod Chains
 pub mod Cutting
 pub mod Opened
 pub mod Gathering
+pub mod Running

@@ -1,5 +1,5 @@
 -- What a call has done: its own steps, one after another, each with its question.
-use Rattle.std.specs.Prelude.{◌≡◌, ℕ, ◌+◌, ◌<◌, Bool, true, false, List, length}
+use Rattle.std.specs.Prelude.{◌≡◌, ℕ, ◌+◌, ◌<◌, Bool, true, false, List, [], ◌∷◌, length}
 use Rattle.rme_words.specs.declared.shape.Shape.{Shape}
 use Rattle.rme_words.specs.declared.address.Address.{Address}
 use Rattle.rme_words.specs.Words.{IsOfShape, word}
@@ -19,11 +19,22 @@ use Rattle.rme_seats.specs.Steps.{Leads, Stood, Stepped}
 use Rattle.rme_seats.specs.Chances.{Tally, Asks}
 use Rattle.rme_seats.specs.Stands.{Stand}
 
--- The part went on by own steps, each over the number that it found, with a question before each; where the worker fell
--- there was one more question, answered yes.
+-- Each number was found by an own step in a world in which the part stood: there was one whose words and parts were those of
+-- the rule, and whose word, the one that the step speaks of, had that number.
+abbrev pub AllStepped : Shape → Part → List ℕ → Type 0
+AllStepped shape part [] = Unit {0}
+AllStepped shape part (value ∷ values) = Stepped shape part value × AllStepped shape (advanced shape part value) values
+
+abbrev pub AllFound : Shape → (Part → Part) → Part → List ℕ → Type 0
+AllFound shape lead part [] = Unit {0}
+AllFound shape lead part (value ∷ values) = Stepped shape (lead part) value × AllStepped shape (advanced shape (lead part) value) values
+
+-- The part went on by own steps, each over the number that it found in a world, with a question before each; where the
+-- worker fell there was one more question, answered yes.
 pub record Walks (shape : Shape) (lead : Part → Part) (start now : Part) (old new : Tally) (falls : ℕ) : Type 0 where
   pub values : List ℕ
   pub walk : now ≡ led shape lead start values
+  pub found : AllFound shape lead start values
   pub steps : now.steps ≡ start.steps + length values
   pub asks : Asks old new (length values + falls) falls
 

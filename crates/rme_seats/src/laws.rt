@@ -1,8 +1,9 @@
-//! The law of a step of the running service.
+//! The law of a step of the running service, and that of any steps in their order.
 //!
-//! The function does nothing: its contract is the law of `specs/Steps.antt`, proved by the lemma that the
-//! docstring names.
+//! Each function does nothing: its contract is the law of `specs/Steps.antt` or `specs/Running.antt`, proved by the
+//! lemma that the docstring names.
 
+ghost use Rattle.rme_seats.specs.Running.{RunningLaw};
 ghost use Rattle.rme_seats.specs.Steps.{KeepsLaw};
 
 /// Each own step of a worker of any world is one operation on one word and the core's step, makes a world
@@ -10,4 +11,11 @@ ghost use Rattle.rme_seats.specs.Steps.{KeepsLaw};
 /// operations words and records show a world.
 pub fn keeping()
     ensures { KeepsLaw }
+{}
+
+/// Any operations of any workers, one after another, from a world: own steps, a reader's looks, and what stands before
+/// a call's first own step. In their order they are a run of the abstract machine, from the state that the first world
+/// shows to the one that the last shows (lemma `running`).
+pub fn running()
+    ensures { RunningLaw }
 {}

@@ -13,6 +13,7 @@ mod closing;
 pub mod laws;
 mod leads;
 mod opening;
+mod operation;
 mod plays;
 mod record;
 mod rule;
@@ -21,6 +22,7 @@ mod service;
 
 pub use chance::{Chance, Never};
 pub use leads::{Lead, Onward, Posting, Restart, Submit, Withdraw};
+pub use operation::Operation;
 pub use record::{Part, Record};
 pub use seat::{Fell, WorkerSeat};
 pub use service::Service;

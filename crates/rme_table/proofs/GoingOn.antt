@@ -27,7 +27,7 @@ pub goes_none : (s : Shape) (a : Stand) (t : Tally) → Goes s a a t t 0
 goes_none s a t = record {
   ident = refl;
   own = refl;
-  walks = record { values = []; walk = refl; steps = omega arith; asks = record { yes = omega arith; asked = counted_none t.questions } };
+  walks = record { values = []; walk = refl; found = tt; steps = omega arith; asks = record { yes = omega arith; asked = counted_none t.questions } };
 }
 
 pub still_none : (a : Stand) → StillHas a a

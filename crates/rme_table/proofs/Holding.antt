@@ -1,5 +1,5 @@
 -- A worker that is ready holds no node.
-use Rattle.std.proofs.Common.{◌≡◌, ℕ, ◌<◌, ◌≤◌, ◌∙◌, ap, subst}
+use Rattle.std.proofs.Common.{◌≡◌, ℕ, ◌<◌, ◌≤◌, sym, ◌∙◌, ap, subst}
 use Rattle.std.specs.Prelude.{Some}
 use Rattle.rme_words.specs.declared.shape.Shape.{Shape}
 use Rattle.rme_program.specs.declared.private.Private.{Private}
@@ -49,3 +49,10 @@ climbs_below s p b lock held at = is_stage s p b (Climbing record { lock = lock;
 -- The shape of a service's seat.
 pub same_height : {i x : Stand} {held own : Ident} → i ≡ x → held ≡ own → x.ident ≡ own → i.ident.shape.height ≡ own.shape.height
 same_height same service ours = ap (λ (y : Stand). y.ident.shape.height) same ∙ ap (λ (y : Ident). y.shape.height) ours
+
+-- The stage of a worker that waits, and of one that is ready, as contracts see it.
+pub climbs_at : {i x : Stand} (b lock held : ℕ) → i ≡ x → IsAt i.ident.shape i.part b (Climbing record { lock = lock; held = held }) → x.part.private.stage ≡ Climbing record { lock = lock; held = held }
+climbs_at b lock held same at = ap (λ (y : Stand). y.part.private.stage) (sym same) ∙ ap (λ (q : Private). q.stage) at.private
+
+pub rests_at : {i x : Stand} (b : ℕ) → i ≡ x → IsAt i.ident.shape i.part b Resting → x.part.private.stage ≡ Resting
+rests_at b same at = ap (λ (y : Stand). y.part.private.stage) (sym same) ∙ ap (λ (q : Private). q.stage) at.private

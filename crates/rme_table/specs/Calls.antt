@@ -13,7 +13,8 @@ use Rattle.rme_program.specs.declared.note.Entry.{Entry}
 use Rattle.rme_program.specs.declared.note.Receipt.{Receipt}
 use Rattle.rme_program.specs.declared.note.Note.TheVariants.{Blocked, Entered}
 use Rattle.rme_program.specs.declared.stage.Stage.{Stage}
-use Rattle.rme_program.specs.declared.stage.Stage.TheVariants.{Leaving}
+use Rattle.rme_program.specs.declared.stage.Stage.TheVariants.{Climbing, Leaving}
+use Rattle.rme_program.specs.declared.stage.Departure.TheVariants.{Clear}
 use Rattle.rme_program.specs.Phases.{phase_of}
 use Rattle.rme_program.specs.Steps.{withdrawn_place}
 use Rattle.rme_seats.specs.declared.record.Part.{Part}
@@ -78,6 +79,20 @@ IsPhased (stance.Climb climb) = phase_of climb.part.private.stage ≡ phase.Ente
 IsPhased (stance.Held held) = phase_of held.part.private.stage ≡ held_phase (is_over held.part.private.stage)
 IsPhased (stance.Leave leave) = phase_of leave.part.private.stage ≡ phase.Exit
 
+-- The nodes of its path that a worker holds, as its stage has it.
+abbrev pub levels_held : Stage → ℕ
+levels_held (Climbing ascent) = ascent.held
+levels_held (Leaving (Clear lock level)) = level
+levels_held _ = 0
+
+-- The steps of Recover: two where nothing was ever begun; else three, and one for each node that the worker holds and for the
+-- next one, where it holds not all.
+abbrev pub recover_steps : Shape → Stance → ℕ
+recover_steps shape (stance.Ready ready) = if ready.part.private.begun == 0 then 2 else 4
+recover_steps shape (stance.Climb climb) = 4 + levels_held climb.part.private.stage
+recover_steps shape (stance.Held held) = 3 + shape.height
+recover_steps shape (stance.Leave leave) = 4 + levels_held leave.part.private.stage
+
 -- POST
 
 abbrev pub unless_checked : Result (Unit {0}) Refusal → Option Refusal → Option Refusal
@@ -104,13 +119,16 @@ Posts shape job start old new (posted.Refused ready refusal) = (post_refusal sha
 
 -- ENTER
 
--- A sweep ends with the lock entered, and the job is not finished yet; or with a blocked step, which found another's node.
+-- A sweep ends with the lock entered, and the job is not finished yet; or with the first blocked step, which found another's
+-- node: each step before took one node more.
 abbrev pub Sweeps : Shape → Stand → Tally → Tally → Sweep → Type 0
 Sweeps shape start old new (sweep.Got held) =
     ((lock : ℕ) × (held.part.note ≡ Entered lock)) × Made shape onward start held old new 1 shape.height
     × (held.part.private.begun ≡ start.part.private.begun) × (is_over held.part.private.stage ≡ false)
+    × (levels_held start.part.private.stage + held.part.steps ≡ start.part.steps + shape.height)
 Sweeps shape start old new (sweep.Blocked climb) =
     (climb.part.note ≡ Blocked) × Made shape onward start climb old new 1 shape.height × (climb.part.private.begun ≡ start.part.private.begun)
+    × (levels_held start.part.private.stage + climb.part.steps ≡ start.part.steps + levels_held climb.part.private.stage + 1)
 Sweeps shape start old new (sweep.Fell down) = Falling shape onward start down old new shape.height
 
 -- SECTION

@@ -30,12 +30,14 @@ impl Admitted {
     ghost use Rattle.std.specs.Prelude.{◌≡◌, ◌+◌, ◌*◌, MatchResult};
     ghost use Rattle.rme_seats.specs.Doing.{Falling};
     ghost use Rattle.rme_seats.specs.Parts.{submitted};
+    ghost use Rattle.rme_seats.specs.Running.{IsLed, submit_labels};
     ghost use Rattle.rme_table.specs.Calls.{IsPosted, Made};
 
     /// Posts the job: it has its number then, and waits for its lock. `Err` is a fall.
     pub fn post<C: Chance>(self, service: &Service, chance: &mut C) -> Result<Climb, Down>
         requires ours { self.ready.ident ≡ service.now }
         ensures posted { MatchResult result (λ climb. IsPosted self.ready climb self.job) (λ _. Unit {0}) }
+        ensures lead { IsLed service.now.shape self.ready.part (submitted self.job) (submit_labels self.ready.part self.job) }
         ensures made { MatchResult result
             (λ climb. Made service.now.shape (submitted self.job) self.ready climb (C.tally chance.old) (C.tally chance.new) (3 + 3 * self.job.script.n) (3 + 3 * self.job.script.n))
             (λ down. Falling service.now.shape (submitted self.job) self.ready down (C.tally chance.old) (C.tally chance.new) (3 + 3 * self.job.script.n)) }

@@ -15,7 +15,8 @@ impl Climb {
     ghost use Rattle.rme_seats.specs.Doing.{Falling};
     ghost use Rattle.std.specs.Prelude.{Some};
     ghost use Rattle.rme_seats.specs.Parts.{withdrawing};
-    ghost use Rattle.rme_table.specs.Calls.{HoldsNone, Made, Sweeps};
+    ghost use Rattle.rme_seats.specs.Running.{IsLed, withdraw_labels};
+    ghost use Rattle.rme_table.specs.Calls.{HoldsNone, Made, Sweeps, levels_held};
 
     /// The worker's number.
     pub fn worker(&self) -> u32
@@ -73,6 +74,8 @@ impl Climb {
     pub fn withdraw<C: Chance>(self, service: &Service, chance: &mut C) -> Result<Ready, Down>
         requires ours { self.ident ≡ service.now }
         ensures made { MatchResult result (λ ready. Made service.now.shape withdrawing self ready (C.tally chance.old) (C.tally chance.new) 4 (service.now.shape.height + 3)) (λ down. Falling service.now.shape withdrawing self down (C.tally chance.old) (C.tally chance.new) (service.now.shape.height + 3)) }
+        ensures steps { MatchResult result (λ ready. ready.part.steps ≡ self.part.steps + 4 + levels_held self.part.private.stage) (λ _. Unit {0}) }
+        ensures lead { IsLed service.now.shape self.part withdrawing (withdraw_labels self.part) }
         ensures number { MatchResult result (λ ready. ready.part.private.begun ≡ self.part.private.begun) (λ _. Unit {0}) }
         ensures holds_none { MatchResult result (λ ready. HoldsNone service.now.shape ready.part) (λ _. Unit {0}) }
     {

@@ -21,6 +21,7 @@ impl Ready {
     ghost use Rattle.rme_script.specs.declared.job.Job.{Job};
     ghost use Rattle.rme_words.specs.declared.refusal.Refusal.{Refusal};
     ghost use Rattle.std.specs.Prelude.{OnOk, IfOk, IfErr, None, Some};
+    ghost use Rattle.rme_seats.specs.Running.{IsLed, submit_labels};
     ghost use Rattle.rme_seats.specs.Parts.{submitted};
     ghost use Rattle.rme_program.specs.Conditions.{IsJob};
     ghost use Rattle.rme_table.specs.Calls.{HoldsNone, IsPosted, Made, Posts, IsLast, post_refusal};
@@ -102,6 +103,7 @@ impl Ready {
         requires named { job.now ≡ J.job }
         requires good { IsJob service.now.shape job.now }
         requires few { self.part.private.begun < service.now.shape.jobs }
+        ensures lead { IsLed service.now.shape self.part (submitted job.now) (submit_labels self.part job.now) }
         ensures posted { MatchResult result (λ climb. IsPosted self climb job.now) (λ _. Unit {0}) }
         ensures made { MatchResult result
             (λ climb. Made service.now.shape (submitted job.now) self climb (C.tally chance.old) (C.tally chance.new) (3 + 3 * job.now.script.n) (3 + 3 * job.now.script.n))

@@ -16,7 +16,7 @@ pub returns-in_err-word : goal.returns-in_err-word
 returns-in_err-word g c = passed_on _ _ _ c.from_residual.ensures.0 (path_fell _ _ _ _ _ _ _ _ c.loop-held.invariant _ c.shape-shape.ensures c.loop-held-test.true _ _ c.in_err-word.ensures)
 
 pub returns-then-word-side : goal.returns-then-word-side
-returns-then-word-side g c = path_ends_below _ _ _ _ _ _ _ _ c.loop-held.invariant _ c.shape-shape.ensures c.loop-held-test.true _ _ _ c.in_ok-word.ensures _ _ c.worker-worker.ensures.worker c.side.ensures.side c.if-word-side.true _ c.partly.ensures.leads c.partly.ensures.outside
+returns-then-word-side g c = path_ends_below _ _ _ _ _ _ _ _ c.loop-held.invariant _ c.shape-shape.ensures c.loop-held-test.true _ _ _ c.in_ok-word.ensures _ _ c.worker-worker.ensures.worker c.side.ensures.side c.if-word-side.true _ c.partly.ensures.leads c.partly.ensures.read
 
 pub loop-held-preserved : goal.loop-held-preserved
 loop-held-preserved g c = path_more _ _ _ _ _ _ _ _ c.loop-held.invariant _ c.shape-shape.ensures c.loop-held-test.true _ _ _ c.in_ok-word.ensures _ _ c.worker-worker.ensures.worker c.side.ensures.side c.if-word-side.false

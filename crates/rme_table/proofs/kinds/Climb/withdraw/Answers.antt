@@ -1,7 +1,8 @@
 use Rattle.std.proofs.Common.{arith, subst}
+use Rattle.rme_seats.proofs.Leading.{led_withdraw}
 use Rattle.rme_seats.specs.Stands.{Ident}
 use Rattle.rme_table.specs.Calls.{HoldsNone}
-use Rattle.rme_table.proofs.Holding.{holds_none, seen_made, seen_fell, climbs_below, same_height}
+use Rattle.rme_table.proofs.Holding.{climbs_at, holds_none, seen_made, seen_fell, climbs_below, same_height}
 use Rattle.rme_table.proofs.kinds.Climb.withdraw.Goals as goal
 
 pub returns-in_default-clause-made : goal.returns-in_default-clause-made
@@ -20,3 +21,9 @@ pub returns-clause-holds_none : goal.returns-clause-holds_none
 returns-clause-holds_none g c =
     let doing = c.in-Ok.ensures in
     subst (λ (x : Ident). HoldsNone x.shape c.withdraw.new.seat.part) c.service.view_is (holds_none _ _ _ doing.at)
+
+pub returns-in_default-clause-lead : goal.returns-in_default-clause-lead
+returns-in_default-clause-lead g c = led_withdraw c.args.service.now.shape c.args.self.part _ (climbs_at _ _ _ c.self.view_is c.self.invariant)
+
+pub returns-clause-lead : goal.returns-clause-lead
+returns-clause-lead g c = led_withdraw c.args.service.now.shape c.args.self.part _ (climbs_at _ _ _ c.self.view_is c.self.invariant)

@@ -1,0 +1,28 @@
+use Rattle.std.proofs.Common.{◌+◌, sym, ap, subst, arith}
+use Rattle.rme_seats.proofs.Leading.{led_restart}
+use Rattle.rme_seats.specs.Parts.{restarted}
+use Rattle.rme_seats.specs.Stands.{Ident, Stand}
+use Rattle.rme_table.specs.Calls.{Made, stand_of}
+use Rattle.rme_table.proofs.Holding.{seen_made}
+use Rattle.rme_table.proofs.down.Down.recover.Goals as goal
+use Rattle.rme_table.proofs.down.Down.recover.Goals.{in-Ready, in-Climbing, in-Inside, in-Leaving}
+
+pub returns-in_default-clause-lead : goal.returns-in_default-clause-lead
+returns-in_default-clause-lead g c = led_restart c.args.service.now.shape c.args.self.part
+
+pub returns-clause-lead : goal.returns-clause-lead
+returns-clause-lead g c = led_restart c.args.service.now.shape c.args.self.part
+
+pub returns-clause-made : goal.returns-clause-made
+returns-clause-made g c =
+    let finds = c.in-Ok.ensures in
+    let few = finds.few in
+    let height = ap (λ (y : Ident). y.shape.height) c.service.view_is in
+    let M : Stand → Type 0 = λ (now : Stand). Made c.args.service.now.shape restarted c.args.self now (g.C.Chance.tally c.args.chance.now) (g.C.Chance.tally c.recover.new.chance) 2 (c.args.service.now.shape.height + 3) in
+    let made : M c.recover.new.seat = seen_made c.self.view_is c.service.view_is finds.doing finds.enough (omega (arith, few, height)) in
+    elim c.match-recovered.branch [
+      | in-Ready w ↦ subst M (sym (ap stand_of w.result-is)) made
+      | in-Climbing w ↦ subst M (sym (ap stand_of w.result-is)) made
+      | in-Inside w ↦ subst M (sym (ap stand_of w.result-is)) made
+      | in-Leaving w ↦ subst M (sym (ap stand_of w.result-is)) made
+    ]
