@@ -36,3 +36,4 @@ pub mod Rowed
 pub mod Tables
 pub mod Returning
 pub mod Books
+pub mod Faithful

@@ -33,7 +33,7 @@ use Rattle.rme_machine.proofs.Theorems.{Matches, IsOnce, IsState, HasShapedJob, 
 
 -- ---- the opening
 
-alike : {A : Type 0} (n i : ℕ) (x y : A) → slice_get (replicate n x) i ≡ Some y → y ≡ x
+pub alike : {A : Type 0} (n i : ℕ) (x y : A) → slice_get (replicate n x) i ≡ Some y → y ≡ x
 alike zero i x y at = absurd (none-some y at)
 alike (suc n) zero x y at = sym (same_Some x y at)
 alike (suc n) (suc i) x y at = alike n i x y at
@@ -339,7 +339,7 @@ module _ (s : Shape) (mem : Address → ℕ) (privs : Privates) (es : List Entry
 
 -- ---- the theorems
 
-begins_is : (shape : Shape) (state : State) → IsStart shape state → IsState shape state
+pub begins_is : (shape : Shape) (state : State) → IsStart shape state → IsState shape state
 begins_is shape state (inl opens) = subst (λ (s : State). IsState shape s) (sym opens) (opening_is shape)
 begins_is shape state (inr (memory, privates, history, fact, shows)) = subst (λ (s : State). IsState shape s) (sym shows) (shown_is shape memory privates history fact)
 

@@ -1,16 +1,17 @@
--- THE MACHINE'S OWN THEOREMS, in the words of the field: mutual exclusion, critical-section re-entry, and that each
--- job counts once. They are of every state that a run of the machine reaches.
-use Rattle.std.specs.Prelude.{◌≡◌, ◌≢◌, ◌⊎◌, ℕ, ◌+◌, ◌<◌, ◌≤◌, ◌==◌, if◌then◌else◌, List, [], ◌∷◌, Some, slice_get}
+-- THE MACHINE'S OWN THEOREMS, in the words of the field: mutual exclusion, critical-section re-entry, that each job
+-- counts once, and that it counts as the job that was handed over. They are of every state that a run of the machine reaches.
+use Rattle.std.specs.Prelude.{◌≡◌, ◌≢◌, ◌⊎◌, ℕ, ◌+◌, ◌<◌, ◌≤◌, ◌==◌, ◌&&◌, if◌then◌else◌, List, [], ◌∷◌, ◌++◌, Option, Some, None, slice_get}
 use Rattle.rme_words.specs.declared.shape.Shape.{Shape}
 use Rattle.rme_words.specs.declared.address.Address.{Address}
+use Rattle.rme_script.specs.declared.job.Job.{Job}
 use Rattle.rme_program.specs.declared.note.Entry.{Entry}
 use Rattle.rme_machine.specs.declared.stance.Stance.{Stance}
 use Rattle.rme_machine.specs.declared.stance.Stance.TheVariants.{Idle, Handed, Waiting, Inside, Finished}
 use Rattle.rme_machine.specs.declared.label.Act.{Act}
-use Rattle.rme_machine.specs.declared.label.Act.TheVariants.{Take, Finish, Leave, Reenter}
+use Rattle.rme_machine.specs.declared.label.Act.TheVariants.{Hand, Take, Finish, Leave, Reenter}
 use Rattle.rme_machine.specs.declared.label.Label.{Label}
 use Rattle.rme_machine.specs.declared.label.Label.TheVariants.{Of}
-use Rattle.rme_machine.specs.Histories.{IsLegal, numbers_by}
+use Rattle.rme_machine.specs.Histories.{IsLegal, entry_job, numbers_by}
 use Rattle.rme_machine.specs.Machine.{State, WorkerState, StaysOn, Step, Run, opening_state}
 use Rattle.rme_machine.specs.Shown.{Privates, shown}
 use Rattle.rme_machine.specs.Fact.{Fact}
@@ -103,3 +104,52 @@ pub record CountsOnce (shape : Shape) (state : State) : Type 0 where
 
 abbrev pub OnceLaw : Type 0
 OnceLaw = (shape : Shape) (state : State) → IsReached shape state → CountsOnce shape state
+
+-- EACH JOB COUNTS AS ITSELF
+
+-- The jobs that were handed over, by worker and number. A fall takes a job back that was not asked for yet, and its
+-- number may be handed again: the last one under a number counts.
+abbrev pub Handing : Type 0
+Handing = ℕ → ℕ → Option Job
+
+abbrev pub with_handed : Label → Handing → Handing
+with_handed (Of worker (Hand number job)) handed who k = if (who == worker) && (k == number) then Some job else handed who k
+with_handed _ handed who k = handed who k
+
+abbrev pub handed_in : List Label → Handing → Handing
+handed_in [] handed = handed
+handed_in (label ∷ labels) handed = handed_in labels (with_handed label handed)
+
+abbrev pub none_handed : Handing
+none_handed worker number = None
+
+-- What was handed over before a state and is not finished there: what each worker's stance knows of it.
+abbrev pub job_under : ℕ → Stance → ℕ → Option Job
+job_under asked (Handed job) k = if k == asked + 1 then Some job else None
+job_under asked (Waiting number job) k = if k == number then Some job else None
+job_under asked (Inside number job) k = if k == number then Some job else None
+job_under asked Idle k = None
+job_under asked (Finished number job) k = None
+
+abbrev pub job_stood : Option WorkerState → ℕ → Option Job
+job_stood None k = None
+job_stood (Some me) k = job_under me.asked me.stance k
+
+abbrev pub handed_before : State → Handing
+handed_before state worker number = job_stood (slice_get state.workers worker) number
+
+-- Each entry has the lock and the script of the job that was handed to its worker under its number.
+abbrev pub AreHanded : Handing → List Entry → Type 0
+AreHanded handed [] = Unit {0}
+AreHanded handed (e ∷ es) = (handed e.receipt.worker e.receipt.number ≡ Some (entry_job e)) × AreHanded handed es
+
+-- The entries that a run adds are those of jobs that were handed over in it, or before and not finished then.
+pub record IsFaithful (start : State) (labels : List Label) (state : State) : Type 0 where
+  pub entries : List Entry
+  pub longer : state.history ≡ start.history ++ entries
+  pub handed : AreHanded (handed_in labels (handed_before start)) entries
+
+-- Of a run from the opening all entries are those of jobs that were handed over in it.
+pub record FaithfulLaw : Type 0 where
+  pub opened : (shape : Shape) (labels : List Label) (state : State) → Run shape (opening_state shape) labels state → AreHanded (handed_in labels none_handed) state.history
+  pub begun : (shape : Shape) (start state : State) (labels : List Label) → IsStart shape start → Run shape start labels state → IsFaithful start labels state

@@ -4,7 +4,7 @@
 //! theorem of `specs/Theorems.antt`, proved by the lemma of `proofs/` that the docstring names. The crates above cite
 //! the lemmas.
 
-ghost use Rattle.rme_machine.specs.Theorems.{ExclusionLaw, ReentryLaw, OnceLaw};
+ghost use Rattle.rme_machine.specs.Theorems.{ExclusionLaw, ReentryLaw, OnceLaw, FaithfulLaw};
 ghost use Rattle.rme_machine.specs.Laws.{StepLaw, TakesLaw, SubmitLaw, CrashLaw, RestartLaw, WithdrawLaw, OpeningLaw};
 ghost use Rattle.rme_machine.specs.FurtherLaws.{FitLaw, TablesLaw, OwnsLaw, SectionLaw, ReturnLaw, BooksLaw, DraftLaw, RowLaw, HeldNodeLaw, StaleLaw, IdleLaw, ClausesLaw};
 
@@ -126,4 +126,10 @@ pub fn reentry()
 /// or the one that it waits or is inside with; and the history is legal (lemma `once`).
 pub fn once()
     ensures { OnceLaw }
+{}
+
+/// Each job counts as itself: each entry that a run adds has the lock and the script of the job that was handed to
+/// its worker under its number; in a run from the opening, in that run (lemma `faithful`).
+pub fn faithful()
+    ensures { FaithfulLaw }
 {}

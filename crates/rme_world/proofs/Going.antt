@@ -156,7 +156,7 @@ module _ (old : Seen) (worker : ℕ) (private : Private) (kept : IsKept old) (fo
       → new.shape ≡ old.shape → action ≡ action_of shape private → Did (memory_seen old) (memory_seen new) action value
       → next ≡ private_after shape private value → note ≡ note_after shape private value
       → new.privates ≡ slice_set old.privates worker (Some next) → new.counts ≡ slice_set old.counts worker counts
-      → new.history ≡ history_after old.history (memory_seen new) worker note → length old.history + old.room ≤ length new.history + new.room
+      → new.history ≡ history_after old.history (memory_seen new) worker note → length new.history + new.room ≡ length old.history + old.room
       → start ≡ counts_of old worker → before ≡ phase_of private.stage → after ≡ phase_of next.stage → CountsAfter start before after note counts
       → Steps old worker note new
   stepped new shape same action value next note counts start before after shaped acts did is_next is_note privates counted_up history room begins is_before is_after count =

@@ -1,13 +1,15 @@
 -- What the look-ups show.
 use Rattle.std.proofs.Common.{◌≡◌, ℕ, suc, ◌+◌, ◌*◌, ◌^◌, ◌<◌, ◌≤◌, Bool, true, not, List, ◌∷◌, length, take, refl, sym, ◌∙◌, ap, subst, arith, length-append}
-use Rattle.std.specs.Prelude.{◌↔◌, IsTrue, Some, None, slice_get, slice_set, ◌==◌}
+use Rattle.std.specs.Prelude.{◌↔◌, IsTrue, Option, Some, None, slice_get, slice_set, ◌==◌}
+use Rattle.std.specs.Option.{option_map}
 use Rattle.std.proofs.lemmas.Bool.{le-ltb, eqb-true}
 use Rattle.std.proofs.Math.Nat.{mul-le-mul}
 use Rattle.rme_words.specs.declared.address.Address.TheVariants.{Cell}
 use Rattle.rme_good.proofs.Filling.{filled_next, filled_whole}
 use Rattle.std.proofs.lemmas.List.{length-set}
-use Rattle.std.proofs.lemmas.Option.{same_Some}
-use Rattle.rme_program.specs.declared.stage.Stage.TheVariants.{Resting}
+use Rattle.std.proofs.lemmas.Option.{none-some, same_Some}
+use Rattle.rme_program.specs.declared.stage.Stage.{Stage}
+use Rattle.rme_program.specs.declared.stage.Stage.TheVariants.{Resting, Recovering, Posting, Climbing, Logging, Copying, Leaving}
 use Rattle.rme_tree.specs.Nodes.{held_in, owner_in}
 use Rattle.rme_program.specs.declared.note.Entry.{Entry}
 use Rattle.rme_program.specs.declared.note.Receipt.{Receipt}
@@ -19,13 +21,17 @@ use Rattle.rme_machine.specs.Fact.{Account, IsReceipt}
 use Rattle.rme_machine.proofs.Further.{idling}
 use Rattle.rme_machine.proofs.Historical.{entries_few, place_few}
 use Rattle.rme_machine.proofs.Lasts.{IsLast, last_stands, last_due}
-use Rattle.rme_machine.proofs.Tables.{shown_owner, tables}
+use Rattle.rme_machine.proofs.Tables.{owning, shown_owner, tables}
+use Rattle.rme_machine.specs.Fits.{Knows, log_lock, redo_lock}
+use Rattle.rme_machine.specs.FurtherLaws.{owned_by}
 use Rattle.rme_program.specs.declared.kinds.Phase.{Phase}
+use Rattle.rme_program.specs.declared.kinds.Phase.TheVariants as phase
+use Rattle.rme_program.specs.declared.kinds.Phase.TheVariants.{Section}
 use Rattle.rme_program.specs.Phases.{phase_of}
 use Rattle.rme_world.specs.declared.counts.Counts.{Counts}
 use Rattle.rme_world.specs.Counting.{IsStay, count_of, most_steps}
-use Rattle.rme_world.specs.Seen.{Seen, IsKept, counts_of, memory_seen, privates_seen, shown_by}
-use Rattle.rme_world.specs.Looks.{HasReceipt, IsLastReceipt, IsReady, HoldsNone, words_seen}
+use Rattle.rme_world.specs.Seen.{Seen, IsKept, counts_of, if_up, memory_seen, privates_seen, shown_by}
+use Rattle.rme_world.specs.Looks.{HasReceipt, IsIn, IsLastReceipt, IsReady, HoldsNone, OwnsItsLock, phase_seen, words_seen}
 use Rattle.rme_world.proofs.Worlds.{is_worker, up_at}
 
 -- ---- what the laws of the machine say of a world
@@ -74,6 +80,49 @@ pub ready_holds : (seen : Seen) (worker : ℕ) → IsKept seen → IsReady seen 
 ready_holds seen worker kept (private, found, resting) lock below =
     let within : worker < seen.shape.workers = is_worker seen worker (Some private) kept.all_privates found in
     idling seen.shape (memory_seen seen) (privates_seen seen) seen.history worker lock private kept.fact within below (up_at seen worker (Some private) found) (rw resting refl)
+
+-- ---- a worker in its section
+
+module _ (seen : Seen) (worker begun : ℕ) where
+  owns_slate : (lock : ℕ) → (lock < seen.shape.locks) × (owner_in seen.shape (memory_seen seen) lock ≡ Some worker) → (words_seen seen worker).slate_lock ≡ lock → OwnsItsLock seen worker
+  owns_slate lock owned slate =
+      let P : ℕ → Type 0 = λ (l : ℕ). (l < seen.shape.locks) × (owner_in seen.shape (memory_seen seen) l ≡ Some worker) in
+      let here : (((words_seen seen worker).slate_lock) < seen.shape.locks) × (owner_in seen.shape (memory_seen seen) (words_seen seen worker).slate_lock ≡ Some worker) = subst P (sym slate) owned in
+      record { lock = here.0; owner = here.1; shown = sym (owner_shown seen (words_seen seen worker).slate_lock here.0) ∙ here.1 }
+
+  -- What an owner's stage knows names the lock of its slate.
+  section_owns : (stage : Stage) → phase_of stage ≡ Section
+      → Knows seen.shape (words_seen seen worker) (held_in seen.shape (memory_seen seen) worker) (lock_words seen.shape (memory_seen seen)) begun stage
+      → ((lock : ℕ) → owned_by seen.shape stage ≡ Some lock → (lock < seen.shape.locks) × (owner_in seen.shape (memory_seen seen) lock ≡ Some worker))
+      → OwnsItsLock seen worker
+  section_owns Resting there knows owns = absurd (let e : phase.Ready ≡ Section = there in cc)
+  section_owns (Recovering recovery) there knows owns = absurd (let e : phase.Recover ≡ Section = there in cc)
+  section_owns (Posting slate) there knows owns = absurd (let e : phase.Post ≡ Section = there in cc)
+  section_owns (Climbing ascent) there knows owns = absurd (let e : phase.Enter ≡ Section = there in cc)
+  section_owns (Logging log) there knows owns = owns_slate (log_lock log) (owns (log_lock log) refl) knows.0.slate
+  section_owns (Copying redo) there knows owns = owns_slate (redo_lock redo) (owns (redo_lock redo) refl) knows.0.slate
+  section_owns (Leaving departure) there knows owns = absurd (let e : phase.Exit ≡ Section = there in cc)
+
+private_owns : (seen : Seen) (worker : ℕ) (private : Private) → IsKept seen → privates_seen seen worker ≡ Some private → worker < seen.shape.workers → phase_of private.stage ≡ Section
+    → OwnsItsLock seen worker
+private_owns seen worker private kept up within there =
+    section_owns seen worker private.begun private.stage there (kept.fact.fits worker private within up).knows
+    (λ lock. owning seen.shape (memory_seen seen) (privates_seen seen) seen.history worker lock private kept.fact within up)
+
+-- A worker that is in its section owns its lock.
+pub owns_in_section : (seen : Seen) (worker : ℕ) → IsKept seen → IsIn seen worker Section → OwnsItsLock seen worker
+owns_in_section seen worker kept (private, found, there) =
+    private_owns seen worker private kept (up_at seen worker (Some private) found) (is_worker seen worker (Some private) kept.all_privates found) there
+
+phase_owns : (seen : Seen) (worker : ℕ) → IsKept seen → (found : Option (Option Private)) → slice_get seen.privates worker ≡ found
+    → option_map (λ (private : Private). phase_of private.stage) (if_up found) ≡ Some Section → OwnsItsLock seen worker
+phase_owns seen worker kept None is there = absurd (none-some Section there)
+phase_owns seen worker kept (Some None) is there = absurd (none-some Section there)
+phase_owns seen worker kept (Some (Some private)) is there = owns_in_section seen worker kept (private, is, same_Some _ _ there)
+
+-- So does one whose phase is Section.
+pub owns_by_phase : (seen : Seen) (worker : ℕ) (phase : Option Phase) → IsKept seen → phase ≡ phase_seen seen worker → phase ≡ Some Section → OwnsItsLock seen worker
+owns_by_phase seen worker phase kept is there = phase_owns seen worker kept (slice_get seen.privates worker) refl (sym is ∙ there)
 
 -- ---- the last receipt
 

@@ -19,7 +19,7 @@ use Rattle.rme_world.specs.Counting.{IsStay, count_of, most_steps}
 use Rattle.rme_world.specs.Seen.{Seen, counts_of, memory_seen, owed, shown_by}
 use Rattle.rme_world.specs.Refused.{IsRefused, submit_refusal, step_refusal, crash_refusal, restart_refusal, withdraw_refusal}
 use Rattle.rme_world.specs.Events.{Submits, Steps, Crashes, Restarts, Withdraws}
-use Rattle.rme_world.specs.Looks.{ComesBack, ComesOn, HasBegun, HasReceipt, HoldsNone, IsGivenUp, IsGivingUp, IsIn, IsLastReceipt, IsReady, IsStopped, IsWholePost, IsWholeSection, KeepsBound, StandsAt, words_seen}
+use Rattle.rme_world.specs.Looks.{ComesBack, ComesOn, HasBegun, HasReceipt, HoldsNone, IsGivenUp, IsGivingUp, IsIn, IsLastReceipt, IsReady, IsStopped, IsWholePost, IsWholeSection, KeepsBound, OwnsItsLock, StandsAt, words_seen}
 use Rattle.rme_world.specs.Running.{IsRunOfOne, answer_of}
 
 -- `submit`. There is room for each entry that is due.
@@ -49,6 +49,8 @@ pub record Stepped (old : Seen) (worker : ℕ) (result : Result Note Refusal) (n
   pub reentry : IfOk result (λ note. (lock : ℕ) → note ≡ Reentered lock → count_of (counts_of new worker) Recover ≡ old.shape.height + 3)
   pub comes_back : IfOk result (λ note. (lock : ℕ) → lock < old.shape.locks → owner_in old.shape (memory_seen old) lock ≡ Some worker → IsIn old worker Recover
       → ComesBack old new worker lock note)
+  -- mutual exclusion: a worker that is in its section then owns its lock
+  pub owns : OnOk result (IsIn new worker Section → OwnsItsLock new worker)
   -- withdrawal
   pub withdrew : IfOk result (λ note. (number : ℕ) → note ≡ Withdrew number → IsGivenUp new worker number)
 

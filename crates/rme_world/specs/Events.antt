@@ -31,7 +31,7 @@ pub record Submits (old : Seen) (worker : ℕ) (job : Job) (number : ℕ) (new :
 
 -- `step`: the action that the worker's private state has next is done on one word. The new private state and the
 -- note are what follows from it and from the value found. The history grows by the entry of a finished section alone,
--- for which there was room.
+-- which takes its place in the room that there was: no step makes room.
 pub record Steps (old : Seen) (worker : ℕ) (note : Note) (new : Seen) : Type 0 where
   pub may : step_refusal old worker ≡ None
   pub private : Private
@@ -42,7 +42,7 @@ pub record Steps (old : Seen) (worker : ℕ) (note : Note) (new : Seen) : Type 0
   pub counts : Counts
   pub counted : CountsAfter (counts_of old worker) (phase_of private.stage) (phase_of (private_after old.shape private value).stage) note counts
   pub goes : new ≡ record (with_private old worker (Some (private_after old.shape private value)) counts) { words = new.words; history = history_after old.history (memory_seen old) worker note; room = new.room }
-  pub room : length old.history + old.room ≤ length new.history + new.room
+  pub room : length new.history + new.room ≡ length old.history + old.room
 
 -- `crash`: the worker's private state is gone, and its counts stay.
 pub record Crashes (old : Seen) (worker : ℕ) (new : Seen) : Type 0 where

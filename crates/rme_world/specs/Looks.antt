@@ -1,7 +1,7 @@
 -- What the look-ups show.
 use Rattle.std.specs.Prelude.{◌≡◌, ◌≢◌, ℕ, ◌+◌, ◌*◌, ◌<◌, ◌≤◌, false, Option, Some, slice_get}
 use Rattle.std.specs.Option.{option_map}
-use Rattle.rme_tree.specs.Nodes.{nodes_of, held_in}
+use Rattle.rme_tree.specs.Nodes.{nodes_of, held_in, owner_in}
 use Rattle.rme_tree.specs.Rooted.{IsBlocked}
 use Rattle.rme_program.specs.declared.kinds.Phase.{Phase}
 use Rattle.rme_program.specs.declared.kinds.Phase.TheVariants.{Recover}
@@ -21,9 +21,10 @@ use Rattle.rme_program.specs.Progress.{Falls}
 use Rattle.rme_program.specs.Stays.{StandsInRow}
 use Rattle.rme_program.specs.Steps.{withdrawn_place}
 use Rattle.rme_machine.specs.Histories.{last_by, has_entry}
+use Rattle.rme_machine.specs.ShownCells.{owner_at}
 use Rattle.rme_machine.specs.Views.{WorkerWords, worker_words, slate_job}
 use Rattle.rme_world.specs.Counting.{count_of, row_steps, budget}
-use Rattle.rme_world.specs.Seen.{Seen, counts_of, memory_seen, privates_seen}
+use Rattle.rme_world.specs.Seen.{Seen, counts_of, memory_seen, privates_seen, shown_by}
 
 -- The words of a worker have a receipt: its last job is done, and its number was not withdrawn.
 pub record HasReceipt (own : WorkerWords) : Type 0 where
@@ -51,6 +52,12 @@ IsIn seen worker phase = (private : Private) × (slice_get seen.privates worker 
 -- The phase that a worker is in, if it is up.
 abbrev pub phase_seen : Seen → ℕ → Option Phase
 phase_seen seen worker = option_map (λ (private : Private). phase_of private.stage) (privates_seen seen worker)
+
+-- A worker owns the lock of its slate, by the words and in the state shown.
+pub record OwnsItsLock (seen : Seen) (worker : ℕ) : Type 0 where
+  pub lock : (words_seen seen worker).slate_lock < seen.shape.locks
+  pub owner : owner_in seen.shape (memory_seen seen) (words_seen seen worker).slate_lock ≡ Some worker
+  pub shown : owner_at (shown_by seen) (words_seen seen worker).slate_lock ≡ Some worker
 
 -- A worker is up, and in phase Ready.
 abbrev pub IsReady : Seen → ℕ → Type 0

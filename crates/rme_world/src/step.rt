@@ -1,6 +1,6 @@
 //! One own step of one worker.
 
-ghost use Rattle.std.specs.Prelude.{◌≡◌, ◌<◌, ◌≤◌, vec_len, vec_capacity};
+ghost use Rattle.std.specs.Prelude.{◌≡◌, ◌<◌, vec_len, vec_capacity};
 ghost use Rattle.rme_program.specs.declared.note.Note.{Note};
 ghost use Rattle.rme_program.specs.declared.note.Receipt.{Receipt};
 ghost use Rattle.rme_machine.specs.Changes.{history_after};
@@ -106,13 +106,11 @@ fn record(history: &mut Vec<Entry>, bank: &Bank, worker: u32, note: Note)
     requires worker { worker < bank.now.shape.workers }
     requires room { (receipt : Receipt) → note ≡ Note.Finished receipt → vec_len history.old < vec_capacity history.old }
     ensures entries { history.new.items ≡ history_after history.old.items (memory_of bank.now) worker note }
-    ensures capacity { vec_capacity history.old ≤ vec_capacity history.new }
+    ensures capacity { vec_capacity history.new ≡ vec_capacity history.old }
 {
     let Note::Finished(receipt) = note else {
         return;
     };
     let script = slate(bank, worker);
-    if history.push(Entry { receipt, script }).is_err() {
-        unreachable!();
-    }
+    history.push_reserved(Entry { receipt, script });
 }

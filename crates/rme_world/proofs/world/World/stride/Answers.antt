@@ -1,7 +1,9 @@
 use Rattle.std.proofs.Common.{refl}
 use Rattle.rme_world.proofs.Calls.{refused_run, step_run}
+use Rattle.rme_world.proofs.Looking.{owns_in_section}
 use Rattle.rme_world.proofs.Returns.{comes_back, gives_up}
 use Rattle.rme_world.proofs.Telling.{stands, stopped, comes_on, keeps_bound, posts, reenters, finishes}
+use Rattle.rme_world.proofs.Worlds.{step_kept}
 use Rattle.rme_world.proofs.world.World.stride.Goals as goal
 
 pub returns-in-Err-clause-stepped : goal.returns-in-Err-clause-stepped
@@ -18,6 +20,7 @@ returns-in-Err-clause-stepped c = record {
   section = tt;
   reentry = tt;
   comes_back = tt;
+  owns = tt;
   withdrew = tt;
 }
 
@@ -35,5 +38,6 @@ returns-clause-stepped c = record {
   section = finishes _ _ _ _ c.may_step.ensures.kept c.go-note.ensures.steps;
   reentry = reenters _ _ _ _ c.may_step.ensures.kept c.go-note.ensures.steps;
   comes_back = comes_back _ _ _ _ c.may_step.ensures.kept c.go-note.ensures.steps;
+  owns = owns_in_section _ _ (step_kept _ _ _ _ c.go-note.ensures.steps c.may_step.ensures.kept);
   withdrew = gives_up _ _ _ _ c.may_step.ensures.kept c.go-note.ensures.steps;
 }
