@@ -20,12 +20,12 @@ def built(name="rme_cli"):
     return os.path.join(TOP, "crates", name, "out", name)
 
 
-def run(words, given=b"", **how):
+def run(words, given=b"", program="rme_cli", **how):
     """A run of `rme` on this input, which must end by itself within a minute; its outputs are bytes."""
     how = {"input": given, "stdout": subprocess.PIPE, "stderr": subprocess.PIPE, "timeout": 60, **how}
     if "stdin" in how:
         del how["input"]
-    return subprocess.run([built(), *map(str, words)], **how)
+    return subprocess.run([built(program), *map(str, words)], **how)
 
 
 def ends_with(ran):

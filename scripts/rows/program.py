@@ -10,8 +10,8 @@ def check(name, holds, told=""):
     return checks.check(name, holds, told, quiet=True)
 
 
-def run_lines(words, given):
-    return run(words, given, timeout=SECONDS)
+def run_lines(words, given, program="rme_cli"):
+    return run(words, given, program, timeout=SECONDS)
 
 
 def difference(found, wanted):
@@ -23,8 +23,8 @@ def difference(found, wanted):
     return f"{len(found) - 1} lines in place of {len(wanted) - 1}"
 
 
-def check_output(name, words, given, wanted, status=0):
+def check_output(name, words, given, wanted, status=0, program="rme_cli"):
     """A run must write just this, end with this status and say nothing on the standard error."""
-    ran = run_lines(words, given)
+    ran = run_lines(words, given, program)
     told = f"status {ran.returncode}, {ran.stderr!r}, {difference(ran.stdout, wanted)}"
     check(name, ends_with(ran) == (status, wanted, b""), told)

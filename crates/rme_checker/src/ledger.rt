@@ -40,7 +40,7 @@ impl Model for Ledger {
 }
 
 impl Ledger {
-    ghost use Rattle.std.specs.Prelude.{◌≡◌, ◌<◌, false, true, [], ◌∷◌, ◌++◌, IfOk, IfSome, OnErr, Some, length, slice_get, slice_set, replicate};
+    ghost use Rattle.std.specs.Prelude.{◌≡◌, ◌<◌, ◌↔◌, false, true, [], ◌∷◌, ◌++◌, IfOk, IfSome, IsSome, OnErr, Some, length, slice_get, slice_set, replicate};
     ghost use Rattle.rme_machine.specs.Histories.{rows};
     ghost use Rattle.rme_machine.specs.declared.label.Act.TheVariants.{Finish, Withdraw};
     ghost use Rattle.rme_machine.specs.Machine.{WorkerState, opening_worker};
@@ -85,7 +85,8 @@ impl Ledger {
 
     /// What the cells of a lock hold, after all finished sections; nothing where there is no such lock.
     pub fn cells(&self, lock: u32) -> Option<Row>
-        ensures { IfSome result (λ row. row ≡ rows self.now.shape self.now.history lock) }
+        ensures some { IfSome result (λ row. row ≡ rows self.now.shape self.now.history lock) }
+        ensures each { IsSome result ↔ lock < self.now.shape.locks }
     {
         if lock >= self.shape.locks {
             return None;

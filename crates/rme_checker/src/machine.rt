@@ -31,7 +31,7 @@ impl Model for Machine {
 }
 
 impl Machine {
-    ghost use Rattle.std.specs.Prelude.{◌≡◌, true, Some, IfOk, IfSome, OnErr, slice_get};
+    ghost use Rattle.std.specs.Prelude.{◌≡◌, ◌<◌, ◌↔◌, true, Some, IfOk, IfSome, IsSome, OnErr, slice_get};
     ghost use Rattle.rme_machine.specs.Machine.{WorkerState, opening_state};
     ghost use Rattle.rme_machine.specs.ShownCells.{owner_at};
     ghost use Rattle.rme_machine.specs.Histories.{rows};
@@ -105,9 +105,10 @@ impl Machine {
         self.ledger.entries()
     }
 
-    /// What the cells of a lock hold after all finished sections; nothing where there is no such lock.
+    /// What the cells of a lock hold after all finished sections, for each lock of the shape; nothing for another.
     pub fn cells(&self, lock: u32) -> Option<Row>
-        ensures { IfSome result (λ row. row ≡ rows self.now.shape self.now.state.history lock) }
+        ensures some { IfSome result (λ row. row ≡ rows self.now.shape self.now.state.history lock) }
+        ensures each { IsSome result ↔ lock < self.now.shape.locks }
     {
         self.ledger.cells(lock)
     }

@@ -1,9 +1,9 @@
 //! What `rme draw` prints.
 
-use crate::check::status_of;
 use rme_draw::draw_lines;
 use rme_engine::Verdict;
 use rme_faults::Fault;
+use rme_line_commands::status_of;
 use rme_wire::LineReader;
 use std::io;
 

@@ -54,17 +54,17 @@ opens_none line not_open = λ given e good. not_open given e
 -- ---- the lines that are left
 
 -- some lines are left, whatever the reader tells
-some_lines : (left : Option (List ℕ)) → (lines : List InputLine) × AreLines left lines
+pub some_lines : (left : Option (List ℕ)) → (lines : List InputLine) × AreLines left lines
 some_lines None = ([], tt)
 some_lines (Some bytes) = (lines_of bytes, refl)
 
 -- a line was cut off
-lines_more : (left later : Option (List ℕ)) (line : InputLine) (lines : List InputLine) → CutsOff left later line → AreLines later lines → AreLines left (line ∷ lines)
+pub lines_more : (left later : Option (List ℕ)) (line : InputLine) (lines : List InputLine) → CutsOff left later line → AreLines later lines → AreLines left (line ∷ lines)
 lines_more None later line lines c a = tt
 lines_more (Some before) None line lines c a = absurd c
 lines_more (Some before) (Some after) line lines c a = c ∙ ap (λ (ls : List InputLine). line ∷ ls) a
 
-lines_none : (left : Option (List ℕ)) → HasNone left → AreLines left []
+pub lines_none : (left : Option (List ℕ)) → HasNone left → AreLines left []
 lines_none None n = tt
 lines_none (Some bytes) n = n
 
@@ -113,7 +113,7 @@ step : (event : Option EventLine) (rest : State → Type 0) (old new : MachineVi
 step None rest old new number verdict found more = absurd (let bad : Step ≡ NoEvent = found.0 in cc)
 step (Some line) rest old new number verdict found more = (true, new.state, found.0, more)
 
-same_shape : (event : Option EventLine) (old new : MachineView) → IsFoundBy event old Step new → new.shape ≡ old.shape
+pub same_shape : (event : Option EventLine) (old new : MachineView) → IsFoundBy event old Step new → new.shape ≡ old.shape
 same_shape None old new found = absurd (let bad : Step ≡ NoEvent = found.0 in cc)
 same_shape (Some line) old new found = found.1
 

@@ -6,3 +6,4 @@ pub mod WalkLemmas
 pub mod EngineLemmas
 pub mod ToldLemmas
 pub mod JudgeLemmas
+pub mod WatchLemmas

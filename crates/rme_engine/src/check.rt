@@ -4,6 +4,7 @@ ghost use Rattle.std.specs.Prelude.{◌≡◌, ◌≢◌, ◌≤◌, IfOk, IfErr
 ghost use Rattle.rme_lines.specs.Readers.{FailsToRead, HasEnded, ReadsNoMore, bytes_left, reads_left};
 ghost use Rattle.rme_engine.specs.Judging.{JudgesLeft};
 ghost use Rattle.rme_engine.specs.Verdicts.{Finds};
+ghost use Rattle.rme_engine.specs.Watching.{Watches, WatchesLeft};
 
 use crate::judge::{Found, Judge};
 use crate::watch::{Unwatched, Watch};
@@ -41,14 +42,16 @@ pub fn check_lines<R: Read + Drop>(
     watch_lines(alloc, lines, &mut Unwatched)
 }
 
-/// Checks a transcript as `check_lines` does, and shows the watcher each step that the machine takes, before the
-/// next line is read. What the watcher does has no part in the verdict; its want of memory ends the check.
+/// Checks a transcript as `check_lines` does, and shows the watcher what the first line opens and then each step that
+/// the machine takes, in turn, before the next line is read. What the watcher does has no part in the verdict; its want
+/// of memory ends the check.
 pub fn watch_lines<R: Read + Drop, V: Watch>(
     alloc: Global,
     lines: &mut LineReader<R>,
     watcher: &mut V,
 ) -> Result<Verdict, EngineFault>
     ensures verdict { IfOk result (Finds (bytes_left R.remaining lines.old)) }
+    ensures shown { IfOk result (λ _. Watches V.sees (bytes_left R.remaining lines.old) watcher.old watcher.new) }
     ensures kind { IfErr result (λ fault. fault ≢ EngineFault.WriteFailed) }
     ensures ended { HasEnded lines.old → ReadsNoMore lines.old lines.new }
     ensures failed { IfErr result (λ fault. fault ≡ EngineFault.ReadFailed → FailsToRead lines.old lines.new) }
@@ -80,6 +83,7 @@ fn judge_lines<R: Read + Drop, V: Watch>(
     watcher: &mut V,
 ) -> Result<Verdict, EngineFault>
     ensures verdict { IfOk result (JudgesLeft judge.old.names judge.old.machine 2 (bytes_left R.remaining lines.old)) }
+    ensures shown { IfOk result (λ _. WatchesLeft V.sees judge.old.names judge.old.machine (bytes_left R.remaining lines.old) watcher.old watcher.new) }
     ensures kind { IfErr result (λ fault. fault ≢ EngineFault.WriteFailed) }
     ensures ended { HasEnded lines.old → ReadsNoMore lines.old lines.new }
     ensures reads { reads_left lines.new ≤ reads_left lines.old }

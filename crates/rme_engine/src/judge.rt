@@ -3,6 +3,8 @@
 ghost use Rattle.std.specs.Prelude.{◌≡◌, IfOk};
 ghost use Rattle.rme_lines.specs.Cuts.{line_read};
 ghost use Rattle.rme_engine.specs.Judging.{HasOpened, IsDecided, IsFound, IsJudge};
+ghost use Rattle.rme_engine.specs.Verdicts.{event_read};
+ghost use Rattle.rme_engine.specs.Watching.{IsShown, IsShownOf};
 
 use crate::opened::names_and_shape;
 use crate::watch::Watch;
@@ -63,7 +65,7 @@ impl Judge {
         }
     }
 
-    /// What a further line is found to be. A step that the machine takes is shown to the watcher.
+    /// What a further line is found to be. A step that the machine takes is shown to the watcher, and nothing else is.
     pub fn finds<V: Watch>(
         &mut self,
         cut: Cut,
@@ -71,6 +73,7 @@ impl Judge {
         watcher: &mut V,
     ) -> Result<Found, NoMemory>
         ensures found { IfOk result (λ found. IsFound self.old.names self.old.machine (line_read cut line.now) found self.new.machine) }
+        ensures shown { IfOk result (λ found. IsShownOf V.sees (event_read self.old.names (line_read cut line.now)) self.new.machine found watcher.old watcher.new) }
         ensures names { self.new.names ≡ self.old.names }
     {
         if cut == Cut::TooLong {
@@ -85,6 +88,7 @@ impl Judge {
     /// Whether the machine has the step of an event line, which it takes then.
     fn decides<V: Watch>(&mut self, line: &EventLine, watcher: &mut V) -> Result<Found, NoMemory>
         ensures found { IfOk result (λ found. IsDecided self.old.machine line.now found self.new.machine) }
+        ensures shown { IfOk result (λ found. IsShown V.sees line.now self.new.machine found watcher.old watcher.new) }
         ensures names { self.new.names ≡ self.old.names }
     {
         let event = line.event();

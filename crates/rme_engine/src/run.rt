@@ -23,8 +23,10 @@ const LONG_ANSWER: usize = 1_048_576;
 /// Answers each line of the reader by one line of the writer, over one world that the lines open.
 ///
 /// Answers are written together: all answers so far before the reader is read again, and before the run ends,
-/// and else where they are 64 KiB. An error ends the run, and the world with it: the answers to all lines that
-/// were taken were written whole, and after `WriteFailed` a front of them was.
+/// and else where they are 64 KiB. An error ends the run, and the world with it. After `ReadFailed` the answers to all
+/// lines whose newlines were read were written whole. After `NoMemory` those to all lines before the one for which memory
+/// was wanting were: what was read is these lines, and at most the bytes of that one. After `WriteFailed` a front of the
+/// answers was written.
 pub fn run_lines<R: Read + Drop, W: Write>(
     alloc: Global,
     lines: &mut LineReader<R>,
@@ -44,8 +46,8 @@ pub fn run_lines<R: Read + Drop, W: Write>(
 /// one line with the event and its answer, in order. Of a refused command, of a look-up and of a step that brought
 /// nothing about it tells nothing.
 ///
-/// Lines are written together, as answers are. An error ends the run, and the world with it: the events of all
-/// lines that were taken were written whole, and after `WriteFailed` a front of them was.
+/// Lines are written together, as answers are. An error ends the run, and the world with it, and leaves written of the
+/// events what `run_lines` leaves of the answers.
 pub fn transcript_lines<R: Read + Drop, W: Write>(
     alloc: Global,
     lines: &mut LineReader<R>,
@@ -64,8 +66,8 @@ pub fn transcript_lines<R: Read + Drop, W: Write>(
 /// Answers each line of the reader as `run_lines` does, over what an engine has open, and leaves open what the last line
 /// leaves.
 ///
-/// An error ends the run: the answers to all lines that were taken were written whole, and after `WriteFailed` a front of
-/// them was.
+/// An error ends the run, and leaves written of the answers what it leaves of them in `run_lines`. The line for which
+/// memory was wanting may have been obeyed.
 pub fn answer_lines<R: Read + Drop, W: Write>(
     engine: &mut Engine,
     lines: &mut LineReader<R>,

@@ -42,6 +42,11 @@ pub lines_none : lines_of [] ≡ []
 unfolding lines_of pieces
 lines_none = refl
 
+-- a piece has no line or one
+pub lines_piece : (piece : List ℕ) → IsPiece piece → length (lines_of piece) ≤ 1
+lines_piece [] h = let none = ap length lines_none in omega (arith, none)
+lines_piece (b ∷ bs) h = let one = ap length (lines_last (b ∷ bs) h (omega arith)) in omega (arith, one)
+
 pub IsPiece-append : (piece more : List ℕ) → IsPiece piece → IsPiece more → IsPiece (piece ++ more)
 IsPiece-append [] more h k = k
 IsPiece-append (b ∷ bs) more h k = (h.0, IsPiece-append bs more h.1 k)
@@ -184,6 +189,12 @@ piece_lost None now after line s k = tt
 piece_lost (Some before) None after line s k = absurd s
 piece_lost (Some before) (Some now) None line s k = absurd k
 piece_lost (Some before) (Some now) (Some after) line (seen, e, piece, kept_of) k = (seen, piece, e ∙ ap (λ l. seen ++ l) (sym k))
+
+-- nothing was taken
+pub none_lost : (before after : Option (List ℕ)) → Keeps before after → TakesPiece before after
+none_lost None after k = tt
+none_lost (Some before) None k = absurd k
+none_lost (Some before) (Some after) k = ([], tt, sym k)
 
 pub whole_ended : (before now after : Option (List ℕ)) (line piece : List ℕ) → Saw 65537 before now line → IsPiece piece → Consumes now after (piece ++ 10 ∷ []) → TakesWhole before after
 whole_ended None now after line piece s p c = tt

@@ -1,10 +1,11 @@
 -- A reader of lines comes to an end.
-use Rattle.std.proofs.Common.{◌≡◌, ◌≢◌, ℕ, ◌<◌, ◌≤◌, List, [], length, true, false, refl, sym, ap, ◌∙◌, arith, inl, inr}
+use Rattle.std.proofs.Common.{◌≡◌, ◌≢◌, ℕ, ◌-◌, Option, Some, None, ◌<◌, ◌≤◌, List, [], length, true, false, refl, sym, ap, ◌∙◌, arith, inl, inr}
 use Rattle.std.proofs.lemmas.Bool.{cases_Bool, cases_eq, cases_lt}
+use Rattle.std.specs.Io.KnownBytes.{IsAtEnd, prepend_known}
 use Rattle.rme_lines.specs.declared.cut.Cut.TheVariants.{End}
 use Rattle.rme_lines.specs.declared.lines.LineReader.{LineReader}
 use Rattle.rme_lines.specs.Cuts.{last_cut_of}
-use Rattle.rme_lines.specs.Readers.{FailsToRead, ReadsNoMore, TakesOn, most_lines}
+use Rattle.rme_lines.specs.Readers.{FailsToRead, ReadsNoMore, TakesOn, bytes_left, most_lines, unread}
 
 -- so far in a line: some reads were made, and none where one had given no byte
 pub record CameOn {R : Type 0} (old now : LineReader R) (line : List ℕ) : Type 0 where
@@ -66,3 +67,13 @@ came_to_fail old now new line came failed =
       ];
       made = λ some. let less = failed.made some in omega (arith, came.reads, less);
     }
+
+unread_end : (left : Option (List ℕ)) → IsAtEnd (prepend_known [] (unread true left))
+unread_end None = tt
+unread_end (Some bytes) = refl
+
+-- nothing is left of a reader that has ended
+pub ended_at_end : {R : Type 0} (remaining : R → Option (List ℕ)) (lines : LineReader R) → lines.ended ≡ true → IsAtEnd (bytes_left remaining lines)
+ended_at_end remaining lines e =
+    let none : lines.end - lines.start ≡ 0 = let used = lines.used_up e in omega (arith, used) in
+    rw (e, none) (unread_end (remaining lines.reader))

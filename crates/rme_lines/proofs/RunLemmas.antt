@@ -1,6 +1,9 @@
 -- A run goes on by one line.
-use Rattle.std.proofs.Common.{◌≡◌, ℕ, List, [], ◌∷◌, ◌++◌, ◌<◌, ◌≤◌, arith, Bool, true, false, Option, Some, None, refl, sym, ap, subst, ◌∙◌, append_assoc, append-nil}
-use Rattle.std.specs.Io.KnownBytes.{Appends}
+use Rattle.std.proofs.Common.{◌≡◌, ℕ, List, [], ◌∷◌, ◌++◌, ◌<◌, ◌≤◌, length, arith, Bool, true, false, Option, Some, None, refl, sym, ap, subst, ◌∙◌, append_assoc, append-nil}
+use Rattle.std.proofs.Common.{inl, inr}
+use Rattle.std.proofs.lemmas.Bool.{cases_Bool}
+use Rattle.std.proofs.lemmas.List.{length-append, nil_from_length}
+use Rattle.std.specs.Io.KnownBytes.{Appends, IsAtEnd}
 use Rattle.std.proofs.KnownBytes.{Appends-nil, Appends-trans}
 use Rattle.rme_lines.specs.declared.cut.Cut.{Cut}
 use Rattle.rme_lines.specs.declared.cut.Cut.TheVariants.{Line, TooLong, End}
@@ -13,8 +16,8 @@ use Rattle.rme_lines.specs.declared.lines.LineReader.{LineReader}
 use Rattle.rme_lines.specs.Readers.{FailsToRead, ReadsNoMore, most_lines}
 use Rattle.rme_lines.proofs.PutLemmas.{front_after, gathered_front, gathered_put}
 use Rattle.rme_lines.proofs.ReaderLemmas.{CameOn, came_no_more, came_to_fail}
-use Rattle.rme_lines.proofs.PieceLemmas.{lines_ended, whole_lines_ended, whole_lines_piece}
-use Rattle.rme_lines.specs.Runs.{AreLines, BeginsWith, CutsOff, GivesUp, HasNone, Run, Spills, TurnFails, Turns, WereRead, WritesFirst, WritesTo, all_bytes}
+use Rattle.rme_lines.proofs.PieceLemmas.{lines_ended, lines_none, lines_piece, whole_lines_ended, whole_lines_piece}
+use Rattle.rme_lines.specs.Runs.{AllButLast, AreLines, BeginsWith, CutsOff, GivesUp, HasNone, Run, Spills, TakesOne, TurnFails, Turns, WereRead, WritesFirst, WritesTo, all_bytes}
 
 -- ---- the lines of the input
 
@@ -59,10 +62,11 @@ ReadOff None left lines = Unit {0}
 ReadOff (Some bytes) None lines = ⊥
 ReadOff (Some bytes) (Some left) lines =
     (front : List ℕ) × (bytes ≡ front ++ left) × ((rest : List ℕ) → whole_lines_of (front ++ rest) ≡ lines ++ whole_lines_of rest)
+    × ((rest : List ℕ) → lines_of (front ++ rest) ≡ lines ++ lines_of rest)
 
 off_first : (input : Option (List ℕ)) → ReadOff input input []
 off_first None = tt
-off_first (Some bytes) = ([], refl, λ rest. refl)
+off_first (Some bytes) = ([], refl, λ rest. refl, λ rest. refl)
 
 abbrev first_of : List InputLine → InputLine → InputLine
 first_of [] other = other
@@ -76,13 +80,16 @@ off_more : (input left later : Option (List ℕ)) (lines : List InputLine) (line
 off_more None left later lines line o c t = tt
 off_more (Some bytes) None later lines line o c t = absurd o
 off_more (Some bytes) (Some left) None lines line o c t = absurd c
-off_more (Some bytes) (Some left) (Some later) lines line (front, e, closes) c (piece, is, f) =
+off_more (Some bytes) (Some left) (Some later) lines line (front, e, closes, lies) c (piece, is, f) =
     let one : line ≡ line_of piece = same_line line (line_of piece) (lines_of later) (sym c ∙ ap lines_of f ∙ lines_ended piece later is) in (
       front ++ (piece ++ 10 ∷ []),
       e ∙ ap (λ l. front ++ l) (f ∙ sym (append_assoc piece (10 ∷ []) later)) ∙ sym (append_assoc front (piece ++ 10 ∷ []) later),
       λ rest.
           ap whole_lines_of (append_assoc front (piece ++ 10 ∷ []) rest ∙ ap (λ l. front ++ l) (append_assoc piece (10 ∷ []) rest)) ∙ closes (piece ++ 10 ∷ rest)
           ∙ ap (λ ls. lines ++ ls) (whole_lines_ended piece rest is ∙ ap (λ (l : InputLine). l ∷ whole_lines_of rest) (sym one)) ∙ sym (append_assoc lines (line ∷ []) (whole_lines_of rest)),
+      λ rest.
+          ap lines_of (append_assoc front (piece ++ 10 ∷ []) rest ∙ ap (λ l. front ++ l) (append_assoc piece (10 ∷ []) rest)) ∙ lies (piece ++ 10 ∷ rest)
+          ∙ ap (λ ls. lines ++ ls) (lines_ended piece rest is ∙ ap (λ (l : InputLine). l ∷ lines_of rest) (sym one)) ∙ sym (append_assoc lines (line ∷ []) (lines_of rest)),
     )
 
 -- the reader failed within a line
@@ -90,8 +97,50 @@ off_failed : (input left later : Option (List ℕ)) (lines : List InputLine) →
 off_failed None left later lines o t = tt
 off_failed (Some bytes) None later lines o t = absurd o
 off_failed (Some bytes) (Some left) None lines o t = absurd t
-off_failed (Some bytes) (Some left) (Some later) lines (front, e, closes) (piece, is, f) =
+off_failed (Some bytes) (Some left) (Some later) lines (front, e, closes, lies) (piece, is, f) =
     (front ++ piece, e ∙ ap (λ l. front ++ l) f ∙ sym (append_assoc front piece later), closes piece ∙ ap (λ ls. lines ++ ls) (whole_lines_piece piece is) ∙ append-nil lines)
+
+-- a part of a line has no line or one
+piece_one : (left later : Option (List ℕ)) → TakesPiece left later → TakesOne left later
+piece_one None later t = tt
+piece_one (Some left) None t = absurd t
+piece_one (Some left) (Some later) (piece, is, f) = (piece, f, lines_piece piece is)
+
+-- a line that was cut with its newline, or at the end, is one
+one_cut : (left later : Option (List ℕ)) (line : InputLine) (ended : Bool) → CutsOff left later line → (ended ≡ false → TakesWhole left later) → (ended ≡ true → IsAtEnd later) → TakesOne left later
+one_cut None later line ended c whole end = tt
+one_cut (Some left) None line ended c whole end = absurd c
+one_cut (Some left) (Some later) line false c whole end =
+    let (piece, is, f) = whole refl in (
+      piece ++ 10 ∷ [],
+      f ∙ sym (append_assoc piece (10 ∷ []) later),
+      let one = ap length (lines_ended piece [] is ∙ ap (λ ls. line_of piece ∷ ls) lines_none) in omega (arith, one),
+    )
+one_cut (Some left) (Some later) line true c whole end =
+    let one = ap length (c ∙ ap (λ ls. line ∷ ls) (ap lines_of (end refl) ∙ lines_none)) in
+    (left, sym (append-nil left) ∙ ap (λ l. left ++ l) (sym (end refl)), omega (arith, one))
+
+-- memory was wanting within a line, or after it was taken
+off_wanting : (input left later : Option (List ℕ)) (lines : List InputLine) → ReadOff input left lines → TakesOne left later → AllButLast input later lines
+off_wanting None left later lines o t = tt
+off_wanting (Some bytes) None later lines o t = absurd o
+off_wanting (Some bytes) (Some left) None lines o t = absurd t
+off_wanting (Some bytes) (Some left) (Some later) lines (front, e, closes, lies) (read, f, one) =
+    (front ++ read, lines_of read, e ∙ ap (λ l. front ++ l) f ∙ sym (append_assoc front read later), lies read, one)
+
+-- all was read before
+end_wanting : (input left later : Option (List ℕ)) (lines : List InputLine) → LeftOf input left lines → IsAtEnd left → TakesOne left later → AllButLast input later lines
+end_wanting None left later lines l end t = tt
+end_wanting (Some bytes) None later lines l end t = absurd l
+end_wanting (Some bytes) (Some left) None lines l end t = absurd t
+end_wanting (Some bytes) (Some left) (Some later) lines l end (read, f, one) =
+    let short = ap length (sym f ∙ end) in
+    let none : later ≡ [] = nil_from_length later (omega (arith, short, length-append read later)) in
+    (bytes, [], sym (append-nil bytes) ∙ ap (λ b. bytes ++ b) (sym none), l ∙ ap (λ ls. lines ++ ls) (ap lines_of end ∙ lines_none), omega arith)
+
+none_wanting : (input : Option (List ℕ)) → AllButLast input input []
+none_wanting None = tt
+none_wanting (Some bytes) = ([], [], refl, lines_none, omega arith)
 
 none_read : (input : Option (List ℕ)) → WereRead input input []
 none_read None = tt
@@ -143,14 +192,17 @@ module _ {S : Type 0} (has : S → InputLine → List ℕ → S → Type 0) wher
     pub rest : front ++ kept ≡ all_bytes all
     pub of : LeftOf input left lines
     pub off : ended ≡ false → ReadOff input left lines
+    pub end : ended ≡ true → IsAtEnd left
 
-  pub so_far_first : (input held : Option (List ℕ)) (ended : Bool) (first now : S) (kept : List ℕ) → now ≡ first → kept ≡ [] → SoFar first input held input ended now held kept
-  so_far_first input held ended first now kept e none =
-      record { lines = []; all = []; run = e; front = []; put = Appends-nil held; rest = none; of = left_first input; off = λ _. off_first input }
+  pub so_far_first : (input held : Option (List ℕ)) (ended : Bool) (first now : S) (kept : List ℕ) → now ≡ first → kept ≡ []
+      → (ended ≡ true → IsAtEnd input) → SoFar first input held input ended now held kept
+  so_far_first input held ended first now kept e none end =
+      record { lines = []; all = []; run = e; front = []; put = Appends-nil held; rest = none; of = left_first input; off = λ _. off_first input; end = end }
 
   pub so_far_more : (input before left later held holds : Option (List ℕ)) (ended ends : Bool) (first now new : S) (kept keeps : List ℕ) → SoFar first input before left ended now held kept
-      → (ended ≡ true → ends ≡ true) → Turns has left later ends now new held kept holds keeps true → SoFar first input before later ends new holds keeps
-  so_far_more input before left later held holds ended ends first now new kept keeps so stays (line, bytes, cuts, had, gathers, whole) = record {
+      → (ended ≡ true → ends ≡ true) → Turns has left later ends now new held kept holds keeps true → (ends ≡ true → IsAtEnd later)
+      → SoFar first input before later ends new holds keeps
+  so_far_more input before left later held holds ended ends first now new kept keeps so stays (line, bytes, cuts, had, gathers, whole) end = record {
     lines = so.lines ++ line ∷ [];
     all = so.all ++ bytes ∷ [];
     run = run_on first now new so.lines (line ∷ []) so.all (bytes ∷ []) so.run (new, had, refl);
@@ -160,6 +212,7 @@ module _ {S : Type 0} (has : S → InputLine → List ℕ → S → Type 0) wher
         ∙ sym (all_bytes-append so.all (bytes ∷ []) ∙ ap (λ l. all_bytes so.all ++ l) (append-nil bytes));
     of = left_more input left later so.lines line so.of cuts;
     off = λ going. off_more input left later so.lines line (so.off (still ended ends stays going)) cuts (whole going);
+    end = end;
   }
 
   -- what was kept back was written
@@ -173,11 +226,20 @@ module _ {S : Type 0} (has : S → InputLine → List ℕ → S → Type 0) wher
       let P : S → Type 0 = λ last. Run has first so.lines so.all last in
       (so.lines, so.all, subst P (sym same) so.run, left_none input left so.lines so.of none, all_put before held holds so.front kept (all_bytes so.all) so.put so.rest more)
 
+  wanting : (input before left later held : Option (List ℕ)) (ended : Bool) (first now : S) (kept : List ℕ) (so : SoFar first input before left ended now held kept) → TakesOne left later
+      → AllButLast input later so.lines
+  wanting input before left later held ended first now kept so one =
+      elim (cases_Bool ended) [
+        | inl is ↦ end_wanting input left later so.lines so.of (so.end is) one
+        | inr not ↦ off_wanting input left later so.lines (so.off not) one
+      ]
+
   -- the first lines were taken, and their bytes, or a front of them, were written
-  spilt_first : (input before left held holds : Option (List ℕ)) (ended : Bool) (first now : S) (kept : List ℕ) → SoFar first input before left ended now held kept → Appends held holds kept
-      → (last : Option (List ℕ)) → WritesFirst has first NoMemory input last before holds
-  spilt_first input before left held holds ended first now kept so more last =
-      (so.lines, so.all, now, so.run, (left_begins input left so.lines so.of, all_put before held holds so.front kept (all_bytes so.all) so.put so.rest more))
+  spilt_first : (input before left later held holds : Option (List ℕ)) (ended : Bool) (first now : S) (kept : List ℕ) → SoFar first input before left ended now held kept → TakesOne left later
+      → Appends held holds kept → WritesFirst has first NoMemory input later before holds
+  spilt_first input before left later held holds ended first now kept so one more =
+      let put = all_put before held holds so.front kept (all_bytes so.all) so.put so.rest more in
+      (so.lines, so.all, now, so.run, (left_begins input left so.lines so.of, wanting input before left later held ended first now kept so one, put))
 
   front_first : (input before left held holds : Option (List ℕ)) (ended : Bool) (first now new : S) (kept : List ℕ) (taken : List InputLine) (all : List (List ℕ))
       → SoFar first input before left ended now held kept → Run has now taken all new → BeginsWith left taken → AppendsFront held holds (kept ++ all_bytes all)
@@ -206,8 +268,8 @@ module _ {S : Type 0} (has : S → InputLine → List ℕ → S → Type 0) wher
     failed ReadFailed last going (piece, put) (same, still_held) =
         failed_still ReadFailed last input before left later held holds first same
         (so.lines, so.all, now, so.run, (off_failed input left later so.lines (so.off (going refl)) piece, all_put before held holds so.front kept (all_bytes so.all) so.put so.rest (put_last still_held put)))
-    failed NoMemory NoMemory going gathers put = spilt_first input before left held holds ended first now kept so (gathered_put held mid holds kept keeps gathers put) later
-    failed NoMemory WriteFailed going gathers front =
+    failed NoMemory NoMemory going (one, gathers) put = spilt_first input before left later held holds ended first now kept so one (gathered_put held mid holds kept keeps gathers put)
+    failed NoMemory WriteFailed going (one, gathers) front =
         let P : List ℕ → Type 0 = λ l. AppendsFront held holds l in
         front_first input before left held holds ended first now now kept [] [] so refl (begins_none left) (subst P (sym (append-nil kept)) (gathered_front held mid holds kept keeps gathers front)) later
     failed NoMemory ReadFailed going gathers never = absurd never
@@ -218,15 +280,20 @@ module _ {S : Type 0} (has : S → InputLine → List ℕ → S → Type 0) wher
 
   -- no memory before the first line
   pub failed_first : (first : S) (input held : Option (List ℕ)) → WritesFirst has first NoMemory input input held held
-  failed_first first input held = ([], [], first, refl, (begins_none input, Appends-nil held))
+  failed_first first input held = ([], [], first, refl, (begins_none input, none_wanting input, Appends-nil held))
 
   -- no line was to be had
   pub spilt : (fault : EngineFault) (left later held holds : Option (List ℕ)) (old : S) (kept keeps : List ℕ) → Spills fault left later held kept holds keeps
       → TurnFails has fault left later old held kept holds keeps
   spilt ReadFailed left later held holds old kept keeps s = s
-  spilt NoMemory left later held holds old kept keeps s = s
+  spilt NoMemory left later held holds old kept keeps (piece, gathers) = (piece_one left later piece, gathers)
   spilt WriteFailed left later held holds old kept keeps s =
       let P : List ℕ → Type 0 = λ l. AppendsFront held holds l in ([], [], old, refl, begins_none left, subst P (sym (append-nil kept)) s)
+
+  -- there was no memory for what the line was to be answered
+  pub told_failed : (left later held holds : Option (List ℕ)) (ended : Bool) (old : S) (line : InputLine) (kept keeps : List ℕ) → CutsOff left later line → (ended ≡ false → TakesWhole left later)
+      → (ended ≡ true → IsAtEnd later) → Gathers held kept [] holds keeps → TurnFails has NoMemory left later old held kept holds keeps
+  told_failed left later held holds ended old line kept keeps cuts whole end gathers = (one_cut left later line ended cuts whole end, gathers)
 
   -- the line's bytes could not be written
   pub put_failed : (left later held mid holds : Option (List ℕ)) (old new : S) (line : InputLine) (kept keeps bytes last : List ℕ) → CutsOff left later line → has old line bytes new

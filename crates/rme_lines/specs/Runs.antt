@@ -1,6 +1,6 @@
 -- WHAT A RUN OF LINES WRITES: for the lines of the bytes read, the bytes of each in order, and nothing else. Which bytes a
 -- line has, in what the lines before it left open, is a relation that the run is given.
-use Rattle.std.specs.Prelude.{◌≡◌, ℕ, List, [], ◌∷◌, ◌++◌, Bool, true, false, Option, Some, None}
+use Rattle.std.specs.Prelude.{◌≡◌, ℕ, ◌≤◌, List, [], ◌∷◌, ◌++◌, length, Bool, true, false, Option, Some, None}
 use Rattle.std.specs.Io.KnownBytes.{Appends}
 use Rattle.rme_lines.specs.declared.fault.EngineFault.{EngineFault}
 use Rattle.rme_lines.specs.declared.fault.EngineFault.TheVariants.{ReadFailed, WriteFailed, NoMemory}
@@ -35,6 +35,12 @@ WereRead None left lines = Unit {0}
 WereRead (Some bytes) None lines = ⊥
 WereRead (Some bytes) (Some left) lines = (read : List ℕ) × (bytes ≡ read ++ left) × (whole_lines_of read ≡ lines)
 
+-- these are the lines that were read, all but the last at most, of which perhaps only a part was read
+abbrev pub AllButLast : Option (List ℕ) → Option (List ℕ) → List InputLine → Type 0
+AllButLast None left lines = Unit {0}
+AllButLast (Some bytes) None lines = ⊥
+AllButLast (Some bytes) (Some left) lines = (read : List ℕ) × (last : List InputLine) × (bytes ≡ read ++ left) × (lines_of read ≡ lines ++ last) × (length last ≤ 1)
+
 -- all lines of the input were taken, and their bytes were written; the last of them left this open
 abbrev pub WritesTo : {S : Type 0} → (S → InputLine → List ℕ → S → Type 0) → S → Option (List ℕ) → Option (List ℕ) → Option (List ℕ) → S → Type 0
 WritesTo has first input before after last =
@@ -44,11 +50,11 @@ abbrev pub WritesAll : {S : Type 0} → (S → InputLine → List ℕ → S → 
 WritesAll {S = S} has first input before after = (last : S) × WritesTo has first input before after last
 
 -- the lines that were taken when a run gave up, and what was written by then: where the reader failed, the lines whose
--- newlines had come, and the bytes of all of them; for want of memory the bytes of all lines that were taken; where the
--- writer failed a front of them
+-- newlines had come, and the bytes of all of them; for want of memory the lines before the one for which it was wanting, and
+-- the bytes of all of them; where the writer failed a front of them
 abbrev pub GaveUp : EngineFault → Option (List ℕ) → Option (List ℕ) → List InputLine → Option (List ℕ) → Option (List ℕ) → List ℕ → Type 0
 GaveUp ReadFailed input left lines before after bytes = WereRead input left lines × Appends before after bytes
-GaveUp NoMemory input left lines before after bytes = BeginsWith input lines × Appends before after bytes
+GaveUp NoMemory input left lines before after bytes = BeginsWith input lines × AllButLast input left lines × Appends before after bytes
 GaveUp WriteFailed input left lines before after bytes = BeginsWith input lines × AppendsFront before after bytes
 
 -- the first lines of the input were taken, and then the run gave up
@@ -76,16 +82,23 @@ Turns has left later ended old new held kept holds keeps true =
     (line : InputLine) × (bytes : List ℕ) × CutsOff left later line × has old line bytes new × Gathers held kept bytes holds keeps × (ended ≡ false → TakesWhole left later)
 Turns has left later ended old new held kept holds keeps false = HasNone left × Appends held holds kept × (new ≡ old)
 
+-- the bytes of one line at most were taken, of all of it or of a part
+abbrev pub TakesOne : Option (List ℕ) → Option (List ℕ) → Type 0
+TakesOne None after = Unit {0}
+TakesOne (Some before) None = ⊥
+TakesOne (Some before) (Some after) = (read : List ℕ) × (before ≡ read ++ after) × (length (lines_of read) ≤ 1)
+
 -- what is cut and written where no line was to be had: after want of memory what was not written is kept back still
 abbrev pub Spills : EngineFault → Option (List ℕ) → Option (List ℕ) → Option (List ℕ) → List ℕ → Option (List ℕ) → List ℕ → Type 0
 Spills ReadFailed left later held kept holds keeps = TakesPiece left later × Appends held holds kept
-Spills NoMemory left later held kept holds keeps = Gathers held kept [] holds keeps
+Spills NoMemory left later held kept holds keeps = TakesPiece left later × Gathers held kept [] holds keeps
 Spills WriteFailed left later held kept holds keeps = AppendsFront held holds kept
 
--- a turn that failed: where the writer did, perhaps after a line was taken
+-- a turn that failed: for want of memory perhaps after a line was taken, of which nothing is kept; where the writer failed
+-- perhaps after one was, and its bytes were written in part
 abbrev pub TurnFails : {S : Type 0} → (S → InputLine → List ℕ → S → Type 0) → EngineFault → Option (List ℕ) → Option (List ℕ) → S → Option (List ℕ) → List ℕ → Option (List ℕ) → List ℕ → Type 0
 TurnFails has ReadFailed left later old held kept holds keeps = TakesPiece left later × Appends held holds kept
-TurnFails has NoMemory left later old held kept holds keeps = Gathers held kept [] holds keeps
+TurnFails has NoMemory left later old held kept holds keeps = TakesOne left later × Gathers held kept [] holds keeps
 TurnFails {S = S} has WriteFailed left later old held kept holds keeps =
     (taken : List InputLine) × (all : List (List ℕ)) × (new : S) × Run has old taken all new × BeginsWith left taken × AppendsFront held holds (kept ++ all_bytes all)
 

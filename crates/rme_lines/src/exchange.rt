@@ -1,6 +1,6 @@
 //! Lines that are taken, and answers that are kept back until they are written.
 
-ghost use Rattle.std.specs.Prelude.{◌≡◌, ◌≢◌, ◌<◌, ◌≤◌, [], false, IfOk, IfErr, OnOk};
+ghost use Rattle.std.specs.Prelude.{◌≡◌, ◌≢◌, ◌<◌, ◌≤◌, [], false, IfOk, IfErr, OnErr, OnOk};
 ghost use Rattle.rme_lines.specs.Cuts.{Cuts};
 ghost use Rattle.rme_lines.specs.Pieces.{TakesPiece, TakesWhole};
 ghost use Rattle.rme_lines.specs.Readers.{FailsToRead, HasEnded, ReadsNoMore, bytes_left, has_ended, most_lines, reads_left};
@@ -136,7 +136,7 @@ fn read_on<R: Read + Drop>(
     requires { pending.now ≡ [] }
     ensures cut { IfOk result (λ cut. Cuts (bytes_left R.remaining lines.old) (bytes_left R.remaining lines.new) cut line.new.items) }
     ensures whole { OnOk result (has_ended lines.new ≡ false → TakesWhole (bytes_left R.remaining lines.old) (bytes_left R.remaining lines.new)) }
-    ensures lost { IfErr result (λ fault. fault ≡ EngineFault.ReadFailed → TakesPiece (bytes_left R.remaining lines.old) (bytes_left R.remaining lines.new)) }
+    ensures lost { OnErr result (TakesPiece (bytes_left R.remaining lines.old) (bytes_left R.remaining lines.new)) }
     ensures fewer { IfOk result (λ cut. cut ≢ Cut.End → most_lines lines.new < most_lines lines.old) }
     ensures end { IfOk result (λ cut. cut ≡ Cut.End → HasEnded lines.new) }
     ensures ended { HasEnded lines.old → ReadsNoMore lines.old lines.new }

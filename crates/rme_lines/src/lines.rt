@@ -1,6 +1,6 @@
 //! The lines of a reader's bytes.
 
-ghost use Rattle.std.specs.Prelude.{◌≡◌, ◌+◌, ◌<◌, ◌≤◌, IfOk, vec_len};
+ghost use Rattle.std.specs.Prelude.{◌≡◌, ◌+◌, ◌<◌, ◌≤◌, IfOk, true, vec_len};
 
 use crate::cut::{Cut, keep, last_cut, whole};
 use crate::fault::EngineFault;
@@ -30,6 +30,7 @@ pub struct LineReader<R> {
     /// Whether a read gave no byte.
     ended: bool,
     ghost within: { (start ≤ end) × (end ≤ vec_len chunk) × (vec_len chunk ≡ 65536) × (reads ≤ 1000000000) },
+    ghost used_up: { ended ≡ true → end ≤ start },
 }
 
 /// The buffer that reads fill.
@@ -40,7 +41,7 @@ fn empty_chunk(alloc: Global) -> Result<Vec<u8>, AllocError>
 }
 
 impl<R: Read + Drop> LineReader<R> {
-    ghost use Rattle.std.specs.Prelude.{◌≡◌, ◌≢◌, ◌<◌, ◌≤◌, IfOk, IfErr, IfSome, None, OnSome, true, false};
+    ghost use Rattle.std.specs.Prelude.{◌≡◌, ◌≢◌, ◌<◌, ◌≤◌, IfOk, IfErr, IfSome, None, OnErr, OnSome, true, false};
     ghost use Rattle.std.specs.Io.KnownBytes.{IsAtEnd, Keeps};
     ghost use Rattle.rme_lines.specs.Pieces.{IsPiece, Takes, TakesPiece, TakesWhole};
     ghost use Rattle.rme_lines.specs.Cuts.{Cuts};
@@ -105,6 +106,7 @@ impl<R: Read + Drop> LineReader<R> {
         ensures takes { IfOk result (λ found. Takes (bytes_left R.remaining self.old) (bytes_left R.remaining self.new) found
             line.old.items line.new.items) }
         ensures on { TakesOn self.old self.new }
+        ensures lost { OnErr result (Keeps (bytes_left R.remaining self.old) (bytes_left R.remaining self.new)) }
         ensures used { IfOk result (λ _. self.old.start < self.old.end → self.old.start < self.new.start) }
     {
         let bytes = &self.chunk[self.start..self.end];
@@ -133,6 +135,7 @@ impl<R: Read + Drop> LineReader<R> {
         ensures none { IfOk result (λ taken. taken ≡ None → IsPiece (at_hand self.old)) }
         ensures kept { IfOk result (λ taken. taken ≡ None → Keeps (bytes_left R.remaining self.old) (bytes_left R.remaining self.new)) }
         ensures on { TakesOn self.old self.new }
+        ensures lost { OnErr result (Keeps (bytes_left R.remaining self.old) (bytes_left R.remaining self.new)) }
         ensures fewer { IfOk result (λ taken. OnSome taken (most_lines self.new < most_lines self.old)) }
     {
         line.clear();
@@ -150,8 +153,9 @@ impl<R: Read + Drop> LineReader<R> {
     /// only its front is copied.
     ///
     /// A read that was interrupted is made again. `ReadFailed` comes where the reader fails or all its reads
-    /// are used up, and `NoMemory` where the line's copy finds no room; the bytes of the line that was begun
-    /// are then lost. After a read that gave no byte the reader is not read again, however often this is called.
+    /// are used up, and `NoMemory` where the line's copy finds no room; of the line that was begun the bytes that were
+    /// taken are then lost, none of which is a newline. After a read that gave no byte the reader is not read again,
+    /// however often this is called.
     pub fn next_line(&mut self, line: &mut Vec<u8>) -> Result<Cut, EngineFault>
         ensures cut { IfOk result (λ cut. Cuts (bytes_left R.remaining self.old) (bytes_left R.remaining self.new) cut line.new.items) }
         ensures whole { IfOk result (λ _. has_ended self.new ≡ false → TakesWhole (bytes_left R.remaining self.old) (bytes_left R.remaining self.new)) }
@@ -161,7 +165,7 @@ impl<R: Read + Drop> LineReader<R> {
         ensures fewer { IfOk result (λ cut. cut ≢ Cut.End → most_lines self.new < most_lines self.old) }
         ensures kind { IfErr result (λ fault. fault ≢ EngineFault.WriteFailed) }
         ensures failed { IfErr result (λ fault. fault ≡ EngineFault.ReadFailed → FailsToRead self.old self.new) }
-        ensures lost { IfErr result (λ fault. fault ≡ EngineFault.ReadFailed → TakesPiece (bytes_left R.remaining self.old) (bytes_left R.remaining self.new)) }
+        ensures lost { OnErr result (TakesPiece (bytes_left R.remaining self.old) (bytes_left R.remaining self.new)) }
     {
         line.clear();
         loop {

@@ -3,6 +3,19 @@
 /// What the words ask for.
 #[derive(Drop)]
 pub enum Task {
+    /// Something over lines, or an explanation.
+    Lines(LineTask),
+    /// Draw the transcript on the standard input.
+    Draw,
+    /// Supervise workers that add to one cell.
+    Threads(ThreadsTask),
+    /// Serve workers to the sessions of so many connections.
+    Serve(ServeTask),
+}
+
+/// What is done over lines alone, with no threads and no picture.
+#[derive(Drop)]
+pub enum LineTask {
     /// Answer the lines of the standard input.
     Run,
     /// Answer them over a saved world, save the world that they leave, or both.
@@ -11,14 +24,8 @@ pub enum Task {
     Transcript,
     /// Check the transcript on the standard input.
     Check,
-    /// Draw the transcript on the standard input.
-    Draw,
     /// Explain what these words name, or, where there are none, name all.
     Explain(Vec<String>),
-    /// Supervise workers that add to one cell.
-    Threads(ThreadsTask),
-    /// Serve workers to the sessions of so many connections.
-    Serve(ServeTask),
 }
 
 /// The images that a run begins and ends with.

@@ -1,7 +1,7 @@
 //! What the words of the command line ask for.
 
 use crate::commands::command;
-use crate::tasks::{Images, ServeTask, Task, ThreadsTask};
+use crate::tasks::{Images, LineTask, ServeTask, Task, ThreadsTask};
 use clap::{ArgMatches, Error};
 use std::alloc::{AllocError, Global};
 
@@ -13,7 +13,10 @@ pub fn task_of(alloc: Global, words: &[String]) -> Result<Task, Error> {
     if let Some(task) = service_task(alloc, &found)? {
         return Ok(task);
     }
-    Ok(line_task(alloc, &found)?)
+    if found.subcommand_matches("draw").is_some() {
+        return Ok(Task::Draw);
+    }
+    Ok(Task::Lines(line_task(alloc, &found)?))
 }
 
 /// What words that ask for a service in threads ask for.
@@ -28,31 +31,28 @@ fn service_task(alloc: Global, found: &ArgMatches<'_>) -> Result<Option<Task>, E
 }
 
 /// What words that ask for something over lines, or for an explanation, ask for.
-fn line_task(alloc: Global, found: &ArgMatches<'_>) -> Result<Task, AllocError> {
+fn line_task(alloc: Global, found: &ArgMatches<'_>) -> Result<LineTask, AllocError> {
     if let Some(explain) = found.subcommand_matches("explain") {
-        return Ok(Task::Explain(texts_of(alloc, explain, "CODE")?));
-    }
-    if found.subcommand_matches("draw").is_some() {
-        return Ok(Task::Draw);
+        return Ok(LineTask::Explain(texts_of(alloc, explain, "CODE")?));
     }
     match found.subcommand_matches("run") {
-        None => Ok(Task::Check),
+        None => Ok(LineTask::Check),
         Some(run) => run_task(alloc, run),
     }
 }
 
 /// What the words after `run` ask for.
-fn run_task(alloc: Global, found: &ArgMatches<'_>) -> Result<Task, AllocError> {
+fn run_task(alloc: Global, found: &ArgMatches<'_>) -> Result<LineTask, AllocError> {
     if found.get_flag("transcript") {
-        return Ok(Task::Transcript);
+        return Ok(LineTask::Transcript);
     }
     let load = text_of(alloc, found, "image")?;
     let save = text_of(alloc, found, "save")?;
     if load.is_none() && save.is_none() {
-        return Ok(Task::Run);
+        return Ok(LineTask::Run);
     }
     let locks = texts_of(alloc, found, "locks")?;
-    Ok(Task::Images(Images { load, locks, save }))
+    Ok(LineTask::Images(Images { load, locks, save }))
 }
 
 /// The texts that an argument has, in order.

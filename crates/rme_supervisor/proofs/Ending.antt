@@ -1,9 +1,9 @@
 -- The end of a run.
-use Rattle.std.proofs.Common.{◌≡◌, List, ◌∙◌, arith, inl, inr}
+use Rattle.std.proofs.Common.{◌≡◌, ◌<◌, List, length, ◌∙◌, arith, inl, inr}
 use Rattle.std.specs.Prelude.{Bool, true, ◌==◌}
 use Rattle.std.proofs.lemmas.Bool.{eq-eqb}
 use Rattle.std.proofs.lemmas.List.Folds.{list_any_at}
-use Rattle.std.proofs.lemmas.Option.{slice_get_cases}
+use Rattle.std.proofs.lemmas.Option.{slice_get_cases, slice_get_within}
 use Rattle.rme_words.specs.declared.shape.Shape.{Shape}
 use Rattle.rme_seats.specs.Stands.{Ident, Stand}
 use Rattle.rme_table.specs.declared.closed.Closed.{Closed}
@@ -35,4 +35,10 @@ module _ (ident : Ident) (plans : List WorkerPlan) (s : Settled) (fresh : Bool) 
       earned = is.earned worker down end plan at ended (rw (all.order worker down at) planned);
       follows = λ f. follow f worker plan down end planned at ended;
     };
+    lived = λ worker plan end lives planned ended counted.
+        let within : worker < length s.ends.items = slice_get_within s.ends.items worker end ended in
+        elim (slice_get_cases s.downs.items worker).1 [
+          | inl p ↦ is.lived worker p.0 end lives plan p.2 ended counted (rw (all.order worker p.0 p.2) planned)
+          | inr p ↦ absurd (omega (arith, within, p.0, is.ends))
+        ];
   }

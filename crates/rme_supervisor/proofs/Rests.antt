@@ -1,28 +1,36 @@
 -- What the slots held in the end, one slot after another.
-use Rattle.std.proofs.Common.{◌≡◌, ℕ, ◌<◌, List, [], ◌∷◌, ◌++◌, length, refl, arith, inl, inr}
+use Rattle.std.proofs.Common.{◌≡◌, ℕ, ◌<◌, List, [], ◌∷◌, ◌++◌, length, refl, ap, arith, inl, inr}
 use Rattle.std.specs.Prelude.{slice_get, Option, Some, None, unwrap_or}
 use Rattle.std.proofs.lemmas.List.{length-append}
 use Rattle.std.proofs.lemmas.Option.{slice_get_within}
 use Rattle.rme_words.specs.declared.shape.Shape.{Shape}
 use Rattle.rme_seats.specs.Stands.{Ident, Stand}
 use Rattle.rme_supervisor.specs.declared.end.End.{End}
-use Rattle.rme_supervisor.specs.declared.end.End.TheVariants.{NoStart}
+use Rattle.rme_supervisor.specs.declared.end.End.TheVariants.{NoStart, OutOfLives}
 use Rattle.rme_supervisor.specs.declared.plan.WorkerPlan.{WorkerPlan}
 use Rattle.rme_supervisor.specs.declared.settling.Settled.{Settled}
-use Rattle.rme_supervisor.specs.Ends.{IsEarned}
+use Rattle.rme_supervisor.specs.Ends.{HasLived, IsEarned}
 use Rattle.rme_supervisor.specs.Berths.{IsRest}
 use Rattle.rme_supervisor.specs.Settled.{IsSettled}
 use Rattle.rme_supervisor.proofs.Lists.{in_snoc}
 
 -- The end of a worker in its slot is one that its plan allows, NoStart where it has none.
-pub rested : (shape : Shape) (plans : List WorkerPlan) (stand : Stand) (end : Option End) → IsRest shape plans (record { stand = stand; end = end })
+pub rested : (shape : Shape) (plans : List WorkerPlan) (stand : Stand) (end : Option End) (fallen lives : ℕ) → IsRest shape plans (record { stand = stand; end = end; fallen = fallen; lives = lives })
     → (plan : WorkerPlan) → slice_get plans stand.part.worker ≡ Some plan → IsEarned shape plan stand.part.private.begun (unwrap_or end NoStart)
-rested shape plans stand None is plan planned = tt
-rested shape plans stand (Some end) is plan planned = is plan end planned refl
+rested shape plans stand None fallen lives is plan planned = tt
+rested shape plans stand (Some end) fallen lives is plan planned = is.earned plan end planned refl
+
+-- So many lives are those that its plan allows.
+pub rested_lives : (shape : Shape) (plans : List WorkerPlan) (stand : Stand) (end : Option End) (fallen lives : ℕ) → IsRest shape plans (record { stand = stand; end = end; fallen = fallen; lives = lives })
+    → (plan : WorkerPlan) → slice_get plans stand.part.worker ≡ Some plan → HasLived plan (unwrap_or end NoStart) lives
+rested_lives shape plans stand None fallen lives is plan planned = record { most = (is.fallen plan planned).most; out = λ e. absurd (let bad : NoStart ≡ OutOfLives = e in cc) }
+rested_lives shape plans stand (Some end) fallen lives is plan planned =
+    let has = is.fallen plan planned in record { most = has.most; out = λ e. (has.out (ap (λ (x : End). Some x) e)).1 }
 
 module _ (ident : Ident) (plans : List WorkerPlan) (s t : Settled) (down : Stand) (end : End) (lives : ℕ) (is : IsSettled ident plans s) (downs : t.downs.items ≡ s.downs.items ++ down ∷ [])
     (ends : t.ends.items ≡ s.ends.items ++ end ∷ []) (lived : t.lives.items ≡ s.lives.items ++ lives ∷ []) (own : down.ident ≡ ident)
-    (earned : (plan : WorkerPlan) → slice_get plans down.part.worker ≡ Some plan → IsEarned ident.shape plan down.part.private.begun end) where
+    (earned : (plan : WorkerPlan) → slice_get plans down.part.worker ≡ Some plan → IsEarned ident.shape plan down.part.private.begun end)
+    (has_lived : (plan : WorkerPlan) → slice_get plans down.part.worker ≡ Some plan → HasLived plan end lives) where
   ours : (k : ℕ) (seat : Stand) → slice_get t.downs.items k ≡ Some seat → seat.ident ≡ ident
   ours k seat at = elim (in_snoc s.downs.items down k seat (rw (← downs) at)) [
     | inl h ↦ is.ours k seat h
@@ -42,10 +50,30 @@ module _ (ident : Ident) (plans : List WorkerPlan) (s t : Settled) (down : Stand
     ]
   ]
 
+  each_lived : (k : ℕ) (d : Stand) (e : End) (l : ℕ) (plan : WorkerPlan) → slice_get t.downs.items k ≡ Some d → slice_get t.ends.items k ≡ Some e → slice_get t.lives.items k ≡ Some l
+      → slice_get plans d.part.worker ≡ Some plan → HasLived plan e l
+  each_lived k d e l plan at ended counted planned = elim (in_snoc s.downs.items down k d (rw (← downs) at)) [
+    | inl h ↦ let within : k < length s.downs.items = slice_get_within s.downs.items k d h in elim (in_snoc s.ends.items end k e (rw (← ends) ended)) [
+      | inl i ↦ elim (in_snoc s.lives.items lives k l (rw (← lived) counted)) [
+        | inl j ↦ is.lived k d e l plan h i j planned
+        | inr j ↦ absurd (omega (arith, within, j.0, is.lives))
+      ]
+      | inr i ↦ absurd (omega (arith, within, i.0, is.ends))
+    ]
+    | inr h ↦ elim (in_snoc s.ends.items end k e (rw (← ends) ended)) [
+      | inl i ↦ let within : k < length s.ends.items = slice_get_within s.ends.items k e i in absurd (omega (arith, within, h.0, is.ends))
+      | inr i ↦ elim (in_snoc s.lives.items lives k l (rw (← lived) counted)) [
+        | inl j ↦ let within : k < length s.lives.items = slice_get_within s.lives.items k l j in absurd (omega (arith, within, h.0, is.lives))
+        | inr j ↦ rw (← i.1, ← j.1) (has_lived plan (rw h.1 planned))
+      ]
+    ]
+  ]
+
   pub settled_more : IsSettled ident plans t
   settled_more = record {
     ours = ours;
     ends = rw (downs, ends) (let d = length-append s.downs.items (down ∷ []) in let e = length-append s.ends.items (end ∷ []) in omega (arith, d, e, is.ends));
     lives = rw (downs, lived) (let d = length-append s.downs.items (down ∷ []) in let l = length-append s.lives.items (lives ∷ []) in omega (arith, d, l, is.lives));
     earned = each;
+    lived = each_lived;
   }

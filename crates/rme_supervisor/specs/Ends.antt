@@ -1,5 +1,5 @@
 -- How a worker's lives may end.
-use Rattle.std.specs.Prelude.{◌≡◌, ℕ, ◌≤◌, length, slice_get, Some}
+use Rattle.std.specs.Prelude.{◌≡◌, ℕ, ◌≤◌, Bool, true, false, length, slice_get, Some}
 use Rattle.rme_words.specs.declared.shape.Shape.{Shape}
 use Rattle.rme_words.specs.declared.refusal.Refusal.{Refusal}
 use Rattle.rme_script.specs.declared.job.Job.{Job}
@@ -23,3 +23,12 @@ IsEarned shape plan begun Stalled = Unit {0}
 IsEarned shape plan begun OutOfLives = plan.lives ≤ length plan.falls.items
 IsEarned shape plan begun NoStart = Unit {0}
 IsEarned shape plan begun (Refused refusal) = IsRefused shape plan begun refusal
+
+abbrev pub is_out : End → Bool
+is_out OutOfLives = true
+is_out _ = false
+
+-- Of so many lives of a worker that were started, no more than its plan has, it is out only where they were as many.
+pub record HasLived (plan : WorkerPlan) (end : End) (lives : ℕ) : Type 0 where
+  pub most : lives ≤ plan.lives
+  pub out : end ≡ OutOfLives → lives ≡ plan.lives

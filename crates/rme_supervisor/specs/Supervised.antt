@@ -15,7 +15,7 @@ use Rattle.rme_supervisor.specs.declared.end.End.TheVariants.{AllDone}
 use Rattle.rme_supervisor.specs.declared.plan.WorkerPlan.{WorkerPlan}
 use Rattle.rme_supervisor.specs.declared.report.Report.{Report}
 use Rattle.rme_supervisor.specs.declared.report.Fault.{Fault}
-use Rattle.rme_supervisor.specs.Ends.{IsEarned}
+use Rattle.rme_supervisor.specs.Ends.{HasLived, IsEarned}
 use Rattle.rme_supervisor.specs.Plans.{ArePlans, planned}
 
 -- These are the Downs of all workers, in order.
@@ -49,7 +49,7 @@ pub record IsEnded (shape : Shape) (fresh : Bool) (plan : WorkerPlan) (down : St
   pub earned : IsEarned shape plan down.part.private.begun end
   pub follows : fresh ≡ true → Follows plan down.part.entries end
 
--- The service was closed with the Downs of all workers at the end; and each worker ended as it says.
+-- The service was closed with the Downs of all workers at the end; and each worker ended as it says, after so many lives.
 pub record IsOver (shape : Shape) (plans : List WorkerPlan) (fresh : Bool) (report : Report) : Type 0 where
   pub downs : List Stand
   pub all : AreAll shape downs
@@ -58,6 +58,8 @@ pub record IsOver (shape : Shape) (plans : List WorkerPlan) (fresh : Bool) (repo
   pub lives : length report.lives.items ≡ shape.workers
   pub each : (worker : ℕ) (down : Stand) (plan : WorkerPlan) (end : End) → slice_get downs worker ≡ Some down → slice_get plans worker ≡ Some plan
       → slice_get report.ends.items worker ≡ Some end → IsEnded shape fresh plan down end
+  pub lived : (worker : ℕ) (plan : WorkerPlan) (end : End) (lives : ℕ) → slice_get plans worker ≡ Some plan → slice_get report.ends.items worker ≡ Some end
+      → slice_get report.lives.items worker ≡ Some lives → HasLived plan end lives
 
 -- The plans were good, and the run is over.
 pub record IsReport (shape : Shape) (plans : List WorkerPlan) (given : List Stand) (report : Report) : Type 0 where

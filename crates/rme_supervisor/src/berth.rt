@@ -38,18 +38,18 @@ impl<K: Course> Model for Berth<K> {
 
     ghost Value = { Rest };
 
-    ghost view = { λ berth. record { stand = berth.kept.down; end = berth.end } };
+    ghost view = { λ berth. record { stand = berth.kept.down; end = berth.end; fallen = berth.past.fallen; lives = berth.past.lives } };
 
-    ghost invariant = { λ berth. IsRest K.Tag.ident.shape K.plans (record { stand = berth.kept.down; end = berth.end }) };
+    ghost invariant = { λ berth. IsRest K.Tag.ident.shape K.plans (record { stand = berth.kept.down; end = berth.end; fallen = berth.past.fallen; lives = berth.past.lives }) };
 }
 
 impl<K: Course> Berth<K> {
-    ghost use Rattle.std.specs.Prelude.{◌≡◌, slice_get, Some, None};
+    ghost use Rattle.std.specs.Prelude.{◌≡◌, ◌+◌, ◌<◌, ◌≤◌, slice_get, IsTrue, Some, None};
     ghost use Rattle.rme_supervisor.specs.Berths.{Rest};
 
     /// A worker before its first life.
     pub(crate) fn new(kept: Kept<K>) -> Berth<K>
-        ensures { result ≡ record { stand = kept.down; end = None } }
+        ensures { result ≡ record { stand = kept.down; end = None; fallen = 0; lives = 0 } }
     {
         let past = Past {
             steps: 0,
@@ -71,12 +71,23 @@ impl<K: Course> Berth<K> {
         self.kept.down.worker()
     }
 
-    /// The worker after its next life.
+    /// Whether the worker may have a further life, of so many.
+    pub(crate) fn may_live(&self, lives: u32) -> bool
+        ensures { IsTrue result → (self.now.end ≡ None) × (self.now.lives < lives) }
+    {
+        self.end.is_none() && self.past.lives < lives
+    }
+
+    /// The worker after its next life, in which it fell once or not at all.
     pub(crate) fn live<G: Gate, R: Wait>(self, rt: &R, orders: &Orders<'_, G>) -> Berth<K>
         requires ours { orders.now.service.now ≡ K.Tag.ident }
         requires planned { slice_get K.plans self.stand.part.worker ≡ Some orders.now.plan.now }
-        ensures { result.stand.part.worker ≡ self.stand.part.worker }
+        requires more { (self.end ≡ None) × (self.lives < orders.now.plan.now.lives) }
+        ensures own { result.stand.part.worker ≡ self.stand.part.worker }
+        ensures lives { result.lives ≡ self.lives + 1 }
+        ensures falls { result.fallen ≤ self.fallen + 1 }
     {
+        let most = orders.plan.lives;
         let Berth { kept, past, end: _ } = self;
         let Kept { down, of } = kept;
         let falls = Falls::after(orders.plan.falls.as_slice(), past.steps, past.fallen);
@@ -88,13 +99,12 @@ impl<K: Course> Berth<K> {
             },
         };
         let stop = live(rt, orders, down, &mut trail);
-        // A fall is one of the plan's.
-        let fallen = trail.falls.fallen().min(orders.plan.falls.len());
+        let fallen = trail.falls.fallen();
         let past = Past {
             steps: trail.falls.steps(),
             fallen,
             blocked: trail.tries.blocked,
-            lives: past.lives.saturating_add(1),
+            lives: past.lives + 1,
         };
         match stop {
             Stop::Ended(down, end) => Berth {
@@ -105,7 +115,8 @@ impl<K: Course> Berth<K> {
             Stop::Fell(down) => Berth {
                 kept: Kept { down, of },
                 past,
-                end: end_after(fallen, orders.plan.lives),
+                // A fall is one of the plan's.
+                end: end_after(fallen.min(orders.plan.falls.len()), most),
             },
         }
     }

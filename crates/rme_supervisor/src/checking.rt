@@ -76,7 +76,7 @@ pub(crate) fn are_all(downs: &[Down], shape: Shape) -> bool
 pub(crate) fn all_follow(fresh: bool, plans: &[WorkerPlan], downs: &[Down], ends: &[End]) -> bool
     requires plans { length plans.now ≡ length downs.now }
     requires ends { length ends.now ≡ length downs.now }
-    ensures { IsTrue result → fresh ≡ true → AllFollow plans.now downs.now ends.now }
+    ensures { IsTrue result ↔ (fresh ≡ true → AllFollow plans.now downs.now ends.now) }
 {
     if !fresh {
         return true;

@@ -1,5 +1,7 @@
 //! The falls of a plan, as a chance.
 
+ghost use Rattle.std.specs.Prelude.{◌≡◌};
+
 use rme_table::Chance;
 
 /// Lets a worker fall before the own step that would follow so many, for each of the counts in turn.
@@ -11,8 +13,12 @@ pub(crate) struct Falls<'a> {
 }
 
 impl<'a> Falls<'a> {
+    ghost use Rattle.std.specs.Prelude.{◌≡◌};
+
     /// The counts after so many falls, the worker having made so many own steps.
-    pub(crate) fn after(counts: &'a [u32], steps: u64, fallen: usize) -> Falls<'a> {
+    pub(crate) fn after(counts: &'a [u32], steps: u64, fallen: usize) -> Falls<'a>
+        ensures { result.fallen ≡ fallen }
+    {
         Falls {
             counts,
             steps,
@@ -26,17 +32,24 @@ impl<'a> Falls<'a> {
     }
 
     /// The falls so far.
-    pub(crate) fn fallen(&self) -> usize {
+    pub(crate) fn fallen(&self) -> usize
+        ensures { result ≡ self.now.fallen }
+    {
         self.fallen
     }
 }
 
 impl<'a> Chance for Falls<'a> {
-    ghost use Rattle.std.specs.Prelude.{None};
+    ghost use Rattle.std.specs.Prelude.{◌≡◌, ◌↔◌, IsTrue, Some, None, slice_get};
+    ghost use Rattle.rme_seats.specs.Chances.{Asks, answers};
 
     ghost tally = { λ falls. record { yeses = falls.fallen; questions = None } };
 
-    fn falls(&mut self) -> bool {
+    fn falls(&mut self) -> bool
+        ensures asks { Asks (record { yeses = self.old.fallen; questions = None }) (record { yeses = self.new.fallen; questions = None }) 1 (answers result) }
+        ensures exact { IsTrue result ↔ (slice_get self.old.counts.now self.old.fallen ≡ Some self.old.steps) }
+        ensures counts { self.new.counts.now ≡ self.old.counts.now }
+    {
         if self.fallen < self.counts.len() && u64::from(self.counts[self.fallen]) == self.steps {
             self.fallen += 1;
             return true;

@@ -21,6 +21,7 @@ pub(crate) fn keep_all<K: Course + Send + Sync, G: Gate + Sync, R: Threads + Wai
 )
     requires ours { service.now ≡ K.Tag.ident }
     requires planned { plans.now ≡ K.plans }
+    requires all { (length slots.now ≡ service.now.shape.workers) × (length plans.now ≡ service.now.shape.workers) }
 {
     thread::scope(
         thread::scope_env(),
@@ -28,13 +29,14 @@ pub(crate) fn keep_all<K: Course + Send + Sync, G: Gate + Sync, R: Threads + Wai
         |scope|
             requires ours { service.now ≡ K.Tag.ident }
             requires planned { plans.now ≡ K.plans }
+            requires all { (length slots.now ≡ service.now.shape.workers) × (length plans.now ≡ service.now.shape.workers) }
         {
             for worker in 0..service.shape().workers() {
                 let (Some(slot), Some(plan)) = (
                     slots.get(worker as usize),
                     plans.get(worker as usize),
                 ) else {
-                    break;
+                    unreachable!()
                 };
                 let keeper = move ||
                     requires ours { service.now ≡ K.Tag.ident }

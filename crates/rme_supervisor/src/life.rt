@@ -1,8 +1,8 @@
 //! One life of a worker: from its recovery to a fall, or to the worker's end.
 
-ghost use Rattle.std.specs.Prelude.{◌≡◌, MatchResult};
+ghost use Rattle.std.specs.Prelude.{◌≡◌, ◌+◌, MatchResult};
 ghost use Rattle.rme_supervisor.specs.Ends.{IsEarned};
-ghost use Rattle.rme_supervisor.specs.Stops.{IsOf, IsStop, driven_to};
+ghost use Rattle.rme_supervisor.specs.Stops.{IsOf, IsStop, driven_to, falls_in};
 
 use crate::end::End;
 use crate::falls::Falls;
@@ -35,7 +35,8 @@ pub(crate) fn live<G: Gate, R: Wait>(
     trail: &mut Trail<'_>,
 ) -> Stop
     requires ours { down.ident ≡ orders.now.service.now }
-    ensures { IsStop orders.now.service.now down.part.worker orders.now.plan.now result }
+    ensures stop { IsStop orders.now.service.now down.part.worker orders.now.plan.now result }
+    ensures falls { trail.new.falls.fallen ≡ trail.old.falls.fallen + falls_in result }
 {
     let ready = match come_up(orders, down, trail) {
         Ok(ready) => ready,
@@ -51,7 +52,8 @@ fn come_up<G: Gate>(
     trail: &mut Trail<'_>,
 ) -> Result<Ready, Stop>
     requires ours { down.ident ≡ orders.now.service.now }
-    ensures { MatchResult result (λ ready. IsOf orders.now.service.now down.part.worker ready) (λ stop. IsStop orders.now.service.now down.part.worker orders.now.plan.now stop) }
+    ensures stop { MatchResult result (λ ready. IsOf orders.now.service.now down.part.worker ready) (λ stop. IsStop orders.now.service.now down.part.worker orders.now.plan.now stop) }
+    ensures falls { MatchResult result (λ _. trail.new.falls.fallen ≡ trail.old.falls.fallen) (λ stop. trail.new.falls.fallen ≡ trail.old.falls.fallen + falls_in stop) }
 {
     match down.recover(orders.service, &mut trail.falls) {
         Err(down) => Err(Stop::Fell(down)),
@@ -70,7 +72,8 @@ fn make_jobs<G: Gate, R: Wait>(
     trail: &mut Trail<'_>,
 ) -> Stop
     requires ours { ready.ident ≡ orders.now.service.now }
-    ensures { IsStop orders.now.service.now ready.part.worker orders.now.plan.now result }
+    ensures stop { IsStop orders.now.service.now ready.part.worker orders.now.plan.now result }
+    ensures falls { trail.new.falls.fallen ≡ trail.old.falls.fallen + falls_in result }
 {
     for _ in rt.forever() {
         let Some(job) = orders.plan.job(ready.number() as usize) else {
@@ -98,7 +101,8 @@ fn go_in<G: Gate>(
     trail: &mut Trail<'_>,
 ) -> Result<Ready, Stop>
     requires ours { climb.ident ≡ orders.now.service.now }
-    ensures { MatchResult result (λ ready. IsOf orders.now.service.now climb.part.worker ready) (λ stop. IsStop orders.now.service.now climb.part.worker orders.now.plan.now stop) }
+    ensures stop { MatchResult result (λ ready. IsOf orders.now.service.now climb.part.worker ready) (λ stop. IsStop orders.now.service.now climb.part.worker orders.now.plan.now stop) }
+    ensures falls { MatchResult result (λ _. trail.new.falls.fallen ≡ trail.old.falls.fallen) (λ stop. trail.new.falls.fallen ≡ trail.old.falls.fallen + falls_in stop) }
 {
     let backoff = Backoff::new();
     driven(climb.go_in(
@@ -113,7 +117,8 @@ fn go_in<G: Gate>(
 /// From the lock's entry to readiness.
 fn go_on<G: Gate>(orders: &Orders<'_, G>, held: Held, trail: &mut Trail<'_>) -> Result<Ready, Stop>
     requires ours { held.ident ≡ orders.now.service.now }
-    ensures { MatchResult result (λ ready. IsOf orders.now.service.now held.part.worker ready) (λ stop. IsStop orders.now.service.now held.part.worker orders.now.plan.now stop) }
+    ensures stop { MatchResult result (λ ready. IsOf orders.now.service.now held.part.worker ready) (λ stop. IsStop orders.now.service.now held.part.worker orders.now.plan.now stop) }
+    ensures falls { MatchResult result (λ _. trail.new.falls.fallen ≡ trail.old.falls.fallen) (λ stop. trail.new.falls.fallen ≡ trail.old.falls.fallen + falls_in stop) }
 {
     driven(held.go_on(orders.service, &mut trail.falls, orders.gate))
 }
@@ -137,7 +142,8 @@ fn go_out<G: Gate>(
     trail: &mut Trail<'_>,
 ) -> Result<Ready, Stop>
     requires ours { leave.ident ≡ orders.now.service.now }
-    ensures { MatchResult result (λ ready. IsOf orders.now.service.now leave.part.worker ready) (λ stop. IsStop orders.now.service.now leave.part.worker orders.now.plan.now stop) }
+    ensures stop { MatchResult result (λ ready. IsOf orders.now.service.now leave.part.worker ready) (λ stop. IsStop orders.now.service.now leave.part.worker orders.now.plan.now stop) }
+    ensures falls { MatchResult result (λ _. trail.new.falls.fallen ≡ trail.old.falls.fallen) (λ stop. trail.new.falls.fallen ≡ trail.old.falls.fallen + falls_in stop) }
 {
     let mut ready = match leave.exit(orders.service, &mut trail.falls) {
         Ok(ready) => ready,

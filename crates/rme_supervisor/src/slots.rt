@@ -24,8 +24,9 @@ pub(crate) fn live_in<K: Course, G: Gate, R: Wait>(
     let Some(berth) = slot.lock(rt).take() else {
         return;
     };
-    // A slot's type cannot tell its number: no other worker is ever put here.
-    let berth = if berth.worker() == worker {
+    // A slot's type cannot tell its number, nor that the worker goes on: no other worker is ever put here, and none
+    // whose lives have ended is asked to live.
+    let berth = if berth.worker() == worker && berth.may_live(orders.plan.lives) {
         berth.live(rt, orders)
     } else {
         berth

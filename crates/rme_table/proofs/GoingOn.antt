@@ -10,8 +10,9 @@ use Rattle.rme_seats.specs.Parts.{draft_script, onward}
 use Rattle.rme_seats.specs.Stands.{Stand}
 use Rattle.rme_seats.proofs.Chains.{walks_then}
 use Rattle.rme_table.specs.Calls.{Made, Performed}
-use Rattle.rme_table.specs.Driving.{Drives, Finishes, Goes, HasFinished, StillHas}
+use Rattle.rme_table.specs.Driving.{DoesNotWait, Drives, Exhausts, Finishes, Goes, HasFinished, StillHas}
 use Rattle.rme_table.specs.declared.driving.Driven.{Driven}
+use Rattle.rme_table.specs.declared.driving.Tries.{Tries}
 use Rattle.rme_table.specs.declared.driving.Driven.TheVariants.{Done, Waits, Stopped, Fell}
 
 pub goes_on : (s : Shape) (a b c : Stand) (t u v : Tally) (falls : ℕ) → Goes s a b t u 0 → Goes s b c u v falls → Goes s a c t v falls
@@ -95,3 +96,10 @@ module _ (s : Shape) (start leave : Stand) (t u : Tally) (receipt : Receipt) whe
   pub same_number : (over : Bool) → Performed s over start leave t u receipt → leave.part.private.begun ≡ start.part.private.begun
   same_number true told = ap (λ (x : Stand). x.part.private.begun) told.idles.same
   same_number false (job, draft, performs, owns) = ap (λ (q : Private). q.begun) performs.finishes.at.private
+
+-- A worker that owned the lock leaves no tries to be made.
+pub exhausts_owning : (start : Stand) (old new : Tries) (driven : Driven) → DoesNotWait driven → Exhausts start old new driven
+exhausts_owning start old new (Done ready receipt) owns = tt
+exhausts_owning start old new (Waits climb) owns = absurd owns
+exhausts_owning start old new (Stopped held) owns = tt
+exhausts_owning start old new (Fell down) owns = tt

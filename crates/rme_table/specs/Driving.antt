@@ -1,5 +1,5 @@
 -- What becomes of a worker that goes on with its job, up to readiness.
-use Rattle.std.specs.Prelude.{◌≡◌, ℕ, Bool, true, false, List, [], ◌∷◌, ◌++◌, Some}
+use Rattle.std.specs.Prelude.{◌≡◌, ℕ, ◌+◌, ◌-◌, ◌≤◌, Bool, true, false, List, [], ◌∷◌, ◌++◌, Some}
 use Rattle.rme_words.specs.declared.shape.Shape.{Shape}
 use Rattle.rme_script.specs.declared.job.Job.{Job}
 use Rattle.rme_program.specs.declared.note.Entry.{Entry}
@@ -9,6 +9,7 @@ use Rattle.rme_seats.specs.Doing.{Walks}
 use Rattle.rme_seats.specs.Parts.{onward}
 use Rattle.rme_seats.specs.Stands.{Stand}
 use Rattle.rme_table.specs.declared.driving.Driven.{Driven}
+use Rattle.rme_table.specs.declared.driving.Tries.{Tries}
 use Rattle.rme_table.specs.declared.driving.Driven.TheVariants.{Done, Waits, Stopped, Fell}
 
 -- The worker went on by own steps, with a question before each: they are the core's; where it fell there was one more
@@ -58,3 +59,23 @@ Drives shape over start old new (Fell down) = Goes shape start down old new 1
 abbrev pub Passes : Driven → Type 0
 Passes (Stopped held) = ⊥
 Passes driven = Unit {0}
+
+-- A worker that owned the lock does not wait for it.
+abbrev pub DoesNotWait : Driven → Type 0
+DoesNotWait (Waits climb) = ⊥
+DoesNotWait driven = Unit {0}
+
+-- The blocked sweeps that a job may have still.
+abbrev pub sweeps_left : Tries → ℕ
+sweeps_left tries = tries.most - tries.blocked
+
+-- All of them were made, and each had an own step at least.
+pub record HasSwept (start climb : Stand) (old new : Tries) : Type 0 where
+  pub most : new.most ≡ old.most
+  pub blocked : new.blocked ≡ old.blocked + sweeps_left old
+  pub steps : start.part.steps + sweeps_left old ≤ climb.part.steps
+
+-- A job waits only after all the sweeps that might be.
+abbrev pub Exhausts : Stand → Tries → Tries → Driven → Type 0
+Exhausts start old new (Waits climb) = HasSwept start climb old new
+Exhausts start old new driven = Unit {0}

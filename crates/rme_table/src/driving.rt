@@ -59,10 +59,10 @@ pub enum Driven {
 
 impl Climb {
     ghost use Rattle.std.specs.Prelude.{◌≡◌, true, false};
-    ghost use Rattle.rme_table.specs.Driving.{Drives, Passes};
+    ghost use Rattle.rme_table.specs.Driving.{Drives, Exhausts, Passes};
 
     /// Goes on to readiness: sweep after sweep as long as there are tries, with a pause after each blocked one, and
-    /// then as `Held::go_on`.
+    /// then as `Held::go_on`. A job that waits still had all the sweeps that might be.
     pub fn go_in<C: Chance, G: Gate, P: Fn()>(
         self,
         service: &Service,
@@ -75,6 +75,7 @@ impl Climb {
         requires pause { P.IsAlwaysCallable pause }
         ensures drives { Drives service.now.shape false self (C.tally chance.old) (C.tally chance.new) result }
         ensures passes { G.lets_all ≡ true → Passes result }
+        ensures tries { Exhausts self tries.old tries.new result }
     {
         let mut climb = self;
         for blocked in tries.blocked..tries.most {
@@ -93,7 +94,7 @@ impl Climb {
 impl Held {
     ghost use Rattle.std.specs.Prelude.{◌≡◌, true};
     ghost use Rattle.rme_table.specs.Calls.{is_over};
-    ghost use Rattle.rme_table.specs.Driving.{Drives, Passes};
+    ghost use Rattle.rme_table.specs.Driving.{DoesNotWait, Drives, Passes};
 
     /// Goes on to readiness: the section, where the gate lets the worker begin it, and the exit. A section that is
     /// finished already is not begun, and the gate is told alone that it is over.
@@ -101,6 +102,7 @@ impl Held {
         requires ours { self.ident ≡ service.now }
         ensures drives { Drives service.now.shape (is_over self.part.private.stage) self (C.tally chance.old) (C.tally chance.new) result }
         ensures passes { G.lets_all ≡ true → Passes result }
+        ensures owns { DoesNotWait result }
     {
         if !self.finished() && !gate.inside(self.worker(), self.lock()) {
             return Driven::Stopped(self);

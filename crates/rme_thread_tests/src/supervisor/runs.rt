@@ -124,6 +124,21 @@ fn falls_from_the_first_step(rt: HostRuntime) -> Result<(), Fail> {
     Ok(())
 }
 
+/// Two falls and two lives: the worker is out of lives at the second fall, and not at the first. Its job is done between
+/// the two.
+#[test]
+fn out_of_lives(rt: HostRuntime) -> Result<(), Fail> {
+    let jobs = [job(0, &[Op::Add(0, 5)]); 10];
+    let mut plans = Vec::new(rt.alloc());
+    plans.push(plan(rt.alloc(), &jobs, &[3, 60], 2, 1)?)?;
+    let report = report_of(&rt, rt.alloc(), (1, 1, 1, 10), plans, &Free)?;
+    assert!(rt; report.ends.as_slice() == [End::OutOfLives].as_slice());
+    assert!(rt; report.lives.as_slice() == [2].as_slice());
+    assert!(rt; report.closed.locks.len() == 1);
+    assert!(rt; !report.closed.locks[0].entries.is_empty());
+    Ok(())
+}
+
 /// Two jobs in three rounds, with a fall on the way: six entries, in the order of the rounds, each once.
 #[test]
 fn rounds(rt: HostRuntime) -> Result<(), Fail> {

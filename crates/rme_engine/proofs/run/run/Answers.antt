@@ -1,5 +1,5 @@
 use Rattle.std.proofs.Common.{Bool, [], refl, subst}
-use Rattle.rme_lines.proofs.ReaderLemmas.{came_first}
+use Rattle.rme_lines.proofs.ReaderLemmas.{came_first, ended_at_end}
 use Rattle.rme_lines.specs.Readers.{bytes_left}
 use Rattle.rme_engine.specs.Engines.{state_of}
 use Rattle.rme_engine.specs.Outputs.{Tells}
@@ -16,7 +16,7 @@ returns-in_default-new-clause-err g c = failed_first (Tells c.args.output) (stat
 pub loop-exchange-init : goal.loop-exchange-init
 loop-exchange-init g c = record {
   so_far = so_far_first (Tells c.args.output) (bytes_left g.R.Read.remaining c.args.lines.now) (g.W.Write.contents c.args.writer.now) c.args.lines.now.ended (state_of c.args.engine.now) (state_of c.args.engine.now)
-      c.in-Ok-new.exchange.pending refl c.in-Ok-new.ensures;
+      c.in-Ok-new.exchange.pending refl c.in-Ok-new.ensures (ended_at_end g.R.Read.remaining c.args.lines.now);
   came_on = came_first c.args.lines.now [] refl;
 }
 
@@ -30,7 +30,7 @@ loop-exchange-preserved g c =
     new.exchange.pending more in record {
       so_far = so_far_more (Tells c.args.output) (left c.args.lines.now) (held c.args.writer.now) (left now.lines) (left new.lines) (held now.writer) (held new.writer) now.lines.ended new.lines.ended (state_of c.args.engine.now)
           (state_of now.engine) (state_of new.engine) now.exchange.pending new.exchange.pending now.invariant.so_far (λ e. (c.in-Ok-true.ensures.ended e).ended)
-          (subst P c.in-Ok-true.field-0-test c.in-Ok-true.ensures.ok);
+          (subst P c.in-Ok-true.field-0-test c.in-Ok-true.ensures.ok) (ended_at_end g.R.Read.remaining new.lines);
       came_on = came_turn c.args.lines.now now.lines new.lines now.invariant.came_on c.in-Ok-true.ensures.ended c.in-Ok-true.ensures.reads (c.in-Ok-true.ensures.fewer c.in-Ok-true.field-0-test);
     }
 

@@ -1,11 +1,12 @@
 use Rattle.std.proofs.Common.{◌≢◌, [], rules, string_bytes}
 use Rattle.rme_lines.specs.declared.cut.Cut.TheVariants.{End}
 use Rattle.rme_lines.specs.Cuts.{line_read}
-use Rattle.rme_lines.specs.Readers.{bytes_left}
+use Rattle.rme_lines.specs.Readers.{bytes_left, has_ended}
 use Rattle.rme_engine.specs.Engines.{state_of}
 use Rattle.rme_engine.specs.Outputs.{Tells}
 use Rattle.rme_lines.proofs.PutLemmas.{gathers_more}
-use Rattle.rme_lines.proofs.RunLemmas.{cut_off, put_failed, spilt}
+use Rattle.rme_lines.proofs.ReaderLemmas.{ended_at_end}
+use Rattle.rme_lines.proofs.RunLemmas.{cut_off, put_failed, spilt, told_failed}
 use Rattle.rme_engine.proofs.run.turn.Goals as goal
 
 pub returns-in-Err-clause-err : goal.returns-in-Err-clause-err
@@ -16,7 +17,15 @@ returns-in-Err-clause-err g c =
     c.next_line.new.self.pending c.in-Err.ensures.err
 
 pub returns-in-Err-tell-clause-err : goal.returns-in-Err-tell-clause-err
-returns-in-Err-tell-clause-err g c = rw c.in-Err-tell.ensures.kind c.in-Ok.ensures.gathers
+returns-in-Err-tell-clause-err g c =
+    let left = bytes_left g.R.Read.remaining in
+    let held = g.W.Write.contents in
+    let cuts = rw (← c.line.ensures) at c.in-Ok.ensures.cut in
+    let more : c.in-Ok.cut ≢ End = search rules in
+    rw c.in-Err-tell.ensures.kind
+    (told_failed (Tells c.args.output) (left c.args.lines.now) (left c.next_line.new.lines) (held c.args.writer.now) (held c.next_line.new.writer) (has_ended c.next_line.new.lines) (state_of c.args.engine.now)
+    (line_read c.in-Ok.cut c.line.result.now) c.args.exchange.now.pending c.next_line.new.self.pending
+    (cut_off (left c.args.lines.now) (left c.next_line.new.lines) c.in-Ok.cut c.line.result.now cuts more) c.in-Ok.ensures.whole (ended_at_end g.R.Read.remaining c.next_line.new.lines) c.in-Ok.ensures.gathers)
 
 pub returns-in-Err-answer-clause-err : goal.returns-in-Err-answer-clause-err
 returns-in-Err-answer-clause-err g c =

@@ -1,4 +1,4 @@
-use Rattle.std.proofs.Common.{◌<◌, length, arith}
+use Rattle.std.proofs.Common.{◌<◌, length, arith, refl}
 use Rattle.std.proofs.lemmas.Option.{slice_get_within, get_or_from_slice_get}
 use Rattle.rme_supervisor.proofs.Following.{one_more}
 use Rattle.rme_supervisor.proofs.checking.all_follow.Goals as goal
@@ -9,6 +9,9 @@ loop-worker-preserved c =
     (λ e at. get_or_from_slice_get c.args.ends.now c.loop-worker.worker e _ at) _ c.entries.ensures (c.follows.ensures.0 c.if-not-follows.false) c.loop-worker.invariant
 
 pub returns : goal.returns
-returns c = λ _ _ w plan down end at_p at_d at_e.
-    let within : w < length c.args.downs.now = slice_get_within c.args.downs.now w down at_d in
-    c.loop-worker.invariant w plan down end (omega (arith, within, c.loop-worker-test.false)) at_p at_d at_e
+returns c = (
+  λ _ _ w plan down end at_p at_d at_e.
+      let within : w < length c.args.downs.now = slice_get_within c.args.downs.now w down at_d in
+      c.loop-worker.invariant w plan down end (omega (arith, within, c.loop-worker-test.false)) at_p at_d at_e,
+  λ _. refl,
+)

@@ -9,5 +9,5 @@ returns-in-Ok-clause-report c =
     let all : AreAll c.args.service.shape c.args.settled.downs.items = search rules in
     let follow : c.args.fresh ≡ true → AllFollow c.args.plans.now c.args.settled.downs.items c.args.settled.ends.items =
     λ fresh worker plan down end at_p at_d at_e.
-    c.all_follow.ensures c.if-not-all_follow.false fresh worker plan down end at_p (rw c.deref-else-not-are_all.ensures.value at_d) (rw c.deref-else-not-are_all-2.ensures.value at_e) in
+    c.all_follow.ensures.0 c.if-not-all_follow.false fresh worker plan down end at_p (rw c.deref-else-not-are_all.ensures.value at_d) (rw c.deref-else-not-are_all-2.ensures.value at_e) in
     over c.args.service c.args.plans.now c.args.settled c.args.fresh c.in-Ok.closed c.requires.settled all follow c.in-Ok.ensures.closed

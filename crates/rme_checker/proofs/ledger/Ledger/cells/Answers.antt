@@ -8,7 +8,7 @@ index-requires c =
     let reach = cells_reach _ _ _ _ c.self.invariant.fold c.args.lock c.if-lock-self.false in
     omega (arith, counted, reach)
 
-pub returns : goal.returns
-returns c =
+pub returns-clause-some : goal.returns-clause-some
+returns-clause-some c =
     rw (← c.self.view_is)
     (row_read _ _ _ _ c.self.invariant.fold c.args.lock c.if-lock-self.false c.index.result.now c.index.ensures)

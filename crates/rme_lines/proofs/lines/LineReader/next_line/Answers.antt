@@ -40,6 +40,12 @@ returns-in-Ok-true-take_piece-clause-whole g c ended =
     whole_taken (left c.args.self.now) _ (left c.take_piece.new.self) c.loop-line.line.items c.take_piece.new.line.items _ saw c.in-Ok-true-take_piece.ensures.takes c.in-Ok-true-take_piece.field-0-test
 
 pub returns-in-Err-clause-lost : goal.returns-in-Err-clause-lost
-returns-in-Err-clause-lost g c failed =
+returns-in-Err-clause-lost g c =
     let left = bytes_left g.R.Read.remaining in
     piece_lost (left c.args.self.now) (left c.loop-line.self) (left c.fill.new.self) c.loop-line.line.items c.loop-line.invariant.saw c.in-Err.ensures.kept
+
+pub returns-in-Err-take_piece-clause-lost : goal.returns-in-Err-take_piece-clause-lost
+returns-in-Err-take_piece-clause-lost g c =
+    let left = bytes_left g.R.Read.remaining in
+    let saw = saw_same 65537 (left c.args.self.now) _ (left c.fill.new.self) _ c.loop-line.invariant.saw c.in-Ok-true.ensures.kept in
+    piece_lost (left c.args.self.now) (left c.fill.new.self) (left c.take_piece.new.self) c.loop-line.line.items saw c.in-Err-take_piece.ensures.lost

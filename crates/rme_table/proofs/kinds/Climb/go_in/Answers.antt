@@ -1,7 +1,7 @@
-use Rattle.std.proofs.Common.{subst}
+use Rattle.std.proofs.Common.{arith, refl, subst}
 use Rattle.std.specs.Prelude.{Bool}
 use Rattle.rme_table.specs.Driving.{Drives}
-use Rattle.rme_table.proofs.GoingOn.{drives_on, goes_fell, goes_made, goes_on, still_made, still_on}
+use Rattle.rme_table.proofs.GoingOn.{drives_on, exhausts_owning, goes_fell, goes_made, goes_on, still_made, still_on}
 use Rattle.rme_table.proofs.kinds.Climb.go_in.Goals as goal
 
 pub returns-in-Got-clause-drives : goal.returns-in-Got-clause-drives
@@ -42,4 +42,19 @@ loop-blocked-preserved g c =
     let so = c.loop-blocked.invariant in (
       goes_on s start climb again old before mid 0 so.0 (goes_made s climb again before mid _ _ made.1),
       still_on start climb again so.1 (still_made s climb again before mid _ _ made.1 made.2),
+      so.2,
+      refl,
+      omega (arith, so.2, c.loop-blocked.auto.blocked, c.loop-blocked-test.true),
+      omega (arith, made.1.enough, made.1.counted, so.3, so.5),
     )
+
+pub returns-in-Got-clause-tries : goal.returns-in-Got-clause-tries
+returns-in-Got-clause-tries g c = exhausts_owning c.args.self c.args.tries.now c.loop-blocked.tries c.go_on.result c.go_on.ensures.owns
+
+pub returns-clause-tries : goal.returns-clause-tries
+returns-clause-tries g c =
+    let so = c.loop-blocked.invariant in record {
+      most = so.2;
+      blocked = omega (arith, so.2, so.3, so.4, c.loop-blocked.auto.blocked, c.loop-blocked-test.false);
+      steps = omega (arith, so.2, so.3, so.4, so.5, c.loop-blocked.auto.blocked, c.loop-blocked-test.false);
+    }

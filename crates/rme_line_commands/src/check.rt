@@ -1,7 +1,7 @@
 //! What `rme check` prints.
 
 ghost use Rattle.std.specs.Prelude.{◌≡◌};
-ghost use Rattle.rme_commands.specs.Statuses.{status_of_verdict};
+ghost use Rattle.rme_line_commands.specs.Statuses.{status_of_verdict};
 
 use rme_engine::{Verdict, check_lines};
 use rme_faults::Fault;
