@@ -1,7 +1,13 @@
 //! A session: the orders of one client's lines, and their answers.
 
-ghost use Rattle.std.specs.Prelude.{◌≡◌, IfOk};
+ghost use Rattle.std.specs.Prelude.{◌≡◌, ℕ, [], IfErr, IfOk, List, OnOk, Option};
 ghost use Rattle.std.specs.Option.{ok_or};
+ghost use Rattle.rme_lines.specs.Cuts.{line_read};
+ghost use Rattle.rme_lines.specs.Puts.{Gathers};
+ghost use Rattle.rme_lines.specs.Readers.{FailsToRead, HasEnded, ReadsNoMore, bytes_left, has_ended};
+ghost use Rattle.rme_lines.specs.Runs.{GivesUp, TurnFails, Turns, WritesAll, WritesFirst, WritesTo};
+ghost use Rattle.rme_server.specs.Obeyed.{Obeys, nobody};
+ghost use Rattle.rme_server.specs.Sessions.{Breaks, IsAnswered, Replies, answer_as, first_of, rest_of, still_waits};
 ghost use Rattle.rme_server.specs.Stands.{MayHold};
 ghost use Rattle.rme_wire.specs.Orders.{order_of_line};
 ghost use Rattle.rme_words.specs.declared.refusal.Refusal.TheVariants.{BadLine};
@@ -44,6 +50,8 @@ pub fn session<K: Tag, R: Wait, I: Read + Drop, O: Write>(
     names: &Names,
 ) -> Result<(), EngineFault>
     requires ours { service.now ≡ K.ident }
+    ensures ok { OnOk result (WritesAll (IsAnswered K.ident slots.now names.now) nobody (I.remaining reader) (O.contents writer.old) (O.contents writer.new)) }
+    ensures err { IfErr result (λ fault. (left : Option (List ℕ)) × WritesFirst (IsAnswered K.ident slots.now names.now) nobody fault (I.remaining reader) left (O.contents writer.old) (O.contents writer.new)) }
 {
     let Ok(mut lines) = LineReader::new(alloc, reader) else {
         return Err(EngineFault::NoMemory);
@@ -74,7 +82,11 @@ fn converse<K: Tag, R: Wait, I: Read + Drop, O: Write>(
     shared: &Shared<'_, K>,
 ) -> (Stand, Result<(), EngineFault>)
     requires ours { shared.now.service.now ≡ K.ident }
-    ensures { MayHold K.ident shared.now.slots.now result.0.value }
+    requires none_kept { buffers.old.exchange.pending ≡ [] }
+    ensures ours { MayHold K.ident shared.now.slots.now result.0.value }
+    ensures ok { OnOk result.1 (WritesTo (IsAnswered K.ident shared.now.slots.now shared.now.names.now) nobody (bytes_left I.remaining lines.old) (O.contents writer.old) (O.contents writer.new) result.0) }
+    ensures err { IfErr result.1 (λ fault. (holds : Option (List ℕ)) (last : EngineFault) → GivesUp fault (O.contents writer.new) buffers.new.exchange.pending holds last
+        → WritesFirst (IsAnswered K.ident shared.now.slots.now shared.now.names.now) nobody last (bytes_left I.remaining lines.old) (bytes_left I.remaining lines.new) (O.contents writer.old) holds) }
 {
     let mut stand = Stand::empty();
     for _ in rt.forever() {
@@ -99,26 +111,55 @@ fn turn<K: Tag, R: Wait, I: Read + Drop, O: Write>(
 ) -> (Stand, Result<bool, EngineFault>)
     requires ours { shared.now.service.now ≡ K.ident }
     requires stand { MayHold K.ident shared.now.slots.now stand.value }
-    ensures { MayHold K.ident shared.now.slots.now result.0.value }
+    ensures ours { MayHold K.ident shared.now.slots.now result.0.value }
+    ensures ok { IfOk result.1 (Turns (IsAnswered K.ident shared.now.slots.now shared.now.names.now) (bytes_left I.remaining lines.old) (bytes_left I.remaining lines.new) (has_ended lines.new) stand result.0
+        (O.contents writer.old) buffers.old.exchange.pending (O.contents writer.new) buffers.new.exchange.pending) }
+    ensures err { IfErr result.1 (λ fault. TurnFails (IsAnswered K.ident shared.now.slots.now shared.now.names.now) fault (bytes_left I.remaining lines.old) (bytes_left I.remaining lines.new) stand
+        (O.contents writer.old) buffers.old.exchange.pending (O.contents writer.new) buffers.new.exchange.pending) }
+    ensures ended { HasEnded lines.old → ReadsNoMore lines.old lines.new }
+    ensures failed { IfErr result.1 (λ fault. fault ≡ EngineFault.ReadFailed → FailsToRead lines.old lines.new) }
 {
-    let asked = match buffers.exchange.next_line(lines, writer) {
-        Ok(Cut::End) => return (stand, Ok(false)),
-        Ok(Cut::TooLong) => Ok(Err(Refusal::LineTooLong)),
-        Ok(Cut::Line) => order_in(buffers.exchange.line(), shared.alloc, shared.names),
+    let cut = match buffers.exchange.next_line(lines, writer) {
+        Ok(cut) => cut,
         Err(fault) => return (stand, Err(fault)),
     };
-    let (stand, replied) = match asked {
+    if cut == Cut::End {
+        return (stand, Ok(false));
+    }
+    let (stand, replied) = reply_to(rt, cut, stand, buffers, writer, shared);
+    let reply = match replied {
+        Ok(reply) => reply,
+        Err(fault) => return (stand, Err(fault)),
+    };
+    match buffers.answer(shared.names, reply, writer) {
+        Ok(()) => (stand, Ok(true)),
+        Err(fault) => (stand, Err(fault)),
+    }
+}
+
+/// The reply to the line that was taken last, and where the session then stands.
+fn reply_to<K: Tag, R: Wait, O: Write>(
+    rt: &R,
+    cut: Cut,
+    stand: Stand,
+    buffers: &mut Buffers,
+    writer: &mut O,
+    shared: &Shared<'_, K>,
+) -> (Stand, Result<SessionReply, EngineFault>)
+    requires ours { shared.now.service.now ≡ K.ident }
+    requires stand { MayHold K.ident shared.now.slots.now stand.value }
+    ensures ours { MayHold K.ident shared.now.slots.now result.0.value }
+    ensures replies { IfOk result.1 (λ reply. Replies K.ident shared.now.slots.now shared.now.names.now stand (line_read cut buffers.old.exchange.line.items) reply result.0) }
+    ensures gathers { OnOk result.1 (Gathers (O.contents writer.old) buffers.old.exchange.pending [] (O.contents writer.new) buffers.new.exchange.pending) }
+    ensures err { IfErr result.1 (λ fault. Breaks fault (O.contents writer.old) buffers.old.exchange.pending (O.contents writer.new) buffers.new.exchange.pending) }
+{
+    if cut == Cut::TooLong {
+        return (stand, Ok(SessionReply::Refused(Refusal::LineTooLong)));
+    }
+    match order_in(buffers.exchange.line(), shared.alloc, shared.names) {
         Ok(Ok(order)) => obey_in_time(rt, stand, order, buffers, writer, shared),
         Ok(Err(why)) => (stand, Ok(SessionReply::Refused(why))),
         Err(_) => (stand, Err(EngineFault::NoMemory)),
-    };
-    let answered = match replied {
-        Ok(reply) => buffers.answer(shared.names, reply, writer),
-        Err(fault) => Err(fault),
-    };
-    match answered {
-        Ok(()) => (stand, Ok(true)),
-        Err(fault) => (stand, Err(fault)),
     }
 }
 
@@ -144,32 +185,36 @@ fn obey_in_time<K: Tag, R: Wait, O: Write>(
 ) -> (Stand, Result<SessionReply, EngineFault>)
     requires ours { shared.now.service.now ≡ K.ident }
     requires stand { MayHold K.ident shared.now.slots.now stand.value }
-    ensures { MayHold K.ident shared.now.slots.now result.0.value }
+    ensures ours { MayHold K.ident shared.now.slots.now result.0.value }
+    ensures obeys { IfOk result.1 (λ reply. Obeys K.ident shared.now.slots.now stand order result.0 reply) }
+    ensures gathers { OnOk result.1 (Gathers (O.contents writer.old) buffers.old.exchange.pending [] (O.contents writer.new) buffers.new.exchange.pending) }
+    ensures err { IfErr result.1 (λ fault. Breaks fault (O.contents writer.old) buffers.old.exchange.pending (O.contents writer.new) buffers.new.exchange.pending) }
 {
-    let (first, tries) = if buffers.exchange.keeps_back() {
-        first_try(order)
-    } else {
-        (order, 0)
-    };
+    if !buffers.exchange.keeps_back() {
+        let (stand, reply) = obey(rt, stand, order, shared.service, shared.slots);
+        return (stand, Ok(reply));
+    }
+    let (first, rest) = first_try(order);
     let (stand, reply) = obey(rt, stand, first, shared.service, shared.slots);
-    if tries == 0 || !is_waiting(reply) {
+    if rest == 0 {
+        return (stand, Ok(reply));
+    }
+    if !is_waiting(reply) {
         return (stand, Ok(reply));
     }
     if let Err(fault) = buffers.exchange.write(writer) {
         return (stand, Err(fault));
     }
-    let (stand, last) = obey(
-        rt,
-        stand,
-        Order::Resume(tries),
-        shared.service,
-        shared.slots,
-    );
+    let resume = Order::Resume(rest);
+    let (stand, last) = obey(rt, stand, resume, shared.service, shared.slots);
     (stand, Ok(as_answer_to(reply, last)))
 }
 
 /// The order with one try of its tries, and how many are left.
-fn first_try(order: Order) -> (Order, u32) {
+fn first_try(order: Order) -> (Order, u32)
+    ensures first { result.0 ≡ first_of order }
+    ensures rest { result.1 ≡ rest_of order }
+{
     match order {
         Order::Submit(submission) => (
             Order::Submit(Submission {
@@ -184,13 +229,20 @@ fn first_try(order: Order) -> (Order, u32) {
 }
 
 /// Whether the job waits for its lock still.
-fn is_waiting(reply: SessionReply) -> bool {
-    reply == SessionReply::Submitted(Outcome::Waiting)
-        || reply == SessionReply::Resumed(Outcome::Waiting)
+fn is_waiting(reply: SessionReply) -> bool
+    ensures { result ≡ still_waits reply }
+{
+    match reply {
+        SessionReply::Submitted(Outcome::Waiting) => true,
+        SessionReply::Resumed(Outcome::Waiting) => true,
+        _ => false,
+    }
 }
 
 /// What became of the job in the end, as an answer to the order that was given.
-fn as_answer_to(first: SessionReply, last: SessionReply) -> SessionReply {
+fn as_answer_to(first: SessionReply, last: SessionReply) -> SessionReply
+    ensures { result ≡ answer_as first last }
+{
     match (first, last) {
         (SessionReply::Submitted(_), SessionReply::Resumed(outcome)) => {
             SessionReply::Submitted(outcome)

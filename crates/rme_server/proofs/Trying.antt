@@ -1,0 +1,197 @@
+-- An order that is obeyed in two parts is obeyed.
+use Rattle.std.proofs.Common.{◌≡◌, ℕ, List, [], ◌∷◌, ◌++◌, inl, inr, sym, ap, ◌∙◌}
+use Rattle.std.specs.Prelude.{◌==◌, Bool, true, false, Option, Some, None}
+use Rattle.std.proofs.lemmas.Option.{none-some, same_Some}
+use Rattle.rme_words.specs.declared.shape.Shape.{Shape}
+use Rattle.rme_words.specs.declared.refusal.Refusal.{Refusal}
+use Rattle.rme_words.specs.declared.refusal.Refusal.TheVariants.{Differs}
+use Rattle.rme_script.specs.declared.job.Job.{Job}
+use Rattle.rme_program.specs.declared.note.Entry.{Entry}
+use Rattle.rme_seats.specs.Stands.{Ident, Stand}
+use Rattle.rme_texts.specs.declared.session.Outcome.{Outcome}
+use Rattle.rme_texts.specs.declared.session.Outcome.TheVariants.{Receipt, Withdrawn, Waiting, Fell}
+use Rattle.rme_texts.specs.declared.session.SessionReply.{SessionReply}
+use Rattle.rme_texts.specs.declared.session.SessionReply.TheVariants.{Submitted, Resumed, Refused}
+use Rattle.rme_wire.specs.declared.order.Order.{Order}
+use Rattle.rme_wire.specs.declared.order.Order.TheVariants.{Attach, Submit, Resume}
+use Rattle.rme_wire.specs.declared.order.Submission.{Submission}
+use Rattle.rme_server.specs.Obeyed.{IsLeft, Obeys, Resumes, Submits}
+use Rattle.rme_server.specs.Refusals.{PendingRefuses, SubmitRefuses, resume_refusal}
+use Rattle.rme_server.specs.Sessions.{answer_as, first_of, still_waits}
+use Rattle.rme_server.specs.Works.{Awaits, GoesOn, Hands, HasFinished, IsSpared, StillAwaits, Task, Works, its_task, next_task, steps_of}
+use Rattle.rme_server.specs.declared.stand.Holding.{Holding}
+use Rattle.rme_server.specs.declared.stand.Holding.TheVariants.{Empty, Ready, Climb, Held}
+use Rattle.rme_server.specs.declared.stand.Stand.{Stand as Session}
+use Rattle.rme_server.proofs.Planning.{planned_before, spared_on}
+
+-- How many tries an order has changes nothing of what it is refused for, nor of what it may come to.
+abbrev once : Submission → Submission
+once its = record { number = its.number; job = its.job; tries = 1 }
+
+pending_once : (number : ℕ) (draft : Option Job) (its : Submission) (why : Option Refusal) → PendingRefuses number draft (once its) why → PendingRefuses number draft its why
+pending_once number draft its None refuses = refuses
+pending_once number draft its (Some Differs) refuses = refuses
+pending_once number draft its (Some why) refuses = refuses
+
+refuses_once : (shape : Shape) (value : Holding) (its : Submission) (why : Option Refusal) → SubmitRefuses shape value (once its) why → SubmitRefuses shape value its why
+refuses_once shape Empty its why refuses = refuses
+refuses_once shape (Ready ready) its why refuses = refuses
+refuses_once shape (Climb climb) its why refuses = pending_once climb.part.private.begun climb.part.draft its why refuses
+refuses_once shape (Held held) its why refuses = pending_once held.part.private.begun held.part.draft its why refuses
+
+submits_once : (shape : Shape) (value : Holding) (its : Submission) (now : Holding) (became : Outcome) → Submits shape value (once its) now became → Submits shape value its now became
+submits_once shape Empty its now became submits = submits
+submits_once shape (Ready ready) its now became submits = submits
+submits_once shape (Climb climb) its now became submits = submits
+submits_once shape (Held held) its now became submits = submits
+
+-- The first part was all.
+module _ (ident : Ident) (count : ℕ) (old now : Session) where
+  pub only_first : (its : Order) (reply : SessionReply) → Obeys ident count old (first_of its) now reply → Obeys ident count old its now reply
+  only_first (Submit its) (Refused why) (same, inl refuses) = (same, inl (refuses_once ident.shape old.value its (Some why) refuses))
+  only_first (Submit its) (Refused why) (same, inr refuses) = absurd refuses
+  only_first (Submit its) (Submitted became) (none, (submits, left)) =
+      (refuses_once ident.shape old.value its None none, (submits_once ident.shape old.value its now.value became submits, left))
+  only_first (Submit its) reply (none, does) = absurd does
+  only_first (Resume tries) (Refused why) obeys = obeys
+  only_first (Resume tries) reply obeys = obeys
+  only_first its reply obeys = obeys
+
+-- A worker waited with a job, and then went on with it.
+finished_after : (task : Task) (before : List Entry) (climb ready : Stand) (job : Job) (entry : Entry) → Awaits task before climb → climb.part.draft ≡ Some job
+    → HasFinished (its_task climb job) climb.part.entries ready entry → HasFinished task before ready entry
+finished_after task before climb ready job entry waits draft done =
+    let same : job ≡ task.job = same_Some job task.job (sym draft ∙ waits.draft) in record {
+      is_of = record {
+        by = done.is_of.by ∙ waits.own;
+        number = done.is_of.number ∙ waits.number;
+        lock = done.is_of.lock ∙ ap (λ (j : Job). j.lock) same;
+        script = done.is_of.script ∙ ap (λ (j : Job). j.script) same;
+      };
+      entries = done.entries ∙ ap (λ (es : List Entry). es ++ entry ∷ []) waits.entries;
+      own = done.own ∙ waits.own;
+      number = done.number ∙ waits.number;
+    }
+
+works_after : (task : Task) (before : List Entry) (climb : Stand) (value : Holding) (became : Outcome) → Awaits task before climb → GoesOn climb value became → Works task before value became
+works_after task before climb (Ready ready) (Receipt receipt) waits (job, draft, (entry, done, told)) = (entry, finished_after task before climb ready job entry waits draft done, told)
+works_after task before climb (Climb later) Waiting waits still =
+    record { draft = still.draft ∙ waits.draft; entries = still.entries ∙ waits.entries; own = still.own ∙ waits.own; number = still.number ∙ waits.number }
+works_after task before climb Empty Fell waits fell = tt
+works_after task before climb value became waits goes = absurd goes
+
+goes_after : (start climb : Stand) (value : Holding) (became : Outcome) → StillAwaits start climb → GoesOn climb value became → GoesOn start value became
+goes_after start climb (Ready ready) (Receipt receipt) still (job, draft, (entry, done, told)) =
+    let has : start.part.draft ≡ Some job = sym still.draft ∙ draft in
+    let waits : Awaits (its_task start job) start.part.entries climb = record { draft = draft; entries = still.entries; own = still.own; number = still.number } in
+    (job, has, (entry, finished_after (its_task start job) start.part.entries climb ready job entry waits draft done, told))
+goes_after start climb (Climb later) Waiting still more =
+    record { draft = more.draft ∙ still.draft; entries = more.entries ∙ still.entries; own = more.own ∙ still.own; number = more.number ∙ still.number }
+goes_after start climb Empty Fell still fell = tt
+goes_after start climb value became still goes = absurd goes
+
+-- Going on after a wait, whatever the session held before.
+goes_waiting : (start : Stand) (mid value : Holding) (became : Outcome) → GoesOn start mid Waiting → Resumes mid value became → GoesOn start value became
+goes_waiting start Empty value became waits resumes = absurd waits
+goes_waiting start (Ready ready) value became waits resumes = absurd waits
+goes_waiting start (Climb climb) value became waits resumes = goes_after start climb value became waits resumes
+goes_waiting start (Held held) value became waits resumes = absurd waits
+
+works_waiting : (task : Task) (before : List Entry) (mid value : Holding) (became : Outcome) → Works task before mid Waiting → Resumes mid value became → Works task before value became
+works_waiting task before Empty value became waits resumes = absurd waits
+works_waiting task before (Ready ready) value became waits resumes = absurd waits
+works_waiting task before (Climb climb) value became waits resumes = works_after task before climb value became waits resumes
+works_waiting task before (Held held) value became waits resumes = absurd waits
+
+hands_waiting : (shape : Shape) (again : Bool) (ready : Stand) (job : Job) (mid value : Holding) (became : Outcome) → Hands shape again ready job mid Waiting → Resumes mid value became
+    → Hands shape again ready job value became
+hands_waiting shape true ready job mid value became waits resumes = absurd waits
+hands_waiting shape false ready job mid value became waits resumes = works_waiting (next_task ready job) ready.part.entries mid value became waits resumes
+
+submits_waiting : (shape : Shape) (start mid value : Holding) (its : Submission) (became : Outcome) → Submits shape start (once its) mid Waiting → Resumes mid value became
+    → Submits shape start its value became
+submits_waiting shape Empty mid value its became waits resumes = absurd waits
+submits_waiting shape (Ready ready) mid value its became waits resumes = hands_waiting shape (its.number == ready.part.private.begun) ready its.job mid value became waits resumes
+submits_waiting shape (Climb climb) mid value its became waits resumes = goes_waiting climb mid value became waits resumes
+submits_waiting shape (Held held) mid value its became waits resumes = goes_waiting held mid value became waits resumes
+
+resumes_waiting : (start mid value : Holding) (became : Outcome) → Resumes start mid Waiting → Resumes mid value became → Resumes start value became
+resumes_waiting Empty mid value became waits resumes = absurd waits
+resumes_waiting (Ready ready) mid value became waits resumes = absurd waits
+resumes_waiting (Climb climb) mid value became waits resumes = goes_waiting climb mid value became waits resumes
+resumes_waiting (Held held) mid value became waits resumes = goes_waiting held mid value became waits resumes
+
+-- What was planned comes sooner by the own steps of both parts.
+module _ (old mid now : Session) (so : IsSpared old.planned (steps_of old.value) mid.planned mid.value) where
+  spared_after : IsSpared mid.planned (steps_of mid.value) now.planned now.value → IsSpared old.planned (steps_of old.value) now.planned now.value
+  spared_after more = spared_on old.planned mid.planned (steps_of old.value) (steps_of mid.value) so now.planned (steps_of now.value) more
+
+  left_after_both : (became : Outcome) → IsLeft mid now became → IsLeft old now became
+  left_after_both (Receipt receipt) left = spared_after left
+  left_after_both Withdrawn left = spared_after left
+  left_after_both Waiting left = spared_after left
+  left_after_both Fell (planned, same) = (planned_before old.planned mid.planned so.0 so.2 planned, same)
+
+-- A job that waits is not refused to be gone on with.
+goes_not_refused : (start : Stand) (mid : Holding) (why : Refusal) → GoesOn start mid Waiting → Some why ≡ resume_refusal mid → ⊥
+goes_not_refused start Empty why waits refuses = waits
+goes_not_refused start (Ready ready) why waits refuses = waits
+goes_not_refused start (Climb climb) why waits refuses = none-some why (sym refuses)
+goes_not_refused start (Held held) why waits refuses = waits
+
+works_not_refused : (task : Task) (before : List Entry) (mid : Holding) (why : Refusal) → Works task before mid Waiting → Some why ≡ resume_refusal mid → ⊥
+works_not_refused task before Empty why waits refuses = waits
+works_not_refused task before (Ready ready) why waits refuses = waits
+works_not_refused task before (Climb climb) why waits refuses = none-some why (sym refuses)
+works_not_refused task before (Held held) why waits refuses = waits
+
+hands_not_refused : (shape : Shape) (again : Bool) (ready : Stand) (job : Job) (mid : Holding) (why : Refusal) → Hands shape again ready job mid Waiting → Some why ≡ resume_refusal mid → ⊥
+hands_not_refused shape true ready job mid why waits refuses = waits
+hands_not_refused shape false ready job mid why waits refuses = works_not_refused (next_task ready job) ready.part.entries mid why waits refuses
+
+waiting_is_held : (shape : Shape) (start mid : Holding) (its : Submission) (why : Refusal) → Submits shape start (once its) mid Waiting → Some why ≡ resume_refusal mid → ⊥
+waiting_is_held shape Empty mid its why waits refuses = waits
+waiting_is_held shape (Ready ready) mid its why waits refuses = hands_not_refused shape (its.number == ready.part.private.begun) ready its.job mid why waits refuses
+waiting_is_held shape (Climb climb) mid its why waits refuses = goes_not_refused climb mid why waits refuses
+waiting_is_held shape (Held held) mid its why waits refuses = goes_not_refused held mid why waits refuses
+
+waiting_is_resumed : (start mid : Holding) (why : Refusal) → Resumes start mid Waiting → Some why ≡ resume_refusal mid → ⊥
+waiting_is_resumed Empty mid why waits refuses = waits
+waiting_is_resumed (Ready ready) mid why waits refuses = waits
+waiting_is_resumed (Climb climb) mid why waits refuses = goes_not_refused climb mid why waits refuses
+waiting_is_resumed (Held held) mid why waits refuses = goes_not_refused held mid why waits refuses
+
+false_true : false ≡ true → ⊥
+false_true same = cc
+
+-- Both parts were needed.
+module _ (ident : Ident) (count : ℕ) (old mid now : Session) (rest : ℕ) where
+  submitted_on : (its : Submission) (last : SessionReply) → Obeys ident count old (Submit (once its)) mid (Submitted Waiting) → Obeys ident count mid (Resume rest) now last
+      → Obeys ident count old (Submit its) now (answer_as (Submitted Waiting) last)
+  submitted_on its (Resumed became) (none, (submits, left)) (some, (resumes, later)) = (
+    refuses_once ident.shape old.value its None none,
+    (submits_waiting ident.shape old.value mid.value now.value its became submits resumes, left_after_both old mid now left became later),
+  )
+  submitted_on its (Refused why) (none, (submits, left)) (same, inl refuses) = absurd (waiting_is_held ident.shape old.value mid.value its why submits refuses)
+  submitted_on its (Refused why) obeys (same, inr refuses) = absurd refuses
+  submitted_on its last obeys (some, does) = absurd does
+
+  resumed_on : (tries : ℕ) (last : SessionReply) → Obeys ident count old (Resume 1) mid (Resumed Waiting) → Obeys ident count mid (Resume rest) now last
+      → Obeys ident count old (Resume tries) now (answer_as (Resumed Waiting) last)
+  resumed_on tries (Resumed became) (none, (resumes, left)) (some, (more, later)) =
+      (none, (resumes_waiting old.value mid.value now.value became resumes more, left_after_both old mid now left became later))
+  resumed_on tries (Refused why) (none, (resumes, left)) (same, inl refuses) = absurd (waiting_is_resumed old.value mid.value why resumes refuses)
+  resumed_on tries (Refused why) obeys (same, inr refuses) = absurd refuses
+  resumed_on tries last obeys (some, does) = absurd does
+
+  pub both_parts : (its : Order) (reply last : SessionReply) → still_waits reply ≡ true → Obeys ident count old (first_of its) mid reply → Obeys ident count mid (Resume rest) now last
+      → Obeys ident count old its now (answer_as reply last)
+  both_parts (Submit its) (Submitted Waiting) last waits obeys resumes = submitted_on its last obeys resumes
+  both_parts (Resume tries) (Resumed Waiting) last waits obeys resumes = resumed_on tries last obeys resumes
+  both_parts (Submit its) (Resumed Waiting) last waits obeys resumes = absurd obeys.1
+  both_parts (Resume tries) (Submitted Waiting) last waits obeys resumes = absurd obeys.1
+  both_parts (Attach worker) (Submitted Waiting) last waits obeys resumes = absurd obeys.1.0
+  both_parts (Attach worker) (Resumed Waiting) last waits obeys resumes = absurd obeys.1.0
+  both_parts its (Submitted Waiting) last waits obeys resumes = absurd obeys.1
+  both_parts its (Resumed Waiting) last waits obeys resumes = absurd obeys.1
+  both_parts its reply last waits obeys resumes = absurd (false_true waits)

@@ -1,0 +1,77 @@
+use Rattle.std.proofs.Common.{◌≢◌, [], refl, rules, subst}
+use Rattle.std.specs.Prelude.{IfErr, IfOk, OnOk, Result}
+use Rattle.rme_lines.specs.declared.cut.Cut.TheVariants.{End}
+use Rattle.rme_lines.specs.declared.fault.EngineFault.{EngineFault}
+use Rattle.rme_lines.specs.Cuts.{line_read}
+use Rattle.rme_lines.specs.Puts.{Gathers}
+use Rattle.rme_lines.specs.Readers.{bytes_left}
+use Rattle.rme_lines.proofs.PutLemmas.{gathers_more}
+use Rattle.rme_lines.proofs.RunLemmas.{cut_off, spilt}
+use Rattle.rme_texts.specs.declared.session.SessionReply.{SessionReply}
+use Rattle.rme_server.specs.Sessions.{Breaks, IsAnswered, Replies, session_line}
+use Rattle.rme_server.proofs.Talking.{broken, unanswered}
+use Rattle.rme_server.proofs.talk.turn.Goals as goal
+
+pub returns-in-Err-clause-err : goal.returns-in-Err-clause-err
+returns-in-Err-clause-err g c =
+    let left = bytes_left g.I.Read.remaining in
+    let held = g.O.Write.contents in
+    spilt (IsAnswered g.K.Tag.ident c.args.shared.now.slots.now c.args.shared.now.names.now) c.in-Err.fault (left c.args.lines.now) (left c.next_line.new.lines) (held c.args.writer.now)
+    (held c.next_line.new.writer) c.args.stand c.args.buffers.now.exchange.pending c.next_line.new.self.pending c.in-Err.ensures.err
+
+pub returns-in-Err-replied-clause-err : goal.returns-in-Err-replied-clause-err
+returns-in-Err-replied-clause-err g c =
+    let left = bytes_left g.I.Read.remaining in
+    let held = g.O.Write.contents in
+    let keeps = c.next_line.new.self.pending in
+    let last = c.reply_to-stand.new.buffers.exchange.pending in
+    let P : Result SessionReply EngineFault → Type 0 = λ r. IfErr r (λ fault. Breaks fault (held c.next_line.new.writer) keeps (held c.reply_to-stand.new.writer) last) in
+    broken (IsAnswered g.K.Tag.ident c.args.shared.now.slots.now c.args.shared.now.names.now) c.in-Err-replied.fault (left c.args.lines.now) (left c.next_line.new.lines) (held c.args.writer.now)
+    (held c.next_line.new.writer) (held c.reply_to-stand.new.writer) c.args.stand c.args.buffers.now.exchange.pending keeps last c.in-Ok.ensures.gathers
+    (subst P c.in-Err-replied.is c.reply_to-stand.ensures.err)
+
+pub returns-in-Ok-answer-clause-ok : goal.returns-in-Ok-answer-clause-ok
+returns-in-Ok-answer-clause-ok g c =
+    let left = bytes_left g.I.Read.remaining in
+    let held = g.O.Write.contents in
+    let names = c.args.shared.now.names.now in
+    let kept = c.args.buffers.now.exchange.pending in
+    let keeps = c.next_line.new.self.pending in
+    let after = c.reply_to-stand.new.buffers.exchange.pending in
+    let line = c.next_line.new.self.line.items in
+    let reply = c.in-Ok-replied.reply in
+    let more : c.in-Ok.cut ≢ End = search rules in
+    let P : Result SessionReply EngineFault → Type 0 =
+    λ r. IfOk r (λ its. Replies g.K.Tag.ident c.args.shared.now.slots.now names c.args.stand (line_read c.in-Ok.cut line) its c.reply_to-stand.result.0) in
+    let Q : Result SessionReply EngineFault → Type 0 = λ r. OnOk r (Gathers (held c.next_line.new.writer) keeps [] (held c.reply_to-stand.new.writer) after) in
+    let first = gathers_more (held c.args.writer.now) (held c.next_line.new.writer) (held c.reply_to-stand.new.writer) kept keeps after [] [] c.in-Ok.ensures.gathers
+    (subst Q c.in-Ok-replied.is c.reply_to-stand.ensures.gathers) in (
+      line_read c.in-Ok.cut line,
+      session_line names reply,
+      cut_off (left c.args.lines.now) (left c.next_line.new.lines) c.in-Ok.cut line c.in-Ok.ensures.cut more,
+      (reply, subst P c.in-Ok-replied.is c.reply_to-stand.ensures.replies, refl),
+      gathers_more (held c.args.writer.now) (held c.reply_to-stand.new.writer) (held c.answer.new.writer) kept after c.answer.new.self.exchange.pending [] (session_line names reply) first
+          c.in-Ok-answer.ensures.gathers,
+      c.in-Ok.ensures.whole,
+    )
+
+pub returns-in-Err-answer-clause-err : goal.returns-in-Err-answer-clause-err
+returns-in-Err-answer-clause-err g c =
+    let left = bytes_left g.I.Read.remaining in
+    let held = g.O.Write.contents in
+    let names = c.args.shared.now.names.now in
+    let kept = c.args.buffers.now.exchange.pending in
+    let keeps = c.next_line.new.self.pending in
+    let after = c.reply_to-stand.new.buffers.exchange.pending in
+    let line = c.next_line.new.self.line.items in
+    let reply = c.in-Ok-replied.reply in
+    let more : c.in-Ok.cut ≢ End = search rules in
+    let P : Result SessionReply EngineFault → Type 0 =
+    λ r. IfOk r (λ its. Replies g.K.Tag.ident c.args.shared.now.slots.now names c.args.stand (line_read c.in-Ok.cut line) its c.reply_to-stand.result.0) in
+    let Q : Result SessionReply EngineFault → Type 0 = λ r. OnOk r (Gathers (held c.next_line.new.writer) keeps [] (held c.reply_to-stand.new.writer) after) in
+    let first = gathers_more (held c.args.writer.now) (held c.next_line.new.writer) (held c.reply_to-stand.new.writer) kept keeps after [] [] c.in-Ok.ensures.gathers
+    (subst Q c.in-Ok-replied.is c.reply_to-stand.ensures.gathers) in
+    unanswered (IsAnswered g.K.Tag.ident c.args.shared.now.slots.now names) c.in-Err-answer.fault (left c.args.lines.now) (left c.next_line.new.lines) (held c.args.writer.now)
+    (held c.reply_to-stand.new.writer) (held c.answer.new.writer) c.args.stand c.reply_to-stand.result.0 (line_read c.in-Ok.cut line) kept after (session_line names reply)
+    c.answer.new.self.exchange.pending (cut_off (left c.args.lines.now) (left c.next_line.new.lines) c.in-Ok.cut line c.in-Ok.ensures.cut more)
+    (reply, subst P c.in-Ok-replied.is c.reply_to-stand.ensures.replies, refl) first c.in-Err-answer.ensures.kind c.in-Err-answer.ensures.memory c.in-Err-answer.ensures.front
