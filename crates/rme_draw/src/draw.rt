@@ -1,11 +1,14 @@
 //! Drawing a transcript.
 
-ghost use Rattle.std.specs.Prelude.{◌≡◌, ◌≢◌, IfOk, IfErr};
+ghost use Rattle.std.specs.Prelude.{◌≡◌, ◌≢◌, List, ℕ, IfOk, IfErr};
 ghost use Rattle.rme_lines.specs.Readers.{FailsToRead, HasEnded, ReadsNoMore, bytes_left};
 ghost use Rattle.rme_engine.specs.Verdicts.{Finds};
+ghost use Rattle.std.specs.Io.KnownBytes.{Appends};
+ghost use Rattle.rme_draw.specs.Following.{Draws, ended, following_of};
 
 use crate::follower::Follower;
 use rme_engine::{Verdict, watch_lines};
+use rme_picture::Paint;
 use rme_wire::{EngineFault, LineReader, put_all};
 use std::alloc::Global;
 use std::io::{Read, Write};
@@ -16,12 +19,14 @@ use std::io::{Read, Write};
 /// After any other verdict nothing is written, and so it is after each fault but `WriteFailed`, which leaves a front of
 /// the picture. `NoMemory` says that there was no room for a line, the machine, what was seen of the run or the picture's
 /// text, all of which grow with the transcript.
-pub fn draw_lines<R: Read + Drop, W: Write>(
+pub fn draw_lines<R: Read + Drop, W: Write, P: Paint>(
     alloc: Global,
     lines: &mut LineReader<R>,
     writer: &mut W,
+    painter: &P,
 ) -> Result<Verdict, EngineFault>
     ensures verdict { IfOk result (Finds (bytes_left R.remaining lines.old)) }
+    ensures drawn { IfOk result (λ verdict. verdict ≡ Verdict.Yes → Draws P.paints (bytes_left R.remaining lines.old) (W.contents writer.old) (W.contents writer.new)) }
     ensures silent { IfOk result (λ verdict. verdict ≢ Verdict.Yes → W.contents writer.new ≡ W.contents writer.old) }
     ensures unwritten { IfErr result (λ fault. fault ≢ EngineFault.WriteFailed → W.contents writer.new ≡ W.contents writer.old) }
     ensures ended { HasEnded lines.old → ReadsNoMore lines.old lines.new }
@@ -29,17 +34,19 @@ pub fn draw_lines<R: Read + Drop, W: Write>(
 {
     let mut follower = Follower::new(alloc);
     match watch_lines(alloc, lines, &mut follower) {
-        Ok(verdict) => write_if_yes(verdict, &mut follower, writer),
+        Ok(verdict) => write_if_yes(verdict, &mut follower, writer, painter),
         Err(fault) => Err(fault),
     }
 }
 
 /// Writes the picture of all that was seen after the verdict yes, and nothing after another.
-fn write_if_yes<W: Write>(
+fn write_if_yes<W: Write, P: Paint>(
     verdict: Verdict,
     follower: &mut Follower,
     writer: &mut W,
+    painter: &P,
 ) -> Result<Verdict, EngineFault>
+    ensures drawn { IfOk result (λ _. verdict ≡ Verdict.Yes → (text : List ℕ) × P.paints (ended (following_of follower.old)) text × Appends (W.contents writer.old) (W.contents writer.new) text) }
     ensures same { IfOk result (λ answered. answered ≡ verdict) }
     ensures silent { verdict ≢ Verdict.Yes → W.contents writer.new ≡ W.contents writer.old }
     ensures unwritten { IfErr result (λ fault. fault ≢ EngineFault.WriteFailed → W.contents writer.new ≡ W.contents writer.old) }
@@ -49,7 +56,7 @@ fn write_if_yes<W: Write>(
         Verdict::Yes => {}
         verdict => return Ok(verdict),
     }
-    let Ok(text) = follower.picture() else {
+    let Ok(text) = follower.picture(painter) else {
         return Err(EngineFault::NoMemory);
     };
     match put_all(writer, text.as_bytes()) {

@@ -3,15 +3,18 @@
 //! The crate stands on rme_engine, whose check of a transcript it watches, on rme_checker, from whose machine it
 //! reads what it draws, on rme_picture, which writes the picture's text, and on rme_wire for lines and names; on
 //! rme_texts, rme_lines, rme_machine, rme_program and rme_words for what these speak of. The one contract that the
-//! program uses is that of `draw_lines`: it answers the verdict of the check, and writes nothing but after yes. Begin
-//! with `draw.rt`, then `follower.rt`, which gathers what is seen, and `phase.rt`.
+//! program uses is that of `draw_lines`: it answers the verdict of the check, after yes it writes the picture of the run,
+//! and else nothing. Begin with `draw.rt`, then `specs/Following.antt`, what a picture shows of a run; `follower.rt`
+//! gathers that.
 #![tactic(auto)]
 
 mod draw;
 mod follower;
+mod holds;
 mod phase;
+mod stays;
 mod told;
 
 pub use draw::draw_lines;
 pub use phase::phase_after;
-pub use rme_picture::Phase;
+pub use rme_picture::{Paint, Phase, Svg};

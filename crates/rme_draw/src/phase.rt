@@ -1,6 +1,7 @@
 //! The phase that a worker is drawn in.
 
-ghost use Rattle.std.specs.Prelude.{◌≡◌, ◌↔◌, true, false};
+ghost use Rattle.std.specs.Prelude.{◌≡◌, ◌==◌, ◌↔◌, true, false};
+ghost use Rattle.rme_draw.specs.Phases as spec;
 ghost use Rattle.rme_draw.specs.Phases.{is_in_section, is_without_lock};
 
 use rme_checker::Worker;
@@ -15,6 +16,7 @@ use rme_texts::EventLine;
 /// the one that withdraws; `are_few` says that. Quiet steps are not in a transcript: a recovery is drawn up to the next
 /// note.
 pub fn phase_after(me: &Worker, line: &EventLine, are_few: bool, before: Phase) -> Phase
+    ensures drawn { result ≡ spec.phase_of line.now are_few before me.now }
     ensures section { result ≡ Phase.Section ↔ is_in_section me.now ≡ true }
     ensures down { result ≡ Phase.Down ↔ me.now.up ≡ false }
 {
@@ -32,6 +34,7 @@ pub fn phase_after(me: &Worker, line: &EventLine, are_few: bool, before: Phase) 
 
 /// The phase of a worker that owns its lock: after a crash it recovers until it has re-entered.
 fn owning(has_entered: bool, phase: Phase) -> Phase
+    ensures phase { result ≡ spec.owning has_entered phase }
     ensures entered { has_entered ≡ true → result ≡ phase }
     ensures fallen { has_entered ≡ false → result ≡ Phase.Recover }
 {
@@ -40,23 +43,32 @@ fn owning(has_entered: bool, phase: Phase) -> Phase
 
 /// The phase of a worker that has a number and waits for its lock.
 fn waiting_after(line: &EventLine, before: Phase) -> Phase
-    ensures { is_without_lock result ≡ true }
+    ensures phase { result ≡ spec.waiting_after line.now before }
+    ensures without_lock { is_without_lock result ≡ true }
 {
     match line {
         EventLine::Restart(_) => Phase::Recover,
         EventLine::Withdraw(_) => Phase::Exit,
-        EventLine::Note(_, note) => if tells_nothing(note) {
-            going_on(before, Phase::Enter)
-        } else {
-            Phase::Enter
-        },
+        EventLine::Note(_, note) => waiting_after_note(note, before),
+        _ => Phase::Enter,
+    }
+}
+
+/// The phase of a worker that waits for its lock after a step with this note.
+fn waiting_after_note(note: &Note, before: Phase) -> Phase
+    ensures phase { result ≡ spec.waiting_after_note note.now before }
+    ensures without_lock { is_without_lock result ≡ true }
+{
+    match note {
+        Note::Quiet | Note::Ready => going_on(before, Phase::Enter),
         _ => Phase::Enter,
     }
 }
 
 /// The phase of a worker that has no job.
 fn idle_after(line: &EventLine, are_few: bool, before: Phase) -> Phase
-    ensures { is_without_lock result ≡ true }
+    ensures phase { result ≡ spec.idle_after line.now are_few before }
+    ensures without_lock { is_without_lock result ≡ true }
 {
     match line {
         EventLine::Restart(_) => Phase::Recover,
@@ -67,26 +79,53 @@ fn idle_after(line: &EventLine, are_few: bool, before: Phase) -> Phase
 
 /// The phase of a worker that has no job after a step with this note.
 fn idle_after_note(note: &Note, are_few: bool, before: Phase) -> Phase
-    ensures { is_without_lock result ≡ true }
+    ensures phase { result ≡ spec.idle_after_note note.now are_few before }
+    ensures without_lock { is_without_lock result ≡ true }
 {
     match note {
-        Note::Left(_) | Note::Withdrew(_) => { if are_few { Phase::Ready } else { Phase::Exit } }
+        Note::Left(_) | Note::Withdrew(_) => left_among(are_few),
         Note::Quiet => going_on(before, Phase::Ready),
         _ => Phase::Ready,
     }
 }
 
-/// Whether a note tells nothing of where a waiting worker is.
-fn tells_nothing(note: &Note) -> bool {
-    matches!(note, Note::Quiet | Note::Ready)
+/// The phase of a worker that left its lock or gave its job up.
+fn left_among(are_few: bool) -> Phase
+    ensures phase { result ≡ spec.left_among are_few }
+    ensures without_lock { is_without_lock result ≡ true }
+{
+    if are_few { Phase::Ready } else { Phase::Exit }
 }
 
 /// The phase after a step that tells nothing: a worker that recovers or leaves is still at it.
 fn going_on(before: Phase, other: Phase) -> Phase
-    ensures { is_without_lock other ≡ true → is_without_lock result ≡ true }
+    ensures phase { result ≡ spec.going_on before other }
+    ensures without_lock { is_without_lock other ≡ true → is_without_lock result ≡ true }
 {
     match before {
         Phase::Recover | Phase::Exit => before,
         _ => other,
+    }
+}
+
+/// Whether two phases are the same.
+pub fn are_same(phase: Phase, other: Phase) -> bool
+    ensures { result ≡ (spec.order_of phase == spec.order_of other) }
+{
+    order_of(phase) == order_of(other)
+}
+
+/// The place of a phase among the phases.
+fn order_of(phase: Phase) -> u8
+    ensures { result ≡ spec.order_of phase }
+{
+    match phase {
+        Phase::Ready => 0,
+        Phase::Post => 1,
+        Phase::Enter => 2,
+        Phase::Section => 3,
+        Phase::Exit => 4,
+        Phase::Recover => 5,
+        Phase::Down => 6,
     }
 }

@@ -61,8 +61,13 @@ pub struct Drawing {
 }
 
 impl Drawing {
+    ghost use Rattle.std.specs.Prelude.{◌≡◌};
+    ghost use Rattle.rme_picture.specs.Pictures.{empty_picture, shown_in};
+
     /// Shows nothing yet.
-    pub fn new(alloc: Global) -> Drawing {
+    pub fn new(alloc: Global) -> Drawing
+        ensures { shown_in result ≡ empty_picture }
+    {
         Drawing {
             workers: 0,
             names: Vec::new(alloc),

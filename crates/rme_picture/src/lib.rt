@@ -1,12 +1,13 @@
 //! The text of a picture: stays, holds, marks and finished sections as a timeline in SVG.
 //!
-//! The crate knows no transcript and no machine; rme_draw fills a `Drawing`, and `svg_of` writes it. It stands on
-//! rme_program and rme_script for receipts and cells. Begin with `drawing.rt`, what a picture shows, and `svg.rt`;
+//! The crate knows no transcript and no machine; rme_draw fills a `Drawing`, and a painter writes it: `Svg`, by `svg_of`.
+//! It stands on rme_program and rme_script for receipts and cells. Begin with `drawing.rt`, what a picture shows, and `svg.rt`;
 //! where things stand is in `sheet.rt` and `strips.rt`, and how they look in `rows.rt` and `labels.rt`.
 #![tactic(auto)]
 
 mod drawing;
 mod labels;
+mod paint;
 mod phase;
 mod rows;
 mod sheet;
@@ -15,5 +16,5 @@ mod svg;
 
 pub use drawing::{Drawing, Finish, Hold, Mark, Stay};
 pub use labels::Told;
+pub use paint::{Paint, Svg};
 pub use phase::Phase;
-pub use svg::svg_of;

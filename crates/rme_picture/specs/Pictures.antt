@@ -1,0 +1,35 @@
+-- WHAT A PICTURE SHOWS, as contracts see it.
+use Rattle.std.specs.Prelude.{ℕ, List, [], map, string_bytes}
+use Rattle.rme_picture.specs.declared.drawing.Drawing.{Drawing}
+use Rattle.rme_picture.specs.declared.drawing.Stay.{Stay}
+use Rattle.rme_picture.specs.declared.drawing.Hold.{Hold}
+use Rattle.rme_picture.specs.declared.drawing.Mark.{Mark}
+use Rattle.rme_picture.specs.declared.drawing.Finish.{Finish}
+
+-- How many workers there are, the names of the locks, the last line, the greatest number of a job; and the stays, the
+-- holds, what was told and what was finished, each list in the order of the lines.
+pub record Picture : Type 0 where
+  pub workers : ℕ
+  pub names : List (List ℕ)
+  pub line : ℕ
+  pub number : ℕ
+  pub stays : List Stay
+  pub holds : List Hold
+  pub marks : List Mark
+  pub finishes : List Finish
+
+abbrev pub shown_in : Drawing → Picture
+shown_in drawing = record {
+  workers = drawing.workers;
+  names = map string_bytes drawing.names.items;
+  line = drawing.line;
+  number = drawing.number;
+  stays = drawing.stays.items;
+  holds = drawing.holds.items;
+  marks = drawing.marks.items;
+  finishes = drawing.finishes.items;
+}
+
+-- nothing is shown
+abbrev pub empty_picture : Picture
+empty_picture = record { workers = 0; names = []; line = 0; number = 0; stays = []; holds = []; marks = []; finishes = [] }
