@@ -4,6 +4,7 @@ use Rattle.rme_lines.specs.declared.fault.EngineFault.{EngineFault}
 use Rattle.rme_lines.specs.declared.fault.EngineFault.TheVariants.{ReadFailed}
 use Rattle.rme_lines.specs.Readers.{FailsToRead, bytes_left}
 use Rattle.rme_lines.specs.Runs.{TurnFails, Turns}
+use Rattle.rme_lines.proofs.ReaderLemmas.{ended_at_end}
 use Rattle.rme_lines.proofs.RunLemmas.{failed, finished, so_far_first, so_far_more}
 use Rattle.rme_server.specs.Obeyed.{nobody}
 use Rattle.rme_server.specs.Sessions.{IsAnswered}
@@ -13,7 +14,8 @@ pub loop-init : goal.loop-init
 loop-init g c = record {
   ours = rw c.empty-stand.ensures tt;
   so_far = so_far_first (IsAnswered g.K.Tag.ident c.args.shared.now.slots.now c.args.shared.now.names.now) (bytes_left g.I.Read.remaining c.args.lines.now) (g.O.Write.contents c.args.writer.now)
-      c.args.lines.now.ended nobody c.empty-stand.result c.args.buffers.now.exchange.pending c.empty-stand.ensures c.requires.none_kept;
+      c.args.lines.now.ended nobody c.empty-stand.result c.args.buffers.now.exchange.pending c.empty-stand.ensures c.requires.none_kept
+      (ended_at_end g.I.Read.remaining c.args.lines.now);
 }
 
 pub loop-preserved : goal.loop-preserved
@@ -29,7 +31,7 @@ loop-preserved g c =
       ours = c.turn-next.ensures.ours;
       so_far = so_far_more has (left c.args.lines.now) (held c.args.writer.now) (left now.lines) (left new.lines) (held now.writer) (held new.writer) now.lines.ended new.lines.ended nobody
           now.stand c.turn-next.result.0 now.buffers.exchange.pending new.buffers.exchange.pending now.invariant.so_far (λ e. (c.turn-next.ensures.ended e).ended)
-          (subst P c.in-Ok-true.field-0-test (subst R c.in-Ok-true.is c.turn-next.ensures.ok));
+          (subst P c.in-Ok-true.field-0-test (subst R c.in-Ok-true.is c.turn-next.ensures.ok)) (ended_at_end g.I.Read.remaining new.lines);
     }
 
 pub returns-in-Ok-false-clause-ok : goal.returns-in-Ok-false-clause-ok

@@ -4,8 +4,9 @@ use Rattle.rme_lines.specs.declared.cut.Cut.TheVariants.{End}
 use Rattle.rme_lines.specs.declared.fault.EngineFault.{EngineFault}
 use Rattle.rme_lines.specs.Cuts.{line_read}
 use Rattle.rme_lines.specs.Puts.{Gathers}
-use Rattle.rme_lines.specs.Readers.{bytes_left}
+use Rattle.rme_lines.specs.Readers.{bytes_left, has_ended}
 use Rattle.rme_lines.proofs.PutLemmas.{gathers_more}
+use Rattle.rme_lines.proofs.ReaderLemmas.{ended_at_end}
 use Rattle.rme_lines.proofs.RunLemmas.{cut_off, spilt}
 use Rattle.rme_texts.specs.declared.session.SessionReply.{SessionReply}
 use Rattle.rme_server.specs.Sessions.{Breaks, IsAnswered, Replies, session_line}
@@ -25,9 +26,12 @@ returns-in-Err-replied-clause-err g c =
     let held = g.O.Write.contents in
     let keeps = c.next_line.new.self.pending in
     let last = c.reply_to-stand.new.buffers.exchange.pending in
+    let line = c.next_line.new.self.line.items in
+    let more : c.in-Ok.cut ≢ End = search rules in
     let P : Result SessionReply EngineFault → Type 0 = λ r. IfErr r (λ fault. Breaks fault (held c.next_line.new.writer) keeps (held c.reply_to-stand.new.writer) last) in
     broken (IsAnswered g.K.Tag.ident c.args.shared.now.slots.now c.args.shared.now.names.now) c.in-Err-replied.fault (left c.args.lines.now) (left c.next_line.new.lines) (held c.args.writer.now)
-    (held c.next_line.new.writer) (held c.reply_to-stand.new.writer) c.args.stand c.args.buffers.now.exchange.pending keeps last c.in-Ok.ensures.gathers
+    (held c.next_line.new.writer) (held c.reply_to-stand.new.writer) (has_ended c.next_line.new.lines) c.args.stand (line_read c.in-Ok.cut line) c.args.buffers.now.exchange.pending keeps last
+    (cut_off (left c.args.lines.now) (left c.next_line.new.lines) c.in-Ok.cut line c.in-Ok.ensures.cut more) c.in-Ok.ensures.whole (ended_at_end g.I.Read.remaining c.next_line.new.lines) c.in-Ok.ensures.gathers
     (subst P c.in-Err-replied.is c.reply_to-stand.ensures.err)
 
 pub returns-in-Ok-answer-clause-ok : goal.returns-in-Ok-answer-clause-ok
@@ -72,6 +76,7 @@ returns-in-Err-answer-clause-err g c =
     let first = gathers_more (held c.args.writer.now) (held c.next_line.new.writer) (held c.reply_to-stand.new.writer) kept keeps after [] [] c.in-Ok.ensures.gathers
     (subst Q c.in-Ok-replied.is c.reply_to-stand.ensures.gathers) in
     unanswered (IsAnswered g.K.Tag.ident c.args.shared.now.slots.now names) c.in-Err-answer.fault (left c.args.lines.now) (left c.next_line.new.lines) (held c.args.writer.now)
-    (held c.reply_to-stand.new.writer) (held c.answer.new.writer) c.args.stand c.reply_to-stand.result.0 (line_read c.in-Ok.cut line) kept after (session_line names reply)
-    c.answer.new.self.exchange.pending (cut_off (left c.args.lines.now) (left c.next_line.new.lines) c.in-Ok.cut line c.in-Ok.ensures.cut more)
+    (held c.reply_to-stand.new.writer) (held c.answer.new.writer) (has_ended c.next_line.new.lines) c.args.stand c.reply_to-stand.result.0 (line_read c.in-Ok.cut line) kept after (session_line names reply)
+    c.answer.new.self.exchange.pending (cut_off (left c.args.lines.now) (left c.next_line.new.lines) c.in-Ok.cut line c.in-Ok.ensures.cut more) c.in-Ok.ensures.whole
+    (ended_at_end g.I.Read.remaining c.next_line.new.lines)
     (reply, subst P c.in-Ok-replied.is c.reply_to-stand.ensures.replies, refl) first c.in-Err-answer.ensures.kind c.in-Err-answer.ensures.memory c.in-Err-answer.ensures.front
