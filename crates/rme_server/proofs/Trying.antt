@@ -1,5 +1,5 @@
 -- An order that is obeyed in two parts is obeyed.
-use Rattle.std.proofs.Common.{◌≡◌, ℕ, List, [], ◌∷◌, ◌++◌, inl, inr, sym, ap, ◌∙◌}
+use Rattle.std.proofs.Common.{◌≡◌, ℕ, ◌+◌, ◌-◌, ◌≤◌, List, [], ◌∷◌, ◌++◌, arith, inl, inr, refl, sym, ap, ◌∙◌}
 use Rattle.std.specs.Prelude.{◌==◌, Bool, true, false, Option, Some, None}
 use Rattle.std.proofs.lemmas.Option.{none-some, same_Some}
 use Rattle.rme_words.specs.declared.shape.Shape.{Shape}
@@ -17,8 +17,8 @@ use Rattle.rme_wire.specs.declared.order.Order.TheVariants.{Attach, Submit, Resu
 use Rattle.rme_wire.specs.declared.order.Submission.{Submission}
 use Rattle.rme_server.specs.Obeyed.{IsLeft, Obeys, Resumes, Submits}
 use Rattle.rme_server.specs.Refusals.{PendingRefuses, SubmitRefuses, resume_refusal}
-use Rattle.rme_server.specs.Sessions.{answer_as, first_of, still_waits}
-use Rattle.rme_server.specs.Works.{Awaits, GoesOn, Hands, HasFinished, IsSpared, StillAwaits, Task, Works, its_task, next_task, steps_of}
+use Rattle.rme_server.specs.Sessions.{answer_as, first_of, rest_of, still_waits}
+use Rattle.rme_server.specs.Works.{Awaits, GoesOn, Hands, HasFinished, IsSpared, IsTried, StillAwaits, Task, Works, its_task, next_task, steps_of}
 use Rattle.rme_server.specs.declared.stand.Holding.{Holding}
 use Rattle.rme_server.specs.declared.stand.Holding.TheVariants.{Empty, Ready, Climb, Held}
 use Rattle.rme_server.specs.declared.stand.Stand.{Stand as Session}
@@ -45,17 +45,33 @@ submits_once shape (Ready ready) its now became submits = submits
 submits_once shape (Climb climb) its now became submits = submits
 submits_once shape (Held held) its now became submits = submits
 
--- The first part was all.
+-- The first part was all: the job does not wait, or no try is left.
+tried_once : (most steps : ℕ) (value : Holding) (became : Outcome) → ((became ≡ Waiting) → most ≤ 1) → IsTried 1 steps value became → IsTried most steps value became
+tried_once most steps value (Receipt receipt) few tried = tt
+tried_once most steps value Withdrawn few tried = tt
+tried_once most steps value Waiting few tried = let at = few refl in omega (arith, at, tried)
+tried_once most steps value Fell few tried = tt
+
+-- No try is left after the first, or the job does not wait.
+abbrev pub IsAll : Order → SessionReply → Type 0
+IsAll its reply = still_waits reply ≡ true → rest_of its ≡ 0
+
 module _ (ident : Ident) (count : ℕ) (old now : Session) where
-  pub only_first : (its : Order) (reply : SessionReply) → Obeys ident count old (first_of its) now reply → Obeys ident count old its now reply
-  only_first (Submit its) (Refused why) (same, inl refuses) = (same, inl (refuses_once ident.shape old.value its (Some why) refuses))
-  only_first (Submit its) (Refused why) (same, inr refuses) = absurd refuses
-  only_first (Submit its) (Submitted became) (none, (submits, left)) =
-      (refuses_once ident.shape old.value its None none, (submits_once ident.shape old.value its now.value became submits, left))
-  only_first (Submit its) reply (none, does) = absurd does
-  only_first (Resume tries) (Refused why) obeys = obeys
-  only_first (Resume tries) reply obeys = obeys
-  only_first its reply obeys = obeys
+  pub only_first : (its : Order) (reply : SessionReply) → IsAll its reply → Obeys ident count old (first_of its) now reply → Obeys ident count old its now reply
+  only_first (Submit its) (Refused why) all (same, inl refuses) = (same, inl (refuses_once ident.shape old.value its (Some why) refuses))
+  only_first (Submit its) (Refused why) all (same, inr refuses) = absurd refuses
+  only_first (Submit its) (Submitted became) all (none, (submits, left, tried)) =
+      let few : (became ≡ Waiting) → its.tries ≤ 1 = λ waits. (let none_left = all (ap (λ (o : Outcome). still_waits (Submitted o)) waits) in omega (arith, none_left)) in (
+        refuses_once ident.shape old.value its None none,
+        (submits_once ident.shape old.value its now.value became submits, left, tried_once its.tries (steps_of old.value) now.value became few tried),
+      )
+  only_first (Submit its) reply all (none, does) = absurd does
+  only_first (Resume tries) (Refused why) all obeys = obeys
+  only_first (Resume tries) (Resumed became) all (none, (resumes, left, tried)) =
+      let few : (became ≡ Waiting) → tries ≤ 1 = λ waits. (let none_left = all (ap (λ (o : Outcome). still_waits (Resumed o)) waits) in omega (arith, none_left)) in
+      (none, (resumes, left, tried_once tries (steps_of old.value) now.value became few tried))
+  only_first (Resume tries) reply all (none, does) = absurd does
+  only_first its reply all obeys = obeys
 
 -- A worker waited with a job, and then went on with it.
 finished_after : (task : Task) (before : List Entry) (climb ready : Stand) (job : Job) (entry : Entry) → Awaits task before climb → climb.part.draft ≡ Some job
@@ -161,30 +177,46 @@ waiting_is_resumed (Ready ready) mid why waits refuses = waits
 waiting_is_resumed (Climb climb) mid why waits refuses = goes_not_refused climb mid why waits refuses
 waiting_is_resumed (Held held) mid why waits refuses = goes_not_refused held mid why waits refuses
 
-false_true : false ≡ true → ⊥
+pub false_true : false ≡ true → ⊥
 false_true same = cc
 
+tried_both : (most rest steps later : ℕ) (value : Holding) (became : Outcome) → most ≤ rest + 1 → steps + 1 ≤ later → IsTried rest later value became → IsTried most steps value became
+tried_both most rest steps later value (Receipt receipt) enough first tried = tt
+tried_both most rest steps later value Withdrawn enough first tried = tt
+tried_both most rest steps later value Waiting enough first tried = omega (arith, enough, first, tried)
+tried_both most rest steps later value Fell enough first tried = tt
+
 -- Both parts were needed.
-module _ (ident : Ident) (count : ℕ) (old mid now : Session) (rest : ℕ) where
-  submitted_on : (its : Submission) (last : SessionReply) → Obeys ident count old (Submit (once its)) mid (Submitted Waiting) → Obeys ident count mid (Resume rest) now last
+module _ (ident : Ident) (count : ℕ) (old mid now : Session) where
+  submitted_on : (its : Submission) (last : SessionReply) → Obeys ident count old (Submit (once its)) mid (Submitted Waiting) → Obeys ident count mid (Resume (its.tries - 1)) now last
       → Obeys ident count old (Submit its) now (answer_as (Submitted Waiting) last)
-  submitted_on its (Resumed became) (none, (submits, left)) (some, (resumes, later)) = (
+  submitted_on its (Resumed became) (none, (submits, left, first)) (some, (resumes, later, tried)) = (
     refuses_once ident.shape old.value its None none,
-    (submits_waiting ident.shape old.value mid.value now.value its became submits resumes, left_after_both old mid now left became later),
+    (
+      submits_waiting ident.shape old.value mid.value now.value its became submits resumes,
+      left_after_both old mid now left became later,
+      tried_both its.tries (its.tries - 1) (steps_of old.value) (steps_of mid.value) now.value became (omega arith) first tried,
+    ),
   )
-  submitted_on its (Refused why) (none, (submits, left)) (same, inl refuses) = absurd (waiting_is_held ident.shape old.value mid.value its why submits refuses)
+  submitted_on its (Refused why) (none, (submits, left, first)) (same, inl refuses) = absurd (waiting_is_held ident.shape old.value mid.value its why submits refuses)
   submitted_on its (Refused why) obeys (same, inr refuses) = absurd refuses
   submitted_on its last obeys (some, does) = absurd does
 
-  resumed_on : (tries : ℕ) (last : SessionReply) → Obeys ident count old (Resume 1) mid (Resumed Waiting) → Obeys ident count mid (Resume rest) now last
+  resumed_on : (tries : ℕ) (last : SessionReply) → Obeys ident count old (Resume 1) mid (Resumed Waiting) → Obeys ident count mid (Resume (tries - 1)) now last
       → Obeys ident count old (Resume tries) now (answer_as (Resumed Waiting) last)
-  resumed_on tries (Resumed became) (none, (resumes, left)) (some, (more, later)) =
-      (none, (resumes_waiting old.value mid.value now.value became resumes more, left_after_both old mid now left became later))
-  resumed_on tries (Refused why) (none, (resumes, left)) (same, inl refuses) = absurd (waiting_is_resumed old.value mid.value why resumes refuses)
+  resumed_on tries (Resumed became) (none, (resumes, left, first)) (some, (more, later, tried)) = (
+    none,
+    (
+      resumes_waiting old.value mid.value now.value became resumes more,
+      left_after_both old mid now left became later,
+      tried_both tries (tries - 1) (steps_of old.value) (steps_of mid.value) now.value became (omega arith) first tried,
+    ),
+  )
+  resumed_on tries (Refused why) (none, (resumes, left, first)) (same, inl refuses) = absurd (waiting_is_resumed old.value mid.value why resumes refuses)
   resumed_on tries (Refused why) obeys (same, inr refuses) = absurd refuses
   resumed_on tries last obeys (some, does) = absurd does
 
-  pub both_parts : (its : Order) (reply last : SessionReply) → still_waits reply ≡ true → Obeys ident count old (first_of its) mid reply → Obeys ident count mid (Resume rest) now last
+  pub both_parts : (its : Order) (reply last : SessionReply) → still_waits reply ≡ true → Obeys ident count old (first_of its) mid reply → Obeys ident count mid (Resume (rest_of its)) now last
       → Obeys ident count old its now (answer_as reply last)
   both_parts (Submit its) (Submitted Waiting) last waits obeys resumes = submitted_on its last obeys resumes
   both_parts (Resume tries) (Resumed Waiting) last waits obeys resumes = resumed_on tries last obeys resumes

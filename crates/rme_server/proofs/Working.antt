@@ -1,5 +1,5 @@
 -- A worker that went on with its job.
-use Rattle.std.proofs.Common.{◌≡◌, ℕ, ◌+◌, Result, Ok, Err, sym, subst, ◌∙◌, refl, arith}
+use Rattle.std.proofs.Common.{◌≡◌, ℕ, ◌+◌, ◌-◌, ◌≤◌, Result, Ok, Err, sym, subst, ◌∙◌, refl, arith}
 use Rattle.std.specs.Prelude.{false, None}
 use Rattle.std.proofs.lemmas.Bool.{eq-eqb, lt-ltb, ne_eqb}
 use Rattle.rme_words.specs.declared.shape.Shape.{Shape}
@@ -7,18 +7,19 @@ use Rattle.rme_script.specs.declared.job.Job.{Job}
 use Rattle.rme_program.specs.declared.note.Receipt.{Receipt}
 use Rattle.rme_seats.specs.Parts.{onward}
 use Rattle.rme_seats.specs.Stands.{Ident, Stand}
-use Rattle.rme_table.specs.Driving.{Drives, Goes, HasFinished as FinishedJob, Passes}
+use Rattle.rme_table.specs.Driving.{DoesNotWait, Drives, Exhausts, Goes, HasFinished as FinishedJob, Passes}
 use Rattle.rme_table.specs.declared.driving.Driven.{Driven}
 use Rattle.rme_table.specs.declared.driving.Driven.TheVariants as driven
+use Rattle.rme_table.specs.declared.driving.Tries.{Tries}
 use Rattle.rme_texts.specs.declared.session.Outcome.{Outcome}
 use Rattle.rme_texts.specs.declared.session.Outcome.TheVariants as outcome
 use Rattle.rme_wire.specs.declared.order.Submission.{Submission}
-use Rattle.rme_server.specs.Obeyed.{IsLeft, Settles, Submits}
+use Rattle.rme_server.specs.Obeyed.{IsLeft, Resumes, Settles, Submits}
 use Rattle.rme_server.specs.Plans.{tally_of}
-use Rattle.rme_server.specs.Refusals.{SubmitRefuses}
+use Rattle.rme_server.specs.Refusals.{SubmitRefuses, resume_refusal}
 use Rattle.rme_server.specs.Stands.{HasSlot, MayWork}
-use Rattle.rme_server.specs.Tasks.{IsSubmitted, Makes, holding_of, worked_of}
-use Rattle.rme_server.specs.Works.{Ends, GoesOn, IsSpared, IsUp, Spends, Works, next_task, steps_of}
+use Rattle.rme_server.specs.Tasks.{IsResumed, IsSubmitted, Makes, holding_of, worked_of}
+use Rattle.rme_server.specs.Works.{AreTried, Ends, GoesOn, IsSpared, IsTried, IsUp, Repeats, Spends, Works, next_task, steps_of}
 use Rattle.rme_server.specs.declared.planned.Planned.{Planned}
 use Rattle.rme_server.specs.declared.stand.Holding.{Holding}
 use Rattle.rme_server.specs.declared.stand.Holding.TheVariants.{Ready}
@@ -104,3 +105,52 @@ submitted shape its work old now became same asked (makes, left) =
     let P : Holding → Type 0 =
     λ value. SubmitRefuses shape value its None × (Submits shape value its now.value became × IsLeft (record { value = value; planned = old.planned }) now became) in
     subst P same (not_refused shape its work asked, (submits shape its work now.value became asked makes, left))
+
+-- The work of an order that goes on.
+resumes : (shape : Shape) (work : Work) (value : Holding) (became : Outcome) → IsResumed work → Makes shape work value became → (None ≡ resume_refusal (holding_of work)) × Resumes (holding_of work) value became
+resumes shape (Repeat ready) value became asked makes = absurd asked
+resumes shape (Post admitted tries) value became asked makes = absurd asked
+resumes shape (GoIn climb tries) value became asked makes = (refl, makes)
+resumes shape (GoOn held) value became asked makes = (refl, makes)
+
+pub resumed : (shape : Shape) (work : Work) (old now : Session) (became : Outcome) → holding_of work ≡ old.value → IsResumed work
+    → Makes shape work now.value became × IsLeft (record { value = holding_of work; planned = old.planned }) now became
+    → (None ≡ resume_refusal old.value) × (Resumes old.value now.value became × IsLeft old now became)
+resumed shape work old now became same asked (makes, left) =
+    let P : Holding → Type 0 =
+    λ value. (None ≡ resume_refusal value) × (Resumes value now.value became × IsLeft (record { value = value; planned = old.planned }) now became) in
+    let so = resumes shape work now.value became asked makes in subst P same (so.0, (so.1, left))
+
+-- The tries that were made before a job waits.
+pub driven_tried : (start : Stand) (before after : Tries) (drive : Driven) → Exhausts start before after drive → Passes drive → AreTried (before.most - before.blocked) start.part.steps (worked_of drive)
+driven_tried start before after (driven.Done ready receipt) exhausts passes = tt
+driven_tried start before after (driven.Waits climb) exhausts passes = exhausts.steps
+driven_tried start before after (driven.Stopped held) exhausts passes = absurd passes
+driven_tried start before after (driven.Fell down) exhausts passes = tt
+
+pub owning_tried : (most steps : ℕ) (drive : Driven) → DoesNotWait drive → Passes drive → AreTried most steps (worked_of drive)
+owning_tried most steps (driven.Done ready receipt) owns passes = tt
+owning_tried most steps (driven.Waits climb) owns passes = absurd owns
+owning_tried most steps (driven.Stopped held) owns passes = absurd passes
+owning_tried most steps (driven.Fell down) owns passes = tt
+
+tried_before : (most first later : ℕ) (value : Holding) (became : Outcome) → first ≤ later → IsTried most later value became → IsTried most first value became
+tried_before most first later value (outcome.Receipt receipt) more tried = tt
+tried_before most first later value outcome.Withdrawn more tried = tt
+tried_before most first later value outcome.Waiting more tried = omega (arith, more, tried)
+tried_before most first later value outcome.Fell more tried = tt
+
+pub tried_since : (most first later : ℕ) (worked : Result (Holding × Outcome) Stand) → first ≤ later → AreTried most later worked → AreTried most first worked
+tried_since most first later (Ok (value, became)) more tried = tried_before most first later value became more tried
+tried_since most first later (Err down) more tried = tt
+
+pub repeats_tried : (shape : Shape) (ready : Stand) (most steps : ℕ) (value : Holding) (became : Outcome) → Repeats shape ready value became → IsTried most steps value became
+repeats_tried shape ready most steps value (outcome.Receipt receipt) repeats = tt
+repeats_tried shape ready most steps value outcome.Withdrawn repeats = tt
+repeats_tried shape ready most steps value outcome.Waiting repeats = absurd repeats
+repeats_tried shape ready most steps value outcome.Fell repeats = tt
+
+pub settled_tried : (most steps : ℕ) (planned : Planned) (worked : Result (Holding × Outcome) Stand) (now : Session) (became : Outcome) → Settles worked planned now became
+    → AreTried most steps worked → IsTried most steps now.value became
+settled_tried most steps planned (Ok (value, its)) now became (now_is, its_is) tried = rw (now_is, its_is) tried
+settled_tried most steps planned (Err down) now became (now_is, its_is) tried = rw its_is tt

@@ -18,7 +18,7 @@ use Rattle.rme_wire.specs.declared.order.Submission.{Submission}
 use Rattle.rme_server.specs.Slots.{IsOf}
 use Rattle.rme_server.specs.Refusals.{Refuses, attach_refusal}
 use Rattle.rme_server.specs.Plans.{IsPlanned}
-use Rattle.rme_server.specs.Works.{GoesOn, Hands, IsSpared, steps_of}
+use Rattle.rme_server.specs.Works.{GoesOn, Hands, IsSpared, IsTried, steps_of}
 use Rattle.rme_server.specs.declared.planned.Planned.{Planned}
 use Rattle.rme_server.specs.declared.planned.Planned.TheVariants.{Nothing, After}
 use Rattle.rme_server.specs.declared.stand.Stand.{Stand}
@@ -70,11 +70,12 @@ abbrev pub IsLeft : Stand → Stand → Outcome → Type 0
 IsLeft old now Fell = IsPlanned old.planned × (now ≡ nobody)
 IsLeft old now outcome = IsSpared old.planned (steps_of old.value) now.planned now.value
 
--- What an order that is not refused does, and its answer.
+-- What an order that is not refused does, and its answer. A job that is submitted, or that the worker goes on with, waits only
+-- after all its tries.
 abbrev pub Does : seat.Ident → Stand → Order → Stand → SessionReply → Type 0
 Does ident old (order.Attach worker) now answer = AnswersOf ident worker now.value answer × (now.planned ≡ Nothing)
-Does ident old (order.Submit its) now (reply.Submitted outcome) = Submits ident.shape old.value its now.value outcome × IsLeft old now outcome
-Does ident old (order.Resume tries) now (reply.Resumed outcome) = Resumes old.value now.value outcome × IsLeft old now outcome
+Does ident old (order.Submit its) now (reply.Submitted outcome) = Submits ident.shape old.value its now.value outcome × IsLeft old now outcome × IsTried its.tries (steps_of old.value) now.value outcome
+Does ident old (order.Resume tries) now (reply.Resumed outcome) = Resumes old.value now.value outcome × IsLeft old now outcome × IsTried tries (steps_of old.value) now.value outcome
 Does ident old order.Withdraw now (reply.Withdrew number) =
     Withdraws old.value now.value number × IsSpared old.planned (steps_of old.value) now.planned now.value
 Does ident old order.Withdraw now reply.WithdrawFell = IsPlanned old.planned × (now ≡ nobody)

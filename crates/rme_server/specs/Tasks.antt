@@ -1,5 +1,5 @@
 -- The work that an order asks of a session's worker, and what it comes to.
-use Rattle.std.specs.Prelude.{◌≡◌, ◌+◌, ◌<◌, None, Result, Ok, Err}
+use Rattle.std.specs.Prelude.{◌≡◌, ℕ, ◌+◌, ◌<◌, None, Result, Ok, Err}
 use Rattle.rme_words.specs.declared.shape.Shape.{Shape}
 use Rattle.rme_seats.specs.Stands.{Stand}
 use Rattle.rme_table.specs.Calls.{post_refusal}
@@ -37,6 +37,12 @@ IsResumed (Repeat ready) = ⊥
 IsResumed (Post admitted tries) = ⊥
 IsResumed (GoIn climb tries) = Unit {0}
 IsResumed (GoOn held) = Unit {0}
+
+-- The job may wait after so many tries, and a worker that owns its lock, or that has no job to do, does not wait.
+abbrev pub HasTries : ℕ → Work → Type 0
+HasTries tries (Post admitted given) = given ≡ tries
+HasTries tries (GoIn climb given) = given ≡ tries
+HasTries tries work = Unit {0}
 
 -- What the work leaves the session with, and what became of the job.
 abbrev pub Makes : Shape → Work → Holding → Outcome → Type 0

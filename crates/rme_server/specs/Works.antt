@@ -1,5 +1,5 @@
 -- What becomes of a worker's job within one order.
-use Rattle.std.specs.Prelude.{◌≡◌, ℕ, ◌+◌, Bool, true, false, List, [], ◌∷◌, ◌++◌, Some, None, Result, MatchResult}
+use Rattle.std.specs.Prelude.{◌≡◌, ℕ, ◌+◌, ◌≤◌, Bool, true, false, List, [], ◌∷◌, ◌++◌, Some, None, Result, MatchResult}
 use Rattle.rme_words.specs.declared.shape.Shape.{Shape}
 use Rattle.rme_script.specs.declared.job.Job.{Job}
 use Rattle.rme_program.specs.declared.note.Entry.{Entry}
@@ -94,6 +94,14 @@ steps_of Empty = 0
 steps_of (Ready ready) = ready.part.steps
 steps_of (Climb climb) = climb.part.steps
 steps_of (Held held) = held.part.steps
+
+-- A job waits only after so many tries, each of which had an own step at least: the worker had made so many before.
+abbrev pub IsTried : ℕ → ℕ → Holding → Outcome → Type 0
+IsTried tries steps value outcome.Waiting = steps + tries ≤ steps_of value
+IsTried tries steps value its = Unit {0}
+
+abbrev pub AreTried : ℕ → ℕ → Result (Holding × Outcome) Stand → Type 0
+AreTried tries steps worked = MatchResult worked (λ (done : Holding × Outcome). IsTried tries steps done.0 done.1) (λ (down : Stand). Unit {0})
 
 -- A worker with so many own steps made some more, and the plan is what they leave of it.
 abbrev pub IsSpared : Planned → ℕ → Planned → Holding → Type 0

@@ -9,7 +9,8 @@ ghost use Rattle.rme_server.specs.Slots.{IsOf};
 ghost use Rattle.rme_server.specs.Stands.{MayHold, MayWork};
 ghost use Rattle.rme_server.specs.declared.stand.Holding.TheVariants as spec;
 ghost use Rattle.rme_server.specs.declared.planned.Planned.TheVariants as planned;
-ghost use Rattle.rme_server.specs.Tasks.{Makes, holding_of};
+ghost use Rattle.rme_server.specs.Tasks.{HasTries, Makes, holding_of};
+ghost use Rattle.rme_server.specs.Works.{IsTried, steps_of};
 ghost use Rattle.rme_server.specs.Obeyed.{AnswersOf, IsLeft, Obeys, Settles};
 
 use crate::planned::Planned;
@@ -120,6 +121,7 @@ fn make<K: Tag, R: Wait>(
     requires ours { MayHold K.ident slots.now (holding_of work) }
     ensures ours { MayHold K.ident slots.now result.0.value }
     ensures did { Makes service.now.shape work result.0.value result.1 × IsLeft (record { value = holding_of work; planned = planned }) result.0 result.1 }
+    ensures tried { (most : ℕ) → HasTries most work → IsTried most (steps_of (holding_of work)) result.0.value result.1 }
 {
     let worked = carry_out(work, &mut planned, service);
     settle(rt, worked, planned, slots)

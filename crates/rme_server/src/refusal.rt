@@ -6,7 +6,7 @@
 ghost use Rattle.std.specs.Prelude.{◌≡◌, ◌≢◌, ◌≤◌, ◌+◌, ℕ, Some, None, IfOk, IfErr, OnOk};
 ghost use Rattle.rme_server.specs.Stands.{MayHold};
 ghost use Rattle.rme_server.specs.Refusals as spec;
-ghost use Rattle.rme_server.specs.Tasks.{IsResumed, IsSubmitted, holding_of};
+ghost use Rattle.rme_server.specs.Tasks.{HasTries, IsResumed, IsSubmitted, holding_of};
 ghost use Rattle.rme_server.specs.declared.stand.Holding.TheVariants as holds;
 
 use crate::stand::Holding;
@@ -41,6 +41,7 @@ pub(crate) fn to_submit(
 ) -> Result<Work, Refused>
     requires ours { (count : ℕ) × MayHold service.now count value }
     ensures work { IfOk result (λ work. (holding_of work ≡ value) × IsSubmitted service.now.shape submission.now work) }
+    ensures tries { IfOk result (HasTries submission.now.tries) }
     ensures refused { IfErr result (λ refused. (refused.0 ≡ value) × spec.SubmitRefuses service.now.shape value submission.now (Some refused.1)) }
 {
     match value {
@@ -56,6 +57,7 @@ pub(crate) fn to_submit(
 fn to_post(ready: Ready, submission: &Submission, service: &Service) -> Result<Work, Refused>
     requires ours { ready.ident ≡ service.now }
     ensures work { IfOk result (λ work. (holding_of work ≡ holds.Ready ready) × IsSubmitted service.now.shape submission.now work) }
+    ensures tries { IfOk result (HasTries submission.now.tries) }
     ensures refused { IfErr result (λ refused. (refused.0 ≡ holds.Ready ready) × (spec.posting_refusal service.now.shape ready.part.private.begun submission.now ≡ Some refused.1)) }
 {
     let last = ready.number();
@@ -85,6 +87,7 @@ fn next_after(last: u32, shape: Shape) -> u32
 fn to_go_in(mut climb: Climb, submission: &Submission, service: &Service) -> Result<Work, Refused>
     requires ours { climb.ident ≡ service.now }
     ensures work { IfOk result (λ work. (holding_of work ≡ holds.Climb climb) × IsSubmitted service.now.shape submission.now work) }
+    ensures tries { IfOk result (HasTries submission.now.tries) }
     ensures refused { IfErr result (λ refused. (refused.0 ≡ holds.Climb climb) × spec.PendingRefuses climb.part.private.begun climb.part.draft submission.now (Some refused.1)) }
 {
     let job = climb.job(service);
@@ -98,6 +101,7 @@ fn to_go_in(mut climb: Climb, submission: &Submission, service: &Service) -> Res
 fn to_go_on(mut held: Held, submission: &Submission, service: &Service) -> Result<Work, Refused>
     requires ours { (count : ℕ) × MayHold service.now count (holds.Held held) }
     ensures work { IfOk result (λ work. (holding_of work ≡ holds.Held held) × IsSubmitted service.now.shape submission.now work) }
+    ensures tries { IfOk result (HasTries submission.now.tries) }
     ensures refused { IfErr result (λ refused. (refused.0 ≡ holds.Held held) × spec.PendingRefuses held.part.private.begun held.part.draft submission.now (Some refused.1)) }
 {
     let job = held.job(service);
@@ -123,6 +127,7 @@ fn pending_refusal(number: u32, job: &Job, submission: &Submission) -> Option<Re
 /// The work that is left of the job that is pending.
 pub(crate) fn to_resume(value: Holding, tries: u32) -> Result<Work, Refused>
     ensures work { IfOk result (λ work. (holding_of work ≡ value) × IsResumed work) }
+    ensures tries { IfOk result (HasTries tries) }
     ensures refused { IfErr result (λ refused. (refused.0 ≡ value) × (spec.resume_refusal value ≡ Some refused.1)) }
 {
     match value {

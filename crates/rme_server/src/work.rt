@@ -3,8 +3,8 @@
 ghost use Rattle.std.specs.Prelude.{◌≡◌, ℕ, false};
 ghost use Rattle.rme_table.specs.Calls.{is_over};
 ghost use Rattle.rme_server.specs.Stands.{HasSlot, MayHold, MayWork};
-ghost use Rattle.rme_server.specs.Tasks.{Makes, holding_of, worked_of};
-ghost use Rattle.rme_server.specs.Works.{Ends, GoesOn, Repeats, Spends, Works, next_task, steps_of};
+ghost use Rattle.rme_server.specs.Tasks.{HasTries, Makes, holding_of, worked_of};
+ghost use Rattle.rme_server.specs.Works.{AreTried, Ends, GoesOn, Repeats, Spends, Works, next_task, steps_of};
 
 use crate::planned::Planned;
 use crate::stand::Holding;
@@ -37,6 +37,7 @@ pub(crate) fn carry_out(
     ensures ours { (count : ℕ) → MayHold service.now count (holding_of work) → MayWork service.now count result }
     ensures did { Ends result (Makes service.now.shape work) }
     ensures plan { Spends planned.old (steps_of (holding_of work)) planned.new result }
+    ensures tried { (most : ℕ) → HasTries most work → AreTried most (steps_of (holding_of work)) result }
 {
     match work {
         Work::Repeat(ready) => Ok(repeat(ready, service)),
@@ -69,6 +70,7 @@ fn post(
     ensures ours { (count : ℕ) → HasSlot service.now count admitted.ready → MayWork service.now count result }
     ensures did { Ends result (Works (next_task admitted.ready admitted.job) admitted.ready.part.entries) }
     ensures plan { Spends planned.old admitted.ready.part.steps planned.new result }
+    ensures tried { AreTried tries admitted.ready.part.steps result }
 {
     match admitted.post(service, planned) {
         Ok(climb) => go_in(climb, tries, planned, service),
@@ -82,6 +84,7 @@ fn go_in(climb: Climb, tries: u32, planned: &mut Planned, service: &Service) -> 
     ensures ours { (count : ℕ) → HasSlot service.now count climb → MayWork service.now count result }
     ensures did { Ends result (GoesOn climb) }
     ensures plan { Spends planned.old climb.part.steps planned.new result }
+    ensures tried { AreTried tries climb.part.steps result }
 {
     let backoff = Backoff::new();
     let mut tries = Tries {
@@ -98,6 +101,7 @@ fn go_on(held: Held, planned: &mut Planned, service: &Service) -> Result<Worked,
     ensures ours { (count : ℕ) → HasSlot service.now count held → MayWork service.now count result }
     ensures did { Ends result (GoesOn held) }
     ensures plan { Spends planned.old held.part.steps planned.new result }
+    ensures tried { (most : ℕ) → AreTried most held.part.steps result }
 {
     worked(held.go_on(service, planned, &Free))
 }

@@ -1,5 +1,7 @@
-use Rattle.std.proofs.Common.{refl}
-use Rattle.rme_server.proofs.Working.{driven_did, driven_ours, driven_plan}
+use Rattle.std.proofs.Common.{◌≡◌, ℕ, ◌-◌, arith, refl, subst}
+use Rattle.rme_server.specs.Tasks.{worked_of}
+use Rattle.rme_server.specs.Works.{AreTried}
+use Rattle.rme_server.proofs.Working.{driven_did, driven_ours, driven_plan, driven_tried}
 use Rattle.rme_server.proofs.work.go_in.Goals as goal
 
 pub returns-clause-ours : goal.returns-clause-ours
@@ -13,3 +15,9 @@ returns-clause-did c =
 pub returns-clause-plan : goal.returns-clause-plan
 returns-clause-plan c =
     rw c.worked.ensures (driven_plan c.args.service.now.shape c.args.climb c.args.planned.now c.go_in.new.chance c.go_in.result c.go_in.ensures.drives (c.go_in.ensures.passes refl))
+
+pub returns-clause-tried : goal.returns-clause-tried
+returns-clause-tried c =
+    let all : c.args.tries - 0 ≡ c.args.tries = omega arith in
+    let P : ℕ → Type 0 = λ most. AreTried most c.args.climb.part.steps (worked_of c.go_in.result) in
+    rw c.worked.ensures (subst P all (driven_tried c.args.climb (record { blocked = 0; most = c.args.tries }) c.go_in.new.tries c.go_in.result c.go_in.ensures.tries (c.go_in.ensures.passes refl)))

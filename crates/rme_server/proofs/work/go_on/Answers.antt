@@ -2,7 +2,7 @@ use Rattle.std.proofs.Common.{refl, subst}
 use Rattle.std.specs.Prelude.{Bool}
 use Rattle.rme_table.specs.Driving.{Drives}
 use Rattle.rme_server.specs.Plans.{tally_of}
-use Rattle.rme_server.proofs.Working.{driven_did, driven_ours, driven_plan}
+use Rattle.rme_server.proofs.Working.{driven_did, driven_ours, driven_plan, owning_tried}
 use Rattle.rme_server.proofs.work.go_on.Goals as goal
 
 pub returns-clause-ours : goal.returns-clause-ours
@@ -22,3 +22,6 @@ returns-clause-plan c =
     let P : Bool → Type 0 = λ over. Drives c.args.service.now.shape over c.args.held (tally_of c.args.planned.now) (tally_of c.go_on.new.chance) c.go_on.result in
     let drives = subst P c.requires.pending c.go_on.ensures.drives in
     rw c.worked.ensures (driven_plan c.args.service.now.shape c.args.held c.args.planned.now c.go_on.new.chance c.go_on.result drives (c.go_on.ensures.passes refl))
+
+pub returns-clause-tried : goal.returns-clause-tried
+returns-clause-tried c = λ most. rw c.worked.ensures (owning_tried most c.args.held.part.steps c.go_on.result c.go_on.ensures.owns (c.go_on.ensures.passes refl))

@@ -1,0 +1,16 @@
+use Rattle.std.proofs.Common.{ℕ, subst}
+use Rattle.rme_server.specs.Works.{AreTried, steps_of}
+use Rattle.rme_server.proofs.Working.{repeats_tried}
+use Rattle.rme_server.proofs.work.carry_out.Goals as goal
+
+pub returns-in-Repeat-clause-tried : goal.returns-in-Repeat-clause-tried
+returns-in-Repeat-clause-tried c =
+    rw c.in-Repeat.is (λ most has. repeats_tried c.args.service.now.shape c.in-Repeat.ready most c.in-Repeat.ready.part.steps c.repeat.result.0 c.repeat.result.1 c.repeat.ensures)
+
+pub returns-in-Post-clause-tried : goal.returns-in-Post-clause-tried
+returns-in-Post-clause-tried c =
+    let P : ℕ → Type 0 = λ n. AreTried n c.in-Post.admitted.ready.part.steps c.post.result in rw c.in-Post.is (λ most has. subst P has c.post.ensures.tried)
+
+pub returns-in-GoIn-clause-tried : goal.returns-in-GoIn-clause-tried
+returns-in-GoIn-clause-tried c =
+    let P : ℕ → Type 0 = λ n. AreTried n c.in-GoIn.climb.part.steps c.go_in.result in rw c.in-GoIn.is (λ most has. subst P has c.go_in.ensures.tried)
