@@ -1,5 +1,5 @@
 -- Lists to which the parts of a list are added in turn.
-use Rattle.std.proofs.Common.{◌≡◌, ℕ, zero, suc, ◌+◌, ◌-◌, ◌<◌, List, ◌++◌, String, Global, string_bytes, Option, ap, ◌∙◌, sym, arith, append_assoc, map}
+use Rattle.std.proofs.Common.{◌≡◌, ℕ, suc, ◌+◌, ◌-◌, ◌<◌, List, ◌++◌, Option, ap, ◌∙◌, arith, append_assoc}
 use Rattle.rme_checker.specs.Views.{MachineView}
 use Rattle.rme_picture.specs.declared.drawing.Hold.{Hold}
 use Rattle.rme_draw.specs.Holds.{hold_at, hold_ended, holds_from}

@@ -8,7 +8,7 @@ use Rattle.rme_engine.specs.Sights.{Sight}
 use Rattle.rme_engine.specs.Watching.{TakesIn, Watches}
 use Rattle.rme_picture.specs.Pictures.{Picture}
 use Rattle.rme_draw.specs.declared.follower.Follower.{Follower}
-use Rattle.rme_draw.specs.Following.{Draws, Following, ended, following, following_all, following_of, nothing_seen, picture_of}
+use Rattle.rme_draw.specs.Following.{Draws, Following, ended, following, following_all, following_of, nothing_seen}
 
 abbrev pub sees : Follower → Sight → Follower → Type 0
 sees old sight new = following_of new ≡ following sight (following_of old)

@@ -4,11 +4,12 @@ ghost use Rattle.std.specs.Prelude.{◌≡◌, ◌≢◌, List, ℕ, IfOk, IfErr
 ghost use Rattle.rme_lines.specs.Readers.{FailsToRead, HasEnded, ReadsNoMore, bytes_left};
 ghost use Rattle.rme_engine.specs.Verdicts.{Finds};
 ghost use Rattle.std.specs.Io.KnownBytes.{Appends};
+ghost use Rattle.rme_picture.specs.Pictures.{IsSvg};
 ghost use Rattle.rme_draw.specs.Following.{Draws, ended, following_of};
 
 use crate::follower::Follower;
 use rme_engine::{Verdict, watch_lines};
-use rme_picture::Paint;
+use rme_picture::{Paint, Svg};
 use rme_wire::{EngineFault, LineReader, put_all};
 use std::alloc::Global;
 use std::io::{Read, Write};
@@ -19,7 +20,23 @@ use std::io::{Read, Write};
 /// After any other verdict nothing is written, and so it is after each fault but `WriteFailed`, which leaves a front of
 /// the picture. `NoMemory` says that there was no room for a line, the machine, what was seen of the run or the picture's
 /// text, all of which grow with the transcript.
-pub fn draw_lines<R: Read + Drop, W: Write, P: Paint>(
+pub fn draw_lines<R: Read + Drop, W: Write>(
+    alloc: Global,
+    lines: &mut LineReader<R>,
+    writer: &mut W,
+) -> Result<Verdict, EngineFault>
+    ensures verdict { IfOk result (Finds (bytes_left R.remaining lines.old)) }
+    ensures drawn { IfOk result (λ verdict. verdict ≡ Verdict.Yes → Draws IsSvg (bytes_left R.remaining lines.old) (W.contents writer.old) (W.contents writer.new)) }
+    ensures silent { IfOk result (λ verdict. verdict ≢ Verdict.Yes → W.contents writer.new ≡ W.contents writer.old) }
+    ensures unwritten { IfErr result (λ fault. fault ≢ EngineFault.WriteFailed → W.contents writer.new ≡ W.contents writer.old) }
+    ensures ended { HasEnded lines.old → ReadsNoMore lines.old lines.new }
+    ensures failed { IfErr result (λ fault. fault ≡ EngineFault.ReadFailed → FailsToRead lines.old lines.new) }
+{
+    draw_with(alloc, lines, writer, &Svg)
+}
+
+/// Does as `draw_lines` does, with the text of a painter.
+pub fn draw_with<R: Read + Drop, W: Write, P: Paint>(
     alloc: Global,
     lines: &mut LineReader<R>,
     writer: &mut W,

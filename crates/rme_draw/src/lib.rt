@@ -15,6 +15,6 @@ mod phase;
 mod stays;
 mod told;
 
-pub use draw::draw_lines;
+pub use draw::{draw_lines, draw_with};
 pub use phase::phase_after;
 pub use rme_picture::{Paint, Phase, Svg};

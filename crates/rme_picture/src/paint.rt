@@ -23,8 +23,9 @@ pub trait Paint {
 pub struct Svg;
 
 impl Paint for Svg {
-    // Its text is that of `svg_of`, which no clause spells.
-    ghost paints = { λ _ _. Unit {0} };
+    ghost use Rattle.rme_picture.specs.Pictures.{IsSvg};
+
+    ghost paints = { IsSvg };
 
     fn paint(&self, alloc: Global, drawing: &Drawing) -> Result<String, AllocError> {
         svg_of(alloc, drawing)

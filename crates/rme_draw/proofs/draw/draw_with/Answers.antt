@@ -1,6 +1,6 @@
 use Rattle.rme_lines.specs.Readers.{bytes_left}
 use Rattle.rme_draw.proofs.Sights.{drawn_by}
-use Rattle.rme_draw.proofs.draw.draw_lines.Goals as goal
+use Rattle.rme_draw.proofs.draw.draw_with.Goals as goal
 
 pub returns-in-Ok-clause-drawn : goal.returns-in-Ok-clause-drawn
 returns-in-Ok-clause-drawn g c =
