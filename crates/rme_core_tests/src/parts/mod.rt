@@ -3,5 +3,4 @@
 mod program;
 mod script;
 mod tree;
-mod wire;
 mod words;

@@ -1,10 +1,10 @@
-//! Values worked out by hand.
+//! Values worked out by hand. Whole scripts, and which are refused, are told by rows.
 
 use rme_script::{
     Job, Op, Row, Script, cell_count, eval, from_slate, has_cell, named, next_cell, op_of,
     op_words, read_slate, slate_word, slate_words,
 };
-use rme_words::{Refusal, Shape};
+use rme_words::Shape;
 use std::test::Fail;
 
 const FIVE: [Op; 5] = [
@@ -73,22 +73,10 @@ fn runs_each_operation(rt: HostRuntime) -> Result<(), Fail> {
         row.set(0, 10);
         row.set(1, 20);
         row.set(2, 30);
-        assert!(rt; eval(&script, &mut row) == reply, "{op:?}");
+        assert!(rt; eval(&script, &mut row) == reply);
         assert!(rt; row.len() == 3);
-        assert!(rt; [row.get(0), row.get(1), row.get(2)] == cells, "{op:?}");
+        assert!(rt; [row.get(0), row.get(1), row.get(2)] == cells);
     }
-    Ok(())
-}
-
-#[test]
-fn replies_0_to_the_empty_script(rt: HostRuntime) -> Result<(), Fail> {
-    let shape = Shape::new(1, 1, 1, 1)?;
-    let script = Script::of(&[]);
-    script.check(shape)?;
-    let mut row = Row::zeros(shape);
-    row.set(0, 9);
-    assert!(rt; eval(&script, &mut row) == 0);
-    assert!(rt; named(&script) == 0);
     Ok(())
 }
 
@@ -143,26 +131,16 @@ fn writes_and_reads_one_operation(rt: HostRuntime) {
 fn reads_no_script_from_other_words(rt: HostRuntime) {
     let mut words = [0; 24];
     words[3] = 5;
-    assert!(rt; from_slate(2, &words) == None, "kind 5");
+    assert!(rt; from_slate(2, &words) == None);
     assert!(rt; from_slate(1, &words) == Some(Script::of(&[Op::Get(0)])));
     words[3] = 0;
     words[5] = 1;
-    assert!(rt; from_slate(2, &words) == None, "a get with a second word");
+    assert!(rt; from_slate(2, &words) == None);
     words[5] = 0;
     words[4] = 4294967296;
-    assert!(rt; from_slate(2, &words) == None, "a cell of 2^32");
+    assert!(rt; from_slate(2, &words) == None);
     words[4] = 4294967295;
     assert!(rt; from_slate(2, &words) == Some(Script::of(&[Op::Get(0), Op::Get(4294967295)])));
-}
-
-#[test]
-fn checks_the_number_before_the_cells(rt: HostRuntime) -> Result<(), Fail> {
-    let shape = Shape::new(1, 1, 2, 1)?;
-    assert!(rt; Script::of(&[Op::Get(2); 9]).check(shape) == Err(Refusal::BadScript));
-    assert!(rt; Script::of(&[Op::Get(1); 9]).check(shape) == Err(Refusal::BadScript));
-    assert!(rt; Script::of(&[Op::Swap(1, 2)]).check(shape) == Err(Refusal::NoCell));
-    assert!(rt; Script::of(&[Op::Get(1); 8]).check(shape) == Ok(()));
-    Ok(())
 }
 
 #[test]

@@ -1,6 +1,7 @@
-//! Each public call once, with values worked out by hand.
+//! The sizes of shapes, the numbers of addresses, and the words of a bank. What openings are outside of the limits, and the
+//! numbers and names of refusals, are told by rows.
 
-use rme_words::{Address, Bank, NoMemory, Refusal, Shape};
+use rme_words::{Address, Bank, Shape};
 use std::test::Fail;
 
 #[test]
@@ -15,34 +16,13 @@ fn sizes_of_shapes(rt: HostRuntime) -> Result<(), Fail> {
         (256, 256, 8),
     ] {
         let shape = Shape::new(workers, 3, 2, 10)?;
-        assert!(rt; shape.leaves() == leaves, "of {workers} workers");
-        assert!(rt; shape.height() == height, "of {workers} workers");
+        assert!(rt; shape.leaves() == leaves);
+        assert!(rt; shape.height() == height);
         assert!(rt; shape.words() == 31 * workers as usize + 3 * (leaves as usize + 6));
-        assert!(rt;
-            (shape.workers(), shape.locks(), shape.cells(), shape.jobs()) == (workers, 3, 2, 10)
-        );
+        assert!(rt; shape.workers() == workers && shape.locks() == 3);
+        assert!(rt; shape.cells() == 2 && shape.jobs() == 10);
     }
     Ok(())
-}
-
-#[test]
-fn numbers_outside_the_limits(rt: HostRuntime) {
-    for (workers, locks, cells, jobs) in [
-        (0, 1, 1, 1),
-        (257, 1, 1, 1),
-        (1, 0, 1, 1),
-        (1, 17, 1, 1),
-        (1, 1, 0, 1),
-        (1, 1, 17, 1),
-        (1, 1, 1, 0),
-        (1, 1, 1, 1_000_001),
-    ] {
-        let refused = matches!(
-            Shape::new(workers, locks, cells, jobs),
-            Err(Refusal::BadShape)
-        );
-        assert!(rt; refused, "{workers} {locks} {cells} {jobs}");
-    }
 }
 
 #[test]
@@ -102,17 +82,4 @@ fn a_bank_of_given_words(rt: HostRuntime) -> Result<(), Fail> {
     assert!(rt; bank.load(Address::Turn(0)) == 4);
     assert!(rt; bank.words().len() == 37);
     Ok(())
-}
-
-#[test]
-fn refusals_have_numbers_and_names(rt: HostRuntime) {
-    assert!(rt; (Refusal::BadLine.code(), Refusal::BadLine.name()) == (1, "BadLine"));
-    assert!(rt;
-        (
-            Refusal::WrongNumber(2).code(),
-            Refusal::WrongNumber(2).name()
-        ) == (16, "WrongNumber")
-    );
-    assert!(rt; Refusal::from(NoMemory).code() == 20);
-    assert!(rt; Refusal::NotWaiting.name() == "NotWaiting");
 }

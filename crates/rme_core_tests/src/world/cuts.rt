@@ -41,10 +41,9 @@ fn check_job(rt: &impl Abort, world: &World, was_run: bool) -> Result<(), Fail> 
     let (row, settled) = world.cells(0)?;
     let cell = if was_run { 5 } else { 0 };
     assert!(rt; settled && cells_are(&row, &[0, cell]));
-    let replies = world.history().iter().map(|entry| entry.receipt.reply);
     assert!(rt; world.history().len() == usize::from(was_run));
-    for reply in replies {
-        assert!(rt; reply == 5);
+    for entry in world.history() {
+        assert!(rt; entry.receipt.reply == 5);
     }
     Ok(())
 }

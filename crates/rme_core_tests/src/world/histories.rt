@@ -7,19 +7,8 @@ use rme_script::Op;
 use rme_words::{Refusal, Shape};
 use rme_world::World;
 use std::alloc::Global;
+use std::process::Abort;
 use std::test::Fail;
-
-/// More than the steps of any walk here.
-const MOST_STEPS: u32 = 100;
-
-/// The phases that have steps.
-const PHASES: [Phase; 5] = [
-    Phase::Recover,
-    Phase::Post,
-    Phase::Enter,
-    Phase::Section,
-    Phase::Exit,
-];
 
 /// The world of row `re-entry` at its end.
 fn re_entry(alloc: Global, shape: Shape) -> Result<World, Fail> {
@@ -35,24 +24,25 @@ fn re_entry(alloc: Global, shape: Shape) -> Result<World, Fail> {
     Ok(world)
 }
 
-/// Whether two lists have the same entries in the same order.
-fn are_same(these: &[Entry], others: &[Entry]) -> bool {
-    these.len() == others.len()
-        && these.iter().zip(others).all(|(this, other)| this.receipt == other.receipt
-            && this.script == other.script)
+/// The entry must be the one that another list has at this place.
+fn is_same(rt: &impl Abort, entries: &[Entry], others: &[Entry], at: usize) {
+    let (Some(entry), Some(other)) = (entries.get(at), others.get(at)) else {
+        panic!(rt; "an entry is missing");
+    };
+    assert!(rt; entry.receipt == other.receipt && entry.script == other.script);
 }
 
-/// Row `small calls`: the history of `re-entry` is in order, and the other way round it is put in order.
+/// Row `small calls`: the history of `re-entry` the other way round is put in order.
 #[test]
 fn order(rt: HostRuntime) -> Result<(), Fail> {
     let world = re_entry(rt.alloc(), Shape::new(2, 1, 1, 10)?)?;
     let history = world.history();
-    assert!(rt; history.len() == 2);
-    let sorted = by_place(Vec::from_slice(rt.alloc(), history)?);
-    assert!(rt; are_same(&sorted, history));
     let mut turned = Vec::from_slice(rt.alloc(), history)?;
     turned.reverse();
-    assert!(rt; are_same(&by_place(turned), history));
+    let sorted = by_place(turned);
+    assert!(rt; history.len() == 2 && sorted.len() == 2);
+    is_same(&rt, &sorted, history, 0);
+    is_same(&rt, &sorted, history, 1);
     Ok(())
 }
 
@@ -73,44 +63,14 @@ fn replayed(rt: HostRuntime) -> Result<(), Fail> {
     Ok(())
 }
 
-/// Sees what each phase of a worker has taken.
-fn see_phases(tally: &mut Tally, world: &World, worker: u32) -> Result<(), Refusal> {
-    for phase in PHASES {
-        tally.see(phase, world.steps(worker, phase)?);
-    }
-    Ok(())
-}
-
-/// Lets a worker step until it is ready, and sees its phases after each step.
-fn tally_walk(tally: &mut Tally, world: &mut World, worker: u32) -> Result<(), Refusal> {
-    for _ in 0..MOST_STEPS {
-        if world.ready(worker)? {
-            return Ok(());
-        }
-        world.step(worker)?;
-        see_phases(tally, world, worker)?;
-    }
-    Ok(())
-}
-
-/// The greatest counts, by phase.
-fn report_of(tally: &Tally) -> [u32; 5] {
-    PHASES.map(|phase| tally.most(phase))
-}
-
-/// Rows `plain path` and `second worker`: the report of the first, which the shorter second leaves.
+/// A tally keeps the greatest count of each phase, and none of a worker that is ready. Rows by lines see it by `report`.
 #[test]
-fn tallied(rt: HostRuntime) -> Result<(), Fail> {
-    let mut world = World::new(rt.alloc(), Shape::new(2, 1, 1, 10)?)?;
+fn tallied(rt: HostRuntime) {
     let mut tally = Tally::new();
-    assert!(rt; report_of(&tally) == [0; 5]);
-    world.submit(0, job(&[Op::Add(0, 5)]))?;
-    tally_walk(&mut tally, &mut world, 0)?;
-    assert!(rt; report_of(&tally) == [0, 6, 1, 18, 3]);
-    world.submit(1, job(&[]))?;
-    tally_walk(&mut tally, &mut world, 1)?;
+    tally.see(Phase::Post, 6);
+    tally.see(Phase::Exit, 3);
+    tally.see(Phase::Post, 3);
     tally.see(Phase::Ready, 100);
-    assert!(rt; report_of(&tally) == [0, 6, 1, 18, 3]);
-    assert!(rt; tally.most(Phase::Ready) == 0);
-    Ok(())
+    assert!(rt; tally.most(Phase::Post) == 6 && tally.most(Phase::Exit) == 3);
+    assert!(rt; tally.most(Phase::Enter) == 0 && tally.most(Phase::Ready) == 0);
 }

@@ -1,12 +1,23 @@
 //! The calls that an image is written, read and judged by, each on its own.
 
-use super::smallest;
 use rme_good::is_good;
 use rme_image::{encode, parse};
 use rme_words::{Bank, Refusal, Shape};
 use std::alloc::Global;
 use std::process::Abort;
 use std::test::Fail;
+
+/// The smallest image, of one worker, one lock, one cell and one job: the header, 37 words of 0 and no entry.
+fn smallest(alloc: Global) -> Result<Vec<u8>, Fail> {
+    let mut image = Vec::from_slice(
+        alloc,
+        &[
+            0x52, 0x4d, 0x45, 0x49, 0x02, 0x00, 0x01, 0x01, 0x01, 0x00, 0x00, 0x00, 0x01,
+        ],
+    )?;
+    image.resize(313, 0)?;
+    Ok(image)
+}
 
 /// `encode` of words and no entries is the smallest image.
 #[test]
@@ -23,10 +34,8 @@ fn parsed(rt: HostRuntime) -> Result<(), Fail> {
     let mut image = smallest(rt.alloc())?;
     let parsed = parse(rt.alloc(), &image)?;
     assert!(rt; parsed.version == 2);
-    assert!(rt; parsed.shape.workers() == 1);
-    assert!(rt; parsed.shape.locks() == 1);
-    assert!(rt; parsed.shape.cells() == 1);
-    assert!(rt; parsed.shape.jobs() == 1);
+    assert!(rt; parsed.shape.workers() == 1 && parsed.shape.locks() == 1);
+    assert!(rt; parsed.shape.cells() == 1 && parsed.shape.jobs() == 1);
     assert!(rt; parsed.words.as_slice() == [0; 37].as_slice());
     assert!(rt; parsed.entries.is_empty());
     let _ = image.pop();
