@@ -105,7 +105,7 @@ fn read_failing(rt: &impl Abort, alloc: Global, case: &Case, calls: usize) -> bo
     let given = lines_given(input, reader.unread);
     assert!(rt; given < case.lines.len());
     let wanted = first_lines(case.output.as_bytes(), case.lines[given]);
-    assert!(rt; output.as_slice() == wanted, "after {calls} calls");
+    assert!(rt; output.as_slice() == wanted);
     assert!(rt; ran == Ok(()) || ran == Err(EngineFault::ReadFailed));
     ran.is_err()
 }
@@ -117,7 +117,7 @@ fn write_failing(rt: &impl Abort, alloc: Global, case: &Case, calls: usize) -> b
     let mut writer = Flaky::new(alloc, b"", Limits { width, calls });
     let ran = run(alloc, case.engine, case.input.as_bytes(), &mut writer);
     let held = writer.held.as_slice();
-    assert!(rt; whole.starts_with(held), "after {calls} calls");
+    assert!(rt; whole.starts_with(held));
     assert!(rt; ran.is_ok() == (held.len() == whole.len()));
     assert!(rt; ran == Ok(()) || ran == Err(EngineFault::WriteFailed));
     ran.is_err()

@@ -107,9 +107,9 @@ fn writes_of(rt: &impl Abort, alloc: Global, width: usize) -> Result<usize, Fail
     };
     let mut lines = LineReader::new(alloc, asking)?;
     let ran = run_lines(alloc, &mut lines, &mut Hearing { talk: &talk });
-    assert!(rt; ran == Ok(()), "{width}");
-    assert!(rt; talk.answered.get() == LINES, "{width}");
-    assert!(rt; talk.late.get() == 0, "{width}");
+    assert!(rt; ran == Ok(()));
+    assert!(rt; talk.answered.get() == LINES);
+    assert!(rt; talk.late.get() == 0);
     Ok(talk.writes.get())
 }
 

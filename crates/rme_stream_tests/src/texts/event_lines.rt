@@ -46,7 +46,7 @@ fn written_back(rt: HostRuntime) -> Result<(), Fail> {
     let names = lock_names(&rt, rt.alloc());
     for line in LINES {
         let text = written_again(rt.alloc(), &names, line)?;
-        assert!(rt; text.as_str() == *line, "{line}");
+        assert!(rt; text.as_str() == *line);
     }
     Ok(())
 }

@@ -39,14 +39,14 @@ const ADDED: &[(&str, bool, Result<u32, Refusal>)] = &[
 /// To add a text must be answered so. A function of its own, as each call of `add` in one body makes the proof of the
 /// next dearer.
 fn check_add(rt: &impl Abort, names: &mut Names, text: &str, wanted: Result<u32, Refusal>) {
-    assert!(rt; names.add(text) == wanted, "{text}");
+    assert!(rt; names.add(text) == wanted);
 }
 
 #[test]
 fn added(rt: HostRuntime) -> Result<(), Fail> {
     let mut names = Names::new(rt.alloc())?;
     for (text, is, wanted) in ADDED {
-        assert!(rt; is_name(text) == *is, "{text}");
+        assert!(rt; is_name(text) == *is);
         check_add(&rt, &mut names, text, *wanted);
     }
     assert!(rt; names.len() == 16);

@@ -39,7 +39,7 @@ fn check_order(
     wanted: Order,
 ) -> Result<(), Fail> {
     let order = order_of(alloc, names, line.as_bytes())?;
-    assert!(rt; order == Some(wanted), "{line}");
+    assert!(rt; order == Some(wanted));
     Ok(())
 }
 

@@ -63,14 +63,11 @@ fn is_made(entry: &Entry, worker: u32, number: u32, job: &Job) -> bool {
 
 /// The entries of a worker are its jobs, in order, each once.
 fn check_entries(rt: &impl Abort, worker: u32, entries: &[Entry], jobs: &[Job]) {
-    assert!(rt; entries.len() == jobs.len(), "worker {worker}");
+    assert!(rt; entries.len() == jobs.len());
     let mut number: u32 = 0;
     for (entry, job) in entries.iter().zip(jobs) {
         number = number.saturating_add(1);
-        assert!(rt;
-            is_made(entry, worker, number, job),
-            "worker {worker}, job {number}"
-        );
+        assert!(rt; is_made(entry, worker, number, job));
     }
 }
 
@@ -89,7 +86,7 @@ fn all_entries(alloc: Global, closed: &Closed) -> Result<Vec<Entry>, Fail> {
 fn check_row(rt: &impl Abort, cells: &[u64], row: &Row) {
     assert!(rt; cells.len() == CELLS as usize && row.len() == CELLS);
     for (cell, value) in cells.iter().enumerate() {
-        assert!(rt; *value == row.get(cell as u32), "cell {cell}");
+        assert!(rt; *value == row.get(cell as u32));
     }
 }
 

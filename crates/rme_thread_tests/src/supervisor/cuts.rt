@@ -26,7 +26,7 @@ fn cut_everywhere(rt: HostRuntime) -> Result<(), Fail> {
             report.ends.as_slice() == [End::AllDone].as_slice(),
             "{steps}"
         );
-        assert!(rt; report.lives.as_slice() == [2].as_slice(), "{steps}");
+        assert!(rt; report.lives.as_slice() == [2].as_slice());
         assert!(rt; report.closed.locks.len() == 1);
         assert!(rt;
             lock_is(
