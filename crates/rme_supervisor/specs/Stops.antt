@@ -7,17 +7,17 @@ use Rattle.rme_supervisor.specs.declared.end.End.TheVariants.{Stalled}
 use Rattle.rme_supervisor.specs.declared.plan.WorkerPlan.{WorkerPlan}
 use Rattle.rme_supervisor.specs.declared.stop.Stop.{Stop}
 use Rattle.rme_supervisor.specs.declared.stop.Stop.TheVariants.{Fell, Ended}
-use Rattle.rme_supervisor.specs.Ends.{IsEarned, is_out}
+use Rattle.rme_supervisor.specs.Ends.{IsEarned, is_outside}
 
 -- The value is this worker's, of this service.
 pub record IsOf (ident : Ident) (worker : ℕ) (stand : Stand) : Type 0 where
   pub ident_is : stand.ident ≡ ident
   pub own : stand.part.worker ≡ worker
 
--- The life of this worker stopped, and where it ended the end is earned, and is not want of lives.
+-- The life of this worker stopped, and where it ended the end is earned, and is one that a life may have.
 abbrev pub IsStop : Ident → ℕ → WorkerPlan → Stop → Type 0
 IsStop ident worker plan (Fell down) = IsOf ident worker down
-IsStop ident worker plan (Ended down end) = IsOf ident worker down × IsEarned ident.shape plan down.part.private.begun end × (is_out end ≡ false)
+IsStop ident worker plan (Ended down end) = IsOf ident worker down × IsEarned ident.shape plan down.part.private.begun end × (is_outside end ≡ false)
 
 -- How often the worker fell in a life that stopped so.
 abbrev pub falls_in : Stop → ℕ

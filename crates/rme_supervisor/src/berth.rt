@@ -1,6 +1,6 @@
 //! A worker between two lives.
 
-ghost use Rattle.std.specs.Prelude.{◌≡◌, ◌≤◌, IfSome};
+ghost use Rattle.std.specs.Prelude.{◌≡◌, ◌<◌, ◌≤◌, IfSome, IfNone};
 ghost use Rattle.rme_supervisor.specs.declared.end.End.TheVariants.{OutOfLives};
 
 use crate::course::Course;
@@ -130,7 +130,8 @@ impl<K: Course> From<Kept<K>> for Berth<K> {
 
 /// The end of a worker that fell so often, if it has no further life.
 fn end_after(fallen: usize, lives: u32) -> Option<End>
-    ensures { IfSome result (λ end. (end ≡ OutOfLives) × (lives ≤ fallen)) }
+    ensures some { IfSome result (λ end. (end ≡ OutOfLives) × (lives ≤ fallen)) }
+    ensures none { IfNone result (fallen < lives) }
 {
     if fallen < lives as usize {
         return None;
