@@ -13,17 +13,17 @@ use Rattle.rme_supervisor.specs.Berths.{IsRest}
 use Rattle.rme_supervisor.proofs.Lists.{in_snoc}
 
 -- The end of a worker in its slot is one that its plan allows, NoStart where it has none.
-pub rested : (shape : Shape) (plans : List WorkerPlan) (stand : Stand) (end : Option End) (fallen lives : ℕ) → IsRest shape plans (record { stand = stand; end = end; fallen = fallen; lives = lives })
+pub rested : (shape : Shape) (plans : List WorkerPlan) (stand : Stand) (end : Option End) (fallen blocked lives : ℕ) → IsRest shape plans (record { stand = stand; end = end; fallen = fallen; blocked = blocked; lives = lives })
     → (plan : WorkerPlan) → slice_get plans stand.part.worker ≡ Some plan → IsEarned shape plan stand.part.private.begun (unwrap_or end NoStart)
-rested shape plans stand None fallen lives is plan planned = tt
-rested shape plans stand (Some end) fallen lives is plan planned = is.earned plan end planned refl
+rested shape plans stand None fallen blocked lives is plan planned = tt
+rested shape plans stand (Some end) fallen blocked lives is plan planned = is.earned plan end planned refl
 
 -- So many lives are those that its plan allows.
-pub rested_lives : (shape : Shape) (plans : List WorkerPlan) (stand : Stand) (end : Option End) (fallen lives : ℕ) → IsRest shape plans (record { stand = stand; end = end; fallen = fallen; lives = lives })
+pub rested_lives : (shape : Shape) (plans : List WorkerPlan) (stand : Stand) (end : Option End) (fallen blocked lives : ℕ) → IsRest shape plans (record { stand = stand; end = end; fallen = fallen; blocked = blocked; lives = lives })
     → (plan : WorkerPlan) → slice_get plans stand.part.worker ≡ Some plan → HasLived plan (unwrap_or end NoStart) lives
-rested_lives shape plans stand None fallen lives is plan planned =
+rested_lives shape plans stand None fallen blocked lives is plan planned =
     let has = is.fallen plan planned in record { most = has.most; out = λ e. absurd (let bad : NoStart ≡ OutOfLives = e in cc); left = λ e some. has.more refl some; lived = λ no. absurd (no refl) }
-rested_lives shape plans stand (Some end) fallen lives is plan planned =
+rested_lives shape plans stand (Some end) fallen blocked lives is plan planned =
     let has = is.fallen plan planned in
     let own = has.ended end refl in record {
       most = has.most;

@@ -7,11 +7,13 @@ use Rattle.rme_supervisor.specs.declared.end.End.TheVariants.{OutOfLives, NoStar
 use Rattle.rme_supervisor.specs.declared.plan.WorkerPlan.{WorkerPlan}
 use Rattle.rme_supervisor.specs.Ends.{IsEarned, MayLive}
 
--- The worker, how its lives ended if they have, how often it fell, and how many lives were started.
+-- The worker, how its lives ended if they have, how often it fell, how many blocked sweeps it made on its job, and how many lives
+-- were started.
 pub record Rest : Type 0 where
   pub stand : Stand
   pub end : Option End
   pub fallen : ℕ
+  pub blocked : ℕ
   pub lives : ℕ
 
 -- No more lives were started than the plan has. Of a worker that may have a further one, or is out of them, each ended at a
