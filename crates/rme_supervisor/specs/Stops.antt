@@ -60,8 +60,8 @@ StallsFrom answered lets_all shape start old new (Ended down end) = end ≡ Stal
 abbrev pub untried : ℕ → Tries
 untried most = record { blocked = 0; most = most }
 
--- The gate was told of the worker's last job, where that is not one that was withdrawn.
-pub record IsTold (told : ℕ → ℕ → ℕ → Type 0) (shape : Shape) (ready : Stand) : Type 0 where
+-- The gate has heard of the last job of the worker, unless that was withdrawn.
+pub record HasHeard (told : ℕ → ℕ → ℕ → Type 0) (shape : Shape) (ready : Stand) : Type 0 where
   pub receipt : Option Receipt
   pub last : IsLast shape ready.part receipt
   pub over : IfSome receipt (λ r. told r.worker r.lock r.number)

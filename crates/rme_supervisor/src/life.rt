@@ -3,7 +3,7 @@
 ghost use Rattle.std.specs.Prelude.{◌≡◌, ◌+◌, Some, IfErr, IfOk, MatchResult, slice_get};
 ghost use Rattle.rme_supervisor.specs.Ends.{IsEarned};
 ghost use Rattle.rme_supervisor.specs.Plans.{planned};
-ghost use Rattle.rme_supervisor.specs.Stops.{IsOf, IsStop, IsTold, Stalls, StallsFrom, driven_to, falls_in, untried};
+ghost use Rattle.rme_supervisor.specs.Stops.{IsOf, IsStop, HasHeard, Stalls, StallsFrom, driven_to, falls_in, untried};
 
 use crate::end::End;
 use crate::falls::Falls;
@@ -171,7 +171,7 @@ fn go_out<G: Gate>(
     requires ours { leave.ident ≡ orders.now.service.now }
     ensures stop { MatchResult result (λ ready. IsOf orders.now.service.now leave.part.worker ready) (λ stop. IsStop orders.now.service.now leave.part.worker orders.now.plan.now stop) }
     ensures falls { MatchResult result (λ _. trail.new.falls.fallen ≡ trail.old.falls.fallen) (λ stop. trail.new.falls.fallen ≡ trail.old.falls.fallen + falls_in stop) }
-    ensures told { IfOk result (λ ready. IsTold (G.told orders.now.gate.now) orders.now.service.now.shape ready) }
+    ensures told { IfOk result (λ ready. HasHeard (G.told orders.now.gate.now) orders.now.service.now.shape ready) }
     ensures stalls { IfErr result (λ stop. Stalls (G.answered orders.now.gate.now) G.lets_all orders.now.service.now.shape leave.part.worker trail.new.tries stop) }
     ensures most { trail.new.tries.most ≡ trail.old.tries.most }
 {
