@@ -1,5 +1,6 @@
 -- The status with which the program ends after a fault or after words that give no task, and the fault that it tells of.
-use Rattle.std.specs.Prelude.{ℕ, Bool, true, false, Result, Ok, Err}
+use Rattle.std.specs.Prelude.{ℕ, Bool, true, false, Result, Ok, Err, String}
+use Rattle.std.specs.declared.alloc.Global.{Global}
 use Rattle.clap.specs.declared.error.kind.ErrorKind as clap
 use Rattle.clap.specs.declared.error.kind.ErrorKind.TheVariants as words
 use Rattle.std.specs.declared.io.ErrorKind.{ErrorKind}
@@ -67,10 +68,11 @@ abbrev pub fault_on_file : ErrorKind → Fault → Fault
 fault_on_file reason.OutOfMemory other = NoMemory
 fault_on_file _ other = other
 
--- the status where the image to begin with is refused
-abbrev pub status_of_refusal : Refusal → ℕ
-status_of_refusal refusal.NoMemory = 5
-status_of_refusal _ = 2
+-- the fault where the image of a file is refused under so many names
+abbrev pub fault_of_loading : Refusal → String Global → ℕ → Fault
+fault_of_loading refusal.NoMemory file names = NoMemory
+fault_of_loading refusal.BadShape file names = OtherLocks file names
+fault_of_loading _ file names = BadImage file
 
 -- what was asked for, and whether it was printed
 abbrev pub shown : Bool → Result ℕ Fault

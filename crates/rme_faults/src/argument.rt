@@ -1,27 +1,54 @@
 //! Which word of the command line is refused, and why.
 
 use std::alloc::{AllocError, Global};
+use std::error::Error;
+use std::fmt;
 use std::fmt::Write;
-use thiserror::Error;
 
 /// A word of the command line that asks for what can't be, with the reason. Words stand in it as `shown` writes them.
-#[derive(Debug, Drop, Error)]
+#[derive(Debug, Drop)]
 pub enum BadArgument {
-    #[error("a word is no text in UTF-8")]
     NoText,
-    #[error("{0} names no file: its value is empty")]
     NoFile(&'static str),
-    #[error("the lock {0}: a name has 1 to 32 of a-z 0-9 _ and -")]
     NoName(String),
-    #[error("the lock {0}: each name stands once")]
     Twice(String),
-    #[error("{0} locks: a service has 1 to {1}")]
     ManyLocks(usize, u32),
-    #[error("{0} {1}: it is 1 to {2}")]
     OutOfRange(&'static str, u32, u32),
-    #[error("FALL {1} after {0}: each is greater than the one before")]
     FallsBack(u32, u32),
 }
+
+impl fmt::Display for BadArgument {
+    ghost use Rattle.std.specs.Prelude.{Some};
+    ghost use Rattle.rme_faults.specs.Faults.{argument_text};
+
+    ghost output = { λ argument. Some (argument_text argument) };
+
+    fn fmt<W: fmt::Write>(&self, f: &mut fmt::Formatter<W>) -> fmt::Result {
+        match self {
+            BadArgument::NoText => f.write_str("a word is no text in UTF-8"),
+            BadArgument::NoFile(option) => write!(f, "{option} names no file: its value is empty"),
+            BadArgument::NoName(word) => write!(
+                f,
+                "the lock {word}: a name has 1 to 32 of a-z 0-9 _ and -"
+            ),
+            BadArgument::Twice(word) => write!(f, "the lock {word}: each name stands once"),
+            BadArgument::ManyLocks(count, most) => write!(
+                f,
+                "{count} locks: a service has 1 to {most}"
+            ),
+            BadArgument::OutOfRange(option, number, most) => write!(
+                f,
+                "{option} {number}: it is 1 to {most}"
+            ),
+            BadArgument::FallsBack(before, after) => write!(
+                f,
+                "FALL {after} after {before}: each is greater than the one before"
+            ),
+        }
+    }
+}
+
+impl Error for BadArgument {}
 
 /// A word as a text shows it: characters that would steer a terminal stand as their numbers.
 pub fn shown(alloc: Global, word: &str) -> Result<String, AllocError> {

@@ -1,8 +1,5 @@
 //! What the statuses of a program that ended mean.
 
-ghost use Rattle.std.specs.Prelude.{◌≡◌, ◌≤◌, IfSome, IsSome};
-ghost use Rattle.rme_faults.specs.Statuses.{status_of_ending};
-
 /// How a program ended, by its status.
 #[derive(Clone, Copy, Debug, PartialEq, Eq)]
 pub enum Ending {
@@ -20,6 +17,10 @@ pub enum Ending {
 pub const LAST_STATUS: u8 = 7;
 
 impl Ending {
+    ghost use Rattle.std.specs.Prelude.{◌≡◌, ◌≤◌, IfSome, IsSome};
+    ghost use Rattle.rme_faults.specs.Statuses.{status_of_ending};
+    ghost use Rattle.rme_faults.specs.Explanations.{name_of_ending, when_of_ending, advice_of_ending};
+
     /// The ending of a status, and none of a status that is not in the list: 0 to `LAST_STATUS`.
     pub fn of_status(status: u8) -> Option<Ending>
         ensures some { IfSome result (λ ending. status_of_ending ending ≡ status) }
@@ -39,7 +40,9 @@ impl Ending {
     }
 
     /// Its name, for those who look it up.
-    pub fn name(&self) -> &'static str {
+    pub fn name(&self) -> &'static str
+        ensures { result.now ≡ name_of_ending self.now }
+    {
         match self {
             Ending::Done => "Done",
             Ending::AnswerIsNo => "AnswerIsNo",
@@ -53,7 +56,9 @@ impl Ending {
     }
 
     /// When a program ends so.
-    pub fn when(&self) -> &'static str {
+    pub fn when(&self) -> &'static str
+        ensures { result.now ≡ when_of_ending self.now }
+    {
         match self {
             Ending::Done => "what was asked for was done",
             Ending::AnswerIsNo => {
@@ -70,7 +75,9 @@ impl Ending {
     }
 
     /// What it means and what the caller does about it, in two or three sentences.
-    pub fn advice(&self) -> &'static str {
+    pub fn advice(&self) -> &'static str
+        ensures { result.now ≡ advice_of_ending self.now }
+    {
         match self {
             Ending::Done => {
                 "All input was read and all output written. A line that was refused changes nothing in it: its answer alone says so."

@@ -2,6 +2,7 @@
 
 ghost use Rattle.std.specs.Prelude.{◌≡◌, ◌≤◌, IfSome, IsSome};
 ghost use Rattle.rme_words.specs.Refusals.{code_of};
+ghost use Rattle.rme_faults.specs.Explanations.{when_of, advice_of};
 
 use crate::texts;
 use rme_words::Refusal;
@@ -46,6 +47,7 @@ pub fn refusal_of(code: u32) -> Option<Refusal>
 pub fn when(refusal: &Refusal) -> &'static str
     ensures first { 1 ≤ code_of refusal.now }
     ensures last { code_of refusal.now ≤ 21 }
+    ensures text { result.now ≡ when_of refusal.now }
 {
     match refusal {
         Refusal::BadLine => "the line is no command",
@@ -77,7 +79,9 @@ pub fn when(refusal: &Refusal) -> &'static str
 }
 
 /// What a refusal means and what the caller does about it, in two or three sentences.
-pub fn advice(refusal: &Refusal) -> &'static str {
+pub fn advice(refusal: &Refusal) -> &'static str
+    ensures { result.now ≡ advice_of refusal.now }
+{
     match refusal {
         Refusal::BadLine => texts::bad_line(),
         Refusal::LineTooLong => texts::line_too_long(),

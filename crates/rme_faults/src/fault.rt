@@ -1,75 +1,123 @@
 //! What ends the program early.
 
 ghost use Rattle.std.specs.Prelude.{◌≡◌, ◌≤◌};
-ghost use Rattle.rme_faults.specs.Statuses.{fault_of, fault_of_serving, fault_of_words, fault_on_file, status_of, status_of_refusal};
+ghost use Rattle.rme_faults.specs.Statuses.{fault_of, fault_of_serving, fault_of_words, fault_on_file, status_of, fault_of_loading};
 ghost use Rattle.rme_faults.specs.declared.fault.Fault.TheVariants.{NoMemory};
 
 use crate::argument::BadArgument;
 use rme_lines::{EngineFault, ServeFault};
 use rme_words::Refusal;
 use std::alloc::AllocError;
-use std::io;
+use std::error::Error;
 use std::io::ErrorKind;
-use thiserror::Error;
+use std::{fmt, io};
 
 /// What stands in the way of an image that is to be saved.
-#[derive(Debug, Drop, Error)]
+#[derive(Debug, Drop)]
 pub enum Hindrance {
-    #[error("it is no regular file")]
     Irregular,
-    #[error("{0}")]
     Unwritable(io::Error),
 }
 
+impl fmt::Display for Hindrance {
+    ghost use Rattle.rme_faults.specs.Faults.{hindrance_text};
+
+    ghost output = { λ hindrance. hindrance_text hindrance };
+
+    fn fmt<W: fmt::Write>(&self, f: &mut fmt::Formatter<W>) -> fmt::Result {
+        match self {
+            Hindrance::Irregular => f.write_str("it is no regular file"),
+            Hindrance::Unwritable(why) => write!(f, "{why}"),
+        }
+    }
+}
+
+impl Error for Hindrance {}
+
 /// What ended the program early. Its text goes to the standard error.
-#[derive(Debug, Drop, Error)]
+#[derive(Debug, Drop)]
 pub enum Fault {
     /// The words of the command line can't be had as text, or ask for what can't be.
-    #[error("bad arguments\n  {0}")]
     BadArguments(BadArgument),
-    #[error("read failed")]
     ReadFailed,
-    #[error("write failed")]
     WriteFailed,
-    #[error("no memory")]
     NoMemory,
     /// The words after `--locks` may name no world's locks.
-    #[error("--locks takes 1 to 16 names, each once, of 1 to 32 of a-z 0-9 _ and -, with commas between")]
     BadNames,
     /// The file to begin with is there and can't be read.
-    #[error("the image {0} can't be read: {1}")]
     ImageUnread(String, io::Error),
     /// The file to begin with holds no image of a world.
-    #[error("the image {0} is broken: it is the image of no world")]
     BadImage(String),
     /// The world of the file has more locks than there are names, or fewer.
-    #[error("the world of the image {0} has not as many locks as --locks has names: {1}")]
     OtherLocks(String, usize),
     /// The file for the world that is left can't be written.
-    #[error("the image {0} can't be written: {1}")]
     ImageUnwritten(String, io::Error),
     /// No image can be put in the place of the file for the world that is left.
-    #[error("the image {0} can't be saved: {1}")]
     Unsavable(String, Hindrance),
     /// The new image is in the file's place, and its folder could not be synced.
-    #[error("the image {0} is in its place, but its folder can't be synced: {1}")]
     FolderUnsynced(String, io::Error),
     /// The server can't listen on the port.
-    #[error("socket failed\n  port {0}: {1}")]
     ListenFailed(u16, io::Error),
     /// The server of the port can accept no further connection.
-    #[error("socket failed\n  port {0}: no further connection can be accepted")]
     AcceptFailed(u16),
     /// A connection can't have a thread.
-    #[error("no thread")]
     NoThread,
     /// Nothing that can be explained has this number or name.
-    #[error("no refusal and no status is called {0}: rme explain names each")]
     Unexplained(String),
     /// A word that is to be explained is empty.
-    #[error("an empty word is the name of no refusal and no status: rme explain names each")]
     NothingAsked,
 }
+
+impl fmt::Display for Fault {
+    ghost use Rattle.rme_faults.specs.Faults.{fault_text};
+
+    ghost output = { λ fault. fault_text fault };
+
+    fn fmt<W: fmt::Write>(&self, f: &mut fmt::Formatter<W>) -> fmt::Result {
+        match self {
+            Fault::BadArguments(why) => write!(f, "bad arguments\n  {why}"),
+            Fault::ReadFailed => f.write_str("read failed"),
+            Fault::WriteFailed => f.write_str("write failed"),
+            Fault::NoMemory => f.write_str("no memory"),
+            Fault::BadNames => f.write_str(
+                "--locks takes 1 to 16 names, each once, of 1 to 32 of a-z 0-9 _ and -, with commas between",
+            ),
+            Fault::ImageUnread(file, why) => write!(f, "the image {file} can't be read: {why}"),
+            Fault::BadImage(file) => write!(
+                f,
+                "the image {file} is broken: it is the image of no world"
+            ),
+            Fault::OtherLocks(file, names) => write!(
+                f,
+                "the world of the image {file} has not as many locks as --locks has names: {names}"
+            ),
+            Fault::ImageUnwritten(file, why) => write!(
+                f,
+                "the image {file} can't be written: {why}"
+            ),
+            Fault::Unsavable(file, why) => write!(f, "the image {file} can't be saved: {why}"),
+            Fault::FolderUnsynced(file, why) => write!(
+                f,
+                "the image {file} is in its place, but its folder can't be synced: {why}"
+            ),
+            Fault::ListenFailed(port, why) => write!(f, "socket failed\n  port {port}: {why}"),
+            Fault::AcceptFailed(port) => write!(
+                f,
+                "socket failed\n  port {port}: no further connection can be accepted"
+            ),
+            Fault::NoThread => f.write_str("no thread"),
+            Fault::Unexplained(asked) => write!(
+                f,
+                "no refusal and no status is called {asked}: rme explain names each"
+            ),
+            Fault::NothingAsked => f.write_str(
+                "an empty word is the name of no refusal and no status: rme explain names each",
+            ),
+        }
+    }
+}
+
+impl Error for Fault {}
 
 impl Fault {
     /// The status of the program.
@@ -131,7 +179,7 @@ impl Fault {
 
     /// The fault where the image of a file is not loaded under so many names.
     pub fn of_loading(refusal: Refusal, file: String, names: usize) -> Fault
-        ensures { status_of result ≡ status_of_refusal refusal }
+        ensures { result ≡ fault_of_loading refusal file names }
     {
         match refusal {
             Refusal::NoMemory => Fault::NoMemory,

@@ -2,10 +2,10 @@
 //! and the refusals mean.
 //!
 //! A fault of an engine or of a server, a growth that was refused, a file or a word that can't be had each become
-//! one. The crate stands on rme_lines, whose faults it takes over, on rme_words for refusals, on
-//! thiserror, and on clap for the kinds of its mistakes. The contracts that the program uses are those of
-//! `Fault::status`, of what each other fault becomes, and of `answer_of`, for words that give no task;
-//! `specs/Statuses.antt` has them all. It is a crate of its own so that what it says of faults is checked without
+//! one. The crate stands on rme_lines, whose faults it takes over, on rme_words for refusals, and on clap for the
+//! kinds of its mistakes. The contracts that the program uses are those of `Fault::status`, of what each other fault
+//! becomes, and of `answer_of`, for words that give no task (`specs/Statuses.antt`); and each text is that of its
+//! variant (`specs/Faults.antt`, `specs/Explanations.antt`). It is a crate of its own so that what it says of faults is checked without
 //! the program. Begin with `fault.rt`; `told.rt` says what becomes of words that give no task, `explain.rt` has the
 //! table of the refusals and `ending.rt` that of the statuses.
 #![tactic(auto)]

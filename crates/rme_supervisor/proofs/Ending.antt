@@ -1,19 +1,24 @@
 -- The end of a run.
-use Rattle.std.proofs.Common.{◌≡◌, ◌<◌, List, length, ◌∙◌, arith, inl, inr}
-use Rattle.std.specs.Prelude.{Bool, true, ◌==◌}
+use Rattle.std.proofs.Common.{◌≡◌, ◌<◌, List, length, sym, subst, ◌∙◌, arith, inl, inr}
+use Rattle.std.specs.Prelude.{Bool, true, false, ◌==◌, ◌↔◌, IsTrue}
 use Rattle.std.proofs.lemmas.Bool.{eq-eqb}
 use Rattle.std.proofs.lemmas.List.Folds.{list_any_at}
 use Rattle.std.proofs.lemmas.Option.{slice_get_cases, slice_get_within}
 use Rattle.rme_words.specs.declared.shape.Shape.{Shape}
 use Rattle.rme_seats.specs.Stands.{Ident, Stand}
+use Rattle.rme_words.specs.declared.refusal.Refusal.{Refusal}
+use Rattle.rme_words.specs.declared.refusal.Refusal.TheVariants.{NoMemory}
+use Rattle.rme_seats.specs.Closing.{AreOf}
 use Rattle.rme_table.specs.declared.closed.Closed.{Closed}
-use Rattle.rme_table.specs.Closing.{IsClose}
+use Rattle.rme_table.specs.declared.closed.Unclosed.{Unclosed}
+use Rattle.rme_table.specs.Closing.{IsClose, IsUnclosed}
 use Rattle.rme_table.specs.Downs.{has_down, all_given}
 use Rattle.rme_table.proofs.Entries.{all_pass}
 use Rattle.rme_supervisor.specs.declared.plan.WorkerPlan.{WorkerPlan}
 use Rattle.rme_supervisor.specs.declared.settling.Settled.{Settled}
 use Rattle.rme_supervisor.specs.Settled.{IsSettled}
-use Rattle.rme_supervisor.specs.Supervised.{AreAll, AllFollow, IsOver}
+use Rattle.rme_supervisor.specs.declared.end.End.{End}
+use Rattle.rme_supervisor.specs.Supervised.{AreAll, AllFollow, IsLate, IsLateWhy, IsOver, IsWhole}
 
 -- Where these are the Downs of all workers, each worker is among them.
 pub given_all : (shape : Shape) (downs : List Stand) → AreAll shape downs → all_given shape downs ≡ true
@@ -21,6 +26,34 @@ given_all shape downs all = all_pass (has_down downs) 0 shape.workers (λ w less
   | inl p ↦ list_any_at (λ (down : Stand). down.part.worker == w) downs w p.0 p.1 (rw p.3 (eq-eqb _ _ (all.order w p.0 p.2)))
   | inr p ↦ absurd (omega (arith, less, p.0, all.count))
 ])
+
+-- What was found in slices is found in the lists that they show.
+module _ (s t : Shape) (plans : List WorkerPlan) (fresh : Bool) (d downs : List Stand) (e ends : List End) (same : s ≡ t) (all_d : d ≡ downs) (all_e : e ≡ ends) where
+  pub whole_so : IsWhole s plans fresh d e → IsWhole t plans fresh downs ends
+  whole_so whole =
+      let P : List End → Type 0 = λ es. IsWhole t plans fresh downs es in
+      let Q : List Stand → Type 0 = λ ds. IsWhole t plans fresh ds e in
+      let R : Shape → Type 0 = λ u. IsWhole u plans fresh d e in
+      subst P all_e (subst Q all_d (subst R same whole))
+
+  whole_back : IsWhole t plans fresh downs ends → IsWhole s plans fresh d e
+  whole_back whole =
+      let P : List End → Type 0 = λ es. IsWhole s plans fresh d es in
+      let Q : List Stand → Type 0 = λ ds. IsWhole s plans fresh ds ends in
+      let R : Shape → Type 0 = λ u. IsWhole u plans fresh downs ends in
+      subst P (sym all_e) (subst Q (sym all_d) (subst R (sym same) whole))
+
+  pub not_whole : (found : Bool) → (IsTrue found ↔ IsWhole s plans fresh d e) → found ≡ false → IsWhole t plans fresh downs ends → ⊥
+  not_whole found means denied whole = let both : true ≡ false = sym (means.1 (whole_back whole)) ∙ denied in cc
+
+-- A close that found all workers had no memory.
+pub unclosed_late : (ident : Ident) (plans : List WorkerPlan) (fresh : Bool) (downs : List Stand) (u : Unclosed) → AreOf ident downs → AreAll ident.shape downs → IsUnclosed ident downs u
+    → IsLate ident plans fresh (record { why = u.why; service = u.service; downs = u.downs })
+unclosed_late ident plans fresh downs u ours all un =
+    let given = given_all ident.shape downs all in
+    let why : u.why ≡ NoMemory = rw given at un.why in
+    let P : Refusal → Type 0 = λ w. IsLateWhy w ident plans fresh u.downs.items in
+    record { back = record { service = un.service; ours = rw un.downs_back ours }; why = subst P (sym why) (rw un.downs_back all) }
 
 module _ (ident : Ident) (plans : List WorkerPlan) (s : Settled) (fresh : Bool) (closed : Closed) (is : IsSettled ident plans s) (all : AreAll ident.shape s.downs.items)
     (follow : fresh ≡ true → AllFollow plans s.downs.items s.ends.items) (close : IsClose ident.shape s.downs.items closed.locks.items) where

@@ -1,23 +1,28 @@
 -- Where a life stops.
-use Rattle.std.specs.Prelude.{◌≡◌, ℕ, false, Result, Ok, Err}
+use Rattle.std.specs.Prelude.{◌≡◌, ℕ, ◌≤◌, ◌⊎◌, Bool, true, false, Option, Result, Ok, Err, IfSome}
+use Rattle.rme_words.specs.declared.shape.Shape.{Shape}
+use Rattle.rme_program.specs.declared.note.Receipt.{Receipt}
 use Rattle.rme_seats.specs.Stands.{Ident, Stand}
+use Rattle.rme_table.specs.Calls.{IsLast}
+use Rattle.rme_table.specs.Driving.{HasSwept, IsAsked}
 use Rattle.rme_table.specs.declared.driving.Driven.{Driven}
+use Rattle.rme_table.specs.declared.driving.Tries.{Tries}
 use Rattle.rme_table.specs.declared.driving.Driven.TheVariants as driven
 use Rattle.rme_supervisor.specs.declared.end.End.TheVariants.{Stalled}
 use Rattle.rme_supervisor.specs.declared.plan.WorkerPlan.{WorkerPlan}
 use Rattle.rme_supervisor.specs.declared.stop.Stop.{Stop}
 use Rattle.rme_supervisor.specs.declared.stop.Stop.TheVariants.{Fell, Ended}
-use Rattle.rme_supervisor.specs.Ends.{IsEarned, is_out}
+use Rattle.rme_supervisor.specs.Ends.{IsEarned, is_outside}
 
 -- The value is this worker's, of this service.
 pub record IsOf (ident : Ident) (worker : ℕ) (stand : Stand) : Type 0 where
   pub ident_is : stand.ident ≡ ident
   pub own : stand.part.worker ≡ worker
 
--- The life of this worker stopped, and where it ended the end is earned, and is not want of lives.
+-- The life of this worker stopped, and where it ended the end is earned, and is one that a life may have.
 abbrev pub IsStop : Ident → ℕ → WorkerPlan → Stop → Type 0
 IsStop ident worker plan (Fell down) = IsOf ident worker down
-IsStop ident worker plan (Ended down end) = IsOf ident worker down × IsEarned ident.shape plan down.part.private.begun end × (is_out end ≡ false)
+IsStop ident worker plan (Ended down end) = IsOf ident worker down × IsEarned ident.shape plan down.part.private.begun end × (is_outside end ≡ false)
 
 -- How often the worker fell in a life that stopped so.
 abbrev pub falls_in : Stop → ℕ
@@ -31,3 +36,32 @@ driven_to (driven.Done ready receipt) = Ok ready
 driven_to (driven.Waits climb) = Err (Ended climb Stalled)
 driven_to (driven.Stopped held) = Err (Ended held Stalled)
 driven_to (driven.Fell down) = Err (Fell down)
+
+-- The gate, which is not known to let every worker pass, was asked of this one and did not let it in.
+abbrev pub IsTurnedAway : (ℕ → ℕ → Bool → Type 0) → Bool → Shape → ℕ → Type 0
+IsTurnedAway answered lets_all shape worker = (lets_all ≡ true → ⊥) × IsAsked answered shape worker false
+
+-- A worker stalls after as many blocked sweeps on its job as may be, or at the gate.
+abbrev pub HasStalled : (ℕ → ℕ → Bool → Type 0) → Bool → Shape → ℕ → Tries → Type 0
+HasStalled answered lets_all shape worker tries = (tries.most ≤ tries.blocked) ⊎ IsTurnedAway answered lets_all shape worker
+
+-- Where a life ended at a stall, its worker has stalled.
+abbrev pub Stalls : (ℕ → ℕ → Bool → Type 0) → Bool → Shape → ℕ → Tries → Stop → Type 0
+Stalls answered lets_all shape worker tries (Fell down) = Unit {0}
+Stalls answered lets_all shape worker tries (Ended down end) = end ≡ Stalled → HasStalled answered lets_all shape worker tries
+
+-- A life that stalled with a worker that stood so before made all the sweeps on its job that were left, each blocked and with an
+-- own step at least; or it stalled at the gate.
+abbrev pub StallsFrom : (ℕ → ℕ → Bool → Type 0) → Bool → Shape → Stand → Tries → Tries → Stop → Type 0
+StallsFrom answered lets_all shape start old new (Fell down) = Unit {0}
+StallsFrom answered lets_all shape start old new (Ended down end) = end ≡ Stalled → HasSwept start down old new ⊎ IsTurnedAway answered lets_all shape start.part.worker
+
+-- A job that was not begun yet had no blocked sweep, of so many that may be.
+abbrev pub untried : ℕ → Tries
+untried most = record { blocked = 0; most = most }
+
+-- The gate has heard of the last job of the worker, unless that was withdrawn.
+pub record HasHeard (told : ℕ → ℕ → ℕ → Type 0) (shape : Shape) (ready : Stand) : Type 0 where
+  pub receipt : Option Receipt
+  pub last : IsLast shape ready.part receipt
+  pub over : IfSome receipt (λ r. told r.worker r.lock r.number)

@@ -15,7 +15,7 @@ use Rattle.rme_supervisor.specs.declared.end.End.TheVariants.{AllDone}
 use Rattle.rme_supervisor.specs.declared.plan.WorkerPlan.{WorkerPlan}
 use Rattle.rme_supervisor.specs.declared.report.Report.{Report}
 use Rattle.rme_supervisor.specs.declared.report.Fault.{Fault}
-use Rattle.rme_supervisor.specs.Ends.{HasLived, IsEarned}
+use Rattle.rme_supervisor.specs.Ends.{AreSettled, HasLived, IsEarned}
 use Rattle.rme_supervisor.specs.Plans.{ArePlans, planned}
 
 -- These are the Downs of all workers, in order.
@@ -66,25 +66,37 @@ pub record IsReport (shape : Shape) (plans : List WorkerPlan) (given : List Stan
   pub good : ArePlans plans (length given)
   pub over : IsOver shape plans (all_fresh given) report
 
+-- These are the Downs of all workers, in order, and their entries follow the plans if all workers were fresh.
+pub record IsWhole (shape : Shape) (plans : List WorkerPlan) (fresh : Bool) (downs : List Stand) (ends : List End) : Type 0 where
+  pub all : AreAll shape downs
+  pub follow : fresh ≡ true → AllFollow plans downs ends
+
+-- A worker is missing, or its entries do not follow its plan: what was found is not whole.
+pub record IsAmiss (ident : Ident) (plans : List WorkerPlan) (fresh : Bool) (back : List Stand) : Type 0 where
+  pub ends : List End
+  pub lives : List ℕ
+  pub settled : AreSettled ident plans back ends lives
+  pub amiss : IsWhole ident.shape plans fresh back ends → ⊥
+
 -- Why a run has no report: want of memory, and the Downs of all workers come back, in order; or a worker that is missing.
-abbrev pub IsLateWhy : Refusal → Ident → List Stand → Type 0
-IsLateWhy NoMemory ident back = AreAll ident.shape back
-IsLateWhy NoWorker ident back = Unit {0}
-IsLateWhy _ ident back = ⊥
+abbrev pub IsLateWhy : Refusal → Ident → List WorkerPlan → Bool → List Stand → Type 0
+IsLateWhy NoMemory ident plans fresh back = AreAll ident.shape back
+IsLateWhy NoWorker ident plans fresh back = IsAmiss ident plans fresh back
+IsLateWhy _ ident plans fresh back = ⊥
 
 -- Or bad plans, and nothing was done.
 abbrev pub IsWhy : Refusal → Ident → List WorkerPlan → List Stand → List Stand → Type 0
 IsWhy BadShape ident plans given back = (ArePlans plans (length given) → ⊥) × (back ≡ given)
-IsWhy why ident plans given back = ArePlans plans (length given) × IsLateWhy why ident back
+IsWhy why ident plans given back = ArePlans plans (length given) × IsLateWhy why ident plans (all_fresh given) back
 
 -- The service comes back, and Downs of its workers.
 pub record IsBack (ident : Ident) (fault : Fault) : Type 0 where
   pub service : fault.service ≡ ident
   pub ours : AreOf ident fault.downs.items
 
-pub record IsLate (ident : Ident) (fault : Fault) : Type 0 where
+pub record IsLate (ident : Ident) (plans : List WorkerPlan) (fresh : Bool) (fault : Fault) : Type 0 where
   pub back : IsBack ident fault
-  pub why : IsLateWhy fault.why ident fault.downs.items
+  pub why : IsLateWhy fault.why ident plans fresh fault.downs.items
 
 pub record IsFault (ident : Ident) (plans : List WorkerPlan) (given : List Stand) (fault : Fault) : Type 0 where
   pub back : IsBack ident fault

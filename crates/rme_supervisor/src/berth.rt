@@ -1,6 +1,6 @@
 //! A worker between two lives.
 
-ghost use Rattle.std.specs.Prelude.{◌≡◌, ◌≤◌, IfSome};
+ghost use Rattle.std.specs.Prelude.{◌≡◌, ◌<◌, ◌≤◌, IfSome, IfNone};
 ghost use Rattle.rme_supervisor.specs.declared.end.End.TheVariants.{OutOfLives};
 
 use crate::course::Course;
@@ -38,18 +38,20 @@ impl<K: Course> Model for Berth<K> {
 
     ghost Value = { Rest };
 
-    ghost view = { λ berth. record { stand = berth.kept.down; end = berth.end; fallen = berth.past.fallen; lives = berth.past.lives } };
+    ghost view = { λ berth. record { stand = berth.kept.down; end = berth.end; fallen = berth.past.fallen; blocked = berth.past.blocked; lives = berth.past.lives } };
 
-    ghost invariant = { λ berth. IsRest K.Tag.ident.shape K.plans (record { stand = berth.kept.down; end = berth.end; fallen = berth.past.fallen; lives = berth.past.lives }) };
+    ghost invariant = { λ berth. IsRest K.Tag.ident.shape K.plans (record { stand = berth.kept.down; end = berth.end; fallen = berth.past.fallen; blocked = berth.past.blocked; lives = berth.past.lives }) };
 }
 
 impl<K: Course> Berth<K> {
     ghost use Rattle.std.specs.Prelude.{◌≡◌, ◌+◌, ◌<◌, ◌≤◌, slice_get, IsTrue, Some, None};
+    ghost use Rattle.rme_supervisor.specs.declared.end.End.TheVariants.{Stalled};
     ghost use Rattle.rme_supervisor.specs.Berths.{Rest};
+    ghost use Rattle.rme_supervisor.specs.Stops.{HasStalled};
 
     /// A worker before its first life.
     pub(crate) fn new(kept: Kept<K>) -> Berth<K>
-        ensures { result ≡ record { stand = kept.down; end = None; fallen = 0; lives = 0 } }
+        ensures { result ≡ record { stand = kept.down; end = None; fallen = 0; blocked = 0; lives = 0 } }
     {
         let past = Past {
             steps: 0,
@@ -86,6 +88,7 @@ impl<K: Course> Berth<K> {
         ensures own { result.stand.part.worker ≡ self.stand.part.worker }
         ensures lives { result.lives ≡ self.lives + 1 }
         ensures falls { result.fallen ≤ self.fallen + 1 }
+        ensures stalls { result.end ≡ Some Stalled → HasStalled (G.answered orders.now.gate.now) G.lets_all orders.now.service.now.shape self.stand.part.worker (record { blocked = result.blocked; most = orders.now.plan.now.sweeps }) }
     {
         let most = orders.plan.lives;
         let Berth { kept, past, end: _ } = self;
@@ -130,7 +133,8 @@ impl<K: Course> From<Kept<K>> for Berth<K> {
 
 /// The end of a worker that fell so often, if it has no further life.
 fn end_after(fallen: usize, lives: u32) -> Option<End>
-    ensures { IfSome result (λ end. (end ≡ OutOfLives) × (lives ≤ fallen)) }
+    ensures some { IfSome result (λ end. (end ≡ OutOfLives) × (lives ≤ fallen)) }
+    ensures none { IfNone result (fallen < lives) }
 {
     if fallen < lives as usize {
         return None;

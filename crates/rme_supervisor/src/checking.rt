@@ -2,7 +2,7 @@
 
 ghost use Rattle.std.specs.Prelude.{◌≡◌, ◌↔◌, IsTrue, true, length, take};
 ghost use Rattle.rme_supervisor.specs.Plans.{IsRising, IsPlan, ArePlans, planned};
-ghost use Rattle.rme_supervisor.specs.Supervised.{AreAll, AllFollow, Follows, all_fresh, job_of, jobs_in};
+ghost use Rattle.rme_supervisor.specs.Supervised.{AreAll, AllFollow, Follows, IsWhole, all_fresh, job_of, jobs_in};
 
 use crate::end::End;
 use crate::plan::WorkerPlan;
@@ -57,8 +57,26 @@ pub(crate) fn are_fresh(downs: &[Down]) -> bool
     true
 }
 
+/// Whether these are the Downs of all workers, in order, and the entries of each follow its plan, if all were fresh.
+pub(crate) fn is_whole(
+    fresh: bool,
+    plans: &[WorkerPlan],
+    downs: &[Down],
+    ends: &[End],
+    shape: Shape,
+) -> bool
+    requires plans { length plans.now ≡ shape.workers }
+    requires ends { length ends.now ≡ length downs.now }
+    ensures { IsTrue result ↔ IsWhole shape plans.now fresh downs.now ends.now }
+{
+    if !are_all(downs, shape) {
+        return false;
+    }
+    all_follow(fresh, plans, downs, ends)
+}
+
 /// Whether these are the Downs of all workers, in order.
-pub(crate) fn are_all(downs: &[Down], shape: Shape) -> bool
+fn are_all(downs: &[Down], shape: Shape) -> bool
     ensures { IsTrue result ↔ AreAll shape downs.now }
 {
     if downs.len() != shape.workers() as usize {
@@ -73,7 +91,7 @@ pub(crate) fn are_all(downs: &[Down], shape: Shape) -> bool
 }
 
 /// Whether the entries of each worker follow its plan, if all were fresh.
-pub(crate) fn all_follow(fresh: bool, plans: &[WorkerPlan], downs: &[Down], ends: &[End]) -> bool
+fn all_follow(fresh: bool, plans: &[WorkerPlan], downs: &[Down], ends: &[End]) -> bool
     requires plans { length plans.now ≡ length downs.now }
     requires ends { length ends.now ≡ length downs.now }
     ensures { IsTrue result ↔ (fresh ≡ true → AllFollow plans.now downs.now ends.now) }

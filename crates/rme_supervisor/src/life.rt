@@ -1,14 +1,16 @@
 //! One life of a worker: from its recovery to a fall, or to the worker's end.
 
-ghost use Rattle.std.specs.Prelude.{◌≡◌, ◌+◌, MatchResult};
+ghost use Rattle.std.specs.Prelude.{◌≡◌, ◌+◌, Some, IfErr, IfOk, MatchResult, slice_get};
 ghost use Rattle.rme_supervisor.specs.Ends.{IsEarned};
-ghost use Rattle.rme_supervisor.specs.Stops.{IsOf, IsStop, driven_to, falls_in};
+ghost use Rattle.rme_supervisor.specs.Plans.{planned};
+ghost use Rattle.rme_supervisor.specs.Stops.{IsOf, IsStop, HasHeard, Stalls, StallsFrom, driven_to, falls_in, untried};
 
 use crate::end::End;
 use crate::falls::Falls;
 use crate::plan::WorkerPlan;
 use crate::stop::Stop;
 use crossbeam_utils::Backoff;
+use rme_script::Job;
 use rme_table::{Climb, Down, Driven, Gate, Held, Leave, Posted, Ready, Service, Stance, Tries};
 use std::sync::Wait;
 
@@ -37,6 +39,8 @@ pub(crate) fn live<G: Gate, R: Wait>(
     requires ours { down.ident ≡ orders.now.service.now }
     ensures stop { IsStop orders.now.service.now down.part.worker orders.now.plan.now result }
     ensures falls { trail.new.falls.fallen ≡ trail.old.falls.fallen + falls_in result }
+    ensures stalls { Stalls (G.answered orders.now.gate.now) G.lets_all orders.now.service.now.shape down.part.worker trail.new.tries result }
+    ensures most { trail.new.tries.most ≡ trail.old.tries.most }
 {
     let ready = match come_up(orders, down, trail) {
         Ok(ready) => ready,
@@ -54,6 +58,8 @@ fn come_up<G: Gate>(
     requires ours { down.ident ≡ orders.now.service.now }
     ensures stop { MatchResult result (λ ready. IsOf orders.now.service.now down.part.worker ready) (λ stop. IsStop orders.now.service.now down.part.worker orders.now.plan.now stop) }
     ensures falls { MatchResult result (λ _. trail.new.falls.fallen ≡ trail.old.falls.fallen) (λ stop. trail.new.falls.fallen ≡ trail.old.falls.fallen + falls_in stop) }
+    ensures stalls { IfErr result (λ stop. Stalls (G.answered orders.now.gate.now) G.lets_all orders.now.service.now.shape down.part.worker trail.new.tries stop) }
+    ensures most { trail.new.tries.most ≡ trail.old.tries.most }
 {
     match down.recover(orders.service, &mut trail.falls) {
         Err(down) => Err(Stop::Fell(down)),
@@ -74,24 +80,41 @@ fn make_jobs<G: Gate, R: Wait>(
     requires ours { ready.ident ≡ orders.now.service.now }
     ensures stop { IsStop orders.now.service.now ready.part.worker orders.now.plan.now result }
     ensures falls { trail.new.falls.fallen ≡ trail.old.falls.fallen + falls_in result }
+    ensures stalls { Stalls (G.answered orders.now.gate.now) G.lets_all orders.now.service.now.shape ready.part.worker trail.new.tries result }
+    ensures most { trail.new.tries.most ≡ trail.old.tries.most }
 {
     for _ in rt.forever() {
         let Some(job) = orders.plan.job(ready.number() as usize) else {
             return Stop::Ended(ready.crash(), End::AllDone);
         };
-        trail.tries.blocked = 0;
-        match ready.post(orders.service, *job, &mut trail.falls) {
-            Posted::Fell(down) => return Stop::Fell(down),
-            Posted::Refused(ready, refusal) => {
-                return Stop::Ended(ready.crash(), End::Refused(refusal));
-            }
-            Posted::Asked(climb) => match go_in(orders, climb, trail) {
-                Ok(next) => ready = next,
-                Err(stop) => return stop,
-            },
+        match make_job(orders, ready, *job, trail) {
+            Ok(next) => ready = next,
+            Err(stop) => return stop,
         }
     }
     unreachable!()
+}
+
+/// The next job of the plan: from readiness to readiness.
+fn make_job<G: Gate>(
+    orders: &Orders<'_, G>,
+    ready: Ready,
+    job: Job,
+    trail: &mut Trail<'_>,
+) -> Result<Ready, Stop>
+    requires ours { ready.ident ≡ orders.now.service.now }
+    requires next { slice_get (planned orders.now.plan.now) ready.part.private.begun ≡ Some job }
+    ensures stop { MatchResult result (λ next. IsOf orders.now.service.now ready.part.worker next) (λ stop. IsStop orders.now.service.now ready.part.worker orders.now.plan.now stop) }
+    ensures falls { MatchResult result (λ _. trail.new.falls.fallen ≡ trail.old.falls.fallen) (λ stop. trail.new.falls.fallen ≡ trail.old.falls.fallen + falls_in stop) }
+    ensures stalls { IfErr result (λ stop. StallsFrom (G.answered orders.now.gate.now) G.lets_all orders.now.service.now.shape ready (untried trail.old.tries.most) trail.new.tries stop) }
+    ensures most { trail.new.tries.most ≡ trail.old.tries.most }
+{
+    trail.tries.blocked = 0;
+    match ready.post(orders.service, job, &mut trail.falls) {
+        Posted::Fell(down) => Err(Stop::Fell(down)),
+        Posted::Refused(ready, refusal) => Err(Stop::Ended(ready.crash(), End::Refused(refusal))),
+        Posted::Asked(climb) => go_in(orders, climb, trail),
+    }
 }
 
 /// From waiting to readiness.
@@ -103,6 +126,8 @@ fn go_in<G: Gate>(
     requires ours { climb.ident ≡ orders.now.service.now }
     ensures stop { MatchResult result (λ ready. IsOf orders.now.service.now climb.part.worker ready) (λ stop. IsStop orders.now.service.now climb.part.worker orders.now.plan.now stop) }
     ensures falls { MatchResult result (λ _. trail.new.falls.fallen ≡ trail.old.falls.fallen) (λ stop. trail.new.falls.fallen ≡ trail.old.falls.fallen + falls_in stop) }
+    ensures stalls { IfErr result (λ stop. StallsFrom (G.answered orders.now.gate.now) G.lets_all orders.now.service.now.shape climb trail.old.tries trail.new.tries stop) }
+    ensures most { trail.new.tries.most ≡ trail.old.tries.most }
 {
     let backoff = Backoff::new();
     driven(climb.go_in(
@@ -119,6 +144,8 @@ fn go_on<G: Gate>(orders: &Orders<'_, G>, held: Held, trail: &mut Trail<'_>) -> 
     requires ours { held.ident ≡ orders.now.service.now }
     ensures stop { MatchResult result (λ ready. IsOf orders.now.service.now held.part.worker ready) (λ stop. IsStop orders.now.service.now held.part.worker orders.now.plan.now stop) }
     ensures falls { MatchResult result (λ _. trail.new.falls.fallen ≡ trail.old.falls.fallen) (λ stop. trail.new.falls.fallen ≡ trail.old.falls.fallen + falls_in stop) }
+    ensures stalls { IfErr result (λ stop. Stalls (G.answered orders.now.gate.now) G.lets_all orders.now.service.now.shape held.part.worker trail.new.tries stop) }
+    ensures most { trail.new.tries.most ≡ trail.old.tries.most }
 {
     driven(held.go_on(orders.service, &mut trail.falls, orders.gate))
 }
@@ -144,6 +171,9 @@ fn go_out<G: Gate>(
     requires ours { leave.ident ≡ orders.now.service.now }
     ensures stop { MatchResult result (λ ready. IsOf orders.now.service.now leave.part.worker ready) (λ stop. IsStop orders.now.service.now leave.part.worker orders.now.plan.now stop) }
     ensures falls { MatchResult result (λ _. trail.new.falls.fallen ≡ trail.old.falls.fallen) (λ stop. trail.new.falls.fallen ≡ trail.old.falls.fallen + falls_in stop) }
+    ensures told { IfOk result (λ ready. HasHeard (G.told orders.now.gate.now) orders.now.service.now.shape ready) }
+    ensures stalls { IfErr result (λ stop. Stalls (G.answered orders.now.gate.now) G.lets_all orders.now.service.now.shape leave.part.worker trail.new.tries stop) }
+    ensures most { trail.new.tries.most ≡ trail.old.tries.most }
 {
     let mut ready = match leave.exit(orders.service, &mut trail.falls) {
         Ok(ready) => ready,

@@ -6,7 +6,7 @@ ghost use Rattle.rme_supervisor.specs.Plans.{ArePlans};
 ghost use Rattle.rme_supervisor.specs.Settled.{IsSettled, IsEmpty};
 ghost use Rattle.rme_supervisor.specs.Supervised.{AreAll, IsReport, IsFault, IsOver, IsLate};
 
-use crate::checking::{all_follow, are_all, are_fresh, are_plans};
+use crate::checking::{are_fresh, are_plans, is_whole};
 use crate::course::Course;
 use crate::keeping::keep_all;
 use crate::plan::WorkerPlan;
@@ -104,10 +104,10 @@ fn end(
     requires settled { IsSettled service plans.now settled }
     requires plans { length plans.now ≡ service.shape.workers }
     ensures report { IfOk result (λ report. IsOver service.shape plans.now fresh report) }
-    ensures fault { IfErr result (λ fault. IsLate service fault) }
+    ensures fault { IfErr result (λ fault. IsLate service plans.now fresh fault) }
 {
     let Settled { downs, ends, lives } = settled;
-    if !are_all(&downs, service.shape()) || !all_follow(fresh, plans, &downs, &ends) {
+    if !is_whole(fresh, plans, &downs, &ends, service.shape()) {
         return Err(Fault {
             why: Refusal::NoWorker,
             service,

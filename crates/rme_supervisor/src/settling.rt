@@ -21,7 +21,8 @@ pub(crate) struct Settled {
 }
 
 impl Settled {
-    ghost use Rattle.std.specs.Prelude.{◌≡◌, ℕ, ◌+◌, IfOk};
+    ghost use Rattle.std.specs.Prelude.{◌≡◌, ℕ, ◌+◌, ◌++◌, ◌∷◌, [], IfOk, unwrap_or};
+    ghost use Rattle.rme_supervisor.specs.declared.end.End.TheVariants.{NoStart};
     ghost use Rattle.rme_supervisor.specs.Settled.{IsSettled, IsEmpty, HasRoom};
 
     /// Room for so many.
@@ -46,6 +47,9 @@ impl Settled {
         requires settled { IsSettled K.Tag.ident K.plans self.old }
         ensures room { (count : ℕ) → HasRoom (1 + count) self.old → HasRoom count self.new }
         ensures settled { IsSettled K.Tag.ident K.plans self.new }
+        ensures down { self.new.downs.items ≡ self.old.downs.items ++ berth.stand ∷ [] }
+        ensures end { self.new.ends.items ≡ self.old.ends.items ++ unwrap_or berth.end NoStart ∷ [] }
+        ensures lives { self.new.lives.items ≡ self.old.lives.items ++ berth.lives ∷ [] }
     {
         let Berth { kept, past, end } = berth;
         let Kept { down, of: _ } = kept;

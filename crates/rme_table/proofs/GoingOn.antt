@@ -7,10 +7,11 @@ use Rattle.rme_program.specs.declared.private.Private.{Private}
 use Rattle.rme_seats.specs.Chances.{IsCounted, Tally}
 use Rattle.rme_seats.specs.Doing.{Falling}
 use Rattle.rme_seats.specs.Parts.{draft_script, onward}
-use Rattle.rme_seats.specs.Stands.{Stand}
+use Rattle.rme_seats.specs.declared.record.Part.{Part}
+use Rattle.rme_seats.specs.Stands.{Ident, Stand}
 use Rattle.rme_seats.proofs.Chains.{walks_then}
-use Rattle.rme_table.specs.Calls.{Made, Performed}
-use Rattle.rme_table.specs.Driving.{DoesNotWait, Drives, Exhausts, Finishes, Goes, HasFinished, StillHas}
+use Rattle.rme_table.specs.Calls.{Made, OwnsLock, Performed}
+use Rattle.rme_table.specs.Driving.{DoesNotWait, Drives, Exhausts, Finishes, Goes, HasFinished, IsAsked, StillHas}
 use Rattle.rme_table.specs.declared.driving.Driven.{Driven}
 use Rattle.rme_table.specs.declared.driving.Tries.{Tries}
 use Rattle.rme_table.specs.declared.driving.Driven.TheVariants.{Done, Waits, Stopped, Fell}
@@ -103,3 +104,14 @@ exhausts_owning start old new (Done ready receipt) owns = tt
 exhausts_owning start old new (Waits climb) owns = absurd owns
 exhausts_owning start old new (Stopped held) owns = tt
 exhausts_owning start old new (Fell down) owns = tt
+
+-- The gate was asked of the worker and the lock that its value names.
+pub asked_so : (answered : ℕ → ℕ → Bool → Type 0) (ident now : Ident) (part : Part) (worker lock : ℕ) (answer : Bool) → ident ≡ now → worker ≡ part.worker → OwnsLock ident.shape part lock
+    → answered worker lock answer → IsAsked answered now.shape part.worker answer
+asked_so answered ident now part worker lock answer same own owns asked = record {
+  part = part;
+  lock = lock;
+  own = refl;
+  owns = subst (λ (i : Ident). OwnsLock i.shape part lock) same owns;
+  asked = subst (λ (w : ℕ). answered w lock answer) own asked;
+}

@@ -4,10 +4,12 @@ use Rattle.rme_words.specs.declared.shape.Shape.{Shape}
 use Rattle.rme_script.specs.declared.job.Job.{Job}
 use Rattle.rme_program.specs.declared.note.Entry.{Entry}
 use Rattle.rme_program.specs.declared.note.Receipt.{Receipt}
+use Rattle.rme_seats.specs.declared.record.Part.{Part}
 use Rattle.rme_seats.specs.Chances.{Tally}
 use Rattle.rme_seats.specs.Doing.{Walks}
 use Rattle.rme_seats.specs.Parts.{onward}
 use Rattle.rme_seats.specs.Stands.{Stand}
+use Rattle.rme_table.specs.Calls.{OwnsLock}
 use Rattle.rme_table.specs.declared.driving.Driven.{Driven}
 use Rattle.rme_table.specs.declared.driving.Tries.{Tries}
 use Rattle.rme_table.specs.declared.driving.Driven.TheVariants.{Done, Waits, Stopped, Fell}
@@ -59,6 +61,22 @@ Drives shape over start old new (Fell down) = Goes shape start down old new 1
 abbrev pub Passes : Driven → Type 0
 Passes (Stopped held) = ⊥
 Passes driven = Unit {0}
+
+-- The gate was asked of this worker, and of a lock that it owned then, and answered so.
+pub record IsAsked (answered : ℕ → ℕ → Bool → Type 0) (shape : Shape) (worker : ℕ) (answer : Bool) : Type 0 where
+  pub part : Part
+  pub lock : ℕ
+  pub own : part.worker ≡ worker
+  pub owns : OwnsLock shape part lock
+  pub asked : answered worker lock answer
+
+-- What a gate was asked and told of a worker that went on, its job being finished already or not. One whose job is finished was
+-- let into the section, unless that was finished already, and the gate was told of its job; one that was stopped was not let in.
+abbrev pub Watches : (ℕ → ℕ → Bool → Type 0) → (ℕ → ℕ → ℕ → Type 0) → Shape → Bool → ℕ → Driven → Type 0
+Watches answered told shape over worker (Done ready receipt) = (over ≡ false → IsAsked answered shape worker true) × told receipt.worker receipt.lock receipt.number
+Watches answered told shape over worker (Waits climb) = Unit {0}
+Watches answered told shape over worker (Stopped held) = IsAsked answered shape worker false
+Watches answered told shape over worker (Fell down) = Unit {0}
 
 -- A worker that owned the lock does not wait for it.
 abbrev pub DoesNotWait : Driven → Type 0

@@ -8,18 +8,26 @@ use rme_seats::Chance;
 
 /// Who watches the sections of workers that go on. It may be asked by many threads at the same time.
 pub trait Gate {
-    ghost use Rattle.std.specs.Prelude.{◌≡◌, Bool, true, false, IsTrue};
+    ghost use Rattle.std.specs.Prelude.{◌≡◌, ℕ, Bool, true, false, IsTrue, ⊤};
 
     // Whether it is known to let every worker pass.
     ghost lets_all: { Bool } = { false };
 
+    // What it keeps of its questions: it was asked of this worker and lock, and answered so; it was told that the
+    // worker has left the lock after the job of this number. A gate that keeps nothing knows nothing of either.
+    ghost answered: { Self → ℕ → ℕ → Bool → Type 0 } = { λ _ _ _ _. ⊤ };
+
+    ghost told: { Self → ℕ → ℕ → ℕ → Type 0 } = { λ _ _ _ _. ⊤ };
+
     /// The worker owns the lock, having entered or re-entered, and is to begin its section, which is not
     /// finished. Where the answer is false it does not begin.
     fn inside(&self, worker: u32, lock: u32) -> bool
-        ensures { lets_all ≡ true → IsTrue result };
+        ensures lets_all { lets_all ≡ true → IsTrue result }
+        ensures answered { answered self.now worker lock result };
 
     /// The worker has left the lock after the job of this number.
-    fn over(&self, worker: u32, lock: u32, number: u32);
+    fn over(&self, worker: u32, lock: u32, number: u32)
+        ensures { told self.now worker lock number };
 }
 
 /// Lets all pass.
@@ -59,7 +67,7 @@ pub enum Driven {
 
 impl Climb {
     ghost use Rattle.std.specs.Prelude.{◌≡◌, true, false};
-    ghost use Rattle.rme_table.specs.Driving.{Drives, Exhausts, Passes};
+    ghost use Rattle.rme_table.specs.Driving.{Drives, Exhausts, Passes, Watches};
 
     /// Goes on to readiness: sweep after sweep as long as there are tries, with a pause after each blocked one, and
     /// then as `Held::go_on`. A job that waits still had all the sweeps that might be.
@@ -75,7 +83,9 @@ impl Climb {
         requires pause { P.IsAlwaysCallable pause }
         ensures drives { Drives service.now.shape false self (C.tally chance.old) (C.tally chance.new) result }
         ensures passes { G.lets_all ≡ true → Passes result }
+        ensures watches { Watches (G.answered gate.now) (G.told gate.now) service.now.shape false self.part.worker result }
         ensures tries { Exhausts self tries.old tries.new result }
+        ensures most { tries.new.most ≡ tries.old.most }
     {
         let mut climb = self;
         for blocked in tries.blocked..tries.most {
@@ -94,7 +104,7 @@ impl Climb {
 impl Held {
     ghost use Rattle.std.specs.Prelude.{◌≡◌, true};
     ghost use Rattle.rme_table.specs.Calls.{is_over};
-    ghost use Rattle.rme_table.specs.Driving.{DoesNotWait, Drives, Passes};
+    ghost use Rattle.rme_table.specs.Driving.{DoesNotWait, Drives, Passes, Watches};
 
     /// Goes on to readiness: the section, where the gate lets the worker begin it, and the exit. A section that is
     /// finished already is not begun, and the gate is told alone that it is over.
@@ -102,6 +112,7 @@ impl Held {
         requires ours { self.ident ≡ service.now }
         ensures drives { Drives service.now.shape (is_over self.part.private.stage) self (C.tally chance.old) (C.tally chance.new) result }
         ensures passes { G.lets_all ≡ true → Passes result }
+        ensures watches { Watches (G.answered gate.now) (G.told gate.now) service.now.shape (is_over self.part.private.stage) self.part.worker result }
         ensures owns { DoesNotWait result }
     {
         if !self.finished() && !gate.inside(self.worker(), self.lock()) {

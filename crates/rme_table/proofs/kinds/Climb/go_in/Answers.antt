@@ -1,6 +1,6 @@
-use Rattle.std.proofs.Common.{arith, refl, subst}
-use Rattle.std.specs.Prelude.{Bool}
-use Rattle.rme_table.specs.Driving.{Drives}
+use Rattle.std.proofs.Common.{ℕ, ◌∙◌, arith, refl, subst}
+use Rattle.std.specs.Prelude.{Bool, false}
+use Rattle.rme_table.specs.Driving.{Drives, Watches}
 use Rattle.rme_table.proofs.GoingOn.{drives_on, exhausts_owning, goes_fell, goes_made, goes_on, still_made, still_on}
 use Rattle.rme_table.proofs.kinds.Climb.go_in.Goals as goal
 
@@ -19,6 +19,17 @@ returns-in-Got-clause-drives g c =
     let P : Bool → Type 0 = λ over. Drives s over held mid new c.go_on.result in
     drives_on s start held old mid new (goes_on s start climb held old before mid 0 so.0 (goes_made s climb held before mid _ _ got.1))
     (still_on start climb held so.1 (still_made s climb held before mid _ _ got.1 got.2)) c.go_on.result (subst P got.3 c.go_on.ensures.drives)
+
+pub returns-in-Got-clause-watches : goal.returns-in-Got-clause-watches
+returns-in-Got-clause-watches g c =
+    let s = c.args.service.now.shape in
+    let held = c.in-Got.held in
+    let answered = g.G.Gate.answered c.args.gate.now in
+    let told = g.G.Gate.told c.args.gate.now in
+    let got = c.in-Got.ensures in
+    let P : Bool → Type 0 = λ over. Watches answered told s over held.part.worker c.go_on.result in
+    let Q : ℕ → Type 0 = λ worker. Watches answered told s false worker c.go_on.result in
+    subst Q (got.1.stays.own ∙ c.loop-blocked.invariant.0.own) (subst P got.3 c.go_on.ensures.watches)
 
 pub returns-in-Fell-clause-drives : goal.returns-in-Fell-clause-drives
 returns-in-Fell-clause-drives g c =

@@ -1,0 +1,42 @@
+-- What a fault prints.
+use Rattle.std.specs.Prelude.{ℕ, List, ◌++◌, codes, decimal, string_bytes, Option, Some, None}
+use Rattle.rme_faults.specs.declared.argument.BadArgument.{BadArgument}
+use Rattle.rme_faults.specs.declared.argument.BadArgument.TheVariants.{NoText, NoFile, NoName, Twice, ManyLocks, OutOfRange, FallsBack}
+use Rattle.rme_faults.specs.declared.fault.Fault.{Fault}
+use Rattle.rme_faults.specs.declared.fault.Fault.TheVariants.{BadArguments, ReadFailed, WriteFailed, NoMemory, BadNames, ImageUnread, BadImage, OtherLocks, Unsavable, ImageUnwritten, FolderUnsynced, ListenFailed, AcceptFailed, NoThread, Unexplained, NothingAsked}
+use Rattle.rme_faults.specs.declared.fault.Hindrance.{Hindrance}
+use Rattle.rme_faults.specs.declared.fault.Hindrance.TheVariants.{Irregular, Unwritable}
+
+-- a word of the command line that asks for what can't be
+abbrev pub argument_text : BadArgument → List ℕ
+argument_text NoText = codes "a word is no text in UTF-8"
+argument_text (NoFile option) = option.now ++ codes " names no file: its value is empty"
+argument_text (NoName word) = codes "the lock " ++ (string_bytes word ++ codes ": a name has 1 to 32 of a-z 0-9 _ and -")
+argument_text (Twice word) = codes "the lock " ++ (string_bytes word ++ codes ": each name stands once")
+argument_text (ManyLocks count most) = decimal count ++ (codes " locks: a service has 1 to " ++ decimal most)
+argument_text (OutOfRange option number most) = option.now ++ (codes " " ++ (decimal number ++ (codes ": it is 1 to " ++ decimal most)))
+argument_text (FallsBack before after) = codes "FALL " ++ (decimal after ++ (codes " after " ++ (decimal before ++ codes ": each is greater than the one before")))
+
+-- what stands in the way of an image that is to be saved; a reason of the system has its own text, which no definition knows
+abbrev pub hindrance_text : Hindrance → Option (List ℕ)
+hindrance_text Irregular = Some (codes "it is no regular file")
+hindrance_text (Unwritable why) = None
+
+-- what ended the program early, where the system gave no reason
+abbrev pub fault_text : Fault → Option (List ℕ)
+fault_text (BadArguments why) = Some (codes "bad arguments\n  " ++ argument_text why)
+fault_text ReadFailed = Some (codes "read failed")
+fault_text WriteFailed = Some (codes "write failed")
+fault_text NoMemory = Some (codes "no memory")
+fault_text BadNames = Some (codes "--locks takes 1 to 16 names, each once, of 1 to 32 of a-z 0-9 _ and -, with commas between")
+fault_text (ImageUnread file why) = None
+fault_text (BadImage file) = Some (codes "the image " ++ (string_bytes file ++ codes " is broken: it is the image of no world"))
+fault_text (OtherLocks file names) = Some (codes "the world of the image " ++ (string_bytes file ++ (codes " has not as many locks as --locks has names: " ++ decimal names)))
+fault_text (ImageUnwritten file why) = None
+fault_text (Unsavable file why) = None
+fault_text (FolderUnsynced file why) = None
+fault_text (ListenFailed port why) = None
+fault_text (AcceptFailed port) = Some (codes "socket failed\n  port " ++ (decimal port ++ codes ": no further connection can be accepted"))
+fault_text NoThread = Some (codes "no thread")
+fault_text (Unexplained asked) = Some (codes "no refusal and no status is called " ++ (string_bytes asked ++ codes ": rme explain names each"))
+fault_text NothingAsked = Some (codes "an empty word is the name of no refusal and no status: rme explain names each")
