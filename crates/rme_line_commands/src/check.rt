@@ -40,7 +40,7 @@ fn check_stream<R: Read + Drop, W: Write>(
 pub fn end_on<W: Write>(alloc: Global, writer: &mut W, verdict: Verdict) -> Result<u8, Fault>
     ensures told { OnOk result (Appends (W.contents writer.old) (W.contents writer.new) (text_of_verdict verdict)) }
     ensures status { IfOk result (λ status. status ≡ status_of_verdict verdict) }
-    ensures front { IfErr result (λ fault. fault ≡ Fault.WriteFailed → AppendsFront (W.contents writer.old) (W.contents writer.new) (text_of_verdict verdict)) }
+    ensures front { OnErr result (AppendsFront (W.contents writer.old) (W.contents writer.new) (text_of_verdict verdict)) }
     ensures unwritten { IfErr result (λ fault. fault ≢ Fault.WriteFailed → W.contents writer.new ≡ W.contents writer.old) }
 {
     let text = text_of(alloc, verdict)?;
