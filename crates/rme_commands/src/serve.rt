@@ -4,16 +4,16 @@ ghost use Rattle.std.specs.Prelude.{◌≡◌, IfOk};
 ghost use Rattle.rme_seats.specs.Closing.{AreOf};
 ghost use Rattle.rme_server.specs.Slots.{AreInPlace};
 
+use crate::closing::{closing_of_service, end_with};
 use log::sink::Console;
 use log::{Level, Logged, info};
 use rme_faults::{Fault, why_not_locks, why_not_sizes};
 use rme_options::ServeTask;
 use rme_server::{Slots, serve};
-use rme_table::{Closed, ClosedLock, Down, Service, Tag};
+use rme_table::{Down, Service, Tag};
 use rme_wire::{GivenNames, Names};
-use rme_words::{Refusal, Shape};
-use std::alloc::AllocError;
-use std::fmt::Write;
+use rme_words::Shape;
+use std::io;
 use std::io::ErrorKind;
 use std::marker::Brand;
 use std::net::{Ipv4Addr, TcpListener};
@@ -105,11 +105,9 @@ fn log_served(rt: &HostRuntime, connections: u32) {
 fn close(host: &Host<'_>, service: Service, downs: Vec<Down>) -> Result<u8, Fault>
     requires ours { AreOf service downs.items }
 {
-    match service.close(downs) {
-        Ok(closed) => print_closed(host.rt, host.names, &closed),
-        Err(unclosed) if unclosed.why == Refusal::NoWorker => Ok(1),
-        Err(_) => Err(Fault::NoMemory),
-    }
+    let closed = service.close(downs);
+    let closing = closing_of_service(host.rt.alloc(), host.names, &closed)?;
+    end_with(&mut io::writer(host.rt), &mut host.rt.stderr(), &closing)
 }
 
 /// Serves these workers, all of the service, to the sessions of the connections, and gives back those that are
@@ -157,27 +155,4 @@ fn print_port(host: &Host<'_>) -> Result<u16, Fault> {
         Ok(()) => Ok(port),
         Err(_) => Err(Fault::WriteFailed),
     }
-}
-
-/// Prints a line for each lock, in their order, and answers the status.
-fn print_closed(rt: &HostRuntime, names: &Names, closed: &Closed) -> Result<u8, Fault> {
-    let mut lines = String::new(rt.alloc());
-    for number in 0..names.len() {
-        if let Some(lock) = closed.locks.get(number as usize) {
-            push_lock(&mut lines, names.name(number), lock)?;
-        }
-    }
-    match print!(rt; "{lines}") {
-        Ok(()) => Ok(0),
-        Err(_) => Err(Fault::WriteFailed),
-    }
-}
-
-/// Adds the line of a lock: its name, what its cells hold, and how many sections were finished.
-fn push_lock(lines: &mut String, name: &str, lock: &ClosedLock) -> Result<(), AllocError> {
-    write!(lines, "lock {name} cells")?;
-    for cell in &lock.cells {
-        write!(lines, " {cell}")?;
-    }
-    writeln!(lines, " entries {}", lock.entries.len())
 }

@@ -1,16 +1,17 @@
 //! `rme threads`: supervised workers that add to one cell.
 
+use crate::closing::{closing_of_report, end_with};
 use crate::progress::Progress;
 use rme_faults::{Fault, why_not_falls, why_not_sizes};
 use rme_options::ThreadsTask;
 use rme_script::{Job, Op, Script};
-use rme_supervisor::{End, Free, Gate, Report, WorkerPlan, supervise};
+use rme_supervisor::{Free, Gate, Report, WorkerPlan, supervise};
 use rme_table::Service;
 use rme_words::{Refusal, Shape};
 use std::alloc::{AllocError, Global};
-use std::fs;
 use std::sync::Wait;
 use std::thread::Threads;
+use std::{fs, io};
 
 /// More than the blocked sweeps of any job here.
 const MOST_SWEEPS: u32 = 1_000_000_000;
@@ -31,11 +32,9 @@ pub fn run_threads<R: Threads + Wait + Sync>(
     } else {
         run_watched(rt, threads, task)
     };
-    match ran {
-        Ok(Some(report)) => print_report(rt, task, &report),
-        Ok(None) => Ok(1),
-        Err(fault) => Err(fault),
-    }
+    let report = ran?;
+    let closing = closing_of_report(rt.alloc(), task.workers, task.jobs, &report)?;
+    end_with(&mut io::writer(rt), &mut rt.stderr(), &closing)
 }
 
 /// Runs the workers, and shows meanwhile how far they are.
@@ -108,27 +107,4 @@ fn plan_of(alloc: Global, task: &ThreadsTask) -> Result<WorkerPlan, AllocError> 
         lives: lives.saturating_add(1),
         sweeps: MOST_SWEEPS,
     })
-}
-
-/// Prints the report, and answers the status: 0 where all workers were done.
-fn print_report(rt: &HostRuntime, task: &ThreadsTask, report: &Report) -> Result<u8, Fault> {
-    let done = report
-        .ends
-        .iter()
-        .filter(|end| **end == End::AllDone)
-        .count();
-    let printed = match report.closed.locks.first() {
-        Some(lock) => println!(rt;
-            "workers {}\njobs {}\nall done {done}\ncell {}\nentries {}",
-            task.workers,
-            task.jobs,
-            lock.cells.first().copied().unwrap_or(0),
-            lock.entries.len()
-        ),
-        None => Ok(()),
-    };
-    if printed.is_err() {
-        return Err(Fault::WriteFailed);
-    }
-    Ok(if done == report.ends.len() { 0 } else { 1 })
 }

@@ -13,6 +13,6 @@ mod image;
 mod saving;
 mod words;
 
-pub use check::status_of;
+pub use check::{end_on, status_of};
 pub use command::perform_lines;
 pub use words::{Asked, end, read_words};

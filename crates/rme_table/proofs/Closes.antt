@@ -87,6 +87,7 @@ module _ (s : Shape) (downs : List Stand) (before after : List ℕ) (old new sor
       let privs = privates_of g.parts in record {
         cells = filled.cells;
         as_shown = subst (λ (cells : List ℕ). ShownCells s (shown_in s g.words g.parts g.history) lock cells) (sym filled.cells) ((tables.tables s mem privs g.history g.world.fact).cells lock below);
+        owner = filled.owner ∙ (tables.tables s mem privs g.history g.world.fact).owners lock below;
         settled = filled.settled ∙ settled_as s mem privs g.history lock (owner_in s mem lock) g.world.fact below refl;
         entries = filled.its_entries ∙ back lock;
       }

@@ -7,7 +7,7 @@ use Rattle.rme_program.specs.declared.note.Entry.{Entry}
 use Rattle.rme_machine.specs.Histories.{entries_at, IsLegal}
 use Rattle.rme_machine.specs.Machine.{State}
 use Rattle.rme_machine.specs.Shown.{shown}
-use Rattle.rme_machine.specs.ShownCells.{ShownCells, is_settled}
+use Rattle.rme_machine.specs.ShownCells.{ShownCells, owner_at, is_settled}
 use Rattle.rme_machine.specs.Views.{lock_words}
 use Rattle.rme_seats.specs.declared.record.Part.{Part}
 use Rattle.rme_seats.specs.Rule.{World, memory_in, privates_of}
@@ -21,11 +21,12 @@ use Rattle.rme_table.specs.Downs.{all_given}
 abbrev pub shown_in : Shape → List ℕ → (ℕ → Part) → List Entry → State
 shown_in shape words parts history = shown shape (memory_in shape words) (privates_of parts) history
 
--- A lock's cells are those of the words, and as the state shows them; it is settled as the state shows it; and its entries
--- are the history's of that lock, in order.
+-- A lock's cells are those of the words, and as the state shows them; its owner is the state's, and it is settled as the
+-- state shows it; and its entries are the history's of that lock, in order.
 pub record IsClosedLock (shape : Shape) (words : List ℕ) (state : State) (lock : ℕ) (closed : ClosedLock) : Type 0 where
   pub cells : closed.cells.items ≡ (lock_words shape (memory_in shape words) lock).cells
   pub as_shown : ShownCells shape state lock closed.cells.items
+  pub owner : closed.owner ≡ owner_at state lock
   pub settled : closed.settled ≡ is_settled state lock
   pub entries : closed.entries.items ≡ entries_at state.history lock
 

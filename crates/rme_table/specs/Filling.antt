@@ -46,5 +46,6 @@ is_done memory (Some worker) = not (is_pending (worker_words memory worker))
 -- The lock is filled from the words and the entries.
 pub record IsFilled (memory : Memory) (entries : List Entry) (lock : ℕ) (closed : ClosedLock) : Type 0 where
   pub cells : closed.cells.items ≡ (lock_words memory.shape (memory_of memory) lock).cells
+  pub owner : closed.owner ≡ owner_in memory.shape (memory_of memory) lock
   pub settled : closed.settled ≡ is_done (memory_of memory) (owner_in memory.shape (memory_of memory) lock)
   pub its_entries : closed.entries.items ≡ entries_at entries lock

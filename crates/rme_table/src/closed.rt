@@ -11,11 +11,12 @@ pub struct Closed {
     pub locks: Vec<ClosedLock>,
 }
 
-/// A lock of a closed service: its cells, whether they are settled, which they are not where it has an owner
-/// whose section is not finished, and its finished sections in the order of their places.
+/// A lock of a closed service: its cells, the worker that owns it, whether the cells are settled, which they are not
+/// where the owner's section is not finished, and its finished sections in the order of their places.
 #[derive(Drop)]
 pub struct ClosedLock {
     pub cells: Vec<u64>,
+    pub owner: Option<u32>,
     pub settled: bool,
     pub entries: Vec<Entry>,
 }

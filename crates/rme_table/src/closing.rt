@@ -19,8 +19,8 @@ impl Service {
     ghost use Rattle.rme_table.specs.Filling.{IsRoom};
     ghost use Rattle.rme_table.specs.Closing.{IsClose, IsUnclosed};
 
-    /// Closes the service, given the Downs of its workers, in any order: the cells of each lock, whether they
-    /// are settled, and its finished sections in the order of their places.
+    /// Closes the service, given the Downs of its workers, in any order: the cells of each lock, its owner,
+    /// whether the cells are settled, and its finished sections in the order of their places.
     ///
     /// `NoWorker` where some worker's Down is not given. Takes memory for the words, the cells and the entries,
     /// before anything is closed; `NoMemory` where it was refused. The service and the Downs come back then.

@@ -39,6 +39,7 @@ fn fill_only(room: &mut ClosedLock, bank: &Bank, entries: Vec<Entry>)
     ensures { IsFilled bank.now entries.items 0 room.new }
 {
     put_cells(&mut room.cells, bank, 0);
+    room.owner = owner(bank, 0);
     room.settled = settled(bank, 0);
     room.entries = entries;
 }
@@ -62,6 +63,7 @@ fn fill(room: &mut ClosedLock, bank: &Bank, entries: &[Entry], lock: u32)
     ensures { IsFilled bank.now entries.now lock room.new }
 {
     put_cells(&mut room.cells, bank, lock);
+    room.owner = owner(bank, lock);
     room.settled = settled(bank, lock);
     put_entries(&mut room.entries, entries, lock);
 }

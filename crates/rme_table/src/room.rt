@@ -111,6 +111,7 @@ fn room_for_lock(alloc: Global, shape: Shape, count: usize) -> Result<ClosedLock
     let entries = room_for_entries(alloc, count)?;
     Ok(ClosedLock {
         cells,
+        owner: None,
         settled: false,
         entries,
     })

@@ -1,0 +1,274 @@
+//! What the program prints at the end of `serve` and of `threads`, and the status that it ends with.
+
+ghost use Rattle.std.specs.Prelude.{◌≡◌, ◌++◌, IfOk, IfErr, OnOk, OnErr, [], count_by, string_bytes};
+ghost use Rattle.std.specs.Io.KnownBytes.{Appends};
+ghost use Rattle.std.specs.Option.{option_copied};
+ghost use Rattle.rme_lines.specs.Puts.{AppendsFront};
+ghost use Rattle.rme_commands.specs.Closing as spec;
+
+use rme_faults::Fault;
+use rme_supervisor::{End, Report};
+use rme_table::{Closed, ClosedLock, Unclosed};
+use rme_wire::{Names, put_all};
+use rme_words::Refusal;
+use std::alloc::{AllocError, Global};
+use std::io::Write;
+
+/// What there is to say at the end of a run, and the status that the program ends with.
+#[derive(Drop)]
+pub struct Closing {
+    /// The lines for the standard output.
+    pub text: String,
+    /// The lines for the standard error.
+    pub remarks: String,
+    pub status: u8,
+}
+
+/// Writes what there is to say, and answers the status. What the standard error does not take is left out.
+pub fn end_with<W: Write, E: Write>(
+    writer: &mut W,
+    errors: &mut E,
+    closing: &Closing,
+) -> Result<u8, Fault>
+    ensures text { OnOk result (Appends (W.contents writer.old) (W.contents writer.new) (string_bytes closing.now.text)) }
+    ensures front { OnErr result (AppendsFront (W.contents writer.old) (W.contents writer.new) (string_bytes closing.now.text)) }
+    ensures remarks { AppendsFront (E.contents errors.old) (E.contents errors.new) (string_bytes closing.now.remarks) }
+    ensures status { IfOk result (λ status. status ≡ closing.now.status) }
+    ensures kind { IfErr result (λ fault. fault ≡ Fault.WriteFailed) }
+{
+    put_some(errors, closing.remarks.as_str().as_bytes());
+    put_all(writer, closing.text.as_str().as_bytes())?;
+    Ok(closing.status)
+}
+
+/// Writes so much of the bytes as the writer takes.
+fn put_some<W: Write>(writer: &mut W, bytes: &[u8])
+    ensures { AppendsFront (W.contents writer.old) (W.contents writer.new) bytes.now }
+{
+    let _ = put_all(writer, bytes);
+}
+
+/// What `serve` has to say of a service that it closed, or could not close: the line of each lock, a remark on each that
+/// is not settled, and status 0; and of a service of which a worker is missing nothing, and status 1.
+pub fn closing_of_service(
+    alloc: Global,
+    names: &Names,
+    closed: &Result<Closed, Unclosed>,
+) -> Result<Closing, Fault>
+    ensures closing { IfOk result (spec.ClosesService names.now closed.now) }
+    ensures kind { IfErr result (λ fault. fault ≡ Fault.NoMemory) }
+{
+    match closed {
+        Ok(closed) => Ok(closing_of_locks(alloc, names, closed.locks.as_slice())?),
+        Err(unclosed) => match unclosed.why {
+            Refusal::NoWorker => Ok(nothing_said(alloc, 1)),
+            _ => Err(Fault::NoMemory),
+        },
+    }
+}
+
+/// The lines of the locks of a closed service.
+fn closing_of_locks(
+    alloc: Global,
+    names: &Names,
+    locks: &[ClosedLock],
+) -> Result<Closing, AllocError>
+    ensures { IfOk result (λ closing. spec.Says closing (spec.locks_text names.now locks.now) (spec.remarks_text names.now locks.now) 0) }
+{
+    let mut text = String::new(alloc);
+    push_locks(&mut text, names, locks)?;
+    let mut remarks = String::new(alloc);
+    push_remarks(&mut remarks, names, locks)?;
+    Ok(Closing {
+        text,
+        remarks,
+        status: 0,
+    })
+}
+
+/// An end with this status, of which nothing is said.
+fn nothing_said(alloc: Global, status: u8) -> Closing
+    ensures { spec.Says result [] [] status }
+{
+    Closing {
+        text: String::new(alloc),
+        remarks: String::new(alloc),
+        status,
+    }
+}
+
+/// What `threads` has to say of so many workers with so many jobs each: the report's lines, and status 0 where all
+/// workers were done; and where there is no report, since a worker is missing, nothing, and status 1.
+pub fn closing_of_report(
+    alloc: Global,
+    workers: u32,
+    jobs: u32,
+    report: &Option<Report>,
+) -> Result<Closing, AllocError>
+    ensures { IfOk result (spec.ClosesReport workers jobs report.now) }
+{
+    match report {
+        Some(report) => closing_of_ends(
+            alloc,
+            workers,
+            jobs,
+            report.ends.as_slice(),
+            report.closed.locks.first(),
+        ),
+        None => Ok(nothing_said(alloc, 1)),
+    }
+}
+
+/// The lines of a report with these ends and this lock.
+fn closing_of_ends(
+    alloc: Global,
+    workers: u32,
+    jobs: u32,
+    ends: &[End],
+    lock: Option<&ClosedLock>,
+) -> Result<Closing, AllocError>
+    ensures { IfOk result (λ closing. spec.Says closing (spec.report_text workers jobs ends.now (option_copied lock.entry)) [] (spec.status_of_ends ends.now)) }
+{
+    let done = count_done(ends);
+    let mut text = String::new(alloc);
+    if let Some(lock) = lock {
+        push_counts(&mut text, workers, jobs, done)?;
+        push_only(&mut text, lock)?;
+    }
+    Ok(Closing {
+        text,
+        remarks: String::new(alloc),
+        status: status_of(done, ends.len()),
+    })
+}
+
+/// The status after so many of so many workers were done.
+fn status_of(done: usize, workers: usize) -> u8
+    ensures { result ≡ spec.status_of_counts done workers }
+{
+    if done == workers { 0 } else { 1 }
+}
+
+/// How many workers were done.
+fn count_done(ends: &[End]) -> usize
+    ensures { result ≡ count_by spec.is_done ends.now }
+{
+    ends.iter()
+        .filter(|end| matches!(**end, End::AllDone))
+        .count()
+}
+
+/// Appends how many workers and jobs there were, and how many workers were done.
+fn push_counts(out: &mut String, workers: u32, jobs: u32, done: usize) -> Result<(), AllocError>
+    ensures { OnOk result (string_bytes out.new ≡ string_bytes out.old ++ spec.counts_text workers jobs done) }
+{
+    write!(out, "workers {workers}\njobs {jobs}\nall done {done}\n")
+}
+
+/// Appends what the first cell of the only lock holds, and how many sections were finished.
+fn push_only(out: &mut String, lock: &ClosedLock) -> Result<(), AllocError>
+    ensures { OnOk result (string_bytes out.new ≡ string_bytes out.old ++ spec.only_text lock.now) }
+{
+    let cell = lock.cells.first().copied().unwrap_or(0);
+    let entries = lock.entries.len();
+    write!(out, "cell {cell}\nentries {entries}\n")
+}
+
+/// Appends a line for each lock, in their order.
+fn push_locks(out: &mut String, names: &Names, locks: &[ClosedLock]) -> Result<(), AllocError>
+    ensures { OnOk result (string_bytes out.new ≡ string_bytes out.old ++ spec.locks_text names.now locks.now) }
+{
+    for number in 0..names.len() {
+        push_lock_at(out, names.name(number), locks.get(number as usize))?;
+    }
+    Ok(())
+}
+
+/// Appends the line of a lock, if it is there.
+fn push_lock_at(out: &mut String, name: &str, lock: Option<&ClosedLock>) -> Result<(), AllocError>
+    ensures { OnOk result (string_bytes out.new ≡ string_bytes out.old ++ spec.text_at spec.lock_text name.now (option_copied lock.entry)) }
+{
+    match lock {
+        Some(lock) => push_lock(out, name, lock),
+        None => Ok(()),
+    }
+}
+
+/// Appends the line of a lock: its name, what its cells hold, and how many sections were finished.
+fn push_lock(out: &mut String, name: &str, lock: &ClosedLock) -> Result<(), AllocError>
+    ensures { OnOk result (string_bytes out.new ≡ string_bytes out.old ++ spec.lock_text name.now lock.now) }
+{
+    push_lock_front(out, name)?;
+    push_cells(out, lock.cells.as_slice())?;
+    push_lock_end(out, lock.entries.len())?;
+    Ok(())
+}
+
+fn push_lock_front(out: &mut String, name: &str) -> Result<(), AllocError>
+    ensures { OnOk result (string_bytes out.new ≡ string_bytes out.old ++ spec.lock_front name.now) }
+{
+    write!(out, "lock {name} cells")
+}
+
+fn push_lock_end(out: &mut String, entries: usize) -> Result<(), AllocError>
+    ensures { OnOk result (string_bytes out.new ≡ string_bytes out.old ++ spec.lock_end entries) }
+{
+    write!(out, " entries {entries}\n")
+}
+
+/// Appends what each cell holds.
+fn push_cells(out: &mut String, cells: &[u64]) -> Result<(), AllocError>
+    ensures { OnOk result (string_bytes out.new ≡ string_bytes out.old ++ spec.cells_text cells.now) }
+{
+    for cell in cells {
+        push_cell(out, *cell)?;
+    }
+    Ok(())
+}
+
+fn push_cell(out: &mut String, cell: u64) -> Result<(), AllocError>
+    ensures { OnOk result (string_bytes out.new ≡ string_bytes out.old ++ spec.cell_text cell) }
+{
+    write!(out, " {cell}")
+}
+
+/// Appends a remark on each lock that is not settled, in their order.
+fn push_remarks(out: &mut String, names: &Names, locks: &[ClosedLock]) -> Result<(), AllocError>
+    ensures { OnOk result (string_bytes out.new ≡ string_bytes out.old ++ spec.remarks_text names.now locks.now) }
+{
+    for number in 0..names.len() {
+        push_remark_at(out, names.name(number), locks.get(number as usize))?;
+    }
+    Ok(())
+}
+
+/// Appends a remark on a lock, if it is there and is not settled.
+fn push_remark_at(out: &mut String, name: &str, lock: Option<&ClosedLock>) -> Result<(), AllocError>
+    ensures { OnOk result (string_bytes out.new ≡ string_bytes out.old ++ spec.text_at spec.remark_text name.now (option_copied lock.entry)) }
+{
+    match lock {
+        Some(lock) => push_remark(out, name, lock.settled, lock.owner),
+        None => Ok(()),
+    }
+}
+
+/// Appends a remark on a lock that is not settled, with the worker that is inside.
+fn push_remark(
+    out: &mut String,
+    name: &str,
+    settled: bool,
+    owner: Option<u32>,
+) -> Result<(), AllocError>
+    ensures { OnOk result (string_bytes out.new ≡ string_bytes out.old ++ spec.inside_text name.now settled owner) }
+{
+    if settled {
+        return Ok(());
+    }
+    match owner {
+        Some(worker) => write!(
+            out,
+            "rme: lock {name} is not settled: worker {worker} is inside\n"
+        ),
+        None => Ok(()),
+    }
+}
