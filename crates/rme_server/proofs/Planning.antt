@@ -54,17 +54,16 @@ due_on (After left) (After rest) m n first due = λ small.
     (let one = first small in let less : rest < 4294967296 = omega (arith, one, small) in let two = due less in omega (arith, one, two))
 
 -- A walk, without its questions.
-uncounted : Tally
+abbrev pub uncounted : Tally
 uncounted = record { yeses = 0; questions = None }
 
 module _ (shape : Shape) (lead : Part → Part) (start now : Stand) where
-  walked_by : (old new : Tally) (falls : ℕ) (walks : Walks shape lead start.part now.part old new falls) → now.ident ≡ start.ident → now.part.worker ≡ start.part.worker
+  pub walked_by : (old new : Tally) (falls : ℕ) (walks : Walks shape lead start.part now.part old new falls) → now.ident ≡ start.ident → now.part.worker ≡ start.part.worker
       → HasWalked shape lead start now (length walks.values)
   walked_by old new falls walks ident own =
       record { ident = ident; own = own; values = walks.values; walk = walks.walk; found = walks.found; count = refl; steps = walks.steps }
 
   as_walk : (made : ℕ) → HasWalked shape lead start now made → Walks shape lead start.part now.part uncounted uncounted 0
-  unfolding uncounted
   as_walk made its = record {
     values = its.values;
     walk = its.walk;
@@ -90,7 +89,7 @@ module _ (shape : Shape) (lead : Part → Part) (start now : Stand) where
   fallen Fallen new walks ident own = tt
 
 -- One walk after another.
-walked_on : (shape : Shape) (lead : Part → Part) (a b c : Stand) (m n : ℕ) → 0 < m → HasWalked shape lead a b m → HasWalked shape onward b c n → HasWalked shape lead a c (m + n)
+pub walked_on : (shape : Shape) (lead : Part → Part) (a b c : Stand) (m n : ℕ) → 0 < m → HasWalked shape lead a b m → HasWalked shape onward b c n → HasWalked shape lead a c (m + n)
 walked_on shape lead a b c m n some one two =
     let first = as_walk shape lead a b m one in
     let more : 0 < length first.values = (let count = one.count in omega (arith, count, some)) in

@@ -19,6 +19,7 @@ use Rattle.rme_wire.specs.declared.order.Order.TheVariants as order
 use Rattle.rme_wire.specs.declared.order.Submission.{Submission}
 use Rattle.rme_server.specs.Slots.{IsOf}
 use Rattle.rme_server.specs.Refusals.{Refuses, attach_refusal}
+use Rattle.rme_server.specs.Rises.{TakesOut}
 use Rattle.rme_server.specs.Stands.{held_by}
 use Rattle.rme_server.specs.Works.{Falls, GoesOn, Hands, IsSpared, IsTried, lead_of, steps_of}
 use Rattle.rme_server.specs.declared.planned.Planned.{Planned}
@@ -76,7 +77,7 @@ IsLeft shape lead old now outcome let_go = IsSpared shape lead old.planned (held
 -- What an order that is not refused does, its answer, and the Down of the worker that is let go. A job that is submitted, or
 -- that the worker goes on with, waits only after all its tries. DETACH lets the worker go as it was.
 abbrev pub Does : seat.Ident → Stand → Order → Stand → SessionReply → Option seat.Stand → Type 0
-Does ident old (order.Attach worker) now answer let_go = AnswersOf ident worker now.value answer × (now.planned ≡ Nothing) × (let_go ≡ None)
+Does ident old (order.Attach worker) now answer let_go = AnswersOf ident worker now.value answer × TakesOut ident worker now.value × (now.planned ≡ Nothing) × (let_go ≡ None)
 Does ident old (order.Submit its) now (reply.Submitted outcome) let_go =
     Submits ident.shape old.value its now.value outcome × IsLeft ident.shape (lead_of old.value its.job) old now outcome let_go × IsTried its.tries (steps_of old.value) now.value outcome
 Does ident old (order.Resume tries) now (reply.Resumed outcome) let_go =

@@ -1,6 +1,8 @@
 //! What each order of a session does, and what it is answered.
 
-ghost use Rattle.std.specs.Prelude.{◌≡◌, ℕ, Option, None, IfSome};
+ghost use Rattle.std.specs.Prelude.{◌≡◌, ℕ, Option, None, IfSome, true};
+ghost use Rattle.rme_seats.specs.Parts.{onward};
+ghost use Rattle.rme_table.specs.Calls.{is_over};
 ghost use Rattle.rme_program.specs.declared.note.Receipt.{Receipt};
 ghost use Rattle.rme_texts.specs.declared.session.SessionReply.TheVariants as reply;
 ghost use Rattle.rme_texts.specs.declared.session.Standing.TheVariants as at;
@@ -10,6 +12,7 @@ ghost use Rattle.rme_server.specs.Stands.{HasSlot, MayHold, MayWork};
 ghost use Rattle.rme_server.specs.declared.stand.Holding.TheVariants as spec;
 ghost use Rattle.rme_server.specs.declared.planned.Planned.TheVariants as planned;
 ghost use Rattle.rme_server.specs.Tasks.{HasTries, Makes, holding_of, lead_by};
+ghost use Rattle.rme_server.specs.Rises.{ComesOut, ComesUp, KeepsAll};
 ghost use Rattle.rme_server.specs.Works.{IsTried, steps_of};
 ghost use Rattle.rme_server.specs.Obeyed.{Acts, AnswersOf, IsLeft, Obeys, Settles};
 
@@ -193,15 +196,24 @@ fn attach<K: Tag, R: Wait>(
         Ok(down) => down,
         Err(why) => return refuse((Holding::Empty, why), planned),
     };
-    let (value, reply) = match down.recover(service, &mut Never) {
+    let (value, reply) = come_up(down, service);
+    let planned = Planned::Nothing;
+    (Stand { value, planned }, reply, None)
+}
+
+/// Recovers the worker, and brings it to readiness where its job was finished before its fall.
+fn come_up(down: Down, service: &Service) -> (Holding, SessionReply)
+    requires ours { down.ident ≡ service.now }
+    ensures answers { AnswersOf down.ident down.part.worker result.0 result.1 }
+    ensures keeps { ComesUp service.now.shape down result.0 }
+{
+    match down.recover(service, &mut Never) {
         Ok(Stance::Ready(ready)) => attached(ready),
         Ok(Stance::Climb(climb)) => attached_waiting(climb),
         Ok(Stance::Held(held)) => attached_inside(held, service),
         Ok(Stance::Leave(leave)) => attached(leave_now(leave, service)),
         Err(_) => unreachable!(),
-    };
-    let planned = Planned::Nothing;
-    (Stand { value, planned }, reply, None)
+    }
 }
 
 fn attached(ready: Ready) -> (Holding, SessionReply)
@@ -227,7 +239,8 @@ fn attached_waiting(climb: Climb) -> (Holding, SessionReply)
 /// A worker whose job was finished before its fall is brought to readiness at once.
 fn attached_inside(held: Held, service: &Service) -> (Holding, SessionReply)
     requires ours { held.ident ≡ service.now }
-    ensures { AnswersOf held.ident held.part.worker result.0 result.1 }
+    ensures answers { AnswersOf held.ident held.part.worker result.0 result.1 }
+    ensures keeps { ComesOut service.now.shape held result.0 }
 {
     if held.finished() {
         return attached(come_out(held, service));
@@ -242,7 +255,9 @@ fn attached_inside(held: Held, service: &Service) -> (Holding, SessionReply)
 /// From a job that is finished to readiness.
 fn come_out(held: Held, service: &Service) -> Ready
     requires ours { held.ident ≡ service.now }
-    ensures { IsOf held.ident held.part.worker result }
+    requires over { is_over held.part.private.stage ≡ true }
+    ensures own { IsOf held.ident held.part.worker result }
+    ensures keeps { KeepsAll service.now.shape onward held result }
 {
     match held.perform(service, &mut Never) {
         Ok((leave, _)) => leave_now(leave, service),
@@ -253,7 +268,8 @@ fn come_out(held: Held, service: &Service) -> Ready
 /// Releases the nodes of a worker whose job is finished.
 fn leave_now(leave: Leave, service: &Service) -> Ready
     requires ours { leave.ident ≡ service.now }
-    ensures { IsOf leave.ident leave.part.worker result }
+    ensures own { IsOf leave.ident leave.part.worker result }
+    ensures keeps { KeepsAll service.now.shape onward leave result }
 {
     match leave.exit(service, &mut Never) {
         Ok(ready) => ready,
