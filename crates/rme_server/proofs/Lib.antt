@@ -1,5 +1,6 @@
 pub mod Ordering
 pub mod Planning
+pub mod Rising
 pub mod Working
 mod Trying
 mod Talking

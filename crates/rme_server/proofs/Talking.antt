@@ -1,5 +1,5 @@
 -- A session's run of lines.
-use Rattle.std.proofs.Common.{◌≡◌, ◌≢◌, ℕ, List, [], ◌++◌, Bool, true, false, refl, subst}
+use Rattle.std.proofs.Common.{◌≡◌, ℕ, List, [], ◌++◌, Bool, true, false, refl, subst}
 use Rattle.std.specs.Prelude.{Option, Some, None}
 use Rattle.std.specs.Io.KnownBytes.{IsAtEnd, Keeps}
 use Rattle.rme_lines.specs.declared.cut.Cut.{Cut}
@@ -7,7 +7,7 @@ use Rattle.rme_lines.specs.declared.cut.Cut.TheVariants.{Line, TooLong, End}
 use Rattle.rme_lines.specs.declared.fault.EngineFault.{EngineFault}
 use Rattle.rme_lines.specs.declared.fault.EngineFault.TheVariants.{ReadFailed, WriteFailed, NoMemory}
 use Rattle.rme_lines.specs.Cuts.{line_read}
-use Rattle.rme_lines.specs.Pieces.{InputLine, TakesWhole, lines_of, text}
+use Rattle.rme_lines.specs.Pieces.{InputLine, TakesWhole, text}
 use Rattle.rme_lines.specs.Puts.{AppendsFront, Gathers}
 use Rattle.rme_lines.specs.Runs.{AllButLast, AreLines, BeginsWith, CutsOff, GaveUp, TurnFails, WereRead, WritesFirst, WritesTo}
 use Rattle.rme_lines.proofs.PutLemmas.{gathered_front, gathers_more}

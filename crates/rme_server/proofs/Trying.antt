@@ -1,5 +1,5 @@
 -- An order that is obeyed in two parts is obeyed.
-use Rattle.std.proofs.Common.{◌≡◌, ℕ, ◌+◌, ◌-◌, ◌≤◌, List, [], ◌∷◌, ◌++◌, arith, inl, inr, refl, sym, ap, ◌∙◌}
+use Rattle.std.proofs.Common.{◌≡◌, ℕ, ◌+◌, ◌-◌, ◌<◌, ◌≤◌, List, [], ◌∷◌, ◌++◌, arith, inl, inr, refl, sym, ap, ◌∙◌}
 use Rattle.std.specs.Prelude.{◌==◌, Bool, true, false, Option, Some, None}
 use Rattle.std.proofs.lemmas.Option.{none-some, same_Some}
 use Rattle.rme_words.specs.declared.shape.Shape.{Shape}
@@ -7,6 +7,8 @@ use Rattle.rme_words.specs.declared.refusal.Refusal.{Refusal}
 use Rattle.rme_words.specs.declared.refusal.Refusal.TheVariants.{Differs}
 use Rattle.rme_script.specs.declared.job.Job.{Job}
 use Rattle.rme_program.specs.declared.note.Entry.{Entry}
+use Rattle.rme_seats.specs.declared.record.Part.{Part}
+use Rattle.rme_seats.specs.Parts.{onward}
 use Rattle.rme_seats.specs.Stands.{Ident, Stand}
 use Rattle.rme_texts.specs.declared.session.Outcome.{Outcome}
 use Rattle.rme_texts.specs.declared.session.Outcome.TheVariants.{Receipt, Withdrawn, Waiting, Fell}
@@ -15,14 +17,15 @@ use Rattle.rme_texts.specs.declared.session.SessionReply.TheVariants.{Submitted,
 use Rattle.rme_wire.specs.declared.order.Order.{Order}
 use Rattle.rme_wire.specs.declared.order.Order.TheVariants.{Attach, Submit, Resume}
 use Rattle.rme_wire.specs.declared.order.Submission.{Submission}
-use Rattle.rme_server.specs.Obeyed.{IsLeft, Obeys, Resumes, Submits}
+use Rattle.rme_server.specs.Obeyed.{Acts, IsLeft, Obeys, Resumes, Submits}
 use Rattle.rme_server.specs.Refusals.{PendingRefuses, SubmitRefuses, resume_refusal}
+use Rattle.rme_server.specs.Stands.{held_by}
 use Rattle.rme_server.specs.Sessions.{answer_as, first_of, rest_of, still_waits}
-use Rattle.rme_server.specs.Works.{Awaits, GoesOn, Hands, HasFinished, IsSpared, IsTried, StillAwaits, Task, Works, its_task, next_task, steps_of}
+use Rattle.rme_server.specs.Works.{Awaits, GoesOn, Hands, HasFinished, IsSpared, IsTried, StillAwaits, Task, Works, its_task, lead_of, next_task, steps_of}
 use Rattle.rme_server.specs.declared.stand.Holding.{Holding}
 use Rattle.rme_server.specs.declared.stand.Holding.TheVariants.{Empty, Ready, Climb, Held}
 use Rattle.rme_server.specs.declared.stand.Stand.{Stand as Session}
-use Rattle.rme_server.proofs.Planning.{planned_before, spared_on}
+use Rattle.rme_server.proofs.Planning.{falls_on, spared_on}
 
 -- How many tries an order has changes nothing of what it is refused for, nor of what it may come to.
 abbrev once : Submission → Submission
@@ -56,22 +59,25 @@ tried_once most steps value Fell few tried = tt
 abbrev pub IsAll : Order → SessionReply → Type 0
 IsAll its reply = still_waits reply ≡ true → rest_of its ≡ 0
 
-module _ (ident : Ident) (count : ℕ) (old now : Session) where
-  pub only_first : (its : Order) (reply : SessionReply) → IsAll its reply → Obeys ident count old (first_of its) now reply → Obeys ident count old its now reply
-  only_first (Submit its) (Refused why) all (same, inl refuses) = (same, inl (refuses_once ident.shape old.value its (Some why) refuses))
-  only_first (Submit its) (Refused why) all (same, inr refuses) = absurd refuses
-  only_first (Submit its) (Submitted became) all (none, (submits, left, tried)) =
+module _ (ident : Ident) (count : ℕ) (old now : Session) (let_go : Option Stand) where
+  acts_first : (its : Order) (reply : SessionReply) → IsAll its reply → Acts ident count old (first_of its) now reply let_go → Acts ident count old its now reply let_go
+  acts_first (Submit its) (Refused why) all (same, inl refuses) = (same, inl (refuses_once ident.shape old.value its (Some why) refuses))
+  acts_first (Submit its) (Refused why) all (same, inr refuses) = absurd refuses
+  acts_first (Submit its) (Submitted became) all (none, (submits, left, tried)) =
       let few : (became ≡ Waiting) → its.tries ≤ 1 = λ waits. (let none_left = all (ap (λ (o : Outcome). still_waits (Submitted o)) waits) in omega (arith, none_left)) in (
         refuses_once ident.shape old.value its None none,
         (submits_once ident.shape old.value its now.value became submits, left, tried_once its.tries (steps_of old.value) now.value became few tried),
       )
-  only_first (Submit its) reply all (none, does) = absurd does
-  only_first (Resume tries) (Refused why) all obeys = obeys
-  only_first (Resume tries) (Resumed became) all (none, (resumes, left, tried)) =
+  acts_first (Submit its) reply all (none, does) = absurd does
+  acts_first (Resume tries) (Refused why) all obeys = obeys
+  acts_first (Resume tries) (Resumed became) all (none, (resumes, left, tried)) =
       let few : (became ≡ Waiting) → tries ≤ 1 = λ waits. (let none_left = all (ap (λ (o : Outcome). still_waits (Resumed o)) waits) in omega (arith, none_left)) in
       (none, (resumes, left, tried_once tries (steps_of old.value) now.value became few tried))
-  only_first (Resume tries) reply all (none, does) = absurd does
-  only_first its reply all obeys = obeys
+  acts_first (Resume tries) reply all (none, does) = absurd does
+  acts_first its reply all obeys = obeys
+
+pub only_first : (ident : Ident) (count : ℕ) (old now : Session) (its : Order) (reply : SessionReply) → IsAll its reply → Obeys ident count old (first_of its) now reply → Obeys ident count old its now reply
+only_first ident count old now its reply all obeys = record { let_go = obeys.let_go; acts = acts_first ident count old now obeys.let_go its reply all obeys.acts }
 
 -- A worker waited with a job, and then went on with it.
 finished_after : (task : Task) (before : List Entry) (climb ready : Stand) (job : Job) (entry : Entry) → Awaits task before climb → climb.part.draft ≡ Some job
@@ -138,17 +144,18 @@ resumes_waiting (Climb climb) mid value became waits resumes = goes_waiting clim
 resumes_waiting (Held held) mid value became waits resumes = goes_waiting held mid value became waits resumes
 
 -- What was planned comes sooner by the own steps of both parts.
-module _ (old mid now : Session) (so : IsSpared old.planned (steps_of old.value) mid.planned mid.value) where
-  spared_after : IsSpared mid.planned (steps_of mid.value) now.planned now.value → IsSpared old.planned (steps_of old.value) now.planned now.value
-  spared_after more = spared_on old.planned mid.planned (steps_of old.value) (steps_of mid.value) so now.planned (steps_of now.value) more
+module _ (shape : Shape) (lead : Part → Part) (old mid now : Session) (more : steps_of old.value < steps_of mid.value)
+    (so : IsSpared shape lead old.planned (held_by old.value) mid.planned (held_by mid.value)) (let_go : Option Stand) where
+  spared_after : IsSpared shape onward mid.planned (held_by mid.value) now.planned (held_by now.value) → IsSpared shape lead old.planned (held_by old.value) now.planned (held_by now.value)
+  spared_after its = spared_on shape lead old.planned mid.planned (held_by old.value) (held_by mid.value) more so now.planned (held_by now.value) its
 
-  left_after_both : (became : Outcome) → IsLeft mid now became → IsLeft old now became
-  left_after_both (Receipt receipt) left = spared_after left
-  left_after_both Withdrawn left = spared_after left
-  left_after_both Waiting left = spared_after left
-  left_after_both Fell (planned, same) = (planned_before old.planned mid.planned so.0 so.2 planned, same)
+  left_after_both : (became : Outcome) → IsLeft shape onward mid now became let_go → IsLeft shape lead old now became let_go
+  left_after_both (Receipt receipt) (left, none) = (spared_after left, none)
+  left_after_both Withdrawn (left, none) = (spared_after left, none)
+  left_after_both Waiting (left, none) = (spared_after left, none)
+  left_after_both Fell (falls, same) = (falls_on shape lead old.planned mid.planned (held_by old.value) (held_by mid.value) more so let_go falls, same)
 
--- A job that waits is not refused to be gone on with.
+-- A job that waits is not refused to be let_go on with.
 goes_not_refused : (start : Stand) (mid : Holding) (why : Refusal) → GoesOn start mid Waiting → Some why ≡ resume_refusal mid → ⊥
 goes_not_refused start Empty why waits refuses = waits
 goes_not_refused start (Ready ready) why waits refuses = waits
@@ -186,15 +193,15 @@ tried_both most rest steps later value Withdrawn enough first tried = tt
 tried_both most rest steps later value Waiting enough first tried = omega (arith, enough, first, tried)
 tried_both most rest steps later value Fell enough first tried = tt
 
--- Both parts were needed.
-module _ (ident : Ident) (count : ℕ) (old mid now : Session) where
-  submitted_on : (its : Submission) (last : SessionReply) → Obeys ident count old (Submit (once its)) mid (Submitted Waiting) → Obeys ident count mid (Resume (its.tries - 1)) now last
-      → Obeys ident count old (Submit its) now (answer_as (Submitted Waiting) last)
+-- Both parts were needed. What the first let go is none, since the job waits.
+module _ (ident : Ident) (count : ℕ) (old mid now : Session) (first_go let_go : Option Stand) where
+  submitted_on : (its : Submission) (last : SessionReply) → Acts ident count old (Submit (once its)) mid (Submitted Waiting) first_go → Acts ident count mid (Resume (its.tries - 1)) now last let_go
+      → Acts ident count old (Submit its) now (answer_as (Submitted Waiting) last) let_go
   submitted_on its (Resumed became) (none, (submits, left, first)) (some, (resumes, later, tried)) = (
     refuses_once ident.shape old.value its None none,
     (
       submits_waiting ident.shape old.value mid.value now.value its became submits resumes,
-      left_after_both old mid now left became later,
+      left_after_both ident.shape (lead_of old.value its.job) old mid now (omega (arith, first)) left.0 let_go became later,
       tried_both its.tries (its.tries - 1) (steps_of old.value) (steps_of mid.value) now.value became (omega arith) first tried,
     ),
   )
@@ -202,13 +209,13 @@ module _ (ident : Ident) (count : ℕ) (old mid now : Session) where
   submitted_on its (Refused why) obeys (same, inr refuses) = absurd refuses
   submitted_on its last obeys (some, does) = absurd does
 
-  resumed_on : (tries : ℕ) (last : SessionReply) → Obeys ident count old (Resume 1) mid (Resumed Waiting) → Obeys ident count mid (Resume (tries - 1)) now last
-      → Obeys ident count old (Resume tries) now (answer_as (Resumed Waiting) last)
+  resumed_on : (tries : ℕ) (last : SessionReply) → Acts ident count old (Resume 1) mid (Resumed Waiting) first_go → Acts ident count mid (Resume (tries - 1)) now last let_go
+      → Acts ident count old (Resume tries) now (answer_as (Resumed Waiting) last) let_go
   resumed_on tries (Resumed became) (none, (resumes, left, first)) (some, (more, later, tried)) = (
     none,
     (
       resumes_waiting old.value mid.value now.value became resumes more,
-      left_after_both old mid now left became later,
+      left_after_both ident.shape onward old mid now (omega (arith, first)) left.0 let_go became later,
       tried_both tries (tries - 1) (steps_of old.value) (steps_of mid.value) now.value became (omega arith) first tried,
     ),
   )
@@ -216,14 +223,19 @@ module _ (ident : Ident) (count : ℕ) (old mid now : Session) where
   resumed_on tries (Refused why) obeys (same, inr refuses) = absurd refuses
   resumed_on tries last obeys (some, does) = absurd does
 
-  pub both_parts : (its : Order) (reply last : SessionReply) → still_waits reply ≡ true → Obeys ident count old (first_of its) mid reply → Obeys ident count mid (Resume (rest_of its)) now last
-      → Obeys ident count old its now (answer_as reply last)
-  both_parts (Submit its) (Submitted Waiting) last waits obeys resumes = submitted_on its last obeys resumes
-  both_parts (Resume tries) (Resumed Waiting) last waits obeys resumes = resumed_on tries last obeys resumes
-  both_parts (Submit its) (Resumed Waiting) last waits obeys resumes = absurd obeys.1
-  both_parts (Resume tries) (Submitted Waiting) last waits obeys resumes = absurd obeys.1
-  both_parts (Attach worker) (Submitted Waiting) last waits obeys resumes = absurd obeys.1.0
-  both_parts (Attach worker) (Resumed Waiting) last waits obeys resumes = absurd obeys.1.0
-  both_parts its (Submitted Waiting) last waits obeys resumes = absurd obeys.1
-  both_parts its (Resumed Waiting) last waits obeys resumes = absurd obeys.1
-  both_parts its reply last waits obeys resumes = absurd (false_true waits)
+  acts_both : (its : Order) (reply last : SessionReply) → still_waits reply ≡ true → Acts ident count old (first_of its) mid reply first_go → Acts ident count mid (Resume (rest_of its)) now last let_go
+      → Acts ident count old its now (answer_as reply last) let_go
+  acts_both (Submit its) (Submitted Waiting) last waits obeys resumes = submitted_on its last obeys resumes
+  acts_both (Resume tries) (Resumed Waiting) last waits obeys resumes = resumed_on tries last obeys resumes
+  acts_both (Submit its) (Resumed Waiting) last waits obeys resumes = absurd obeys.1
+  acts_both (Resume tries) (Submitted Waiting) last waits obeys resumes = absurd obeys.1
+  acts_both (Attach worker) (Submitted Waiting) last waits obeys resumes = absurd obeys.1.0
+  acts_both (Attach worker) (Resumed Waiting) last waits obeys resumes = absurd obeys.1.0
+  acts_both its (Submitted Waiting) last waits obeys resumes = absurd obeys.1
+  acts_both its (Resumed Waiting) last waits obeys resumes = absurd obeys.1
+  acts_both its reply last waits obeys resumes = absurd (false_true waits)
+
+pub both_parts : (ident : Ident) (count : ℕ) (old mid now : Session) (its : Order) (reply last : SessionReply) → still_waits reply ≡ true → Obeys ident count old (first_of its) mid reply
+    → Obeys ident count mid (Resume (rest_of its)) now last → Obeys ident count old its now (answer_as reply last)
+both_parts ident count old mid now its reply last waits first more =
+    record { let_go = more.let_go; acts = acts_both ident count old mid now first.let_go more.let_go its reply last waits first.acts more.acts }

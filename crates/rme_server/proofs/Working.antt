@@ -1,11 +1,13 @@
 -- A worker that went on with its job.
-use Rattle.std.proofs.Common.{◌≡◌, ℕ, ◌+◌, ◌-◌, ◌≤◌, Result, Ok, Err, sym, subst, ◌∙◌, refl, arith}
-use Rattle.std.specs.Prelude.{false, None}
+use Rattle.std.proofs.Common.{◌≡◌, ℕ, [], ◌+◌, ◌-◌, ◌≤◌, Result, Ok, Err, sym, subst, ◌∙◌, refl, arith}
+use Rattle.std.specs.Prelude.{false, Option, Some, None}
 use Rattle.std.proofs.lemmas.Bool.{eq-eqb, lt-ltb, ne_eqb}
 use Rattle.rme_words.specs.declared.shape.Shape.{Shape}
 use Rattle.rme_script.specs.declared.job.Job.{Job}
 use Rattle.rme_program.specs.declared.note.Receipt.{Receipt}
+use Rattle.rme_seats.specs.declared.record.Part.{Part}
 use Rattle.rme_seats.specs.Parts.{onward}
+use Rattle.rme_seats.specs.Parts.{submitted as handed}
 use Rattle.rme_seats.specs.Stands.{Ident, Stand}
 use Rattle.rme_table.specs.Driving.{DoesNotWait, Drives, Exhausts, Goes, HasFinished as FinishedJob, Passes}
 use Rattle.rme_table.specs.declared.driving.Driven.{Driven}
@@ -15,22 +17,25 @@ use Rattle.rme_texts.specs.declared.session.Outcome.{Outcome}
 use Rattle.rme_texts.specs.declared.session.Outcome.TheVariants as outcome
 use Rattle.rme_wire.specs.declared.order.Submission.{Submission}
 use Rattle.rme_server.specs.Obeyed.{IsLeft, Resumes, Settles, Submits}
-use Rattle.rme_server.specs.Plans.{tally_of}
+use Rattle.rme_server.specs.Plans.{Leaves, left_of, tally_by}
 use Rattle.rme_server.specs.Refusals.{SubmitRefuses, resume_refusal}
-use Rattle.rme_server.specs.Stands.{HasSlot, MayWork}
-use Rattle.rme_server.specs.Tasks.{IsResumed, IsSubmitted, Makes, holding_of, worked_of}
-use Rattle.rme_server.specs.Works.{AreTried, Ends, GoesOn, IsSpared, IsTried, IsUp, Repeats, Spends, Works, next_task, steps_of}
+use Rattle.rme_server.specs.Stands.{HasSlot, MayWork, held_by}
+use Rattle.rme_server.specs.Tasks.{IsResumed, IsSubmitted, Makes, Spares, Spends, holding_of, lead_by, worked_of}
+use Rattle.rme_server.specs.Works.{AreTried, Ends, GoesOn, IsSpared, IsTried, IsUp, Repeats, WentOn, Works, lead_of, next_task}
+use Rattle.rme_server.specs.declared.planned.Countdown.{Countdown}
+use Rattle.rme_server.specs.declared.planned.Countdown.TheVariants.{Runs, Fallen}
 use Rattle.rme_server.specs.declared.planned.Planned.{Planned}
+use Rattle.rme_server.specs.declared.planned.Planned.TheVariants.{Nothing, After}
 use Rattle.rme_server.specs.declared.stand.Holding.{Holding}
 use Rattle.rme_server.specs.declared.stand.Holding.TheVariants.{Ready}
 use Rattle.rme_server.specs.declared.stand.Stand.{Stand as Session}
 use Rattle.rme_server.specs.declared.work.Work.{Work}
 use Rattle.rme_server.specs.declared.work.Work.TheVariants.{Repeat, Post, GoIn, GoOn}
-use Rattle.rme_server.proofs.Planning.{spared, was_planned}
+use Rattle.rme_server.proofs.Planning.{fallen, spared, stayed}
 
 -- What a drive leaves the session with, which a gate that lets all pass never stops.
-module _ (shape : Shape) (start : Stand) (old now : Planned) where
-  done_did : (ready : Stand) (receipt : Receipt) → Goes shape start ready (tally_of old) (tally_of now) 0 → FinishedJob start ready receipt
+module _ (shape : Shape) (start : Stand) (old now : Countdown) where
+  done_did : (ready : Stand) (receipt : Receipt) → Goes shape start ready (tally_by old) (tally_by now) 0 → FinishedJob start ready receipt
       → ready.part.private.begun ≡ start.part.private.begun → GoesOn start (Ready ready) (outcome.Receipt receipt)
   done_did ready receipt goes its number = (
     its.job,
@@ -47,39 +52,67 @@ module _ (shape : Shape) (start : Stand) (old now : Planned) where
     ),
   )
 
-  pub driven_did : (drive : Driven) → Drives shape false start (tally_of old) (tally_of now) drive → Passes drive → Ends (worked_of drive) (GoesOn start)
+  pub driven_did : (drive : Driven) → Drives shape false start (tally_by old) (tally_by now) drive → Passes drive → Ends (worked_of drive) (GoesOn start)
   driven_did (driven.Done ready receipt) (goes, its, number) passes = (done_did ready receipt goes its number, tt)
   driven_did (driven.Waits climb) (goes, still) passes = (record { draft = still.draft; entries = still.entries; own = goes.own; number = still.number }, tt)
   driven_did (driven.Stopped held) drives passes = absurd passes
   driven_did (driven.Fell down) drives passes = tt
 
-  has_slot : (ident : Ident) (count : ℕ) (falls : ℕ) (later : Stand) → Goes shape start later (tally_of old) (tally_of now) falls → HasSlot ident count start → HasSlot ident count later
+  has_slot : (ident : Ident) (count : ℕ) (falls : ℕ) (later : Stand) → Goes shape start later (tally_by old) (tally_by now) falls → HasSlot ident count start → HasSlot ident count later
   has_slot ident count falls later goes slot = record { ident_is = goes.ident ∙ slot.ident_is; slot = rw goes.own slot.slot }
 
-  pub driven_ours : (ident : Ident) (drive : Driven) → Drives shape false start (tally_of old) (tally_of now) drive → Passes drive
+  pub driven_ours : (ident : Ident) (drive : Driven) → Drives shape false start (tally_by old) (tally_by now) drive → Passes drive
       → (count : ℕ) → HasSlot ident count start → MayWork ident count (worked_of drive)
   driven_ours ident (driven.Done ready receipt) (goes, its, number) passes count slot = has_slot ident count 0 ready goes slot
   driven_ours ident (driven.Waits climb) (goes, still) passes count slot = has_slot ident count 0 climb goes slot
   driven_ours ident (driven.Stopped held) drives passes count slot = absurd passes
   driven_ours ident (driven.Fell down) goes passes count slot = has_slot ident count 1 down goes slot
 
-  pub driven_plan : (drive : Driven) → Drives shape false start (tally_of old) (tally_of now) drive → Passes drive → Spends old start.part.steps now (worked_of drive)
-  driven_plan (driven.Done ready receipt) (goes, its, number) passes = spared shape onward start.part ready.part old now goes.walks
-  driven_plan (driven.Waits climb) (goes, still) passes = spared shape onward start.part climb.part old now goes.walks
+  pub driven_plan : (drive : Driven) → Drives shape false start (tally_by old) (tally_by now) drive → Passes drive → Spends shape onward old (Some start) now (worked_of drive)
+  driven_plan (driven.Done ready receipt) (goes, its, number) passes = spared shape onward start ready old now goes.walks goes.ident goes.own
+  driven_plan (driven.Waits climb) (goes, still) passes = spared shape onward start climb old now goes.walks goes.ident goes.own
   driven_plan (driven.Stopped held) drives passes = absurd passes
-  driven_plan (driven.Fell down) goes passes = was_planned old now _ goes.walks.asks
+  driven_plan (driven.Fell down) goes passes = fallen shape onward start down old now goes.walks goes.ident goes.own
 
 -- What the session is left with: a worker that did not fall was spared.
-left_up : (old now : Session) (its : Outcome) → IsUp its → IsSpared old.planned (steps_of old.value) now.planned now.value → IsLeft old now its
-left_up old now (outcome.Receipt receipt) up spares = spares
-left_up old now outcome.Withdrawn up spares = spares
-left_up old now outcome.Waiting up spares = spares
-left_up old now outcome.Fell up spares = absurd up
+module _ (shape : Shape) (lead : Part → Part) where
+  left_up : (old now : Session) (its : Outcome) (let_go : Option Stand) → IsUp its → let_go ≡ None → IsSpared shape lead old.planned (held_by old.value) now.planned (held_by now.value)
+      → IsLeft shape lead old now its let_go
+  left_up old now (outcome.Receipt receipt) let_go up none spares = (spares, none)
+  left_up old now outcome.Withdrawn let_go up none spares = (spares, none)
+  left_up old now outcome.Waiting let_go up none spares = (spares, none)
+  left_up old now outcome.Fell let_go up none spares = absurd up
 
-pub left_so : (old : Session) (Has : Holding → Outcome → Type 0) (planned : Planned) (worked : Result (Holding × Outcome) Stand) (now : Session) (its : Outcome) → Ends worked Has
-    → Spends old.planned (steps_of old.value) planned worked → Settles worked planned now its → Has now.value its × IsLeft old now its
-left_so old Has planned (Ok (value, became)) now its (has, up) spares (now_is, its_is) = rw (now_is, its_is) (has, left_up old (record { value = value; planned = planned }) became up spares)
-left_so old Has planned (Err down) now its has was (now_is, its_is) = rw (now_is, its_is) (has, (was, refl))
+  pub spared_by : (old : Planned) (start : Option Stand) (now : Countdown) (end : Option Stand) → Spares shape lead (Runs old) start now end → IsSpared shape lead old start (left_of now) end
+  spared_by old start (Runs now) end spares = spares
+  spared_by old start Fallen end spares = absurd spares
+
+  pub left_so : (old : Session) (Has : Holding → Outcome → Type 0) (countdown : Countdown) (worked : Result (Holding × Outcome) Stand) (now : Session) (its : Outcome) (let_go : Option Stand)
+      → Ends worked Has → Spends shape lead (Runs old.planned) (held_by old.value) countdown worked → Settles worked (left_of countdown) now its let_go
+      → Has now.value its × IsLeft shape lead old now its let_go
+  left_so old Has countdown (Ok (value, became)) now its let_go (has, up) spares (now_is, its_is, none) =
+      rw (now_is, its_is) (
+        has,
+        left_up old (record { value = value; planned = left_of countdown }) became let_go up none (spared_by old.planned (held_by old.value) countdown (held_by value) spares),
+      )
+  left_so old Has countdown (Err down) now its let_go has falls (now_is, its_is, go_is) = rw (now_is, its_is, go_is) (has, (falls, refl))
+
+-- A worker that answers its last number again makes no step.
+leaves_none : (planned : Planned) → Leaves planned 0 planned
+leaves_none Nothing = tt
+leaves_none (After left) = λ small. omega arith
+
+spares_none : (shape : Shape) (ready : Stand) (plan : Countdown) → Spares shape onward plan (Some ready) plan (Some ready)
+spares_none shape ready (Runs planned) =
+    (0, record { ident = refl; own = refl; values = []; walk = refl; found = tt; count = refl; steps = omega arith }, leaves_none planned)
+spares_none shape ready Fallen = tt
+
+pub repeats_spares : (shape : Shape) (ready : Stand) (plan : Countdown) (value : Holding) (became : Outcome) → Repeats shape ready value became
+    → Spares shape onward plan (Some ready) plan (held_by value)
+repeats_spares shape ready plan value (outcome.Receipt receipt) (same, last, is_last) = rw same (spares_none shape ready plan)
+repeats_spares shape ready plan value outcome.Withdrawn (same, last) = rw same (spares_none shape ready plan)
+repeats_spares shape ready plan value outcome.Waiting repeats = absurd repeats
+repeats_spares shape ready plan value outcome.Fell repeats = absurd repeats
 
 -- A submission that is not refused, and the work that it asks.
 not_refused : (shape : Shape) (its : Submission) (work : Work) → IsSubmitted shape its work → SubmitRefuses shape (holding_of work) its None
@@ -98,13 +131,37 @@ submits shape its (Post admitted tries) value became (next, same, none) makes =
 submits shape its (GoIn climb tries) value became pending makes = makes
 submits shape its (GoOn held) value became pending makes = makes
 
-pub submitted : (shape : Shape) (its : Submission) (work : Work) (old now : Session) (became : Outcome) → holding_of work ≡ old.value → IsSubmitted shape its work
-    → Makes shape work now.value became × IsLeft (record { value = holding_of work; planned = old.planned }) now became
-    → SubmitRefuses shape old.value its None × (Submits shape old.value its now.value became × IsLeft old now became)
-submitted shape its work old now became same asked (makes, left) =
+-- What stands before the first step of the work stands there for the order; to answer the last number again takes no step.
+repeated : (shape : Shape) (ready : Stand) (planned : Planned) (job : Job) (now : Session) (became : Outcome) (let_go : Option Stand) → Repeats shape ready now.value became
+    → IsLeft shape onward (record { value = Ready ready; planned = planned }) now became let_go → IsLeft shape (handed job) (record { value = Ready ready; planned = planned }) now became let_go
+repeated shape ready planned job now (outcome.Receipt receipt) let_go (same, last, is_last) ((made, went, left), none) =
+    let P : Holding → Type 0 = λ value. WentOn shape onward (Some ready) (held_by value) made in
+    let Q : Holding → Type 0 = λ value. WentOn shape (handed job) (Some ready) (held_by value) made in
+    ((made, subst Q (sym same) (stayed shape onward (handed job) ready made (subst P same went)), left), none)
+repeated shape ready planned job now outcome.Withdrawn let_go (same, last) ((made, went, left), none) =
+    let P : Holding → Type 0 = λ value. WentOn shape onward (Some ready) (held_by value) made in
+    let Q : Holding → Type 0 = λ value. WentOn shape (handed job) (Some ready) (held_by value) made in
+    ((made, subst Q (sym same) (stayed shape onward (handed job) ready made (subst P same went)), left), none)
+repeated shape ready planned job now outcome.Waiting let_go repeats left = absurd repeats
+repeated shape ready planned job now outcome.Fell let_go repeats left = absurd repeats
+
+led_so : (shape : Shape) (its : Submission) (work : Work) (planned : Planned) (now : Session) (became : Outcome) (let_go : Option Stand) → IsSubmitted shape its work
+    → Makes shape work now.value became → IsLeft shape (lead_by work) (record { value = holding_of work; planned = planned }) now became let_go
+    → IsLeft shape (lead_of (holding_of work) its.job) (record { value = holding_of work; planned = planned }) now became let_go
+led_so shape its (Repeat ready) planned now became let_go asked makes left = repeated shape ready planned its.job now became let_go makes left
+led_so shape its (Post admitted tries) planned now became let_go (next, same, none) makes left =
+    let P : Job → Type 0 = λ job. IsLeft shape (handed job) (record { value = Ready admitted.ready; planned = planned }) now became let_go in subst P same left
+led_so shape its (GoIn climb tries) planned now became let_go asked makes left = left
+led_so shape its (GoOn held) planned now became let_go asked makes left = left
+
+pub submitted : (shape : Shape) (its : Submission) (work : Work) (old now : Session) (became : Outcome) (let_go : Option Stand) → holding_of work ≡ old.value → IsSubmitted shape its work
+    → Makes shape work now.value became × IsLeft shape (lead_by work) (record { value = holding_of work; planned = old.planned }) now became let_go
+    → SubmitRefuses shape old.value its None × (Submits shape old.value its now.value became × IsLeft shape (lead_of old.value its.job) old now became let_go)
+submitted shape its work old now became let_go same asked (makes, left) =
     let P : Holding → Type 0 =
-    λ value. SubmitRefuses shape value its None × (Submits shape value its now.value became × IsLeft (record { value = value; planned = old.planned }) now became) in
-    subst P same (not_refused shape its work asked, (submits shape its work now.value became asked makes, left))
+    λ value. SubmitRefuses shape value its None
+    × (Submits shape value its now.value became × IsLeft shape (lead_of value its.job) (record { value = value; planned = old.planned }) now became let_go) in
+    subst P same (not_refused shape its work asked, (submits shape its work now.value became asked makes, led_so shape its work old.planned now became let_go asked makes left))
 
 -- The work of an order that goes on.
 resumes : (shape : Shape) (work : Work) (value : Holding) (became : Outcome) → IsResumed work → Makes shape work value became → (None ≡ resume_refusal (holding_of work)) × Resumes (holding_of work) value became
@@ -113,13 +170,21 @@ resumes shape (Post admitted tries) value became asked makes = absurd asked
 resumes shape (GoIn climb tries) value became asked makes = (refl, makes)
 resumes shape (GoOn held) value became asked makes = (refl, makes)
 
-pub resumed : (shape : Shape) (work : Work) (old now : Session) (became : Outcome) → holding_of work ≡ old.value → IsResumed work
-    → Makes shape work now.value became × IsLeft (record { value = holding_of work; planned = old.planned }) now became
-    → (None ≡ resume_refusal old.value) × (Resumes old.value now.value became × IsLeft old now became)
-resumed shape work old now became same asked (makes, left) =
+led_onward : (shape : Shape) (work : Work) (old now : Session) (became : Outcome) (let_go : Option Stand) → IsResumed work → IsLeft shape (lead_by work) old now became let_go
+    → IsLeft shape onward old now became let_go
+led_onward shape (Repeat ready) old now became let_go asked left = absurd asked
+led_onward shape (Post admitted tries) old now became let_go asked left = absurd asked
+led_onward shape (GoIn climb tries) old now became let_go asked left = left
+led_onward shape (GoOn held) old now became let_go asked left = left
+
+pub resumed : (shape : Shape) (work : Work) (old now : Session) (became : Outcome) (let_go : Option Stand) → holding_of work ≡ old.value → IsResumed work
+    → Makes shape work now.value became × IsLeft shape (lead_by work) (record { value = holding_of work; planned = old.planned }) now became let_go
+    → (None ≡ resume_refusal old.value) × (Resumes old.value now.value became × IsLeft shape onward old now became let_go)
+resumed shape work old now became let_go same asked (makes, left) =
     let P : Holding → Type 0 =
-    λ value. (None ≡ resume_refusal value) × (Resumes value now.value became × IsLeft (record { value = value; planned = old.planned }) now became) in
-    let so = resumes shape work now.value became asked makes in subst P same (so.0, (so.1, left))
+    λ value. (None ≡ resume_refusal value) × (Resumes value now.value became × IsLeft shape onward (record { value = value; planned = old.planned }) now became let_go) in
+    let so = resumes shape work now.value became asked makes in
+    subst P same (so.0, (so.1, led_onward shape work (record { value = holding_of work; planned = old.planned }) now became let_go asked left))
 
 -- The tries that were made before a job waits.
 pub driven_tried : (start : Stand) (before after : Tries) (drive : Driven) → Exhausts start before after drive → Passes drive → AreTried (before.most - before.blocked) start.part.steps (worked_of drive)
@@ -150,7 +215,7 @@ repeats_tried shape ready most steps value outcome.Withdrawn repeats = tt
 repeats_tried shape ready most steps value outcome.Waiting repeats = absurd repeats
 repeats_tried shape ready most steps value outcome.Fell repeats = tt
 
-pub settled_tried : (most steps : ℕ) (planned : Planned) (worked : Result (Holding × Outcome) Stand) (now : Session) (became : Outcome) → Settles worked planned now became
+pub settled_tried : (most steps : ℕ) (planned : Planned) (worked : Result (Holding × Outcome) Stand) (now : Session) (became : Outcome) (let_go : Option Stand) → Settles worked planned now became let_go
     → AreTried most steps worked → IsTried most steps now.value became
-settled_tried most steps planned (Ok (value, its)) now became (now_is, its_is) tried = rw (now_is, its_is) tried
-settled_tried most steps planned (Err down) now became (now_is, its_is) tried = rw its_is tt
+settled_tried most steps planned (Ok (value, its)) now became let_go (now_is, its_is, none) tried = rw (now_is, its_is) tried
+settled_tried most steps planned (Err down) now became let_go (now_is, its_is, go_is) tried = rw its_is tt

@@ -4,6 +4,8 @@ use Rattle.rme_words.specs.declared.shape.Shape.{Shape}
 use Rattle.rme_words.specs.declared.refusal.Refusal.{Refusal}
 use Rattle.rme_words.specs.declared.refusal.Refusal.TheVariants.{NoWorker, Taken}
 use Rattle.rme_program.specs.declared.note.Receipt.{Receipt}
+use Rattle.rme_seats.specs.declared.record.Part.{Part}
+use Rattle.rme_seats.specs.Parts.{onward, withdrawing}
 use Rattle.rme_seats.specs.Stands as seat
 use Rattle.rme_table.specs.Calls.{IsLast, is_over}
 use Rattle.rme_texts.specs.declared.session.Outcome.{Outcome}
@@ -17,8 +19,9 @@ use Rattle.rme_wire.specs.declared.order.Order.TheVariants as order
 use Rattle.rme_wire.specs.declared.order.Submission.{Submission}
 use Rattle.rme_server.specs.Slots.{IsOf}
 use Rattle.rme_server.specs.Refusals.{Refuses, attach_refusal}
-use Rattle.rme_server.specs.Plans.{IsPlanned}
-use Rattle.rme_server.specs.Works.{GoesOn, Hands, IsSpared, IsTried, steps_of}
+use Rattle.rme_server.specs.Rises.{TakesOut}
+use Rattle.rme_server.specs.Stands.{held_by}
+use Rattle.rme_server.specs.Works.{Falls, GoesOn, Hands, IsSpared, IsTried, lead_of, steps_of}
 use Rattle.rme_server.specs.declared.planned.Planned.{Planned}
 use Rattle.rme_server.specs.declared.planned.Planned.TheVariants.{Nothing, After}
 use Rattle.rme_server.specs.declared.stand.Stand.{Stand}
@@ -64,25 +67,28 @@ abbrev pub Lasts : Shape → Holding → Option Receipt → Type 0
 Lasts shape (Ready ready) receipt = IsLast shape ready.part receipt
 Lasts shape other receipt = ⊥
 
--- A worker falls only where a crash was planned, and then the session has no worker and nothing is planned. Without a fall
--- the crash comes sooner by the steps that the worker made.
-abbrev pub IsLeft : Stand → Stand → Outcome → Type 0
-IsLeft old now Fell = IsPlanned old.planned × (now ≡ nobody)
-IsLeft old now outcome = IsSpared old.planned (steps_of old.value) now.planned now.value
+-- A worker that falls made exactly as many own steps as were planned, and is let go; the session has no worker then, and
+-- nothing is planned. Without a fall the crash comes sooner by the steps that the worker made. Either way nothing was done to
+-- the worker but its own steps, behind what the order lets stand before them.
+abbrev pub IsLeft : Shape → (Part → Part) → Stand → Stand → Outcome → Option seat.Stand → Type 0
+IsLeft shape lead old now Fell let_go = Falls shape lead old.planned (held_by old.value) let_go × (now ≡ nobody)
+IsLeft shape lead old now outcome let_go = IsSpared shape lead old.planned (held_by old.value) now.planned (held_by now.value) × (let_go ≡ None)
 
--- What an order that is not refused does, and its answer. A job that is submitted, or that the worker goes on with, waits only
--- after all its tries.
-abbrev pub Does : seat.Ident → Stand → Order → Stand → SessionReply → Type 0
-Does ident old (order.Attach worker) now answer = AnswersOf ident worker now.value answer × (now.planned ≡ Nothing)
-Does ident old (order.Submit its) now (reply.Submitted outcome) = Submits ident.shape old.value its now.value outcome × IsLeft old now outcome × IsTried its.tries (steps_of old.value) now.value outcome
-Does ident old (order.Resume tries) now (reply.Resumed outcome) = Resumes old.value now.value outcome × IsLeft old now outcome × IsTried tries (steps_of old.value) now.value outcome
-Does ident old order.Withdraw now (reply.Withdrew number) =
-    Withdraws old.value now.value number × IsSpared old.planned (steps_of old.value) now.planned now.value
-Does ident old order.Withdraw now reply.WithdrawFell = IsPlanned old.planned × (now ≡ nobody)
-Does ident old order.Last now (reply.Last receipt) = Lasts ident.shape old.value receipt × (now ≡ old)
-Does ident old (order.CrashAfter steps) now reply.CrashPlanned = now ≡ record { value = old.value; planned = After steps }
-Does ident old order.Detach now reply.Detached = now ≡ nobody
-Does ident old its now answer = ⊥
+-- What an order that is not refused does, its answer, and the Down of the worker that is let go. A job that is submitted, or
+-- that the worker goes on with, waits only after all its tries. DETACH lets the worker go as it was.
+abbrev pub Does : seat.Ident → Stand → Order → Stand → SessionReply → Option seat.Stand → Type 0
+Does ident old (order.Attach worker) now answer let_go = AnswersOf ident worker now.value answer × TakesOut ident worker now.value × (now.planned ≡ Nothing) × (let_go ≡ None)
+Does ident old (order.Submit its) now (reply.Submitted outcome) let_go =
+    Submits ident.shape old.value its now.value outcome × IsLeft ident.shape (lead_of old.value its.job) old now outcome let_go × IsTried its.tries (steps_of old.value) now.value outcome
+Does ident old (order.Resume tries) now (reply.Resumed outcome) let_go =
+    Resumes old.value now.value outcome × IsLeft ident.shape onward old now outcome let_go × IsTried tries (steps_of old.value) now.value outcome
+Does ident old order.Withdraw now (reply.Withdrew number) let_go =
+    Withdraws old.value now.value number × IsSpared ident.shape withdrawing old.planned (held_by old.value) now.planned (held_by now.value) × (let_go ≡ None)
+Does ident old order.Withdraw now reply.WithdrawFell let_go = Falls ident.shape withdrawing old.planned (held_by old.value) let_go × (now ≡ nobody)
+Does ident old order.Last now (reply.Last receipt) let_go = Lasts ident.shape old.value receipt × (now ≡ old) × (let_go ≡ None)
+Does ident old (order.CrashAfter steps) now reply.CrashPlanned let_go = (now ≡ record { value = old.value; planned = After steps }) × (let_go ≡ None)
+Does ident old order.Detach now reply.Detached let_go = (now ≡ nobody) × (let_go ≡ held_by old.value)
+Does ident old its now answer let_go = ⊥
 
 -- Among so many slots the one of a worker that may be attached is empty, or there is none.
 abbrev pub SlotRefuses : ℕ → Shape → Holding → Order → Refusal → Type 0
@@ -91,13 +97,18 @@ SlotRefuses count shape value (order.Attach worker) NoWorker = (attach_refusal s
 SlotRefuses count shape value its why = ⊥
 
 -- A session of this service, which has so many slots, obeyed an order: it refused it, for the reason that the order has
--- there, and is as it was; or the order is not refused there, and did what it does.
-abbrev pub Obeys : seat.Ident → ℕ → Stand → Order → Stand → SessionReply → Type 0
-Obeys ident count old its now (reply.Refused why) =
-    (now ≡ old) × (Refuses ident.shape old.value its (Some why) ⊎ SlotRefuses count ident.shape old.value its why)
-Obeys ident count old its now answer = Refuses ident.shape old.value its None × Does ident old its now answer
+-- there, and is as it was; or the order is not refused there, and did what it does. It let this worker go, if any.
+abbrev pub Acts : seat.Ident → ℕ → Stand → Order → Stand → SessionReply → Option seat.Stand → Type 0
+Acts ident count old its now (reply.Refused why) let_go =
+    ((now ≡ old) × (let_go ≡ None)) × (Refuses ident.shape old.value its (Some why) ⊎ SlotRefuses count ident.shape old.value its why)
+Acts ident count old its now answer let_go = Refuses ident.shape old.value its None × Does ident old its now answer let_go
 
--- What the session holds after work, and what is answered of it: a worker that fell is back in its slot.
-abbrev pub Settles : Result (Holding × Outcome) seat.Stand → Planned → Stand → Outcome → Type 0
-Settles (Ok done) planned now outcome = (now ≡ record { value = done.0; planned = planned }) × (outcome ≡ done.1)
-Settles (Err down) planned now outcome = (now ≡ nobody) × (outcome ≡ Fell)
+-- The same, whatever was let go: it lies in its slot.
+pub record Obeys (ident : seat.Ident) (count : ℕ) (old : Stand) (its : Order) (now : Stand) (answer : SessionReply) : Type 0 where
+  pub let_go : Option seat.Stand
+  pub acts : Acts ident count old its now answer let_go
+
+-- What the session holds after work, what is answered of it, and the worker that fell.
+abbrev pub Settles : Result (Holding × Outcome) seat.Stand → Planned → Stand → Outcome → Option seat.Stand → Type 0
+Settles (Ok done) planned now outcome let_go = (now ≡ record { value = done.0; planned = planned }) × (outcome ≡ done.1) × (let_go ≡ None)
+Settles (Err down) planned now outcome let_go = (now ≡ nobody) × (outcome ≡ Fell) × (let_go ≡ Some down)

@@ -1,6 +1,8 @@
 -- The work that an order asks of a session's worker, and what it comes to.
-use Rattle.std.specs.Prelude.{◌≡◌, ℕ, ◌+◌, ◌<◌, None, Result, Ok, Err}
+use Rattle.std.specs.Prelude.{◌≡◌, ℕ, ◌+◌, ◌<◌, Option, Some, None, Result, Ok, Err, MatchResult}
 use Rattle.rme_words.specs.declared.shape.Shape.{Shape}
+use Rattle.rme_seats.specs.declared.record.Part.{Part}
+use Rattle.rme_seats.specs.Parts.{onward, submitted}
 use Rattle.rme_seats.specs.Stands.{Stand}
 use Rattle.rme_table.specs.Calls.{post_refusal}
 use Rattle.rme_table.specs.declared.driving.Driven.{Driven}
@@ -9,7 +11,10 @@ use Rattle.rme_texts.specs.declared.session.Outcome.{Outcome}
 use Rattle.rme_texts.specs.declared.session.Outcome.TheVariants as outcome
 use Rattle.rme_wire.specs.declared.order.Submission.{Submission}
 use Rattle.rme_server.specs.Refusals.{PendingRefuses}
-use Rattle.rme_server.specs.Works.{GoesOn, Repeats, Works, next_task}
+use Rattle.rme_server.specs.Stands.{held_by}
+use Rattle.rme_server.specs.Works.{Falls, GoesOn, IsSpared, Repeats, Works, next_task}
+use Rattle.rme_server.specs.declared.planned.Countdown.{Countdown}
+use Rattle.rme_server.specs.declared.planned.Countdown.TheVariants.{Runs, Fallen}
 use Rattle.rme_server.specs.declared.stand.Holding.{Holding}
 use Rattle.rme_server.specs.declared.stand.Holding.TheVariants as holds
 use Rattle.rme_server.specs.declared.work.Work.{Work}
@@ -57,3 +62,23 @@ worked_of (driven.Done ready receipt) = Ok (holds.Ready ready, outcome.Receipt r
 worked_of (driven.Waits climb) = Ok (holds.Climb climb, outcome.Waiting)
 worked_of (driven.Stopped held) = Ok (holds.Held held, outcome.Waiting)
 worked_of (driven.Fell down) = Err down
+
+-- What stands before the first step of the work.
+abbrev pub lead_by : Work → Part → Part
+lead_by (Post admitted tries) = submitted admitted.job
+lead_by work = onward
+
+-- What work does to the plan that the worker works by: the worker was spared, or it fell, as was planned. No work begins
+-- after a fall.
+abbrev pub Spares : Shape → (Part → Part) → Countdown → Option Stand → Countdown → Option Stand → Type 0
+Spares shape lead (Runs old) start (Runs now) end = IsSpared shape lead old start now end
+Spares shape lead (Runs old) start Fallen end = ⊥
+Spares shape lead Fallen start now end = Unit {0}
+
+abbrev pub FallsBy : Shape → (Part → Part) → Countdown → Option Stand → Option Stand → Type 0
+FallsBy shape lead (Runs old) start down = Falls shape lead old start down
+FallsBy shape lead Fallen start down = Unit {0}
+
+abbrev pub Spends : Shape → (Part → Part) → Countdown → Option Stand → Countdown → Result (Holding × Outcome) Stand → Type 0
+Spends shape lead old start now worked =
+    MatchResult worked (λ (done : Holding × Outcome). Spares shape lead old start now (held_by done.0)) (λ (down : Stand). FallsBy shape lead old start (Some down))

@@ -1,16 +1,20 @@
 -- What becomes of a worker's job within one order.
-use Rattle.std.specs.Prelude.{◌≡◌, ℕ, ◌+◌, ◌≤◌, Bool, true, false, List, [], ◌∷◌, ◌++◌, Some, None, Result, MatchResult}
+use Rattle.std.specs.Prelude.{◌≡◌, ℕ, ◌+◌, ◌≤◌, Bool, true, false, length, List, [], ◌∷◌, ◌++◌, Option, Some, None, Result, MatchResult}
 use Rattle.rme_words.specs.declared.shape.Shape.{Shape}
 use Rattle.rme_script.specs.declared.job.Job.{Job}
 use Rattle.rme_program.specs.declared.note.Entry.{Entry}
+use Rattle.rme_seats.specs.declared.record.Part.{Part}
+use Rattle.rme_seats.specs.Doing.{AllFound}
+use Rattle.rme_seats.specs.Parts.{led, onward, submitted}
 use Rattle.rme_seats.specs.Stands.{Stand}
 use Rattle.rme_table.specs.Calls.{IsLast, last_receipt}
 use Rattle.rme_texts.specs.declared.session.Outcome.{Outcome}
 use Rattle.rme_texts.specs.declared.session.Outcome.TheVariants as outcome
-use Rattle.rme_server.specs.Plans.{IsPlanned, Leaves}
+use Rattle.rme_server.specs.Plans.{IsDue, Leaves}
+use Rattle.rme_server.specs.Stands.{held_by}
 use Rattle.rme_server.specs.declared.planned.Planned.{Planned}
 use Rattle.rme_server.specs.declared.stand.Holding.{Holding}
-use Rattle.rme_server.specs.declared.stand.Holding.TheVariants.{Empty, Ready, Climb, Held}
+use Rattle.rme_server.specs.declared.stand.Holding.TheVariants.{Empty, Ready, Climb}
 
 -- A worker's job, which is pending or is posted now, with its number.
 pub record Task : Type 0 where
@@ -89,11 +93,12 @@ abbrev pub Ends : Result (Holding × Outcome) Stand → (Holding → Outcome →
 Ends worked Has = MatchResult worked (λ (done : Holding × Outcome). Has done.0 done.1 × IsUp done.1) (λ (down : Stand). Has Empty outcome.Fell)
 
 -- The own steps that a worker has made until now.
+abbrev pub steps_in : Option Stand → ℕ
+steps_in None = 0
+steps_in (Some stand) = stand.part.steps
+
 abbrev pub steps_of : Holding → ℕ
-steps_of Empty = 0
-steps_of (Ready ready) = ready.part.steps
-steps_of (Climb climb) = climb.part.steps
-steps_of (Held held) = held.part.steps
+steps_of value = steps_in (held_by value)
 
 -- A job waits only after so many tries, each of which had an own step at least: the worker had made so many before.
 abbrev pub IsTried : ℕ → ℕ → Holding → Outcome → Type 0
@@ -103,10 +108,30 @@ IsTried tries steps value its = Unit {0}
 abbrev pub AreTried : ℕ → ℕ → Result (Holding × Outcome) Stand → Type 0
 AreTried tries steps worked = MatchResult worked (λ (done : Holding × Outcome). IsTried tries steps done.0 done.1) (λ (down : Stand). Unit {0})
 
--- A worker with so many own steps made some more, and the plan is what they leave of it.
-abbrev pub IsSpared : Planned → ℕ → Planned → Holding → Type 0
-IsSpared old steps now value = (made : ℕ) × (steps_of value ≡ steps + made) × Leaves old made now
+-- The worker made so many own steps, and nothing else was done to it but what stands before the first of them: each is the
+-- core's, over the number that it found in a world.
+pub record HasWalked (shape : Shape) (lead : Part → Part) (start now : Stand) (made : ℕ) : Type 0 where
+  pub ident : now.ident ≡ start.ident
+  pub own : now.part.worker ≡ start.part.worker
+  pub values : List ℕ
+  pub walk : now.part ≡ led shape lead start.part values
+  pub found : AllFound shape lead start.part values
+  pub count : length values ≡ made
+  pub steps : now.part.steps ≡ start.part.steps + made
 
--- What work does to the plan, where the worker had made so many own steps: it fell, as was planned, or it was spared.
-abbrev pub Spends : Planned → ℕ → Planned → Result (Holding × Outcome) Stand → Type 0
-Spends old steps now worked = MatchResult worked (λ (done : Holding × Outcome). IsSpared old steps now done.0) (λ (down : Stand). IsPlanned old)
+abbrev pub WentOn : Shape → (Part → Part) → Option Stand → Option Stand → ℕ → Type 0
+WentOn shape lead (Some start) (Some now) made = HasWalked shape lead start now made
+WentOn shape lead start now made = ⊥
+
+-- What stands before the first step of a job that is submitted: it is handed to a worker that is ready.
+abbrev pub lead_of : Holding → Job → Part → Part
+lead_of (Ready ready) job = submitted job
+lead_of value job = onward
+
+-- A worker went on without a fall, and the plan is what its steps leave of it.
+abbrev pub IsSpared : Shape → (Part → Part) → Planned → Option Stand → Planned → Option Stand → Type 0
+IsSpared shape lead old start now end = (made : ℕ) × WentOn shape lead start end made × Leaves old made now
+
+-- A worker went on and fell, after exactly as many own steps as were planned, and this is its Down.
+abbrev pub Falls : Shape → (Part → Part) → Planned → Option Stand → Option Stand → Type 0
+Falls shape lead old start down = (made : ℕ) × WentOn shape lead start down made × IsDue old made

@@ -1,19 +1,22 @@
 //! What each order of a session does, and what it is answered.
 
-ghost use Rattle.std.specs.Prelude.{◌≡◌, ℕ, Option, None};
+ghost use Rattle.std.specs.Prelude.{◌≡◌, ℕ, Option, None, IfSome, true};
+ghost use Rattle.rme_seats.specs.Parts.{onward};
+ghost use Rattle.rme_table.specs.Calls.{is_over};
 ghost use Rattle.rme_program.specs.declared.note.Receipt.{Receipt};
 ghost use Rattle.rme_texts.specs.declared.session.SessionReply.TheVariants as reply;
 ghost use Rattle.rme_texts.specs.declared.session.Standing.TheVariants as at;
 ghost use Rattle.rme_wire.specs.declared.order.Order.TheVariants as order;
 ghost use Rattle.rme_server.specs.Slots.{IsOf};
-ghost use Rattle.rme_server.specs.Stands.{MayHold, MayWork};
+ghost use Rattle.rme_server.specs.Stands.{HasSlot, MayHold, MayWork};
 ghost use Rattle.rme_server.specs.declared.stand.Holding.TheVariants as spec;
 ghost use Rattle.rme_server.specs.declared.planned.Planned.TheVariants as planned;
-ghost use Rattle.rme_server.specs.Tasks.{HasTries, Makes, holding_of};
+ghost use Rattle.rme_server.specs.Tasks.{HasTries, Makes, holding_of, lead_by};
+ghost use Rattle.rme_server.specs.Rises.{ComesOut, ComesUp, KeepsAll};
 ghost use Rattle.rme_server.specs.Works.{IsTried, steps_of};
-ghost use Rattle.rme_server.specs.Obeyed.{AnswersOf, IsLeft, Obeys, Settles};
+ghost use Rattle.rme_server.specs.Obeyed.{Acts, AnswersOf, IsLeft, Obeys, Settles};
 
-use crate::planned::Planned;
+use crate::planned::{Countdown, Planned};
 use crate::refusal::{Refused, to_attach, to_hold, to_resume, to_submit, to_tell, to_withdraw};
 use crate::slots::Slots;
 use crate::stand::{Holding, Stand};
@@ -22,7 +25,11 @@ use rme_table::{Climb, Down, Held, Leave, Never, Ready, Service, Stance, Tag};
 use rme_wire::{Order, Outcome, SessionReply, Standing, Submission};
 use std::sync::Wait;
 
-/// Obeys an order, and answers it as plain data. A refused order changes nothing.
+/// Where the session stands after an order, what the order is answered, and the worker that is let go, if one is.
+type Acted = (Stand, SessionReply, Option<Down>);
+
+/// Obeys an order, and answers it as plain data. A refused order changes nothing. A worker that is let go is back in
+/// its slot.
 pub fn obey<K: Tag, R: Wait>(
     rt: &R,
     stand: Stand,
@@ -35,14 +42,33 @@ pub fn obey<K: Tag, R: Wait>(
     ensures ours { MayHold K.ident slots.now result.0.value }
     ensures obeys { Obeys K.ident slots.now stand order result.0 result.1 }
 {
+    let (stand, reply, gone) = act(rt, stand, order, service, slots);
+    give_back(rt, gone, slots);
+    (stand, reply)
+}
+
+/// Obeys an order, up to the return of a worker that is let go.
+fn act<K: Tag, R: Wait>(
+    rt: &R,
+    stand: Stand,
+    order: Order,
+    service: &Service,
+    slots: &Slots<K>,
+) -> Acted
+    requires service { service.now ≡ K.ident }
+    requires ours { MayHold K.ident slots.now stand.value }
+    ensures ours { MayHold K.ident slots.now result.0.value }
+    ensures slot { IfSome result.2 (HasSlot K.ident slots.now) }
+    ensures acts { Acts K.ident slots.now stand order result.0 result.1 result.2 }
+{
     match order {
         Order::Attach(worker) => attach(rt, stand, worker, service, slots),
-        Order::Submit(submission) => submit(rt, stand, &submission, service, slots),
-        Order::Resume(tries) => resume(rt, stand, tries, service, slots),
-        Order::Withdraw => withdraw(rt, stand, service, slots),
+        Order::Submit(submission) => submit(stand, &submission, service, slots),
+        Order::Resume(tries) => resume(stand, tries, service, slots),
+        Order::Withdraw => withdraw(stand, service, slots),
         Order::Last => last(stand, service, slots),
         Order::CrashAfter(steps) => crash_after(stand, steps, slots),
-        Order::Detach => detach(rt, stand, slots),
+        Order::Detach => detach(stand, slots),
     }
 }
 
@@ -50,100 +76,100 @@ pub fn obey<K: Tag, R: Wait>(
 pub(crate) fn let_go<K: Tag, R: Wait>(rt: &R, stand: Stand, slots: &Slots<K>)
     requires ours { MayHold K.ident slots.now stand.value }
 {
-    if let Some(down) = stand.crash() {
+    give_back(rt, stand.crash(), slots);
+}
+
+/// Puts the Down of a worker that was let go into its slot.
+fn give_back<K: Tag, R: Wait>(rt: &R, gone: Option<Down>, slots: &Slots<K>)
+    requires slot { IfSome gone (HasSlot K.ident slots.now) }
+{
+    if let Some(down) = gone {
         slots.give(rt, down);
     }
 }
 
 /// A refused order leaves the session as it was.
-fn refuse(refused: Refused, planned: Planned) -> (Stand, SessionReply)
-    ensures { (result.0 ≡ record { value = refused.0; planned = planned }) × (result.1 ≡ reply.Refused refused.1) }
+fn refuse(refused: Refused, planned: Planned) -> Acted
+    ensures { (result.0 ≡ record { value = refused.0; planned = planned }) × (result.1 ≡ reply.Refused refused.1) × (result.2 ≡ None) }
 {
     let (value, why) = refused;
-    (Stand { value, planned }, SessionReply::Refused(why))
+    (Stand { value, planned }, SessionReply::Refused(why), None)
 }
 
 /// Hands the worker a job, or goes on with the one that it has.
-fn submit<K: Tag, R: Wait>(
-    rt: &R,
+fn submit<K: Tag>(
     stand: Stand,
     submission: &Submission,
     service: &Service,
     slots: &Slots<K>,
-) -> (Stand, SessionReply)
+) -> Acted
     requires service { service.now ≡ K.ident }
     requires ours { MayHold K.ident slots.now stand.value }
     ensures ours { MayHold K.ident slots.now result.0.value }
-    ensures obeys { Obeys K.ident slots.now stand (order.Submit submission.now) result.0 result.1 }
+    ensures slot { IfSome result.2 (HasSlot K.ident slots.now) }
+    ensures acts { Acts K.ident slots.now stand (order.Submit submission.now) result.0 result.1 result.2 }
 {
     let Stand { value, planned } = stand;
     match to_submit(value, submission, service) {
         Ok(work) => {
-            let (stand, outcome) = make(rt, work, planned, service, slots);
-            (stand, SessionReply::Submitted(outcome))
+            let (stand, outcome, gone) = make(work, planned, service, slots);
+            (stand, SessionReply::Submitted(outcome), gone)
         }
         Err(refused) => refuse(refused, planned),
     }
 }
 
 /// Goes on with the job that the worker has.
-fn resume<K: Tag, R: Wait>(
-    rt: &R,
-    stand: Stand,
-    tries: u32,
-    service: &Service,
-    slots: &Slots<K>,
-) -> (Stand, SessionReply)
+fn resume<K: Tag>(stand: Stand, tries: u32, service: &Service, slots: &Slots<K>) -> Acted
     requires service { service.now ≡ K.ident }
     requires ours { MayHold K.ident slots.now stand.value }
     ensures ours { MayHold K.ident slots.now result.0.value }
-    ensures obeys { Obeys K.ident slots.now stand (order.Resume tries) result.0 result.1 }
+    ensures slot { IfSome result.2 (HasSlot K.ident slots.now) }
+    ensures acts { Acts K.ident slots.now stand (order.Resume tries) result.0 result.1 result.2 }
 {
     let Stand { value, planned } = stand;
     match to_resume(value, tries) {
         Ok(work) => {
-            let (stand, outcome) = make(rt, work, planned, service, slots);
-            (stand, SessionReply::Resumed(outcome))
+            let (stand, outcome, gone) = make(work, planned, service, slots);
+            (stand, SessionReply::Resumed(outcome), gone)
         }
         Err(refused) => refuse(refused, planned),
     }
 }
 
-/// Lets the worker do its work. Where it fell it is back in its slot.
-fn make<K: Tag, R: Wait>(
-    rt: &R,
+/// Lets the worker do its work. A worker that fell is let go.
+fn make<K: Tag>(
     work: Work,
-    mut planned: Planned,
+    planned: Planned,
     service: &Service,
     slots: &Slots<K>,
-) -> (Stand, Outcome)
+) -> (Stand, Outcome, Option<Down>)
     requires service { service.now ≡ K.ident }
     requires ours { MayHold K.ident slots.now (holding_of work) }
     ensures ours { MayHold K.ident slots.now result.0.value }
-    ensures did { Makes service.now.shape work result.0.value result.1 × IsLeft (record { value = holding_of work; planned = planned }) result.0 result.1 }
+    ensures slot { IfSome result.2 (HasSlot K.ident slots.now) }
+    ensures did { Makes service.now.shape work result.0.value result.1 × IsLeft service.now.shape (lead_by work) (record { value = holding_of work; planned = planned }) result.0 result.1 result.2 }
     ensures tried { (most : ℕ) → HasTries most work → IsTried most (steps_of (holding_of work)) result.0.value result.1 }
 {
-    let worked = carry_out(work, &mut planned, service);
-    settle(rt, worked, planned, slots)
+    let mut countdown = Countdown::Runs(planned);
+    let worked = carry_out(work, &mut countdown, service);
+    settle(worked, countdown.left(), slots)
 }
 
-/// Where the session stands after work: a worker that fell is back in its slot, and its plan is used up.
-fn settle<K: Tag, R: Wait>(
-    rt: &R,
+/// Where the session stands after work: a worker that fell is let go, and its plan is used up.
+fn settle<K: Tag>(
     worked: Result<Worked, Down>,
     planned: Planned,
     slots: &Slots<K>,
-) -> (Stand, Outcome)
+) -> (Stand, Outcome, Option<Down>)
     requires ours { MayWork K.ident slots.now worked }
     ensures ours { MayHold K.ident slots.now result.0.value }
-    ensures settles { Settles worked planned result.0 result.1 }
+    ensures slot { IfSome result.2 (HasSlot K.ident slots.now) }
+    ensures settles { Settles worked planned result.0 result.1 result.2 }
 {
     match worked {
-        Ok((value, outcome)) => (Stand { value, planned }, outcome),
-        Err(down) => {
-            slots.give(rt, down);
-            (Stand::empty(), Outcome::Fell)
-        }
+        Ok((value, outcome)) => (Stand { value, planned }, outcome, None),
+        Err(down) => (Stand::empty(), Outcome::Fell, Some(down)),
     }
 }
 
@@ -154,11 +180,12 @@ fn attach<K: Tag, R: Wait>(
     worker: u32,
     service: &Service,
     slots: &Slots<K>,
-) -> (Stand, SessionReply)
+) -> Acted
     requires service { service.now ≡ K.ident }
     requires ours { MayHold K.ident slots.now stand.value }
     ensures ours { MayHold K.ident slots.now result.0.value }
-    ensures obeys { Obeys K.ident slots.now stand (order.Attach worker) result.0 result.1 }
+    ensures slot { IfSome result.2 (HasSlot K.ident slots.now) }
+    ensures acts { Acts K.ident slots.now stand (order.Attach worker) result.0 result.1 result.2 }
 {
     let Stand { value, planned } = stand;
     match to_attach(value, worker, service.shape()) {
@@ -169,15 +196,24 @@ fn attach<K: Tag, R: Wait>(
         Ok(down) => down,
         Err(why) => return refuse((Holding::Empty, why), planned),
     };
-    let (value, reply) = match down.recover(service, &mut Never) {
+    let (value, reply) = come_up(down, service);
+    let planned = Planned::Nothing;
+    (Stand { value, planned }, reply, None)
+}
+
+/// Recovers the worker, and brings it to readiness where its job was finished before its fall.
+fn come_up(down: Down, service: &Service) -> (Holding, SessionReply)
+    requires ours { down.ident ≡ service.now }
+    ensures answers { AnswersOf down.ident down.part.worker result.0 result.1 }
+    ensures keeps { ComesUp service.now.shape down result.0 }
+{
+    match down.recover(service, &mut Never) {
         Ok(Stance::Ready(ready)) => attached(ready),
         Ok(Stance::Climb(climb)) => attached_waiting(climb),
         Ok(Stance::Held(held)) => attached_inside(held, service),
         Ok(Stance::Leave(leave)) => attached(leave_now(leave, service)),
         Err(_) => unreachable!(),
-    };
-    let planned = Planned::Nothing;
-    (Stand { value, planned }, reply)
+    }
 }
 
 fn attached(ready: Ready) -> (Holding, SessionReply)
@@ -203,7 +239,8 @@ fn attached_waiting(climb: Climb) -> (Holding, SessionReply)
 /// A worker whose job was finished before its fall is brought to readiness at once.
 fn attached_inside(held: Held, service: &Service) -> (Holding, SessionReply)
     requires ours { held.ident ≡ service.now }
-    ensures { AnswersOf held.ident held.part.worker result.0 result.1 }
+    ensures answers { AnswersOf held.ident held.part.worker result.0 result.1 }
+    ensures keeps { ComesOut service.now.shape held result.0 }
 {
     if held.finished() {
         return attached(come_out(held, service));
@@ -218,7 +255,9 @@ fn attached_inside(held: Held, service: &Service) -> (Holding, SessionReply)
 /// From a job that is finished to readiness.
 fn come_out(held: Held, service: &Service) -> Ready
     requires ours { held.ident ≡ service.now }
-    ensures { IsOf held.ident held.part.worker result }
+    requires over { is_over held.part.private.stage ≡ true }
+    ensures own { IsOf held.ident held.part.worker result }
+    ensures keeps { KeepsAll service.now.shape onward held result }
 {
     match held.perform(service, &mut Never) {
         Ok((leave, _)) => leave_now(leave, service),
@@ -229,7 +268,8 @@ fn come_out(held: Held, service: &Service) -> Ready
 /// Releases the nodes of a worker whose job is finished.
 fn leave_now(leave: Leave, service: &Service) -> Ready
     requires ours { leave.ident ≡ service.now }
-    ensures { IsOf leave.ident leave.part.worker result }
+    ensures own { IsOf leave.ident leave.part.worker result }
+    ensures keeps { KeepsAll service.now.shape onward leave result }
 {
     match leave.exit(service, &mut Never) {
         Ok(ready) => ready,
@@ -238,41 +278,38 @@ fn leave_now(leave: Leave, service: &Service) -> Ready
 }
 
 /// Gives up the job that waits.
-fn withdraw<K: Tag, R: Wait>(
-    rt: &R,
-    stand: Stand,
-    service: &Service,
-    slots: &Slots<K>,
-) -> (Stand, SessionReply)
+fn withdraw<K: Tag>(stand: Stand, service: &Service, slots: &Slots<K>) -> Acted
     requires service { service.now ≡ K.ident }
     requires ours { MayHold K.ident slots.now stand.value }
     ensures ours { MayHold K.ident slots.now result.0.value }
-    ensures obeys { Obeys K.ident slots.now stand order.Withdraw result.0 result.1 }
+    ensures slot { IfSome result.2 (HasSlot K.ident slots.now) }
+    ensures acts { Acts K.ident slots.now stand order.Withdraw result.0 result.1 result.2 }
 {
-    let Stand { value, mut planned } = stand;
+    let Stand { value, planned } = stand;
     let climb = match to_withdraw(value) {
         Ok(climb) => climb,
         Err(refused) => return refuse(refused, planned),
     };
-    match climb.withdraw(service, &mut planned) {
+    let mut countdown = Countdown::Runs(planned);
+    match climb.withdraw(service, &mut countdown) {
         Ok(ready) => {
             let number = ready.number();
             let value = Holding::Ready(ready);
-            (Stand { value, planned }, SessionReply::Withdrew(number))
+            let planned = countdown.left();
+            let stand = Stand { value, planned };
+            (stand, SessionReply::Withdrew(number), None)
         }
-        Err(down) => {
-            slots.give(rt, down);
-            (Stand::empty(), SessionReply::WithdrawFell)
-        }
+        Err(down) => (Stand::empty(), SessionReply::WithdrawFell, Some(down)),
     }
 }
 
 /// Answers the last receipt.
-fn last<K: Tag>(stand: Stand, service: &Service, slots: &Slots<K>) -> (Stand, SessionReply)
+fn last<K: Tag>(stand: Stand, service: &Service, slots: &Slots<K>) -> Acted
     requires service { service.now ≡ K.ident }
     requires ours { MayHold K.ident slots.now stand.value }
     ensures ours { MayHold K.ident slots.now result.0.value }
-    ensures obeys { Obeys K.ident slots.now stand order.Last result.0 result.1 }
+    ensures slot { IfSome result.2 (HasSlot K.ident slots.now) }
+    ensures acts { Acts K.ident slots.now stand order.Last result.0 result.1 result.2 }
 {
     let Stand { value, planned } = stand;
     let mut ready = match to_tell(value) {
@@ -281,14 +318,15 @@ fn last<K: Tag>(stand: Stand, service: &Service, slots: &Slots<K>) -> (Stand, Se
     };
     let last = ready.last(service);
     let value = Holding::Ready(ready);
-    (Stand { value, planned }, SessionReply::Last(last))
+    (Stand { value, planned }, SessionReply::Last(last), None)
 }
 
 /// Plans the worker's crash.
-fn crash_after<K: Tag>(stand: Stand, steps: u32, slots: &Slots<K>) -> (Stand, SessionReply)
+fn crash_after<K: Tag>(stand: Stand, steps: u32, slots: &Slots<K>) -> Acted
     requires ours { MayHold K.ident slots.now stand.value }
     ensures ours { MayHold K.ident slots.now result.0.value }
-    ensures obeys { Obeys K.ident slots.now stand (order.CrashAfter steps) result.0 result.1 }
+    ensures slot { IfSome result.2 (HasSlot K.ident slots.now) }
+    ensures acts { Acts K.ident slots.now stand (order.CrashAfter steps) result.0 result.1 result.2 }
 {
     let Stand { value, planned } = stand;
     let value = match to_hold(value) {
@@ -296,20 +334,21 @@ fn crash_after<K: Tag>(stand: Stand, steps: u32, slots: &Slots<K>) -> (Stand, Se
         Err(refused) => return refuse(refused, planned),
     };
     let planned = Planned::After(steps);
-    (Stand { value, planned }, SessionReply::CrashPlanned)
+    (Stand { value, planned }, SessionReply::CrashPlanned, None)
 }
 
 /// Lets the worker go.
-fn detach<K: Tag, R: Wait>(rt: &R, stand: Stand, slots: &Slots<K>) -> (Stand, SessionReply)
+fn detach<K: Tag>(stand: Stand, slots: &Slots<K>) -> Acted
     requires ours { MayHold K.ident slots.now stand.value }
     ensures ours { MayHold K.ident slots.now result.0.value }
-    ensures obeys { Obeys K.ident slots.now stand order.Detach result.0 result.1 }
+    ensures slot { IfSome result.2 (HasSlot K.ident slots.now) }
+    ensures acts { Acts K.ident slots.now stand order.Detach result.0 result.1 result.2 }
 {
     let Stand { value, planned } = stand;
     match to_hold(value) {
         Ok(value) => {
-            let_go(rt, Stand { value, planned }, slots);
-            (Stand::empty(), SessionReply::Detached)
+            let gone = Stand { value, planned }.crash();
+            (Stand::empty(), SessionReply::Detached, gone)
         }
         Err(refused) => refuse(refused, planned),
     }

@@ -19,15 +19,56 @@ impl Chance for Planned {
     ghost tally = { tally_of };
 
     fn falls(&mut self) -> bool {
+        let mut countdown = Countdown::Runs(*self);
+        let falls = countdown.falls();
+        *self = countdown.left();
+        falls
+    }
+}
+
+/// A plan that a session's worker works by. It tells, after a fall, that the crash came when it was due.
+#[derive(Clone, Copy, Debug, PartialEq, Eq)]
+pub(crate) enum Countdown {
+    /// The worker did not fall.
+    Runs(Planned),
+    /// The worker fell at the last question. A worker that fell asks nothing more: one that asked would fall again.
+    Fallen,
+}
+
+impl Countdown {
+    ghost use Rattle.std.specs.Prelude.{◌≡◌};
+    ghost use Rattle.rme_server.specs.Plans.{left_of};
+
+    /// What is planned then: after a fall nothing is.
+    pub(crate) fn left(self) -> Planned
+        ensures { result ≡ left_of self }
+    {
+        match self {
+            Countdown::Runs(planned) => planned,
+            Countdown::Fallen => Planned::Nothing,
+        }
+    }
+}
+
+impl Chance for Countdown {
+    ghost use Rattle.rme_server.specs.Plans.{tally_by};
+
+    ghost tally = { tally_by };
+
+    fn falls(&mut self) -> bool {
         match *self {
-            Planned::Nothing => false,
-            Planned::After(0) => {
-                *self = Planned::Nothing;
+            Countdown::Runs(Planned::Nothing) => false,
+            Countdown::Runs(Planned::After(0)) => {
+                *self = Countdown::Fallen;
                 true
             }
-            Planned::After(left) => {
-                *self = Planned::After(left - 1);
+            Countdown::Runs(Planned::After(left)) => {
+                *self = Countdown::Runs(Planned::After(left - 1));
                 false
+            }
+            Countdown::Fallen => {
+                *self = Countdown::Runs(Planned::Nothing);
+                true
             }
         }
     }

@@ -1,12 +1,13 @@
 //! What a session's worker does of its job, up to the end of the order.
 
-ghost use Rattle.std.specs.Prelude.{◌≡◌, ℕ, false};
+ghost use Rattle.std.specs.Prelude.{◌≡◌, ℕ, Some, false};
 ghost use Rattle.rme_table.specs.Calls.{is_over};
-ghost use Rattle.rme_server.specs.Stands.{HasSlot, MayHold, MayWork};
-ghost use Rattle.rme_server.specs.Tasks.{HasTries, Makes, holding_of, worked_of};
-ghost use Rattle.rme_server.specs.Works.{AreTried, Ends, GoesOn, Repeats, Spends, Works, next_task, steps_of};
+ghost use Rattle.rme_server.specs.Stands.{HasSlot, MayHold, MayWork, held_by};
+ghost use Rattle.rme_seats.specs.Parts.{onward, submitted};
+ghost use Rattle.rme_server.specs.Tasks.{HasTries, Makes, Spends, holding_of, lead_by, worked_of};
+ghost use Rattle.rme_server.specs.Works.{AreTried, Ends, GoesOn, Repeats, Works, next_task, steps_of};
 
-use crate::planned::Planned;
+use crate::planned::Countdown;
 use crate::stand::Holding;
 use crossbeam_utils::Backoff;
 use rme_table::{Admitted, Climb, Down, Driven, Free, Held, Ready, Service, Tries};
@@ -30,13 +31,13 @@ pub(crate) enum Work {
 /// Does the work. `Err` is a fall.
 pub(crate) fn carry_out(
     work: Work,
-    planned: &mut Planned,
+    planned: &mut Countdown,
     service: &Service,
 ) -> Result<Worked, Down>
     requires ours { (count : ℕ) × MayHold service.now count (holding_of work) }
     ensures ours { (count : ℕ) → MayHold service.now count (holding_of work) → MayWork service.now count result }
     ensures did { Ends result (Makes service.now.shape work) }
-    ensures plan { Spends planned.old (steps_of (holding_of work)) planned.new result }
+    ensures plan { Spends service.now.shape (lead_by work) planned.old (held_by (holding_of work)) planned.new result }
     ensures tried { (most : ℕ) → HasTries most work → AreTried most (steps_of (holding_of work)) result }
 {
     match work {
@@ -63,13 +64,13 @@ fn repeat(mut ready: Ready, service: &Service) -> Worked
 fn post(
     admitted: Admitted,
     tries: u32,
-    planned: &mut Planned,
+    planned: &mut Countdown,
     service: &Service,
 ) -> Result<Worked, Down>
     requires ours { admitted.ready.ident ≡ service.now }
     ensures ours { (count : ℕ) → HasSlot service.now count admitted.ready → MayWork service.now count result }
     ensures did { Ends result (Works (next_task admitted.ready admitted.job) admitted.ready.part.entries) }
-    ensures plan { Spends planned.old admitted.ready.part.steps planned.new result }
+    ensures plan { Spends service.now.shape (submitted admitted.job) planned.old (Some admitted.ready) planned.new result }
     ensures tried { AreTried tries admitted.ready.part.steps result }
 {
     match admitted.post(service, planned) {
@@ -79,11 +80,16 @@ fn post(
 }
 
 /// From waiting to readiness, by so many sweeps at most, with a pause after each blocked one.
-fn go_in(climb: Climb, tries: u32, planned: &mut Planned, service: &Service) -> Result<Worked, Down>
+fn go_in(
+    climb: Climb,
+    tries: u32,
+    planned: &mut Countdown,
+    service: &Service,
+) -> Result<Worked, Down>
     requires ours { climb.ident ≡ service.now }
     ensures ours { (count : ℕ) → HasSlot service.now count climb → MayWork service.now count result }
     ensures did { Ends result (GoesOn climb) }
-    ensures plan { Spends planned.old climb.part.steps planned.new result }
+    ensures plan { Spends service.now.shape onward planned.old (Some climb) planned.new result }
     ensures tried { AreTried tries climb.part.steps result }
 {
     let backoff = Backoff::new();
@@ -95,12 +101,12 @@ fn go_in(climb: Climb, tries: u32, planned: &mut Planned, service: &Service) -> 
 }
 
 /// From the lock's entry to readiness.
-fn go_on(held: Held, planned: &mut Planned, service: &Service) -> Result<Worked, Down>
+fn go_on(held: Held, planned: &mut Countdown, service: &Service) -> Result<Worked, Down>
     requires ours { held.ident ≡ service.now }
     requires pending { is_over held.part.private.stage ≡ false }
     ensures ours { (count : ℕ) → HasSlot service.now count held → MayWork service.now count result }
     ensures did { Ends result (GoesOn held) }
-    ensures plan { Spends planned.old held.part.steps planned.new result }
+    ensures plan { Spends service.now.shape onward planned.old (Some held) planned.new result }
     ensures tried { (most : ℕ) → AreTried most held.part.steps result }
 {
     worked(held.go_on(service, planned, &Free))

@@ -4,9 +4,10 @@ use Rattle.rme_server.specs.declared.stand.Holding.{Holding}
 use Rattle.rme_server.proofs.Working.{resumed}
 use Rattle.rme_server.proofs.orders.resume.Goals as goal
 
-pub returns-in-Ok-clause-obeys : goal.returns-in-Ok-clause-obeys
-returns-in-Ok-clause-obeys g c =
+pub returns-in-Ok-clause-acts : goal.returns-in-Ok-clause-acts
+returns-in-Ok-clause-acts g c =
     let made = c.make-stand.result in
-    let so = resumed c.args.service.now.shape c.in-Ok.work c.args.stand made.0 made.1 c.in-Ok.ensures.work.0 c.in-Ok.ensures.work.1 c.make-stand.ensures.did in
+    let so = resumed c.args.service.now.shape c.in-Ok.work c.args.stand made.0 made.1 made.2 c.in-Ok.ensures.work.0 c.in-Ok.ensures.work.1 c.make-stand.ensures.did in
     let P : Holding → Type 0 = λ value. IsTried c.args.tries (steps_of value) made.0.value made.1 in
-    (so.0, (so.1.0, so.1.1, subst P c.in-Ok.ensures.work.0 (c.make-stand.ensures.tried c.args.tries c.in-Ok.ensures.tries)))
+    let tried = subst P c.in-Ok.ensures.work.0 (c.make-stand.ensures.tried c.args.tries c.in-Ok.ensures.tries) in
+    rw (← c.requires.service) (so.0, (so.1.0, so.1.1, tried))

@@ -1,11 +1,15 @@
 use Rattle.std.proofs.Common.{ℕ, subst}
-use Rattle.rme_server.specs.Works.{AreTried, steps_of}
-use Rattle.rme_server.proofs.Working.{repeats_tried}
+use Rattle.rme_server.specs.Works.{AreTried}
+use Rattle.rme_server.proofs.Working.{repeats_spares, repeats_tried}
 use Rattle.rme_server.proofs.work.carry_out.Goals as goal
 
 pub returns-in-Repeat-clause-tried : goal.returns-in-Repeat-clause-tried
 returns-in-Repeat-clause-tried c =
     rw c.in-Repeat.is (λ most has. repeats_tried c.args.service.now.shape c.in-Repeat.ready most c.in-Repeat.ready.part.steps c.repeat.result.0 c.repeat.result.1 c.repeat.ensures)
+
+pub returns-in-Repeat-clause-plan : goal.returns-in-Repeat-clause-plan
+returns-in-Repeat-clause-plan c =
+    rw c.in-Repeat.is (repeats_spares c.args.service.now.shape c.in-Repeat.ready c.args.planned.now c.repeat.result.0 c.repeat.result.1 c.repeat.ensures)
 
 pub returns-in-Post-clause-tried : goal.returns-in-Post-clause-tried
 returns-in-Post-clause-tried c =

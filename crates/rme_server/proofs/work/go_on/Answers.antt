@@ -1,25 +1,25 @@
 use Rattle.std.proofs.Common.{refl, subst}
 use Rattle.std.specs.Prelude.{Bool}
 use Rattle.rme_table.specs.Driving.{Drives}
-use Rattle.rme_server.specs.Plans.{tally_of}
+use Rattle.rme_server.specs.Plans.{tally_by}
 use Rattle.rme_server.proofs.Working.{driven_did, driven_ours, driven_plan, owning_tried}
 use Rattle.rme_server.proofs.work.go_on.Goals as goal
 
 pub returns-clause-ours : goal.returns-clause-ours
 returns-clause-ours c =
-    let P : Bool → Type 0 = λ over. Drives c.args.service.now.shape over c.args.held (tally_of c.args.planned.now) (tally_of c.go_on.new.chance) c.go_on.result in
+    let P : Bool → Type 0 = λ over. Drives c.args.service.now.shape over c.args.held (tally_by c.args.planned.now) (tally_by c.go_on.new.chance) c.go_on.result in
     let drives = subst P c.requires.pending c.go_on.ensures.drives in
     rw c.worked.ensures (driven_ours c.args.service.now.shape c.args.held c.args.planned.now c.go_on.new.chance c.args.service.now c.go_on.result drives (c.go_on.ensures.passes refl))
 
 pub returns-clause-did : goal.returns-clause-did
 returns-clause-did c =
-    let P : Bool → Type 0 = λ over. Drives c.args.service.now.shape over c.args.held (tally_of c.args.planned.now) (tally_of c.go_on.new.chance) c.go_on.result in
+    let P : Bool → Type 0 = λ over. Drives c.args.service.now.shape over c.args.held (tally_by c.args.planned.now) (tally_by c.go_on.new.chance) c.go_on.result in
     let drives = subst P c.requires.pending c.go_on.ensures.drives in
     rw c.worked.ensures (driven_did c.args.service.now.shape c.args.held c.args.planned.now c.go_on.new.chance c.go_on.result drives (c.go_on.ensures.passes refl))
 
 pub returns-clause-plan : goal.returns-clause-plan
 returns-clause-plan c =
-    let P : Bool → Type 0 = λ over. Drives c.args.service.now.shape over c.args.held (tally_of c.args.planned.now) (tally_of c.go_on.new.chance) c.go_on.result in
+    let P : Bool → Type 0 = λ over. Drives c.args.service.now.shape over c.args.held (tally_by c.args.planned.now) (tally_by c.go_on.new.chance) c.go_on.result in
     let drives = subst P c.requires.pending c.go_on.ensures.drives in
     rw c.worked.ensures (driven_plan c.args.service.now.shape c.args.held c.args.planned.now c.go_on.new.chance c.go_on.result drives (c.go_on.ensures.passes refl))
 

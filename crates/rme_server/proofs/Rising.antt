@@ -1,0 +1,67 @@
+-- A worker that comes up, and goes out of a lock whose job is finished.
+use Rattle.std.proofs.Common.{◌≡◌, ℕ, ◌+◌, ◌<◌, length, refl, sym, ◌∙◌, arith}
+use Rattle.std.specs.Prelude.{None}
+use Rattle.rme_words.specs.declared.shape.Shape.{Shape}
+use Rattle.rme_seats.specs.Chances.{Tally}
+use Rattle.rme_seats.specs.Parts.{onward, restarted}
+use Rattle.rme_seats.specs.Stands.{Ident, Stand}
+use Rattle.rme_table.specs.Calls.{Made, recover_steps}
+use Rattle.rme_table.specs.declared.kinds.Stance.TheVariants as stance
+use Rattle.rme_texts.specs.declared.session.SessionReply.{SessionReply}
+use Rattle.rme_texts.specs.declared.session.SessionReply.TheVariants.{Attached}
+use Rattle.rme_wire.specs.declared.order.Order.TheVariants.{Attach}
+use Rattle.rme_server.specs.Obeyed.{Acts, AnswersOf}
+use Rattle.rme_server.specs.Refusals.{attach_refusal}
+use Rattle.rme_server.specs.Slots.{IsOf}
+use Rattle.rme_server.specs.declared.planned.Planned.TheVariants.{Nothing}
+use Rattle.rme_server.specs.declared.stand.Stand.{Stand as Session}
+use Rattle.rme_server.specs.Rises.{ComesOut, ComesUp, KeepsAll}
+use Rattle.rme_server.specs.declared.stand.Holding.{Holding}
+use Rattle.rme_server.specs.declared.stand.Holding.TheVariants.{Empty, Ready, Climb, Held}
+use Rattle.rme_server.proofs.Planning.{walked_by, walked_on}
+
+module _ (shape : Shape) (start now : Stand) (old new : Tally) (least most : ℕ) where
+  pub risen : Made shape restarted start now old new least most → KeepsAll shape restarted start now
+  risen made = record {
+    made = length made.walks.values;
+    walked = walked_by shape restarted start now old new 0 made.walks made.stays.ident made.stays.own;
+    draft = made.stays.draft;
+    entries = made.stays.entries;
+  }
+
+  pub gone_out : Made shape onward start now old new least most → KeepsAll shape onward start now
+  gone_out made = record {
+    made = length made.walks.values;
+    walked = walked_by shape onward start now old new 0 made.walks made.stays.ident made.stays.own;
+    draft = made.stays.draft;
+    entries = made.stays.entries;
+  }
+
+-- After a recovery, which has two steps at least.
+pub risen_on : (shape : Shape) (down mid ready : Stand) (old new : Tally) (most : ℕ) → Made shape restarted down mid old new 2 most → KeepsAll shape onward mid ready → KeepsAll shape restarted down ready
+risen_on shape down mid ready old new most made out =
+    let first = risen shape down mid old new 2 most made in
+    let counted = made.counted in
+    let enough = made.enough in
+    let steps = first.walked.steps in
+    let some : 0 < first.made = omega (arith, counted, enough, steps) in record {
+      made = first.made + out.made;
+      walked = walked_on shape restarted down mid ready first.made out.made some first.walked out.walked;
+      draft = out.draft ∙ first.draft;
+      entries = out.entries ∙ first.entries;
+    }
+
+-- A worker that comes up inside.
+pub risen_inside : (shape : Shape) (down held : Stand) (value : Holding) (old new : Tally) (most : ℕ) → Made shape restarted down held old new 2 most
+    → held.part.steps ≡ down.part.steps + recover_steps shape (stance.Held held) → ComesOut shape held value → ComesUp shape down value
+risen_inside shape down held Empty old new most made steps out = absurd out
+risen_inside shape down held (Ready ready) old new most made steps out = risen_on shape down held ready old new most made out
+risen_inside shape down held (Climb climb) old new most made steps out = absurd out
+risen_inside shape down held (Held now) old new most made steps out = rw out (risen shape down held old new 2 most made, steps)
+
+-- An order to attach that is not refused.
+pub attaches : (ident : Ident) (count : ℕ) (old : Session) (worker : ℕ) (down : Stand) (value : Holding) (answer : SessionReply) → attach_refusal ident.shape worker old.value ≡ None
+    → IsOf ident worker down → AnswersOf ident worker value answer → ComesUp ident.shape down value
+    → Acts ident count old (Attach worker) (record { value = value; planned = Nothing }) answer None
+attaches ident count old worker down value (Attached number standing) none is answers up = (sym none, (answers, (down, is, up), refl, refl))
+attaches ident count old worker down value answer none is answers up = absurd answers

@@ -1,0 +1,36 @@
+-- What becomes of a worker that is attached.
+use Rattle.std.specs.Prelude.{◌≡◌, ℕ, ◌+◌}
+use Rattle.rme_words.specs.declared.shape.Shape.{Shape}
+use Rattle.rme_seats.specs.declared.record.Part.{Part}
+use Rattle.rme_seats.specs.Parts.{onward, restarted}
+use Rattle.rme_seats.specs.Stands.{Ident, Stand}
+use Rattle.rme_table.specs.Calls.{recover_steps}
+use Rattle.rme_table.specs.declared.kinds.Stance.TheVariants as stance
+use Rattle.rme_server.specs.Slots.{IsOf}
+use Rattle.rme_server.specs.Works.{HasWalked}
+use Rattle.rme_server.specs.declared.stand.Holding.{Holding}
+use Rattle.rme_server.specs.declared.stand.Holding.TheVariants.{Empty, Ready, Climb, Held}
+
+-- The worker made own steps, and has the job and the entries that it had.
+pub record KeepsAll (shape : Shape) (lead : Part → Part) (start now : Stand) : Type 0 where
+  pub made : ℕ
+  pub walked : HasWalked shape lead start now made
+  pub draft : now.part.draft ≡ start.part.draft
+  pub entries : now.part.entries ≡ start.part.entries
+
+-- A worker that was down came up, and kept all that it had. Where its job is pending it made no step but those of Recover.
+abbrev pub ComesUp : Shape → Stand → Holding → Type 0
+ComesUp shape down Empty = ⊥
+ComesUp shape down (Ready ready) = KeepsAll shape restarted down ready
+ComesUp shape down (Climb climb) = KeepsAll shape restarted down climb × (climb.part.steps ≡ down.part.steps + recover_steps shape (stance.Climb climb))
+ComesUp shape down (Held held) = KeepsAll shape restarted down held × (held.part.steps ≡ down.part.steps + recover_steps shape (stance.Held held))
+
+-- A worker that is inside stays there, or is brought to readiness.
+abbrev pub ComesOut : Shape → Stand → Holding → Type 0
+ComesOut shape held (Ready ready) = KeepsAll shape onward held ready
+ComesOut shape held (Held now) = now ≡ held
+ComesOut shape held value = ⊥
+
+-- The Down of this worker was taken out of its slot, and came up.
+abbrev pub TakesOut : Ident → ℕ → Holding → Type 0
+TakesOut ident worker value = (down : Stand) × IsOf ident worker down × ComesUp ident.shape down value
