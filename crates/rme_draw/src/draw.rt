@@ -1,7 +1,8 @@
 //! Drawing a transcript.
 
 ghost use Rattle.std.specs.Prelude.{◌≡◌, ◌≢◌, List, ℕ, IfOk, IfErr};
-ghost use Rattle.rme_lines.specs.Readers.{FailsToRead, HasEnded, ReadsNoMore, bytes_left};
+ghost use Rattle.rme_lines.specs.Readers.{FailsToRead, HasEnded, LastReadFails, MakesReads, ReadsNoMore, bytes_left};
+ghost use Rattle.rme_lines.specs.Traffic.{LastWriteFails};
 ghost use Rattle.rme_engine.specs.Verdicts.{Finds};
 ghost use Rattle.std.specs.Io.KnownBytes.{Appends};
 ghost use Rattle.rme_picture.specs.Pictures.{IsSvg};
@@ -10,9 +11,8 @@ ghost use Rattle.rme_draw.specs.Following.{Draws, ended, following_of};
 use crate::follower::Follower;
 use rme_engine::{Verdict, watch_lines};
 use rme_picture::{Paint, Svg};
-use rme_wire::{EngineFault, LineReader, put_all};
+use rme_wire::{EngineFault, LineReader, Sink, Source, put_all};
 use std::alloc::Global;
-use std::io::{Read, Write};
 
 /// Checks a transcript as `check_lines` does, and draws it where the verdict is yes: a timeline in SVG, with a row for
 /// each worker and for each lock, and a column for each line.
@@ -20,7 +20,7 @@ use std::io::{Read, Write};
 /// After any other verdict nothing is written, and so it is after each fault but `WriteFailed`, which leaves a front of
 /// the picture. `NoMemory` says that there was no room for a line, the machine, what was seen of the run or the picture's
 /// text, all of which grow with the transcript.
-pub fn draw_lines<R: Read + Drop, W: Write>(
+pub fn draw_lines<R: Source + Drop, W: Sink>(
     alloc: Global,
     lines: &mut LineReader<R>,
     writer: &mut W,
@@ -31,12 +31,15 @@ pub fn draw_lines<R: Read + Drop, W: Write>(
     ensures unwritten { IfErr result (λ fault. fault ≢ EngineFault.WriteFailed → W.contents writer.new ≡ W.contents writer.old) }
     ensures ended { HasEnded lines.old → ReadsNoMore lines.old lines.new }
     ensures failed { IfErr result (λ fault. fault ≡ EngineFault.ReadFailed → FailsToRead lines.old lines.new) }
+    ensures reads { MakesReads R.gave lines.old lines.new }
+    ensures read_broke { IfErr result (λ fault. fault ≡ EngineFault.ReadFailed → LastReadFails R.gave lines.old lines.new) }
+    ensures write_broke { IfErr result (λ fault. fault ≡ EngineFault.WriteFailed → LastWriteFails (W.took writer.old) (W.took writer.new)) }
 {
     draw_with(alloc, lines, writer, &Svg)
 }
 
 /// Does as `draw_lines` does, with the text of a painter.
-pub fn draw_with<R: Read + Drop, W: Write, P: Paint>(
+pub fn draw_with<R: Source + Drop, W: Sink, P: Paint>(
     alloc: Global,
     lines: &mut LineReader<R>,
     writer: &mut W,
@@ -48,6 +51,9 @@ pub fn draw_with<R: Read + Drop, W: Write, P: Paint>(
     ensures unwritten { IfErr result (λ fault. fault ≢ EngineFault.WriteFailed → W.contents writer.new ≡ W.contents writer.old) }
     ensures ended { HasEnded lines.old → ReadsNoMore lines.old lines.new }
     ensures failed { IfErr result (λ fault. fault ≡ EngineFault.ReadFailed → FailsToRead lines.old lines.new) }
+    ensures reads { MakesReads R.gave lines.old lines.new }
+    ensures read_broke { IfErr result (λ fault. fault ≡ EngineFault.ReadFailed → LastReadFails R.gave lines.old lines.new) }
+    ensures write_broke { IfErr result (λ fault. fault ≡ EngineFault.WriteFailed → LastWriteFails (W.took writer.old) (W.took writer.new)) }
 {
     let mut follower = Follower::new(alloc);
     match watch_lines(alloc, lines, &mut follower) {
@@ -57,7 +63,7 @@ pub fn draw_with<R: Read + Drop, W: Write, P: Paint>(
 }
 
 /// Writes the picture of all that was seen after the verdict yes, and nothing after another.
-fn write_if_yes<W: Write, P: Paint>(
+fn write_if_yes<W: Sink, P: Paint>(
     verdict: Verdict,
     follower: &mut Follower,
     writer: &mut W,
@@ -68,6 +74,7 @@ fn write_if_yes<W: Write, P: Paint>(
     ensures silent { verdict ≢ Verdict.Yes → W.contents writer.new ≡ W.contents writer.old }
     ensures unwritten { IfErr result (λ fault. fault ≢ EngineFault.WriteFailed → W.contents writer.new ≡ W.contents writer.old) }
     ensures kind { IfErr result (λ fault. fault ≢ EngineFault.ReadFailed) }
+    ensures write_broke { IfErr result (λ fault. fault ≡ EngineFault.WriteFailed → LastWriteFails (W.took writer.old) (W.took writer.new)) }
 {
     match verdict {
         Verdict::Yes => {}

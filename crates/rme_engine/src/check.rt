@@ -1,16 +1,15 @@
 //! Checking a transcript, line by line.
 
 ghost use Rattle.std.specs.Prelude.{◌≡◌, ◌≢◌, ◌≤◌, IfOk, IfErr};
-ghost use Rattle.rme_lines.specs.Readers.{FailsToRead, HasEnded, ReadsNoMore, bytes_left, reads_left};
+ghost use Rattle.rme_lines.specs.Readers.{FailsToRead, HasEnded, LastReadFails, MakesReads, ReadsNoMore, bytes_left, reads_left};
 ghost use Rattle.rme_engine.specs.Judging.{JudgesLeft};
 ghost use Rattle.rme_engine.specs.Verdicts.{Finds};
 ghost use Rattle.rme_engine.specs.Watching.{Watches, WatchesLeft};
 
 use crate::judge::{Found, Judge};
 use crate::watch::{Unwatched, Watch};
-use rme_wire::{Cut, EngineFault, LineReader};
+use rme_wire::{Cut, EngineFault, LineReader, Source};
 use std::alloc::Global;
-use std::io::Read;
 
 /// What a transcript is found to be. Lines are counted from 1.
 #[derive(Clone, Copy, Debug, PartialEq, Eq)]
@@ -30,7 +29,7 @@ pub enum Verdict {
 /// event line by its form alone: a worker, a number or a cell that there is not makes an event line of which the
 /// machine does not have the step. `NoMemory` says that there was no room for a line, its value, the machine or
 /// what it keeps of finished sections.
-pub fn check_lines<R: Read + Drop>(
+pub fn check_lines<R: Source + Drop>(
     alloc: Global,
     lines: &mut LineReader<R>,
 ) -> Result<Verdict, EngineFault>
@@ -38,6 +37,8 @@ pub fn check_lines<R: Read + Drop>(
     ensures kind { IfErr result (λ fault. fault ≢ EngineFault.WriteFailed) }
     ensures ended { HasEnded lines.old → ReadsNoMore lines.old lines.new }
     ensures failed { IfErr result (λ fault. fault ≡ EngineFault.ReadFailed → FailsToRead lines.old lines.new) }
+    ensures reads { MakesReads R.gave lines.old lines.new }
+    ensures read_broke { IfErr result (λ fault. fault ≡ EngineFault.ReadFailed → LastReadFails R.gave lines.old lines.new) }
 {
     watch_lines(alloc, lines, &mut Unwatched)
 }
@@ -45,7 +46,7 @@ pub fn check_lines<R: Read + Drop>(
 /// Checks a transcript as `check_lines` does, and shows the watcher what the first line opens and then each step that
 /// the machine takes, in turn, before the next line is read. What the watcher does has no part in the verdict; its want
 /// of memory ends the check.
-pub fn watch_lines<R: Read + Drop, V: Watch>(
+pub fn watch_lines<R: Source + Drop, V: Watch>(
     alloc: Global,
     lines: &mut LineReader<R>,
     watcher: &mut V,
@@ -55,6 +56,8 @@ pub fn watch_lines<R: Read + Drop, V: Watch>(
     ensures kind { IfErr result (λ fault. fault ≢ EngineFault.WriteFailed) }
     ensures ended { HasEnded lines.old → ReadsNoMore lines.old lines.new }
     ensures failed { IfErr result (λ fault. fault ≡ EngineFault.ReadFailed → FailsToRead lines.old lines.new) }
+    ensures reads { MakesReads R.gave lines.old lines.new }
+    ensures read_broke { IfErr result (λ fault. fault ≡ EngineFault.ReadFailed → LastReadFails R.gave lines.old lines.new) }
 {
     let mut line = Vec::new(alloc);
     let first = match lines.next_line(&mut line) {
@@ -76,7 +79,7 @@ pub fn watch_lines<R: Read + Drop, V: Watch>(
 }
 
 /// Judges the lines that are left, the first of which is the second of the transcript.
-fn judge_lines<R: Read + Drop, V: Watch>(
+fn judge_lines<R: Source + Drop, V: Watch>(
     judge: &mut Judge,
     lines: &mut LineReader<R>,
     line: &mut Vec<u8>,
@@ -86,8 +89,10 @@ fn judge_lines<R: Read + Drop, V: Watch>(
     ensures shown { IfOk result (λ _. WatchesLeft V.sees judge.old.names judge.old.machine (bytes_left R.remaining lines.old) watcher.old watcher.new) }
     ensures kind { IfErr result (λ fault. fault ≢ EngineFault.WriteFailed) }
     ensures ended { HasEnded lines.old → ReadsNoMore lines.old lines.new }
-    ensures reads { reads_left lines.new ≤ reads_left lines.old }
+    ensures fewer_reads { reads_left lines.new ≤ reads_left lines.old }
     ensures failed { IfErr result (λ fault. fault ≡ EngineFault.ReadFailed → FailsToRead lines.old lines.new) }
+    ensures reads { MakesReads R.gave lines.old lines.new }
+    ensures read_broke { IfErr result (λ fault. fault ≡ EngineFault.ReadFailed → LastReadFails R.gave lines.old lines.new) }
 {
     let mut number = 2u64;
     loop {

@@ -1,18 +1,18 @@
 //! Answering lines until none is left.
 
 ghost use Rattle.std.specs.Prelude.{◌≡◌, ◌≢◌, ◌≤◌, ◌<◌, [], IfOk, IfErr, OnOk, true, false, string_bytes};
-ghost use Rattle.rme_lines.specs.Readers.{FailsToRead, HasEnded, ReadsNoMore, bytes_left, has_ended, most_lines, reads_left};
+ghost use Rattle.rme_lines.specs.Readers.{FailsToRead, HasEnded, LastReadFails, MakesReads, ReadsNoMore, bytes_left, has_ended, most_lines, reads_left};
 ghost use Rattle.rme_engine.specs.Engines.{state_of};
 ghost use Rattle.rme_engine.specs.Lines.{IsAnswered};
 ghost use Rattle.rme_engine.specs.Outputs.{Tells};
 ghost use Rattle.rme_engine.specs.Transcripts.{IsTold};
 ghost use Rattle.rme_lines.specs.Runs.{TurnFails, Turns, WritesAll, WritesFirst, WritesTo};
+ghost use Rattle.rme_lines.specs.Traffic.{LastWriteFails, MakesWrites};
 ghost use Rattle.rme_engine.specs.States.{nothing_open};
 
 use crate::engine::{Engine, Output};
-use rme_wire::{Cut, EngineFault, Exchange, LineReader};
+use rme_wire::{Cut, EngineFault, Exchange, LineReader, Sink, Source};
 use std::alloc::Global;
-use std::io::{Read, Write};
 
 /// Room for the answer of a refused line, which is written also where no memory is left.
 const REFUSAL_ROOM: usize = 128;
@@ -27,7 +27,7 @@ const LONG_ANSWER: usize = 1_048_576;
 /// lines whose newlines were read were written whole. After `NoMemory` those to all lines before the one for which memory
 /// was wanting were: what was read is these lines, and at most the bytes of that one. After `WriteFailed` a front of the
 /// answers was written.
-pub fn run_lines<R: Read + Drop, W: Write>(
+pub fn run_lines<R: Source + Drop, W: Sink>(
     alloc: Global,
     lines: &mut LineReader<R>,
     writer: &mut W,
@@ -38,6 +38,9 @@ pub fn run_lines<R: Read + Drop, W: Write>(
     ensures end { OnOk result (HasEnded lines.new) }
     ensures ended { HasEnded lines.old → ReadsNoMore lines.old lines.new }
     ensures failed { IfErr result (λ fault. fault ≡ EngineFault.ReadFailed → FailsToRead lines.old lines.new) }
+    ensures reads { MakesReads R.gave lines.old lines.new }
+    ensures read_broke { IfErr result (λ fault. fault ≡ EngineFault.ReadFailed → LastReadFails R.gave lines.old lines.new) }
+    ensures write_broke { IfErr result (λ fault. fault ≡ EngineFault.WriteFailed → LastWriteFails (W.took writer.old) (W.took writer.new)) }
 {
     start(alloc, Output::Answers, lines, writer)
 }
@@ -48,7 +51,7 @@ pub fn run_lines<R: Read + Drop, W: Write>(
 ///
 /// Lines are written together, as answers are. An error ends the run, and the world with it, and leaves written of the
 /// events what `run_lines` leaves of the answers.
-pub fn transcript_lines<R: Read + Drop, W: Write>(
+pub fn transcript_lines<R: Source + Drop, W: Sink>(
     alloc: Global,
     lines: &mut LineReader<R>,
     writer: &mut W,
@@ -59,6 +62,9 @@ pub fn transcript_lines<R: Read + Drop, W: Write>(
     ensures end { OnOk result (HasEnded lines.new) }
     ensures ended { HasEnded lines.old → ReadsNoMore lines.old lines.new }
     ensures failed { IfErr result (λ fault. fault ≡ EngineFault.ReadFailed → FailsToRead lines.old lines.new) }
+    ensures reads { MakesReads R.gave lines.old lines.new }
+    ensures read_broke { IfErr result (λ fault. fault ≡ EngineFault.ReadFailed → LastReadFails R.gave lines.old lines.new) }
+    ensures write_broke { IfErr result (λ fault. fault ≡ EngineFault.WriteFailed → LastWriteFails (W.took writer.old) (W.took writer.new)) }
 {
     start(alloc, Output::Transcript, lines, writer)
 }
@@ -68,7 +74,7 @@ pub fn transcript_lines<R: Read + Drop, W: Write>(
 ///
 /// An error ends the run, and leaves written of the answers what it leaves of them in `run_lines`. The line for which
 /// memory was wanting may have been obeyed.
-pub fn answer_lines<R: Read + Drop, W: Write>(
+pub fn answer_lines<R: Source + Drop, W: Sink>(
     engine: &mut Engine,
     lines: &mut LineReader<R>,
     writer: &mut W,
@@ -79,12 +85,15 @@ pub fn answer_lines<R: Read + Drop, W: Write>(
     ensures end { OnOk result (HasEnded lines.new) }
     ensures ended { HasEnded lines.old → ReadsNoMore lines.old lines.new }
     ensures failed { IfErr result (λ fault. fault ≡ EngineFault.ReadFailed → FailsToRead lines.old lines.new) }
+    ensures reads { MakesReads R.gave lines.old lines.new }
+    ensures read_broke { IfErr result (λ fault. fault ≡ EngineFault.ReadFailed → LastReadFails R.gave lines.old lines.new) }
+    ensures write_broke { IfErr result (λ fault. fault ≡ EngineFault.WriteFailed → LastWriteFails (W.took writer.old) (W.took writer.new)) }
 {
     run(Output::Answers, engine, lines, writer)
 }
 
 /// Obeys each line of the reader, with nothing open at first, and writes of it what is asked for.
-fn start<R: Read + Drop, W: Write>(
+fn start<R: Source + Drop, W: Sink>(
     alloc: Global,
     output: Output,
     lines: &mut LineReader<R>,
@@ -96,6 +105,9 @@ fn start<R: Read + Drop, W: Write>(
     ensures end { OnOk result (HasEnded lines.new) }
     ensures ended { HasEnded lines.old → ReadsNoMore lines.old lines.new }
     ensures failed { IfErr result (λ fault. fault ≡ EngineFault.ReadFailed → FailsToRead lines.old lines.new) }
+    ensures reads { MakesReads R.gave lines.old lines.new }
+    ensures read_broke { IfErr result (λ fault. fault ≡ EngineFault.ReadFailed → LastReadFails R.gave lines.old lines.new) }
+    ensures write_broke { IfErr result (λ fault. fault ≡ EngineFault.WriteFailed → LastWriteFails (W.took writer.old) (W.took writer.new)) }
 {
     let Ok(mut engine) = Engine::new(alloc) else {
         return Err(EngineFault::NoMemory);
@@ -104,7 +116,7 @@ fn start<R: Read + Drop, W: Write>(
 }
 
 /// Obeys each line of the reader, over what the engine has open, and writes of it what is asked for.
-fn run<R: Read + Drop, W: Write>(
+fn run<R: Source + Drop, W: Sink>(
     output: Output,
     engine: &mut Engine,
     lines: &mut LineReader<R>,
@@ -116,6 +128,9 @@ fn run<R: Read + Drop, W: Write>(
     ensures end { OnOk result (HasEnded lines.new) }
     ensures ended { HasEnded lines.old → ReadsNoMore lines.old lines.new }
     ensures failed { IfErr result (λ fault. fault ≡ EngineFault.ReadFailed → FailsToRead lines.old lines.new) }
+    ensures reads { MakesReads R.gave lines.old lines.new }
+    ensures read_broke { IfErr result (λ fault. fault ≡ EngineFault.ReadFailed → LastReadFails R.gave lines.old lines.new) }
+    ensures write_broke { IfErr result (λ fault. fault ≡ EngineFault.WriteFailed → LastWriteFails (W.took writer.old) (W.took writer.new)) }
 {
     let Ok(mut text) = String::with_capacity(engine.alloc, REFUSAL_ROOM) else {
         return Err(EngineFault::NoMemory);
@@ -134,7 +149,7 @@ fn run<R: Read + Drop, W: Write>(
 
 /// Takes the next line, obeys it and keeps back what is to be written of it, and says whether there was a line.
 /// Where there was none, all is written.
-fn turn<R: Read + Drop, W: Write>(
+fn turn<R: Source + Drop, W: Sink>(
     output: Output,
     lines: &mut LineReader<R>,
     engine: &mut Engine,
@@ -149,8 +164,12 @@ fn turn<R: Read + Drop, W: Write>(
     ensures fewer { IfOk result (λ more. more ≡ true → most_lines lines.new < most_lines lines.old) }
     ensures end { IfOk result (λ more. more ≡ false → HasEnded lines.new) }
     ensures ended { HasEnded lines.old → ReadsNoMore lines.old lines.new }
-    ensures reads { reads_left lines.new ≤ reads_left lines.old }
+    ensures fewer_reads { reads_left lines.new ≤ reads_left lines.old }
     ensures failed { IfErr result (λ fault. fault ≡ EngineFault.ReadFailed → FailsToRead lines.old lines.new) }
+    ensures reads { MakesReads R.gave lines.old lines.new }
+    ensures writes { MakesWrites (W.took writer.old) (W.took writer.new) }
+    ensures read_broke { IfErr result (λ fault. fault ≡ EngineFault.ReadFailed → LastReadFails R.gave lines.old lines.new) }
+    ensures write_broke { IfErr result (λ fault. fault ≡ EngineFault.WriteFailed → LastWriteFails (W.took writer.old) (W.took writer.new)) }
 {
     let cut = match exchange.next_line(lines, writer) {
         Ok(cut) => cut,

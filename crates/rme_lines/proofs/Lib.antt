@@ -2,3 +2,4 @@ pub mod PutLemmas
 pub mod PieceLemmas
 pub mod ReaderLemmas
 pub mod RunLemmas
+pub mod TrafficLemmas

@@ -1,4 +1,5 @@
 -- In reading order.
+pub mod Traffic
 pub mod Puts
 pub mod Pieces
 pub mod Cuts

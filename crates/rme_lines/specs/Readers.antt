@@ -1,7 +1,8 @@
 -- What a reader of lines has left.
-use Rattle.std.specs.Prelude.{◌≡◌, ℕ, ◌+◌, ◌-◌, ◌*◌, ◌<◌, ◌≤◌, List, [], slice_range, Bool, true, false, Option, Some, None}
+use Rattle.std.specs.Prelude.{◌≡◌, ℕ, ◌+◌, ◌-◌, ◌*◌, ◌<◌, ◌≤◌, List, [], slice_range, length, Bool, true, false, Option, Some, None}
 use Rattle.std.specs.Io.KnownBytes.{prepend_known}
 use Rattle.rme_lines.specs.declared.lines.LineReader.{LineReader}
+use Rattle.rme_lines.specs.Traffic.{Event, Grows, LastBroke, ReadsOn}
 
 -- what will be read of the bytes that a reader has left, where it tells them: none once a read gave no byte
 abbrev pub unread : Bool → Option (List ℕ) → Option (List ℕ)
@@ -50,3 +51,16 @@ pub record TakesOn {R : Type 0} (old new : LineReader R) : Type 0 where
   pub ended : new.ended ≡ old.ended
   pub end : new.end ≡ old.end
   pub start : old.start ≤ new.start
+
+-- these reads were made: none after one that gave no byte, and no more than might be made
+pub record Asks {R : Type 0} (gave : R → Option (List Event)) (old new : LineReader R) (reads : List Event) : Type 0 where
+  pub kept : Grows (gave old.reader) (gave new.reader) reads
+  pub silent : ReadsOn old.ended reads new.ended
+  pub bounded : length reads + new.reads ≡ old.reads
+
+abbrev pub MakesReads : {R : Type 0} → (R → Option (List Event)) → LineReader R → LineReader R → Type 0
+MakesReads gave old new = (reads : List Event) × Asks gave old new reads
+
+-- the last of the reads that were made failed, or was the last one allowed
+abbrev pub LastReadFails : {R : Type 0} → (R → Option (List Event)) → LineReader R → LineReader R → Type 0
+LastReadFails gave old new = (reads : List Event) × Asks gave old new reads × (0 < new.reads → LastBroke reads)

@@ -3,14 +3,14 @@
 ghost use Rattle.std.specs.Prelude.{◌≡◌, ◌≢◌, ◌<◌, ◌≤◌, [], false, IfOk, IfErr, OnErr, OnOk};
 ghost use Rattle.rme_lines.specs.Cuts.{Cuts};
 ghost use Rattle.rme_lines.specs.Pieces.{TakesPiece, TakesWhole};
-ghost use Rattle.rme_lines.specs.Readers.{FailsToRead, HasEnded, ReadsNoMore, bytes_left, has_ended, most_lines, reads_left};
+ghost use Rattle.rme_lines.specs.Readers.{FailsToRead, HasEnded, LastReadFails, MakesReads, ReadsNoMore, bytes_left, has_ended, most_lines, reads_left};
 
 use crate::cut::Cut;
 use crate::fault::EngineFault;
 use crate::lines::LineReader;
 use crate::pending::Pending;
+use crate::stream::{Sink, Source};
 use std::alloc::{AllocError, Global};
-use std::io::{Read, Write};
 
 /// The line that was taken last, and the answers to it and to those before it that were not written yet.
 ///
@@ -29,7 +29,8 @@ impl Exchange {
     ghost use Rattle.rme_lines.specs.Cuts.{Cuts};
     ghost use Rattle.rme_lines.specs.Pieces.{TakesWhole};
     ghost use Rattle.rme_lines.specs.Puts.{AppendsFront, Gathers};
-    ghost use Rattle.rme_lines.specs.Readers.{FailsToRead, HasEnded, ReadsNoMore, bytes_left, has_ended, most_lines, reads_left};
+    ghost use Rattle.rme_lines.specs.Traffic.{LastWriteFails, MakesWrites};
+    ghost use Rattle.rme_lines.specs.Readers.{FailsToRead, HasEnded, LastReadFails, MakesReads, ReadsNoMore, bytes_left, has_ended, most_lines, reads_left};
     ghost use Rattle.rme_lines.specs.Runs.{GivesUp, Spills};
 
     /// No line was taken, and no answer is kept back.
@@ -62,7 +63,7 @@ impl Exchange {
     ///
     /// After `ReadFailed` all was written, and after `WriteFailed` a front of it; after `NoMemory` what was not
     /// written is still kept back.
-    pub fn next_line<R: Read + Drop, W: Write>(
+    pub fn next_line<R: Source + Drop, W: Sink>(
         &mut self,
         lines: &mut LineReader<R>,
         writer: &mut W,
@@ -78,6 +79,10 @@ impl Exchange {
         ensures ended { HasEnded lines.old → ReadsNoMore lines.old lines.new }
         ensures reads { reads_left lines.new ≤ reads_left lines.old }
         ensures failed { IfErr result (λ fault. fault ≡ EngineFault.ReadFailed → FailsToRead lines.old lines.new) }
+        ensures asks { MakesReads R.gave lines.old lines.new }
+        ensures read_broke { IfErr result (λ fault. fault ≡ EngineFault.ReadFailed → LastReadFails R.gave lines.old lines.new) }
+        ensures writes { MakesWrites (W.took writer.old) (W.took writer.new) }
+        ensures write_broke { IfErr result (λ fault. fault ≡ EngineFault.WriteFailed → LastWriteFails (W.took writer.old) (W.took writer.new)) }
     {
         match lines.take_line(&mut self.line) {
             Ok(Some(cut)) => return Ok(cut),
@@ -93,29 +98,37 @@ impl Exchange {
 
     /// Keeps an answer back behind the others; where there is no room for it they are written. After `WriteFailed`
     /// a front of all these was written.
-    pub fn answer<W: Write>(&mut self, bytes: &[u8], writer: &mut W) -> Result<(), EngineFault>
+    pub fn answer<W: Sink>(&mut self, bytes: &[u8], writer: &mut W) -> Result<(), EngineFault>
         ensures gathers { OnOk result (Gathers (W.contents writer.old) self.old.pending bytes.now (W.contents writer.new) self.new.pending) }
         ensures front { OnErr result (AppendsFront (W.contents writer.old) (W.contents writer.new) (self.old.pending ++ bytes.now)) }
         ensures kind { IfErr result (λ fault. fault ≡ EngineFault.WriteFailed) }
+        ensures writes { MakesWrites (W.took writer.old) (W.took writer.new) }
+        ensures broke { OnErr result (LastWriteFails (W.took writer.old) (W.took writer.new)) }
     {
         self.pending.gather(bytes, writer)
     }
 
     /// Writes all answers that are kept back, where an answer will be long in coming. After `WriteFailed` a front
     /// of them was written.
-    pub fn write<W: Write>(&mut self, writer: &mut W) -> Result<(), EngineFault>
+    pub fn write<W: Sink>(&mut self, writer: &mut W) -> Result<(), EngineFault>
         ensures none_kept { OnOk result (self.new.pending ≡ []) }
         ensures whole { OnOk result (Appends (W.contents writer.old) (W.contents writer.new) self.old.pending) }
         ensures front { OnErr result (AppendsFront (W.contents writer.old) (W.contents writer.new) self.old.pending) }
         ensures kind { IfErr result (λ fault. fault ≡ EngineFault.WriteFailed) }
+        ensures writes { MakesWrites (W.took writer.old) (W.took writer.new) }
+        ensures broke { OnErr result (LastWriteFails (W.took writer.old) (W.took writer.new)) }
     {
         self.pending.write(writer)
     }
 
     /// What ends the exchange after a fault: for want of memory the answers that are kept back are written yet,
     /// which may fail.
-    pub fn give_up<W: Write>(&mut self, fault: EngineFault, writer: &mut W) -> EngineFault
-        ensures { GivesUp fault (W.contents writer.old) self.old.pending (W.contents writer.new) result }
+    pub fn give_up<W: Sink>(&mut self, fault: EngineFault, writer: &mut W) -> EngineFault
+        ensures gives_up { GivesUp fault (W.contents writer.old) self.old.pending (W.contents writer.new) result }
+        ensures writes { MakesWrites (W.took writer.old) (W.took writer.new) }
+        ensures broke { fault ≢ EngineFault.WriteFailed → result ≡ EngineFault.WriteFailed → LastWriteFails (W.took writer.old) (W.took writer.new) }
+        ensures kept { fault ≢ EngineFault.NoMemory → writer.new ≡ writer.old }
+        ensures read { result ≡ EngineFault.ReadFailed → fault ≡ EngineFault.ReadFailed }
     {
         if fault != EngineFault::NoMemory {
             return fault;
@@ -128,7 +141,7 @@ impl Exchange {
 }
 
 /// Takes the next line where none is at hand. Nothing is kept back while the reader is read.
-fn read_on<R: Read + Drop>(
+fn read_on<R: Source + Drop>(
     lines: &mut LineReader<R>,
     line: &mut Vec<u8>,
     pending: &Pending,
@@ -143,6 +156,8 @@ fn read_on<R: Read + Drop>(
     ensures reads { reads_left lines.new ≤ reads_left lines.old }
     ensures kind { IfErr result (λ fault. fault ≢ EngineFault.WriteFailed) }
     ensures failed { IfErr result (λ fault. fault ≡ EngineFault.ReadFailed → FailsToRead lines.old lines.new) }
+    ensures asks { MakesReads R.gave lines.old lines.new }
+    ensures broke { IfErr result (λ fault. fault ≡ EngineFault.ReadFailed → LastReadFails R.gave lines.old lines.new) }
 {
     let _kept_back = pending;
     lines.next_line(line)

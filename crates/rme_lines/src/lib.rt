@@ -13,6 +13,7 @@ mod fault;
 mod lines;
 mod pending;
 mod put;
+mod stream;
 
 pub use cut::Cut;
 pub use exchange::Exchange;
@@ -20,3 +21,4 @@ pub use fault::{EngineFault, ServeFault};
 pub use lines::LineReader;
 pub use pending::Pending;
 pub use put::put_all;
+pub use stream::{Sink, Source};

@@ -4,9 +4,9 @@ ghost use Rattle.std.specs.Prelude.{◌≡◌, ◌+◌, ◌<◌, ◌≤◌, IfOk
 
 use crate::cut::{Cut, keep, last_cut, whole};
 use crate::fault::EngineFault;
+use crate::stream::{Source, is_interrupted};
 use memchr::memchr;
 use std::alloc::{AllocError, Global};
-use std::io::{ErrorKind, Read};
 
 /// The most reads of one reader.
 const READS: u32 = 1_000_000_000;
@@ -40,12 +40,12 @@ fn empty_chunk(alloc: Global) -> Result<Vec<u8>, AllocError>
     vec![in alloc; 0u8; CHUNK]
 }
 
-impl<R: Read + Drop> LineReader<R> {
+impl<R: Source + Drop> LineReader<R> {
     ghost use Rattle.std.specs.Prelude.{◌≡◌, ◌≢◌, ◌<◌, ◌≤◌, IfOk, IfErr, IfSome, None, OnErr, OnSome, true, false};
     ghost use Rattle.std.specs.Io.KnownBytes.{IsAtEnd, Keeps};
     ghost use Rattle.rme_lines.specs.Pieces.{IsPiece, Takes, TakesPiece, TakesWhole};
     ghost use Rattle.rme_lines.specs.Cuts.{Cuts};
-    ghost use Rattle.rme_lines.specs.Readers.{FailsToRead, HasEnded, ReadsNoMore, TakesOn, at_hand, bytes_left, has_ended, most_lines, reads_left};
+    ghost use Rattle.rme_lines.specs.Readers.{FailsToRead, HasEnded, LastReadFails, MakesReads, ReadsNoMore, TakesOn, at_hand, bytes_left, has_ended, most_lines, reads_left};
 
     /// A reader of lines, which makes no read yet and 1,000,000,000 at most.
     pub fn new(alloc: Global, reader: R) -> Result<LineReader<R>, AllocError>
@@ -73,6 +73,8 @@ impl<R: Read + Drop> LineReader<R> {
         ensures fewer { IfOk result (λ more. more ≡ true → self.new.end ≤ self.new.start → most_lines self.new < most_lines self.old) }
         ensures kind { IfErr result (λ fault. fault ≡ EngineFault.ReadFailed) }
         ensures failed { IfErr result (λ _. FailsToRead self.old self.new) }
+        ensures asks { MakesReads R.gave self.old self.new }
+        ensures broke { OnErr result (LastReadFails R.gave self.old self.new) }
     {
         if self.start < self.end {
             return Ok(true);
@@ -84,7 +86,7 @@ impl<R: Read + Drop> LineReader<R> {
             return Err(EngineFault::ReadFailed);
         }
         self.reads -= 1;
-        match self.reader.read(&mut self.chunk[..]) {
+        match self.reader.read_some(&mut self.chunk[..]) {
             Ok(count) => {
                 self.start = 0;
                 self.end = count;
@@ -92,7 +94,7 @@ impl<R: Read + Drop> LineReader<R> {
                 Ok(count > 0)
             }
             Err(error) => {
-                if error.kind() == ErrorKind::Interrupted {
+                if is_interrupted(&error) {
                     return Ok(true);
                 }
                 Err(EngineFault::ReadFailed)
@@ -166,6 +168,8 @@ impl<R: Read + Drop> LineReader<R> {
         ensures kind { IfErr result (λ fault. fault ≢ EngineFault.WriteFailed) }
         ensures failed { IfErr result (λ fault. fault ≡ EngineFault.ReadFailed → FailsToRead self.old self.new) }
         ensures lost { OnErr result (TakesPiece (bytes_left R.remaining self.old) (bytes_left R.remaining self.new)) }
+        ensures asks { MakesReads R.gave self.old self.new }
+        ensures broke { IfErr result (λ fault. fault ≡ EngineFault.ReadFailed → LastReadFails R.gave self.old self.new) }
     {
         line.clear();
         loop {

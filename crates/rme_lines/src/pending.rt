@@ -4,8 +4,8 @@ ghost use Rattle.std.specs.Prelude.{◌≡◌};
 
 use crate::fault::EngineFault;
 use crate::put::put_all;
+use crate::stream::Sink;
 use std::alloc::{AllocError, Global};
-use std::io::Write;
 use std::marker::Model;
 
 /// The most bytes that are kept back.
@@ -29,6 +29,7 @@ impl Pending {
     ghost use Rattle.std.specs.Prelude.{◌≡◌, ◌≢◌, ◌++◌, [], IfOk, IfErr, OnOk, OnErr, IsTrue, IsFalse};
     ghost use Rattle.std.specs.Io.KnownBytes.{Appends};
     ghost use Rattle.rme_lines.specs.Puts.{AppendsFront, Gathers};
+    ghost use Rattle.rme_lines.specs.Traffic.{LastWriteFails, MakesWrites};
 
     /// Nothing is kept back.
     pub fn new(alloc: Global) -> Result<Pending, AllocError>
@@ -47,11 +48,13 @@ impl Pending {
     }
 
     /// Writes all that is kept back. After `WriteFailed` a front of it was written.
-    pub fn write<W: Write>(&mut self, writer: &mut W) -> Result<(), EngineFault>
+    pub fn write<W: Sink>(&mut self, writer: &mut W) -> Result<(), EngineFault>
         ensures none_kept { OnOk result (self.new ≡ []) }
         ensures whole { OnOk result (Appends (W.contents writer.old) (W.contents writer.new) self.old) }
         ensures front { OnErr result (AppendsFront (W.contents writer.old) (W.contents writer.new) self.old) }
         ensures kind { IfErr result (λ fault. fault ≡ EngineFault.WriteFailed) }
+        ensures writes { MakesWrites (W.took writer.old) (W.took writer.new) }
+        ensures broke { OnErr result (LastWriteFails (W.took writer.old) (W.took writer.new)) }
     {
         match put_all(writer, self.bytes.as_slice()) {
             Ok(()) => {}
@@ -63,10 +66,12 @@ impl Pending {
 
     /// Keeps further bytes back where there is room for them, and else writes what is kept back first. Bytes for
     /// which there is no room at all are written at once. After `WriteFailed` a front of all these was written.
-    pub fn gather<W: Write>(&mut self, bytes: &[u8], writer: &mut W) -> Result<(), EngineFault>
+    pub fn gather<W: Sink>(&mut self, bytes: &[u8], writer: &mut W) -> Result<(), EngineFault>
         ensures gathers { OnOk result (Gathers (W.contents writer.old) self.old bytes.now (W.contents writer.new) self.new) }
         ensures front { OnErr result (AppendsFront (W.contents writer.old) (W.contents writer.new) (self.old ++ bytes.now)) }
         ensures kind { IfErr result (λ fault. fault ≡ EngineFault.WriteFailed) }
+        ensures writes { MakesWrites (W.took writer.old) (W.took writer.new) }
+        ensures broke { OnErr result (LastWriteFails (W.took writer.old) (W.took writer.new)) }
     {
         if self.keep(bytes) {
             return Ok(());

@@ -3,9 +3,8 @@
 ghost use Rattle.std.specs.Prelude.{◌≡◌, ◌++◌, OnOk, string_bytes};
 ghost use Rattle.rme_server.specs.Sessions.{session_line};
 
-use rme_wire::{EngineFault, Exchange, Names, SessionReply, push_session_reply};
+use rme_wire::{EngineFault, Exchange, Names, SessionReply, Sink, push_session_reply};
 use std::alloc::{AllocError, Global};
-use std::io::Write;
 
 /// Room for the answer of most orders.
 const USUAL_ROOM: usize = 256;
@@ -20,6 +19,7 @@ pub(crate) struct Buffers {
 impl Buffers {
     ghost use Rattle.std.specs.Prelude.{◌≡◌, ◌≢◌, ◌++◌, [], IfOk, IfErr, OnOk};
     ghost use Rattle.rme_lines.specs.Puts.{AppendsFront, Gathers};
+    ghost use Rattle.rme_lines.specs.Traffic.{LastWriteFails, MakesWrites};
     ghost use Rattle.rme_server.specs.Sessions.{session_line};
 
     pub(crate) fn new(alloc: Global) -> Result<Buffers, AllocError>
@@ -33,7 +33,7 @@ impl Buffers {
 
     /// Answers the line that was taken last. After `NoMemory` nothing was written, and what was kept back still is;
     /// after `WriteFailed` a front of all answers was written.
-    pub(crate) fn answer<O: Write>(
+    pub(crate) fn answer<O: Sink>(
         &mut self,
         names: &Names,
         reply: SessionReply,
@@ -43,6 +43,8 @@ impl Buffers {
         ensures kind { IfErr result (λ fault. fault ≢ EngineFault.ReadFailed) }
         ensures memory { IfErr result (λ fault. fault ≡ EngineFault.NoMemory → Gathers (O.contents writer.old) self.old.exchange.pending [] (O.contents writer.new) self.new.exchange.pending) }
         ensures front { IfErr result (λ fault. fault ≡ EngineFault.WriteFailed → AppendsFront (O.contents writer.old) (O.contents writer.new) (self.old.exchange.pending ++ session_line names.now reply)) }
+        ensures writes { MakesWrites (O.took writer.old) (O.took writer.new) }
+        ensures write_broke { IfErr result (λ fault. fault ≡ EngineFault.WriteFailed → LastWriteFails (O.took writer.old) (O.took writer.new)) }
     {
         self.text.clear();
         match push_line(&mut self.text, names, reply) {

@@ -6,6 +6,7 @@ ghost use Rattle.rme_lines.specs.Cuts.{line_read};
 ghost use Rattle.rme_lines.specs.Puts.{Gathers};
 ghost use Rattle.rme_lines.specs.Readers.{FailsToRead, HasEnded, ReadsNoMore, bytes_left, has_ended};
 ghost use Rattle.rme_lines.specs.Runs.{GivesUp, TurnFails, Turns, WritesAll, WritesFirst, WritesTo};
+ghost use Rattle.rme_lines.specs.Traffic.{LastWriteFails, MakesWrites};
 ghost use Rattle.rme_server.specs.Obeyed.{Obeys, nobody};
 ghost use Rattle.rme_server.specs.Sessions.{Breaks, IsAnswered, Replies, answer_as, first_of, rest_of, still_waits};
 ghost use Rattle.rme_server.specs.Stands.{MayHold};
@@ -18,11 +19,11 @@ use crate::slots::Slots;
 use crate::stand::Stand;
 use rme_table::{Service, Tag};
 use rme_wire::{
-    Cut, EngineFault, LineReader, Names, Order, Outcome, SessionReply, Submission, order_of,
+    Cut, EngineFault, LineReader, Names, Order, Outcome, SessionReply, Sink, Source, Submission,
+    order_of,
 };
 use rme_words::{NoMemory, Refusal};
 use std::alloc::Global;
-use std::io::{Read, Write};
 use std::sync::Wait;
 
 /// What all sessions of a service share.
@@ -40,7 +41,7 @@ struct Shared<'a, K: Tag> {
 /// order waits for its lock. However the session ends, a worker that it has falls then, and its Down is back in
 /// its slot before the session answers. An error ends it: the answers to earlier lines were written whole, and
 /// after `WriteFailed` a front of them.
-pub fn session<K: Tag, R: Wait, I: Read + Drop, O: Write>(
+pub fn session<K: Tag, R: Wait, I: Source + Drop, O: Sink>(
     rt: &R,
     alloc: Global,
     reader: I,
@@ -52,6 +53,7 @@ pub fn session<K: Tag, R: Wait, I: Read + Drop, O: Write>(
     requires ours { service.now ≡ K.ident }
     ensures ok { OnOk result (WritesAll (IsAnswered K.ident slots.now names.now) nobody (I.remaining reader) (O.contents writer.old) (O.contents writer.new)) }
     ensures err { IfErr result (λ fault. (left : Option (List ℕ)) × WritesFirst (IsAnswered K.ident slots.now names.now) nobody fault (I.remaining reader) left (O.contents writer.old) (O.contents writer.new)) }
+    ensures write_broke { IfErr result (λ fault. fault ≡ EngineFault.WriteFailed → LastWriteFails (O.took writer.old) (O.took writer.new)) }
 {
     let Ok(mut lines) = LineReader::new(alloc, reader) else {
         return Err(EngineFault::NoMemory);
@@ -74,7 +76,7 @@ pub fn session<K: Tag, R: Wait, I: Read + Drop, O: Write>(
 }
 
 /// Takes line after line until none is left, and answers where the session then stands.
-fn converse<K: Tag, R: Wait, I: Read + Drop, O: Write>(
+fn converse<K: Tag, R: Wait, I: Source + Drop, O: Sink>(
     rt: &R,
     lines: &mut LineReader<I>,
     buffers: &mut Buffers,
@@ -87,6 +89,8 @@ fn converse<K: Tag, R: Wait, I: Read + Drop, O: Write>(
     ensures ok { OnOk result.1 (WritesTo (IsAnswered K.ident shared.now.slots.now shared.now.names.now) nobody (bytes_left I.remaining lines.old) (O.contents writer.old) (O.contents writer.new) result.0) }
     ensures err { IfErr result.1 (λ fault. (holds : Option (List ℕ)) (last : EngineFault) → GivesUp fault (O.contents writer.new) buffers.new.exchange.pending holds last
         → WritesFirst (IsAnswered K.ident shared.now.slots.now shared.now.names.now) nobody last (bytes_left I.remaining lines.old) (bytes_left I.remaining lines.new) (O.contents writer.old) holds) }
+    ensures writes { MakesWrites (O.took writer.old) (O.took writer.new) }
+    ensures write_broke { IfErr result.1 (λ fault. fault ≡ EngineFault.WriteFailed → LastWriteFails (O.took writer.old) (O.took writer.new)) }
 {
     let mut stand = Stand::empty();
     for _ in rt.forever() {
@@ -101,7 +105,7 @@ fn converse<K: Tag, R: Wait, I: Read + Drop, O: Write>(
 }
 
 /// Takes the next line, obeys it and answers it, and says whether there was a line.
-fn turn<K: Tag, R: Wait, I: Read + Drop, O: Write>(
+fn turn<K: Tag, R: Wait, I: Source + Drop, O: Sink>(
     rt: &R,
     stand: Stand,
     lines: &mut LineReader<I>,
@@ -118,6 +122,8 @@ fn turn<K: Tag, R: Wait, I: Read + Drop, O: Write>(
         (O.contents writer.old) buffers.old.exchange.pending (O.contents writer.new) buffers.new.exchange.pending) }
     ensures ended { HasEnded lines.old → ReadsNoMore lines.old lines.new }
     ensures failed { IfErr result.1 (λ fault. fault ≡ EngineFault.ReadFailed → FailsToRead lines.old lines.new) }
+    ensures writes { MakesWrites (O.took writer.old) (O.took writer.new) }
+    ensures write_broke { IfErr result.1 (λ fault. fault ≡ EngineFault.WriteFailed → LastWriteFails (O.took writer.old) (O.took writer.new)) }
 {
     let cut = match buffers.exchange.next_line(lines, writer) {
         Ok(cut) => cut,
@@ -138,7 +144,7 @@ fn turn<K: Tag, R: Wait, I: Read + Drop, O: Write>(
 }
 
 /// The reply to the line that was taken last, and where the session then stands.
-fn reply_to<K: Tag, R: Wait, O: Write>(
+fn reply_to<K: Tag, R: Wait, O: Sink>(
     rt: &R,
     cut: Cut,
     stand: Stand,
@@ -152,6 +158,8 @@ fn reply_to<K: Tag, R: Wait, O: Write>(
     ensures replies { IfOk result.1 (λ reply. Replies K.ident shared.now.slots.now shared.now.names.now stand (line_read cut buffers.old.exchange.line.items) reply result.0) }
     ensures gathers { OnOk result.1 (Gathers (O.contents writer.old) buffers.old.exchange.pending [] (O.contents writer.new) buffers.new.exchange.pending) }
     ensures err { IfErr result.1 (λ fault. Breaks fault (O.contents writer.old) buffers.old.exchange.pending (O.contents writer.new) buffers.new.exchange.pending) }
+    ensures writes { MakesWrites (O.took writer.old) (O.took writer.new) }
+    ensures write_broke { IfErr result.1 (λ fault. fault ≡ EngineFault.WriteFailed → LastWriteFails (O.took writer.old) (O.took writer.new)) }
 {
     if cut == Cut::TooLong {
         return (stand, Ok(SessionReply::Refused(Refusal::LineTooLong)));
@@ -175,7 +183,7 @@ fn order_in(line: &[u8], alloc: Global, names: &Names) -> Result<Result<Order, R
 
 /// Obeys an order. Where answers are kept back it makes one try alone; if the job waits then, they are written
 /// before the others are made, so that no client waits for an answer that is there.
-fn obey_in_time<K: Tag, R: Wait, O: Write>(
+fn obey_in_time<K: Tag, R: Wait, O: Sink>(
     rt: &R,
     stand: Stand,
     order: Order,
@@ -189,6 +197,8 @@ fn obey_in_time<K: Tag, R: Wait, O: Write>(
     ensures obeys { IfOk result.1 (λ reply. Obeys K.ident shared.now.slots.now stand order result.0 reply) }
     ensures gathers { OnOk result.1 (Gathers (O.contents writer.old) buffers.old.exchange.pending [] (O.contents writer.new) buffers.new.exchange.pending) }
     ensures err { IfErr result.1 (λ fault. Breaks fault (O.contents writer.old) buffers.old.exchange.pending (O.contents writer.new) buffers.new.exchange.pending) }
+    ensures writes { MakesWrites (O.took writer.old) (O.took writer.new) }
+    ensures write_broke { IfErr result.1 (λ fault. fault ≡ EngineFault.WriteFailed → LastWriteFails (O.took writer.old) (O.took writer.new)) }
 {
     if !buffers.exchange.keeps_back() {
         let (stand, reply) = obey(rt, stand, order, shared.service, shared.slots);

@@ -23,7 +23,7 @@ pub use loading::Loading;
 pub use opening::{GivenNames, Opening};
 pub use order::{Order, Submission, order_of};
 pub use request::{Request, request_of};
-pub use rme_lines::{Cut, EngineFault, Exchange, LineReader, Pending, put_all};
+pub use rme_lines::{Cut, EngineFault, Exchange, LineReader, Pending, Sink, Source, put_all};
 pub use rme_texts::{
     Done, EventLine, Handed, Image, Names, Outcome, Reply, Report, SessionReply, Standing, WalkEnd,
     WalkNotes, Walked, is_name, push_event, push_note, push_opening, push_reply,

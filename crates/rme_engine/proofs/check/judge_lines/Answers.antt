@@ -11,11 +11,12 @@ use Rattle.rme_engine.specs.Verdicts.{event_read}
 use Rattle.rme_engine.specs.Watching.{IsShownOf}
 use Rattle.rme_engine.proofs.WatchLemmas.{shown_all, shown_end, shown_more}
 use Rattle.rme_lines.proofs.RunLemmas.{came_turn, cut_off, none_left}
+use Rattle.rme_lines.proofs.TrafficLemmas.{fails_more, makes_more}
 use Rattle.rme_engine.proofs.check.judge_lines.Goals as goal
 
 pub returns-then-eq-clause-verdict : goal.returns-then-eq-clause-verdict
 returns-then-eq-clause-verdict g c =
-    let left = bytes_left g.R.Read.remaining in
+    let left = bytes_left g.R.Source.remaining in
     let now = c.loop-cut in
     let over : c.in-Ok.cut ≡ End = search rules in
     now.invariant.leads Yes
@@ -26,7 +27,7 @@ overflow_add-number g c = let first = c.args.lines.now.within in let now = c.loo
 
 pub loop-cut-preserved : goal.loop-cut-preserved
 loop-cut-preserved g c =
-    let left = bytes_left g.R.Read.remaining in
+    let left = bytes_left g.R.Source.remaining in
     let now = c.loop-cut in
     let new = c.next_line.new.self in
     let line = line_read c.in-Ok.cut c.as_slice.result.now in
@@ -42,11 +43,12 @@ loop-cut-preserved g c =
           c.args.watcher.now now.watcher c.finds.new.watcher now.invariant.shown off found (let Q : Found → Type 0 = λ f. IsShownOf g.V.Watch.sees (event_read now.judge.names line) c.finds.new.self.machine f now.watcher c.finds.new.watcher in subst Q c.in-Ok-Step.field-0-is c.in-Ok-Step.ensures.shown) c.in-Ok-Step.ensures.names;
       came_on = came_turn c.args.lines.now now.lines new now.invariant.came_on c.in-Ok.ensures.ended c.in-Ok.ensures.reads fewer;
       counted = omega (arith, now.invariant.counted, fewer);
+      reads = makes_more g.R.Source.gave c.args.lines.now now.lines new now.invariant.reads c.in-Ok.ensures.asks;
     }
 
 pub returns-in-Ok-NoStep-clause-verdict : goal.returns-in-Ok-NoStep-clause-verdict
 returns-in-Ok-NoStep-clause-verdict g c =
-    let left = bytes_left g.R.Read.remaining in
+    let left = bytes_left g.R.Source.remaining in
     let now = c.loop-cut in
     let line = line_read c.in-Ok.cut c.as_slice.result.now in
     let cuts = rw (← c.as_slice.ensures.value) at c.in-Ok.ensures.cut in
@@ -58,7 +60,7 @@ returns-in-Ok-NoStep-clause-verdict g c =
 
 pub returns-in-Ok-NoEvent-clause-verdict : goal.returns-in-Ok-NoEvent-clause-verdict
 returns-in-Ok-NoEvent-clause-verdict g c =
-    let left = bytes_left g.R.Read.remaining in
+    let left = bytes_left g.R.Source.remaining in
     let now = c.loop-cut in
     let line = line_read c.in-Ok.cut c.as_slice.result.now in
     let cuts = rw (← c.as_slice.ensures.value) at c.in-Ok.ensures.cut in
@@ -70,7 +72,7 @@ returns-in-Ok-NoEvent-clause-verdict g c =
 
 pub returns-then-eq-clause-shown : goal.returns-then-eq-clause-shown
 returns-then-eq-clause-shown g c =
-    let left = bytes_left g.R.Read.remaining in
+    let left = bytes_left g.R.Source.remaining in
     let now = c.loop-cut in
     let over : c.in-Ok.cut ≡ End = search rules in
     now.invariant.shown now.watcher
@@ -78,7 +80,7 @@ returns-then-eq-clause-shown g c =
 
 pub returns-in-Ok-NoStep-clause-shown : goal.returns-in-Ok-NoStep-clause-shown
 returns-in-Ok-NoStep-clause-shown g c =
-    let left = bytes_left g.R.Read.remaining in
+    let left = bytes_left g.R.Source.remaining in
     let now = c.loop-cut in
     let line = line_read c.in-Ok.cut c.as_slice.result.now in
     let cuts = rw (← c.as_slice.ensures.value) at c.in-Ok.ensures.cut in
@@ -92,7 +94,7 @@ returns-in-Ok-NoStep-clause-shown g c =
 
 pub returns-in-Ok-NoEvent-clause-shown : goal.returns-in-Ok-NoEvent-clause-shown
 returns-in-Ok-NoEvent-clause-shown g c =
-    let left = bytes_left g.R.Read.remaining in
+    let left = bytes_left g.R.Source.remaining in
     let now = c.loop-cut in
     let line = line_read c.in-Ok.cut c.as_slice.result.now in
     let cuts = rw (← c.as_slice.ensures.value) at c.in-Ok.ensures.cut in
@@ -103,3 +105,21 @@ returns-in-Ok-NoEvent-clause-shown g c =
     now.invariant.shown c.finds.new.watcher
     (shown_end g.V.Watch.sees now.judge.names now.judge.machine c.finds.new.self.machine (left now.lines) (left c.next_line.new.self) line NoEvent now.watcher c.finds.new.watcher tt off
     (subst P c.in-Ok-NoEvent.field-0-is c.in-Ok-NoEvent.ensures.found) (subst Q c.in-Ok-NoEvent.field-0-is c.in-Ok-NoEvent.ensures.shown))
+
+pub returns-in-Err-clause-reads : goal.returns-in-Err-clause-reads
+returns-in-Err-clause-reads g c = let now = c.loop-cut in makes_more g.R.Source.gave c.args.lines.now now.lines c.next_line.new.self now.invariant.reads c.in-Err.ensures.asks
+
+pub returns-then-eq-clause-reads : goal.returns-then-eq-clause-reads
+returns-then-eq-clause-reads g c = let now = c.loop-cut in makes_more g.R.Source.gave c.args.lines.now now.lines c.next_line.new.self now.invariant.reads c.in-Ok.ensures.asks
+
+pub returns-in-Ok-NoStep-clause-reads : goal.returns-in-Ok-NoStep-clause-reads
+returns-in-Ok-NoStep-clause-reads g c = let now = c.loop-cut in makes_more g.R.Source.gave c.args.lines.now now.lines c.next_line.new.self now.invariant.reads c.in-Ok.ensures.asks
+
+pub returns-in-Ok-NoEvent-clause-reads : goal.returns-in-Ok-NoEvent-clause-reads
+returns-in-Ok-NoEvent-clause-reads g c = let now = c.loop-cut in makes_more g.R.Source.gave c.args.lines.now now.lines c.next_line.new.self now.invariant.reads c.in-Ok.ensures.asks
+
+pub returns-in-Err-finds-clause-reads : goal.returns-in-Err-finds-clause-reads
+returns-in-Err-finds-clause-reads g c = let now = c.loop-cut in makes_more g.R.Source.gave c.args.lines.now now.lines c.next_line.new.self now.invariant.reads c.in-Ok.ensures.asks
+
+pub returns-in-Err-clause-read_broke : goal.returns-in-Err-clause-read_broke
+returns-in-Err-clause-read_broke g c e = let now = c.loop-cut in fails_more g.R.Source.gave c.args.lines.now now.lines c.next_line.new.self now.invariant.reads (c.in-Err.ensures.broke e)

@@ -7,30 +7,31 @@ use Rattle.rme_engine.specs.Outputs.{Tells}
 use Rattle.rme_lines.proofs.PutLemmas.{gathers_more}
 use Rattle.rme_lines.proofs.ReaderLemmas.{ended_at_end}
 use Rattle.rme_lines.proofs.RunLemmas.{cut_off, put_failed, spilt, told_failed}
+use Rattle.rme_lines.proofs.TrafficLemmas.{fails_after, writes_more}
 use Rattle.rme_engine.proofs.run.turn.Goals as goal
 
 pub returns-in-Err-clause-err : goal.returns-in-Err-clause-err
 returns-in-Err-clause-err g c =
-    let left = bytes_left g.R.Read.remaining in
-    let held = g.W.Write.contents in
+    let left = bytes_left g.R.Source.remaining in
+    let held = g.W.Sink.contents in
     spilt (Tells c.args.output) c.in-Err.fault (left c.args.lines.now) (left c.next_line.new.lines) (held c.args.writer.now) (held c.next_line.new.writer) (state_of c.args.engine.now) c.args.exchange.now.pending
     c.next_line.new.self.pending c.in-Err.ensures.err
 
 pub returns-in-Err-tell-clause-err : goal.returns-in-Err-tell-clause-err
 returns-in-Err-tell-clause-err g c =
-    let left = bytes_left g.R.Read.remaining in
-    let held = g.W.Write.contents in
+    let left = bytes_left g.R.Source.remaining in
+    let held = g.W.Sink.contents in
     let cuts = rw (← c.line.ensures) at c.in-Ok.ensures.cut in
     let more : c.in-Ok.cut ≢ End = search rules in
     rw c.in-Err-tell.ensures.kind
     (told_failed (Tells c.args.output) (left c.args.lines.now) (left c.next_line.new.lines) (held c.args.writer.now) (held c.next_line.new.writer) (has_ended c.next_line.new.lines) (state_of c.args.engine.now)
     (line_read c.in-Ok.cut c.line.result.now) c.args.exchange.now.pending c.next_line.new.self.pending
-    (cut_off (left c.args.lines.now) (left c.next_line.new.lines) c.in-Ok.cut c.line.result.now cuts more) c.in-Ok.ensures.whole (ended_at_end g.R.Read.remaining c.next_line.new.lines) c.in-Ok.ensures.gathers)
+    (cut_off (left c.args.lines.now) (left c.next_line.new.lines) c.in-Ok.cut c.line.result.now cuts more) c.in-Ok.ensures.whole (ended_at_end g.R.Source.remaining c.next_line.new.lines) c.in-Ok.ensures.gathers)
 
 pub returns-in-Err-answer-clause-err : goal.returns-in-Err-answer-clause-err
 returns-in-Err-answer-clause-err g c =
-    let left = bytes_left g.R.Read.remaining in
-    let held = g.W.Write.contents in
+    let left = bytes_left g.R.Source.remaining in
+    let held = g.W.Sink.contents in
     let cuts = rw (← c.line.ensures) at c.in-Ok.ensures.cut in
     let front = rw c.as_bytes.ensures.value at c.in-Err-answer.ensures.front in
     let more : c.in-Ok.cut ≢ End = search rules in
@@ -41,8 +42,8 @@ returns-in-Err-answer-clause-err g c =
 
 pub returns-clause-ok : goal.returns-clause-ok
 returns-clause-ok g c =
-    let left = bytes_left g.R.Read.remaining in
-    let held = g.W.Write.contents in
+    let left = bytes_left g.R.Source.remaining in
+    let held = g.W.Sink.contents in
     let cuts = rw (← c.line.ensures) at c.in-Ok.ensures.cut in
     let gathers = rw c.as_bytes.ensures.value at c.in-Ok-answer.ensures.gathers in
     let more : c.in-Ok.cut ≢ End = search rules in (
@@ -54,3 +55,15 @@ returns-clause-ok g c =
           c.in-Ok.ensures.gathers gathers,
       c.in-Ok.ensures.whole,
     )
+
+pub returns-in-Err-answer-clause-writes : goal.returns-in-Err-answer-clause-writes
+returns-in-Err-answer-clause-writes g c =
+    let took = g.W.Sink.took in writes_more (took c.args.writer.now) (took c.next_line.new.writer) (took c.answer.new.writer) c.in-Ok.ensures.writes c.in-Err-answer.ensures.writes
+
+pub returns-in-Err-answer-clause-write_broke : goal.returns-in-Err-answer-clause-write_broke
+returns-in-Err-answer-clause-write_broke g c _ =
+    let took = g.W.Sink.took in fails_after (took c.args.writer.now) (took c.next_line.new.writer) (took c.answer.new.writer) c.in-Ok.ensures.writes c.in-Err-answer.ensures.broke
+
+pub returns-clause-writes : goal.returns-clause-writes
+returns-clause-writes g c =
+    let took = g.W.Sink.took in writes_more (took c.args.writer.now) (took c.next_line.new.writer) (took c.answer.new.writer) c.in-Ok.ensures.writes c.in-Ok-answer.ensures.writes

@@ -1,6 +1,7 @@
 -- The answers to the lines before were written, but for those that are kept back, and the others are left; what the session
 -- holds is of this service.
 use Rattle.rme_lines.specs.Readers.{bytes_left}
+use Rattle.rme_lines.specs.Traffic.{MakesWrites}
 use Rattle.rme_lines.proofs.RunLemmas.{SoFar}
 use Rattle.rme_server.specs.Obeyed.{nobody}
 use Rattle.rme_server.specs.Sessions.{IsAnswered}
@@ -10,6 +11,7 @@ use Rattle.rme_server.proofs.talk.converse.Given as goal
 abbrev pub invariant-loop : goal.invariant-loop
 invariant-loop g l = record {
   ours : MayHold g.K.Tag.ident l.shared.slots.now l.stand.value;
-  so_far : SoFar (IsAnswered g.K.Tag.ident l.fn.shared.slots.now l.fn.shared.names.now) nobody (bytes_left g.I.Read.remaining l.fn.lines) (g.O.Write.contents l.fn.writer)
-      (bytes_left g.I.Read.remaining l.lines) l.lines.ended l.stand (g.O.Write.contents l.writer) l.buffers.exchange.pending;
+  so_far : SoFar (IsAnswered g.K.Tag.ident l.fn.shared.slots.now l.fn.shared.names.now) nobody (bytes_left g.I.Source.remaining l.fn.lines) (g.O.Sink.contents l.fn.writer)
+      (bytes_left g.I.Source.remaining l.lines) l.lines.ended l.stand (g.O.Sink.contents l.writer) l.buffers.exchange.pending;
+  writes : MakesWrites (g.O.Sink.took l.fn.writer) (g.O.Sink.took l.writer);
 }

@@ -1,12 +1,25 @@
+use Rattle.std.proofs.Common.{◌≡◌, subst}
+use Rattle.std.specs.Prelude.{IfErr, Result}
+use Rattle.rme_lines.specs.declared.fault.EngineFault.{EngineFault}
+use Rattle.rme_lines.specs.declared.fault.EngineFault.TheVariants.{WriteFailed}
+use Rattle.rme_lines.specs.Traffic.{LastWriteFails}
 use Rattle.rme_lines.proofs.RunLemmas.{failed_first}
+use Rattle.rme_lines.proofs.TrafficLemmas.{gave_up_writing}
 use Rattle.rme_server.specs.Obeyed.{nobody}
 use Rattle.rme_server.specs.Sessions.{IsAnswered}
 use Rattle.rme_server.proofs.talk.session.Goals as goal
 
 pub returns-in_default-clause-err : goal.returns-in_default-clause-err
 returns-in_default-clause-err g c =
-    (g.I.Read.remaining c.args.reader, failed_first (IsAnswered g.K.Tag.ident c.args.slots.now c.args.names.now) nobody (g.I.Read.remaining c.args.reader) (g.O.Write.contents c.args.writer.now))
+    (g.I.Source.remaining c.args.reader, failed_first (IsAnswered g.K.Tag.ident c.args.slots.now c.args.names.now) nobody (g.I.Source.remaining c.args.reader) (g.O.Sink.contents c.args.writer.now))
 
 pub returns-in_default-new-clause-err : goal.returns-in_default-new-clause-err
 returns-in_default-new-clause-err g c =
-    (g.I.Read.remaining c.args.reader, failed_first (IsAnswered g.K.Tag.ident c.args.slots.now c.args.names.now) nobody (g.I.Read.remaining c.args.reader) (g.O.Write.contents c.args.writer.now))
+    (g.I.Source.remaining c.args.reader, failed_first (IsAnswered g.K.Tag.ident c.args.slots.now c.args.names.now) nobody (g.I.Source.remaining c.args.reader) (g.O.Sink.contents c.args.writer.now))
+
+pub returns-clause-write_broke : goal.returns-clause-write_broke
+returns-clause-write_broke g c e =
+    let took = g.O.Sink.took in
+    let P : Result (Unit {0}) EngineFault → Type 0 = λ r. IfErr r (λ fault. fault ≡ WriteFailed → LastWriteFails (took c.args.writer.now) (took c.converse-stand.new.writer)) in
+    gave_up_writing took c.args.writer.now c.converse-stand.new.writer c.give_up.new.writer c.in-Err.fault c.give_up.result c.converse-stand.ensures.writes
+    (subst P c.in-Err.is c.converse-stand.ensures.write_broke) c.give_up.ensures.kept c.give_up.ensures.broke e

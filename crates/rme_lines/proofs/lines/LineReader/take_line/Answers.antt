@@ -9,7 +9,7 @@ returns-in_default-clause-none g c none = let absent = rw c.deref.ensures.value 
 pub returns-clause-cut : goal.returns-clause-cut
 returns-clause-cut g c =
     let self = c.args.self.now in
-    let left = bytes_left g.R.Read.remaining self in
+    let left = bytes_left g.R.Source.remaining self in
     let first = rw c.deref.ensures.value at c.in-Some.ensures in
     let line = rw c.deref.ensures.value at c.in_ok-keep.ensures in
     let bytes = slice_range self.chunk.items self.start self.end in
@@ -21,7 +21,7 @@ returns-clause-cut g c =
 pub returns-clause-whole : goal.returns-clause-whole
 returns-clause-whole g c =
     let self = c.args.self.now in
-    let left = bytes_left g.R.Read.remaining self in
+    let left = bytes_left g.R.Source.remaining self in
     let first = rw c.deref.ensures.value at c.in-Some.ensures in
     let bytes = slice_range self.chunk.items self.start self.end in
     let saw : Saw 65537 left left c.clear.new.self.items = rw c.clear.ensures.items (saw_first 65537 left) in

@@ -1,0 +1,79 @@
+//! The two ends of a stream, each with the list of what its calls gave.
+
+ghost use Rattle.std.specs.Prelude.{◌≡◌, ◌≢◌, ℕ, List, [], ◌∷◌, Option, IfOk, IfErr, IsTrue, IsFalse};
+ghost use Rattle.std.specs.IoError.{error_kind};
+ghost use Rattle.std.specs.Io.{ReadsAtMost, WritesAtMost};
+ghost use Rattle.std.specs.Io.KnownBytes.{ReadConsumes, WriteAppends};
+ghost use Rattle.rme_lines.specs.Traffic.{Event, Grows, broke, interrupted, read_of, write_of};
+
+use std::io::{Error, ErrorKind, Read, Result, Write};
+
+/// What is read from: any `Read`, or a stream that also keeps what its reads gave.
+///
+/// A caller over any source can't tell which it has, so what it promises of the list of reads it does over every reader.
+pub trait Source {
+    // The bytes that reads will give from here on, where they are known.
+    ghost remaining: { Self → Option (List ℕ) };
+
+    // What the reads gave so far, in order, where the source keeps that.
+    ghost gave: { Self → Option (List Event) };
+
+    /// Makes one read, as `Read::read` does.
+    fn read_some(&mut self, buf: &mut [u8]) -> Result<usize>
+        ensures bound { ReadsAtMost result buf.new }
+        ensures bytes { ReadConsumes (remaining self.old) (remaining self.new) result buf.new }
+        ensures moved { IfOk result (λ count. Grows (gave self.old) (gave self.new) (read_of count buf.new ∷ [])) }
+        ensures interrupted { IfErr result (λ error. error_kind error ≡ ErrorKind.Interrupted → Grows (gave self.old) (gave self.new) (interrupted ∷ [])) }
+        ensures broke { IfErr result (λ error. error_kind error ≢ ErrorKind.Interrupted → Grows (gave self.old) (gave self.new) (broke ∷ [])) };
+}
+
+/// What is written to: any `Write`, or a stream that also keeps what its writes came to.
+pub trait Sink {
+    // The bytes that it holds, where they are known.
+    ghost contents: { Self → Option (List ℕ) };
+
+    // What the writes came to so far, in order, where the sink keeps that.
+    ghost took: { Self → Option (List Event) };
+
+    /// Makes one write, as `Write::write` does.
+    fn write_some(&mut self, buf: &[u8]) -> Result<usize>
+        ensures bound { WritesAtMost result buf.now }
+        ensures bytes { WriteAppends (contents self.old) (contents self.new) result buf.now }
+        ensures moved { IfOk result (λ count. Grows (took self.old) (took self.new) (write_of count buf.now ∷ [])) }
+        ensures interrupted { IfErr result (λ error. error_kind error ≡ ErrorKind.Interrupted → Grows (took self.old) (took self.new) (interrupted ∷ [])) }
+        ensures broke { IfErr result (λ error. error_kind error ≢ ErrorKind.Interrupted → Grows (took self.old) (took self.new) (broke ∷ [])) };
+}
+
+/// A reader keeps no list.
+impl<R: Read> Source for R {
+    ghost use Rattle.std.specs.Prelude.{None};
+
+    ghost remaining = { R.Read.remaining };
+
+    ghost gave = { λ _. None };
+
+    fn read_some(&mut self, buf: &mut [u8]) -> Result<usize> {
+        self.read(buf)
+    }
+}
+
+/// A writer keeps no list.
+impl<W: Write> Sink for W {
+    ghost use Rattle.std.specs.Prelude.{None};
+
+    ghost contents = { W.Write.contents };
+
+    ghost took = { λ _. None };
+
+    fn write_some(&mut self, buf: &[u8]) -> Result<usize> {
+        self.write(buf)
+    }
+}
+
+/// Whether a call moved nothing because it was interrupted, and is to be made again.
+pub fn is_interrupted(error: &Error) -> bool
+    ensures yes { IsTrue result → error_kind error.now ≡ ErrorKind.Interrupted }
+    ensures no { IsFalse result → error_kind error.now ≢ ErrorKind.Interrupted }
+{
+    error.kind() == ErrorKind::Interrupted
+}
