@@ -64,6 +64,20 @@ fn dead_owner(rt: HostRuntime) -> Result<(), Fail> {
     Ok(())
 }
 
+/// A job has its sweeps in all lives together: worker 1 is done on lock 1 after 20 own steps, asks for lock 0 by 6 more,
+/// and falls after two blocked sweeps. The next life recovers by 4 steps and has one sweep left; a second would fall.
+#[test]
+fn sweeps_in_all_lives(rt: HostRuntime) -> Result<(), Fail> {
+    let mut plans = Vec::new(rt.alloc());
+    plans.push(plan(rt.alloc(), &[job(0, &[Op::Add(0, 5)])], &[9], 1, 1)?)?;
+    let jobs = [job(1, &[]), job(0, &[Op::Add(0, 1)])];
+    plans.push(plan(rt.alloc(), &jobs, &[28, 33], 3, 3)?)?;
+    let report = report_of(&rt, rt.alloc(), (2, 2, 1, 10), plans, &After::new())?;
+    assert!(rt; report.ends.as_slice() == [End::OutOfLives, End::Stalled].as_slice());
+    assert!(rt; report.lives.as_slice() == [1, 2].as_slice());
+    Ok(())
+}
+
 /// Row `threads program`, as a call: eight workers on one lock, a hundred jobs each, with three falls each.
 #[test]
 fn threads_program(rt: HostRuntime) -> Result<(), Fail> {
