@@ -7,8 +7,8 @@ use rme_words::NoMemory;
 use std::alloc::{AllocError, AllocFailed};
 use thiserror::Error;
 
-/// Why an engine over lines gave up. The answers to earlier lines were written whole; the world of that run
-/// is gone.
+/// Why an engine over lines gave up. The answers to earlier lines were written whole, but after `WriteFailed`, where a
+/// front of them was. The world of that run is gone.
 #[derive(Clone, Copy, Debug, PartialEq, Eq, Error)]
 pub enum EngineFault {
     /// The reader failed, or 1,000,000,000 reads were made.
