@@ -7,5 +7,5 @@
 pub use rme_engine::{Engine, answer_lines, run_lines, transcript_lines};
 pub use rme_wire::{
     Command, Cut, Done, EngineFault, GivenNames, Image, LineReader, Loading, Names, Opening, Reply,
-    Request, is_name, push_reply, put_all, request_of,
+    Request, Sink, Source, is_name, push_reply, put_all, request_of,
 };
