@@ -11,10 +11,12 @@ def started(words, connections):
 
 
 def closing(server, connections):
-    """What the server says of its locks. It must end by itself, and well."""
+    """What the server says of its locks, and behind that what it remarks on those with a worker inside. It must end by
+    itself, and well."""
     status, closed, told = server.end()
-    if (status, told) == (0, f"[INFO  rme] served {connections}\n".encode()):
-        return closed
+    served, *remarks = told.splitlines(keepends=True) or [b""]
+    if (status, served) == (0, f"[INFO  rme] served {connections}\n".encode()):
+        return closed + b"".join(remarks)
     return f"the server ended with {status}, {told!r}\n".encode()
 
 
