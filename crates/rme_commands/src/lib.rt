@@ -2,8 +2,8 @@
 //!
 //! Those that go over lines alone are done by rme_line_commands. The others stand on rme_supervisor, by which `threads.rt`
 //! runs workers in threads, on rme_server, by which `serve.rt` serves them to clients, and on rme_draw, by which `draw.rt`
-//! draws a transcript; what is said at the end of a service is in `closing.rt`. What is asked for comes from rme_options, and the texts and statuses of what goes wrong are those of
-//! rme_faults. Begin with `command.rt`.
+//! draws a transcript; what is said at the end of a service is in `closing.rt`. What is asked for comes from rme_options,
+//! and the texts and statuses of what goes wrong are those of rme_faults. Begin with `command.rt`.
 #![tactic(auto)]
 
 mod closing;

@@ -20,22 +20,13 @@ use Rattle.rme_server.specs.declared.stand.Holding.{Holding}
 use Rattle.rme_server.specs.declared.stand.Holding.TheVariants.{Empty, Ready, Climb, Held}
 use Rattle.rme_server.proofs.Planning.{walked_by, walked_on}
 
-module _ (shape : Shape) (start now : Stand) (old new : Tally) (least most : ℕ) where
-  pub risen : Made shape restarted start now old new least most → KeepsAll shape restarted start now
-  risen made = record {
-    made = length made.walks.values;
-    walked = walked_by shape restarted start now old new 0 made.walks made.stays.ident made.stays.own;
-    draft = made.stays.draft;
-    entries = made.stays.entries;
-  }
-
-  pub gone_out : Made shape onward start now old new least most → KeepsAll shape onward start now
-  gone_out made = record {
-    made = length made.walks.values;
-    walked = walked_by shape onward start now old new 0 made.walks made.stays.ident made.stays.own;
-    draft = made.stays.draft;
-    entries = made.stays.entries;
-  }
+risen : (shape : Shape) (start now : Stand) (old new : Tally) (least most : ℕ) → Made shape restarted start now old new least most → KeepsAll shape restarted start now
+risen shape start now old new least most made = record {
+  made = length made.walks.values;
+  walked = walked_by shape restarted start now old new 0 made.walks made.stays.ident made.stays.own;
+  draft = made.stays.draft;
+  entries = made.stays.entries;
+}
 
 -- After a recovery, which has two steps at least.
 pub risen_on : (shape : Shape) (down mid ready : Stand) (old new : Tally) (most : ℕ) → Made shape restarted down mid old new 2 most → KeepsAll shape onward mid ready → KeepsAll shape restarted down ready

@@ -103,7 +103,7 @@ Acts ident count old its now (reply.Refused why) let_go =
     ((now ≡ old) × (let_go ≡ None)) × (Refuses ident.shape old.value its (Some why) ⊎ SlotRefuses count ident.shape old.value its why)
 Acts ident count old its now answer let_go = Refuses ident.shape old.value its None × Does ident old its now answer let_go
 
--- The same, whatever was let go: it lies in its slot.
+-- The same, whatever worker was let go, if any was.
 pub record Obeys (ident : seat.Ident) (count : ℕ) (old : Stand) (its : Order) (now : Stand) (answer : SessionReply) : Type 0 where
   pub let_go : Option seat.Stand
   pub acts : Acts ident count old its now answer let_go
