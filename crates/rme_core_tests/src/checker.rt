@@ -6,6 +6,7 @@ use rme_program::{Answer, Event, Note, Receipt};
 use rme_script::{Job, Op, Script};
 use rme_words::{Refusal, Shape};
 use rme_world::World;
+use std::alloc::Global;
 use std::process::Abort;
 use std::test::Fail;
 
@@ -61,44 +62,48 @@ fn all_admit(
     Ok(())
 }
 
-/// Row `transcript`, of worker 0: who owns the lock, and what is finished, before, after and where it has left.
-#[test]
-fn owners_and_finished_sections(rt: HostRuntime) -> Result<(), Fail> {
-    let mut machine = Machine::new(rt.alloc(), Shape::new(2, 1, 1, 10)?)?;
-    assert!(rt; machine.owner(0) == None);
-    assert!(rt; machine.finished().is_empty());
-    admits(
-        &rt,
-        &mut machine,
-        (submit(0, ADD_FIVE), Answer::Handed(1)),
-        true,
-    )?;
-    all_admit(&rt, &mut machine, &TO_THE_FINISH, true)?;
-    assert!(rt; machine.owner(0) == Some(0));
+/// The machine's one finished section must be worker 0's.
+fn is_finished(rt: &impl Abort, machine: &Machine) {
     let finished = machine.finished();
     assert!(rt; finished.len() == 1);
     assert!(rt; finished[0].receipt == FINISHED);
     assert!(rt; finished[0].script == Script::of(ADD_FIVE));
-    let left = (Event::Step(0), Answer::Stepped(Note::Left(0)));
-    admits(&rt, &mut machine, left, true)?;
-    assert!(rt; machine.owner(0) == None);
-    assert!(rt; machine.owner(1) == None);
+}
+
+/// Row `transcript`, of worker 0: who owns the lock, and what is finished, before, after and where it has left.
+#[test]
+fn owners_and_finished_sections(rt: HostRuntime) -> Result<(), Fail> {
+    let mut machine = Machine::new(rt.alloc(), Shape::new(2, 1, 1, 10)?)?;
+    assert!(rt; machine.owner(0) == None && machine.finished().is_empty());
+    let handed = [(submit(0, ADD_FIVE), Answer::Handed(1))];
+    all_admit(&rt, &mut machine, &handed, true)?;
+    all_admit(&rt, &mut machine, &TO_THE_FINISH, true)?;
+    assert!(rt; machine.owner(0) == Some(0));
+    is_finished(&rt, &machine);
+    let left = [(Event::Step(0), Answer::Stepped(Note::Left(0)))];
+    all_admit(&rt, &mut machine, &left, true)?;
+    assert!(rt; machine.owner(0) == None && machine.owner(1) == None);
     Ok(())
 }
 
-/// Row `run and admits`: the job of one worker and 19 steps, as a world answers them.
-#[test]
-fn run_and_admits(rt: HostRuntime) -> Result<(), Fail> {
-    let shape = Shape::new(1, 1, 1, 10)?;
-    let mut world = World::new(rt.alloc(), shape)?;
+/// The events of one worker's empty job and 19 steps, as a world answers them.
+fn pairs_of_a_job(alloc: Global, shape: Shape) -> Result<Vec<Pair>, Fail> {
+    let mut world = World::new(alloc, shape)?;
     let mut events = [Event::Step(0); 20];
     events[0] = submit(0, &[]);
     let answers = world.run(&events)?;
+    let pairs = events.iter().copied().zip(answers.iter().copied());
+    Ok(pairs.collect(alloc)?)
+}
+
+/// Row `run and admits`: the machine has each step of a world.
+#[test]
+fn run_and_admits(rt: HostRuntime) -> Result<(), Fail> {
+    let shape = Shape::new(1, 1, 1, 10)?;
+    let pairs = pairs_of_a_job(rt.alloc(), shape)?;
     let mut machine = Machine::new(rt.alloc(), shape)?;
-    for (event, answer) in events.iter().zip(&answers) {
-        assert!(rt; machine.admits(event, answer)?);
-    }
-    assert!(rt; answers.len() == 20 && machine.finished().len() == 1);
+    all_admit(&rt, &mut machine, &pairs, true)?;
+    assert!(rt; pairs.len() == 20 && machine.finished().len() == 1);
     Ok(())
 }
 

@@ -1,8 +1,8 @@
 //! Histories in the hands of an observer: in the order of their places, replayed, and the steps tallied.
 
-use crate::world::walks::{cells_are, job, step_times, walk};
+use crate::world::walks::{cells_are, job, play};
 use rme_history::{ReplayFault, Tally, by_place, replay};
-use rme_program::{Entry, Phase};
+use rme_program::{Entry, Event, Phase};
 use rme_script::Op;
 use rme_words::{Refusal, Shape};
 use rme_world::World;
@@ -10,18 +10,21 @@ use std::alloc::Global;
 use std::process::Abort;
 use std::test::Fail;
 
-/// The world of row `re-entry` at its end.
-fn re_entry(alloc: Global, shape: Shape) -> Result<World, Fail> {
-    let mut world = World::new(alloc, shape)?;
-    world.submit(0, job(&[Op::Add(0, 5)]))?;
-    step_times(&mut world, 0, 7)?;
-    world.crash(0)?;
-    world.submit(1, job(&[Op::Add(0, 1)]))?;
-    walk(&mut world, 1)?;
-    world.restart(0)?;
-    walk(&mut world, 0)?;
-    walk(&mut world, 1)?;
-    Ok(world)
+/// The history of row `re-entry` at its end.
+fn re_entry(alloc: Global) -> Result<Vec<Entry>, Fail> {
+    let mut world = World::new(alloc, Shape::new(2, 1, 1, 10)?)?;
+    let turns = [
+        (1, Event::Submit(0, job(&[Op::Add(0, 5)]))),
+        (7, Event::Step(0)),
+        (1, Event::Crash(0)),
+        (1, Event::Submit(1, job(&[Op::Add(0, 1)]))),
+        (7, Event::Step(1)),
+        (1, Event::Restart(0)),
+        (25, Event::Step(0)),
+        (22, Event::Step(1)),
+    ];
+    play(&mut world, &turns)?;
+    Ok(Vec::from_slice(alloc, world.history())?)
 }
 
 /// The entry must be the one that another list has at this place.
@@ -35,30 +38,37 @@ fn is_same(rt: &impl Abort, entries: &[Entry], others: &[Entry], at: usize) {
 /// Row `small calls`: the history of `re-entry` the other way round is put in order.
 #[test]
 fn order(rt: HostRuntime) -> Result<(), Fail> {
-    let world = re_entry(rt.alloc(), Shape::new(2, 1, 1, 10)?)?;
-    let history = world.history();
-    let mut turned = Vec::from_slice(rt.alloc(), history)?;
+    let history = re_entry(rt.alloc())?;
+    let mut turned = Vec::from_slice(rt.alloc(), &history)?;
     turned.reverse();
     let sorted = by_place(turned);
     assert!(rt; history.len() == 2 && sorted.len() == 2);
-    is_same(&rt, &sorted, history, 0);
-    is_same(&rt, &sorted, history, 1);
+    is_same(&rt, &sorted, &history, 0);
+    is_same(&rt, &sorted, &history, 1);
     Ok(())
 }
 
-/// Row `small calls`: the replay of the history of `re-entry` gives its row, and finds a wrong reply.
+/// Row `small calls`: the replay of the history of `re-entry` gives its row.
 #[test]
 fn replayed(rt: HostRuntime) -> Result<(), Fail> {
-    let shape = Shape::new(2, 1, 1, 10)?;
-    let world = re_entry(rt.alloc(), shape)?;
-    let mut entries = Vec::from_slice(rt.alloc(), world.history())?;
-    let Ok(rows) = replay(rt.alloc(), shape, &entries) else {
+    let entries = re_entry(rt.alloc())?;
+    let Ok(rows) = replay(rt.alloc(), Shape::new(2, 1, 1, 10)?, &entries) else {
         return Err(Refusal::NoMemory.into());
     };
     assert!(rt; rows.len() == 1 && entries.len() == 2);
     assert!(rt; cells_are(&rows[0], &[6]));
-    entries[1].receipt.reply = 7;
-    let broken = replay(rt.alloc(), shape, &entries).err();
+    Ok(())
+}
+
+/// Row `small calls`: the replay of the history of `re-entry` with another reply finds it.
+#[test]
+fn replayed_with_another_reply(rt: HostRuntime) -> Result<(), Fail> {
+    let mut entries = re_entry(rt.alloc())?;
+    let Some(last) = entries.last_mut() else {
+        return Err(Fail::from("no entry"));
+    };
+    last.receipt.reply = 7;
+    let broken = replay(rt.alloc(), Shape::new(2, 1, 1, 10)?, &entries).err();
     assert!(rt; broken == Some(ReplayFault::Broken(1)));
     Ok(())
 }

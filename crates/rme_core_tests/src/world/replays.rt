@@ -6,6 +6,7 @@ use rme_program::{Entry, Receipt};
 use rme_script::{Op, Script};
 use rme_words::{Refusal, Shape};
 use rme_world::World;
+use std::process::Abort;
 use std::test::Fail;
 
 /// An entry of the empty script.
@@ -96,20 +97,28 @@ fn replay_over_sixteen_locks(rt: HostRuntime) -> Result<(), Fail> {
     Ok(())
 }
 
+/// One worker makes one job more, which has this number.
+fn add_one(rt: &impl Abort, world: &mut World, number: u32) -> Result<(), Refusal> {
+    assert!(rt; world.submit(0, job(&[Op::Add(0, 1)])) == Ok(number));
+    let _ = walk(world, 0)?;
+    Ok(())
+}
+
 /// A history of 2,000 sections: room for each was there at its submission.
 #[test]
 fn long_history(rt: HostRuntime) -> Result<(), Fail> {
     let mut world = World::new(rt.alloc(), Shape::new(1, 1, 1, 2_000)?)?;
     for number in 1..=2_000 {
-        assert!(rt; world.submit(0, job(&[Op::Add(0, 1)])) == Ok(number));
-        walk(&mut world, 0)?;
+        add_one(&rt, &mut world, number)?;
     }
     assert!(rt; world.history().len() == 2_000 && world.ready(0) == Ok(true));
-    let Some(last) = world.history().last() else {
-        return Err(Fail::from("no entry"));
+    let last = Receipt {
+        worker: 0,
+        lock: 0,
+        number: 2_000,
+        place: 1_999,
+        reply: 2_000,
     };
-    assert!(rt; last.receipt.number == 2_000);
-    assert!(rt; last.receipt.place == 1_999);
-    assert!(rt; last.receipt.reply == 2_000);
+    assert!(rt; world.last(0) == Ok(Some(last)));
     Ok(())
 }

@@ -1,6 +1,6 @@
-//! Steps of one worker, and what is seen of a world.
+//! Events of a world in turn, and what is seen of it.
 
-use rme_program::Note;
+use rme_program::{Answer, Event, Note};
 use rme_script::{Job, Op, Row, Script};
 use rme_words::Refusal;
 use rme_world::World;
@@ -13,6 +13,27 @@ pub fn job(ops: &[Op]) -> Job {
     Job {
         lock: 0,
         script: Script::of(ops),
+    }
+}
+
+/// An event, so many times over.
+pub type Turn = (u32, Event);
+
+/// Plays events in turn; a refusal ends the play.
+pub fn play(world: &mut World, turns: &[Turn]) -> Result<(), Refusal> {
+    for (times, event) in turns {
+        for _ in 0..*times {
+            make(world, *event)?;
+        }
+    }
+    Ok(())
+}
+
+fn make(world: &mut World, event: Event) -> Result<(), Refusal> {
+    let answers = world.run(&[event])?;
+    match answers.first().copied() {
+        Some(Answer::Refused(refusal)) => Err(refusal),
+        _ => Ok(()),
     }
 }
 

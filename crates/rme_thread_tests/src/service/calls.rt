@@ -1,15 +1,14 @@
 //! Each public call on its happy path, and the refusals of `post`.
 
 use crate::service::chances::Counting;
-use crate::service::plays::Call::{Ask, Enter, Exit, IsReady, Perform, Refuse};
-use crate::service::plays::{Call, live};
-use crate::service::values::{
-    ask, asked, climb_is, come_up, come_up_inside, come_up_waiting, enter, exit, held_is, next,
-    perform, ready_is,
+use crate::service::plays::Call::{
+    Ask, Asked, Enter, Exit, Fall, IsClimb, IsHeld, IsReady, Perform, Refuse,
 };
-use crate::told::{Told, entries_are, is_job, job, open, receipt};
+use crate::service::plays::{Call, live, rise};
+use crate::service::values::{come_up, next, ready_is};
+use crate::told::{Numbers, Told, entries_are, open};
 use rme_script::Op;
-use rme_table::{Down, Never};
+use rme_table::{Down, Never, Stance};
 use rme_words::Refusal;
 use std::process::Abort;
 use std::test::Fail;
@@ -37,58 +36,59 @@ fn told_when_fresh(rt: HostRuntime) -> Result<(), Fail> {
     Ok(())
 }
 
+/// One job with a fall while it waits: up to its finish.
+const WITH_A_FALL: &[Call] = &[
+    Fall,
+    Ask(1, SEVEN),
+    IsClimb(1, 1, SEVEN),
+    Fall,
+    IsClimb(1, 1, SEVEN),
+    Enter,
+    IsHeld(1, 1, false),
+    Perform((1, 1, 1, 0, 7)),
+];
+
 /// What each value of a worker tells, on its way through one job and a fall in it.
 #[test]
 fn told_by_values(rt: HostRuntime) -> Result<(), Fail> {
     let (service, mut downs) = open(rt.alloc(), (2, 2, 1, 10))?;
     let one = next(&rt, &service, &mut downs);
-    let ready = come_up(&rt, &service, one, &mut Never);
-    let ready = come_up(&rt, &service, ready.crash(), &mut Never);
-    let mut climb = ask(&rt, &service, ready, job(1, SEVEN), &mut Never);
-    assert!(rt; climb.worker() == 1);
-    climb_is(&rt, &service, &mut climb, 1, 1, SEVEN);
-    let one = climb.crash();
-    down_is(&rt, &one, 1, false, &[]);
-    let mut climb = come_up_waiting(&rt, &service, one, &mut Never);
-    climb_is(&rt, &service, &mut climb, 1, 1, SEVEN);
-    let mut held = enter(&rt, &service, climb, &mut Never);
-    assert!(rt; held.worker() == 1);
-    held_is(&rt, &held, 1, 1, false);
-    assert!(rt; is_job(&held.job(&service), 1, SEVEN));
-    let leave = perform(&rt, &service, held, (1, 1, 1, 0, 7), &mut Never);
+    let stance = rise(&rt, &service, one, WITH_A_FALL, &mut Counting::new());
+    let Stance::Leave(leave) = stance else {
+        panic!(rt; "it is not leaving");
+    };
     assert!(rt; leave.worker() == 1);
     down_is(&rt, &leave.crash(), 1, false, &[((1, 1, 1, 0, 7), SEVEN)]);
     Ok(())
 }
 
+/// The receipt of row `crash after finish`.
+const FINISHED: Numbers = (1, 0, 1, 0, 5);
+
 /// Row `crash after finish`: a worker that fell after its section is inside with a finished job, and answers
 /// its receipt without an own step.
+const FINISHED_ALREADY: &[Call] = &[
+    Ask(0, &[Op::Add(0, 5)]),
+    Enter,
+    Asked(9),
+    Perform(FINISHED),
+    Asked(18),
+    Fall,
+    Asked(4),
+    IsHeld(1, 0, true),
+    Perform(FINISHED),
+    Asked(0),
+    Exit,
+    Asked(3),
+    IsReady(1, Some(FINISHED)),
+];
+
 #[test]
 fn finished_already(rt: HostRuntime) -> Result<(), Fail> {
     let (service, mut downs) = open(rt.alloc(), (2, 1, 1, 10))?;
     let one = next(&rt, &service, &mut downs);
-    let mut chance = Counting::new();
-    let ready = come_up(&rt, &service, one, &mut chance);
-    let climb = ask(&rt, &service, ready, job(0, &[Op::Add(0, 5)]), &mut chance);
-    let held = enter(&rt, &service, climb, &mut chance);
-    let _spent = chance.take();
-    let leave = perform(&rt, &service, held, (1, 0, 1, 0, 5), &mut chance);
-    asked(&rt, &mut chance, 18);
-    let held = come_up_inside(&rt, &service, leave.crash(), &mut chance);
-    asked(&rt, &mut chance, 4);
-    held_is(&rt, &held, 1, 0, true);
-    let leave = perform(&rt, &service, held, (1, 0, 1, 0, 5), &mut chance);
-    asked(&rt, &mut chance, 0);
-    let mut ready = exit(&rt, &service, leave, &mut chance);
-    asked(&rt, &mut chance, 3);
-    ready_is(&rt, &service, &mut ready, 1, Some(receipt((1, 0, 1, 0, 5))));
-    down_is(
-        &rt,
-        &ready.crash(),
-        1,
-        false,
-        &[((1, 0, 1, 0, 5), &[Op::Add(0, 5)])],
-    );
+    let one = live(&rt, &service, one, FINISHED_ALREADY, &mut Counting::new());
+    down_is(&rt, &one, 1, false, &[(FINISHED, &[Op::Add(0, 5)])]);
     Ok(())
 }
 

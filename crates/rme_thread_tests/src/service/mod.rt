@@ -1,11 +1,11 @@
 //! Calls on the values of the running service.
 
 mod calls;
-mod chances;
+pub mod chances;
 mod cuts;
 mod lives;
 mod plans;
-mod plays;
+pub mod plays;
 mod services;
 mod stress;
 mod turns;

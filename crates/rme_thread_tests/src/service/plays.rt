@@ -5,7 +5,8 @@ ghost use Rattle.rme_table.specs.Calls.{stand_of};
 
 use crate::service::chances::{Counting, Falls};
 use crate::service::values::{
-    ask, asked, climb_is, enter, exit, fall_back, give_up, held_is, meet, perform, ready_is, refuse,
+    ask, asked, climb_is, enter, exit, fall_back, fall_inside, give_up, held_is, meet, perform,
+    ready_is, refuse,
 };
 use crate::told::{Numbers, job, receipt};
 use rme_program::Receipt;
@@ -32,6 +33,10 @@ pub enum Call {
     GiveUp,
     /// It is to be given up; the worker falls before the step that would follow so many own steps, and comes up again.
     FallBack(u32),
+    /// Its job is to be performed; the worker falls before the step that would follow so many own steps, and comes up again.
+    FallInside(u32),
+    /// The worker falls where it is, and comes up again.
+    Fall,
     /// The worker is ready, with this number and this last receipt.
     IsReady(u32, Option<Numbers>),
     /// It waits, with this number and this job.
@@ -122,10 +127,27 @@ fn make(
     requires ours { (stand_of stance).ident ≡ service.now }
     ensures ours { (stand_of result).ident ≡ service.now }
 {
-    if let Call::Asked(times) = call {
-        asked(rt, chance, *times);
-        return stance;
+    match call {
+        Call::Asked(times) => {
+            asked(rt, chance, *times);
+            stance
+        }
+        Call::Fall => stand_up(rt, service, fall(stance), chance),
+        _ => make_one(rt, service, stance, call, chance),
     }
+}
+
+/// Makes a call of the value that the worker is.
+fn make_one(
+    rt: &impl Abort,
+    service: &Service,
+    stance: Stance,
+    call: &Call,
+    chance: &mut Counting,
+) -> Stance
+    requires ours { (stand_of stance).ident ≡ service.now }
+    ensures ours { (stand_of result).ident ≡ service.now }
+{
     match stance {
         Stance::Ready(ready) => make_ready(rt, service, ready, call, chance),
         Stance::Climb(climb) => make_waiting(rt, service, climb, call, chance),
@@ -189,7 +211,7 @@ fn make_waiting(
 fn make_inside(
     rt: &impl Abort,
     service: &Service,
-    held: Held,
+    mut held: Held,
     call: &Call,
     chance: &mut Counting,
 ) -> Stance
@@ -198,8 +220,12 @@ fn make_inside(
 {
     match *call {
         Call::Perform(told) => Stance::Leave(perform(rt, service, held, told, chance)),
+        Call::FallInside(steps) => {
+            let down = fall_inside(rt, service, held, &mut Falls::new(&[steps]));
+            stand_up(rt, service, down, chance)
+        }
         Call::IsHeld(number, lock, finished) => {
-            held_is(rt, &held, number, lock, finished);
+            held_is(rt, service, &mut held, number, lock, finished);
             Stance::Held(held)
         }
         _ => panic!(rt; "it is inside"),

@@ -2,10 +2,10 @@
 
 ghost use Rattle.std.specs.Prelude.{◌≡◌};
 
-use crate::service::chances::{Counting, Falls};
-use crate::service::plays::Call::{Ask, Asked, Enter, Exit, IsHeld, Meet, Perform};
+use crate::service::chances::Counting;
+use crate::service::plays::Call::{Ask, Asked, Enter, Exit, FallInside, IsHeld, Meet, Perform};
 use crate::service::plays::{Call, fall, go_on, live, rise};
-use crate::service::values::{ask, both, close, come_up, enter, exit, fall_inside, next, perform};
+use crate::service::values::{ask, both, close, come_up, enter, exit, next, perform};
 use crate::told::{Numbers, entries_are, job, lock_is, open};
 use rme_script::Op;
 use rme_table::{Down, Never, Service, Unclosed};
@@ -117,19 +117,13 @@ fn table_re_entry(rt: HostRuntime) -> Result<(), Fail> {
 }
 
 /// Row `dead owner`: worker 0 falls before the first step of its section, which is its tenth own step.
-fn fall_in_section(rt: &impl Abort, service: &Service, zero: Down) -> Down
-    requires ours { zero.ident ≡ service.now }
-    ensures ours { result.ident ≡ service.now }
-{
-    let mut falls = Falls::new(&[9]);
-    let ready = come_up(rt, service, zero, &mut falls);
-    let climb = ask(rt, service, ready, job(0, &[Op::Add(0, 5)]), &mut falls);
-    let held = enter(rt, service, climb, &mut falls);
-    assert!(rt; falls.fallen() == 0);
-    let zero = fall_inside(rt, service, held, &mut falls);
-    assert!(rt; falls.fallen() == 1);
-    zero
-}
+const FALLEN_INSIDE: &[Call] = &[
+    Ask(0, &[Op::Add(0, 5)]),
+    Enter,
+    Asked(9),
+    FallInside(0),
+    IsHeld(1, 0, false),
+];
 
 /// Worker 1 is done on the other lock, and is blocked on this one.
 const DONE_ON_ANOTHER: &[Call] = &[
@@ -149,7 +143,7 @@ fn dead_owner(rt: HostRuntime) -> Result<(), Fail> {
     let (service, mut downs) = open(rt.alloc(), (2, 2, 1, 10))?;
     let one = next(&rt, &service, &mut downs);
     let zero = next(&rt, &service, &mut downs);
-    let zero = fall_in_section(&rt, &service, zero);
+    let zero = live(&rt, &service, zero, FALLEN_INSIDE, &mut Counting::new());
     let one = live(&rt, &service, one, DONE_ON_ANOTHER, &mut Counting::new());
     let downs = both(rt.alloc(), &service, zero, one)?;
     let closed = close(&rt, service, downs);

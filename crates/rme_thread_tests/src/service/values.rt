@@ -55,54 +55,6 @@ pub fn come_up<C: Chance>(rt: &impl Abort, service: &Service, down: Down, chance
     }
 }
 
-/// The worker comes up, and must be waiting.
-pub fn come_up_waiting<C: Chance>(
-    rt: &impl Abort,
-    service: &Service,
-    down: Down,
-    chance: &mut C,
-) -> Climb
-    requires ours { down.ident ≡ service.now }
-    ensures ours { result.ident ≡ service.now }
-{
-    match down.recover(service, chance) {
-        Ok(Stance::Climb(climb)) => climb,
-        _ => panic!(rt; "it does not wait"),
-    }
-}
-
-/// The worker comes up, and must own the lock of its job.
-pub fn come_up_inside<C: Chance>(
-    rt: &impl Abort,
-    service: &Service,
-    down: Down,
-    chance: &mut C,
-) -> Held
-    requires ours { down.ident ≡ service.now }
-    ensures ours { result.ident ≡ service.now }
-{
-    match down.recover(service, chance) {
-        Ok(Stance::Held(held)) => held,
-        _ => panic!(rt; "it owns no lock"),
-    }
-}
-
-/// The worker comes up, and must have nodes to release.
-pub fn come_up_leaving<C: Chance>(
-    rt: &impl Abort,
-    service: &Service,
-    down: Down,
-    chance: &mut C,
-) -> Leave
-    requires ours { down.ident ≡ service.now }
-    ensures ours { result.ident ≡ service.now }
-{
-    match down.recover(service, chance) {
-        Ok(Stance::Leave(leave)) => leave,
-        _ => panic!(rt; "it has nothing to release"),
-    }
-}
-
 /// The job is posted, and must be accepted.
 pub fn ask<C: Chance>(
     rt: &impl Abort,
@@ -233,7 +185,7 @@ pub fn climb_is(
     requires ours { climb.old.ident ≡ service.now }
     ensures same { climb.new ≡ climb.old }
 {
-    assert!(rt; climb.number() == number);
+    assert!(rt; climb.number() == number && climb.worker() < service.shape().workers());
     assert!(rt; is_job(&climb.job(service), lock, operations));
 }
 
@@ -253,11 +205,23 @@ pub fn ready_is(
 }
 
 /// A worker inside must have this number and this lock, and its job is finished already or not.
-pub fn held_is(rt: &impl Abort, held: &Held, number: u32, lock: u32, finished: bool)
-    ensures { finished ≡ is_over held.now.part.private.stage }
+pub fn held_is(
+    rt: &impl Abort,
+    service: &Service,
+    held: &mut Held,
+    number: u32,
+    lock: u32,
+    finished: bool,
+)
+    requires ours { held.old.ident ≡ service.now }
+    ensures finished { finished ≡ is_over held.new.part.private.stage }
+    ensures same { held.new ≡ held.old }
 {
     assert!(rt; held.number() == number && held.lock() == lock);
     assert!(rt; held.finished() == finished);
+    if !finished {
+        assert!(rt; held.job(service).lock == lock);
+    }
 }
 
 /// The service is closed, and must answer what its locks are.
