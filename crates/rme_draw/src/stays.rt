@@ -13,7 +13,7 @@ use rme_texts::EventLine;
 use std::alloc::{AllocError, Global};
 
 /// The stay that a worker is in.
-#[derive(Clone, Copy, Debug)]
+#[derive(Clone, Copy)]
 pub struct Staying {
     pub stay: Stay,
     /// Where it gave its job up in this stay. Whether it has nodes to release the transcript does not tell; only where

@@ -7,7 +7,7 @@ use rme_script::Row;
 use std::alloc::Global;
 
 /// A worker's stay in a phase, from one line of the transcript to another.
-#[derive(Clone, Copy, Debug)]
+#[derive(Clone, Copy)]
 pub struct Stay {
     pub worker: u32,
     pub phase: Phase,
@@ -18,7 +18,7 @@ pub struct Stay {
 }
 
 /// A stretch in which a lock had one owner, who was up or was down all the while.
-#[derive(Clone, Copy, Debug)]
+#[derive(Clone, Copy)]
 pub struct Hold {
     pub lock: u32,
     pub owner: u32,
@@ -28,7 +28,7 @@ pub struct Hold {
 }
 
 /// What a line told of a worker.
-#[derive(Clone, Copy, Debug)]
+#[derive(Clone, Copy)]
 pub struct Mark {
     pub line: u64,
     pub worker: u32,
@@ -36,7 +36,7 @@ pub struct Mark {
 }
 
 /// A finished section, and what the cells of its lock then held.
-#[derive(Clone, Copy, Debug)]
+#[derive(Clone, Copy)]
 pub struct Finish {
     pub line: u64,
     pub receipt: Receipt,

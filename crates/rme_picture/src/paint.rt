@@ -19,7 +19,7 @@ pub trait Paint {
 }
 
 /// A timeline in SVG.
-#[derive(Clone, Copy, Debug)]
+#[derive(Clone, Copy)]
 pub struct Svg;
 
 impl Paint for Svg {

@@ -3,7 +3,7 @@
 use rme_words::Address;
 
 /// One own step of a worker: one operation on one shared word.
-#[derive(Clone, Copy, Debug, PartialEq, Eq)]
+#[derive(Clone, Copy, PartialEq, Eq)]
 pub enum Action {
     /// Reads the word.
     Load(Address),

@@ -5,7 +5,7 @@ use rme_script::Job;
 use rme_words::Refusal;
 
 /// What a caller asks of one worker.
-#[derive(Clone, Copy, Debug, PartialEq, Eq)]
+#[derive(Clone, Copy)]
 pub enum Event {
     /// Hands the worker a job.
     Submit(u32, Job),
@@ -20,7 +20,7 @@ pub enum Event {
 }
 
 /// What an event was answered.
-#[derive(Clone, Copy, Debug, PartialEq, Eq)]
+#[derive(Clone, Copy, PartialEq, Eq)]
 pub enum Answer {
     /// The job was handed over and will have this number.
     Handed(u32),

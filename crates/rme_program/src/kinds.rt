@@ -1,7 +1,7 @@
 //! The phases of a worker's way.
 
 /// The phases of a worker's way, in order.
-#[derive(Clone, Copy, Debug, PartialEq, Eq)]
+#[derive(Clone, Copy, PartialEq, Eq)]
 pub enum Phase {
     Recover,
     Post,

@@ -7,7 +7,7 @@ pub const WITHDRAWN_PLACE: u64 = u64::MAX;
 
 /// What became of one job: the worker and its number, the lock and the place among that lock's sections
 /// (from 0), and the reply of the script.
-#[derive(Clone, Copy, Debug, PartialEq, Eq)]
+#[derive(Clone, Copy, PartialEq, Eq)]
 pub struct Receipt {
     pub worker: u32,
     pub lock: u32,
@@ -24,7 +24,7 @@ pub struct Entry {
 }
 
 /// What one step of a worker brought about.
-#[derive(Clone, Copy, Debug, PartialEq, Eq)]
+#[derive(Clone, Copy, PartialEq, Eq)]
 pub enum Note {
     /// Nothing that another can see.
     Quiet,

@@ -3,7 +3,7 @@
 use crate::script::Script;
 
 /// A script to be run on the cells of a lock while that lock is held.
-#[derive(Clone, Copy, Debug, PartialEq, Eq)]
+#[derive(Clone, Copy, PartialEq, Eq)]
 pub struct Job {
     /// The lock's number.
     pub lock: u32,

@@ -3,7 +3,7 @@
 /// One operation on a row of cells, named by their numbers.
 ///
 /// The value of an operation is what its last-named cell holds afterwards.
-#[derive(Clone, Copy, Debug, PartialEq, Eq)]
+#[derive(Clone, Copy, PartialEq, Eq)]
 pub enum Op {
     /// Reads a cell.
     Get(u32),

@@ -9,7 +9,7 @@ use std::marker::Model;
 /// Up to eight operations, in order, and how many there were.
 ///
 /// Two scripts are equal exactly where their operations and their numbers are.
-#[derive(Clone, Copy, Debug, PartialEq, Eq)]
+#[derive(Clone, Copy, PartialEq, Eq)]
 pub struct Script {
     ops: [Op; MOST_OPERATIONS],
     n: u32,

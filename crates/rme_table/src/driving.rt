@@ -31,7 +31,7 @@ pub trait Gate {
 }
 
 /// Lets all pass.
-#[derive(Clone, Copy, Debug, Drop)]
+#[derive(Clone, Copy, Drop)]
 pub struct Free;
 
 impl Gate for Free {
@@ -47,7 +47,7 @@ impl Gate for Free {
 }
 
 /// The blocked sweeps on one job: how many were made, and the most that may be.
-#[derive(Clone, Copy, Debug, PartialEq, Eq)]
+#[derive(Clone, Copy)]
 pub struct Tries {
     pub blocked: u32,
     pub most: u32,

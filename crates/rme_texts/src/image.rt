@@ -6,7 +6,7 @@ use std::marker::Model;
 
 /// The bytes of a saved world, as an answer shows them and as a line gives them. Those of a line may be any at
 /// all.
-#[derive(Debug, Drop)]
+#[derive(Drop)]
 pub struct Image {
     bytes: Vec<u8>,
 }

@@ -19,7 +19,7 @@ use std::alloc::AllocError;
 ///
 /// `History` is the one answer that the reply does not hold: it is as long as sections were finished, and is
 /// written straight from the world's history.
-#[derive(Debug, Drop)]
+#[derive(Drop)]
 pub enum Reply {
     /// The order was obeyed, and there is no more to say.
     Done(Done),

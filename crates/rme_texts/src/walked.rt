@@ -10,7 +10,7 @@ use std::marker::Model;
 const MOST_NOTES: usize = 5;
 
 /// Why a walk ended.
-#[derive(Clone, Copy, Debug, PartialEq, Eq)]
+#[derive(Clone, Copy)]
 pub enum WalkEnd {
     /// The note has the wanted kind.
     Until,
@@ -37,7 +37,7 @@ impl WalkEnd {
 }
 
 /// The notes of a walk in order, the quiet ones left out: five at most, so that they need no memory.
-#[derive(Debug, Drop)]
+#[derive(Drop)]
 pub struct WalkNotes {
     notes: [Note; MOST_NOTES],
     count: usize,
@@ -83,7 +83,7 @@ impl WalkNotes {
 }
 
 /// A walk that was not refused.
-#[derive(Debug, Drop)]
+#[derive(Drop)]
 pub struct Walked {
     pub end: WalkEnd,
     pub notes: WalkNotes,

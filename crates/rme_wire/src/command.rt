@@ -14,7 +14,7 @@ use serde_json::Value;
 const MOST_STEPS: u32 = 10_000;
 
 /// The kind of note that ends a walk.
-#[derive(Clone, Copy, Debug, PartialEq, Eq)]
+#[derive(Clone, Copy)]
 pub enum Until {
     Asked,
     Entered,
@@ -26,7 +26,7 @@ pub enum Until {
 }
 
 /// Steps of one worker, up to the first that ends them.
-#[derive(Clone, Copy, Debug)]
+#[derive(Clone, Copy)]
 pub struct Walk {
     pub worker: u32,
     pub until: Option<Until>,
@@ -37,7 +37,7 @@ pub struct Walk {
 /// A command of a line to an open world.
 ///
 /// Locks are numbers. The number of a lock whose name wasn't opened is the number of names, which is no lock.
-#[derive(Clone, Copy, Debug)]
+#[derive(Clone, Copy)]
 pub enum Command {
     Submit(u32, Job),
     Step(u32),

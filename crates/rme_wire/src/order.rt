@@ -23,7 +23,7 @@ const MOST_TRIES: u32 = 1_000_000;
 const MOST_STEPS: u32 = 1_000_000;
 
 /// A job with the number that its client gave it.
-#[derive(Clone, Copy, Debug, PartialEq, Eq)]
+#[derive(Clone, Copy, PartialEq, Eq)]
 pub struct Submission {
     pub number: u32,
     pub job: Job,
@@ -35,7 +35,7 @@ pub struct Submission {
 ///
 /// Locks are numbers. The number of a lock that the service doesn't have is the number of names, which is no
 /// lock.
-#[derive(Clone, Copy, Debug, PartialEq, Eq)]
+#[derive(Clone, Copy, PartialEq, Eq)]
 pub enum Order {
     /// To take this worker.
     Attach(u32),

@@ -17,7 +17,7 @@
 /// | `Shadow(lock, cell)` | what section p leaves in the cell, for the mask's cells while `Turn` is 2p+1 | the lock's owner, before that store of `Turn` |
 /// | `ShadowReply(lock)` | the reply of section p, while `Turn` is 2p+1 | the lock's owner, before that store of `Turn` |
 /// | `Mask(lock)` | bit c stands for cell c: the cells that section p copies, while `Turn` is 2p+1 | the lock's owner, before that store of `Turn` |
-#[derive(Clone, Copy, Debug, PartialEq, Eq)]
+#[derive(Clone, Copy, PartialEq, Eq)]
 pub enum Address {
     Begun(u32),
     Done(u32),

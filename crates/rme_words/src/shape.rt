@@ -8,7 +8,7 @@ use crate::refusal::Refusal;
 
 /// The sizes of a lock service: workers, locks, cells of each lock, jobs of each worker, and the sizes of
 /// its trees, which follow from the number of workers.
-#[derive(Clone, Copy, Debug)]
+#[derive(Clone, Copy)]
 pub struct Shape {
     pub workers: u32,
     pub locks: u32,

@@ -87,14 +87,16 @@ fn run(rt: &HostRuntime, world: &mut World) -> io::Result<()> {
     Ok(())
 }
 
-/// Prints the answers that are not quiet steps.
+/// Prints how many answers there are, and how many of them are no quiet step.
 fn told(rt: &HostRuntime, answers: &[Answer]) -> io::Result<()> {
-    for answer in answers {
-        if *answer != Answer::Stepped(Note::Quiet) {
-            println!(rt; "World::run: {answer:?}")?;
-        }
-    }
-    Ok(())
+    let loud = answers
+        .iter()
+        .filter(|answer| **answer != Answer::Stepped(Note::Quiet))
+        .count();
+    println!(rt;
+        "World::run: {} answers, {loud} of them no quiet step",
+        answers.len()
+    )
 }
 
 /// Replays what was finished.
