@@ -15,7 +15,7 @@ use rme_words::{NoMemory, Refusal};
 use std::alloc::{AllocError, Global};
 
 /// What a run writes of each line.
-#[derive(Clone, Copy)]
+#[derive(Clone, Copy, PartialEq, Eq)]
 pub enum Output {
     /// Its answer.
     Answers,

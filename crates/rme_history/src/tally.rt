@@ -7,7 +7,7 @@ ghost use Rattle.rme_history.specs.Tallies.{most_in, Sees};
 use rme_program::Phase;
 
 /// For each phase that has steps, the most own steps of a stay in it that were seen. All are 0 at first.
-#[derive(Clone, Copy, Default)]
+#[derive(Clone, Copy, Default, PartialEq, Eq)]
 pub struct Tally {
     pub recover: u32,
     pub post: u32,

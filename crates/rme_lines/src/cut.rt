@@ -10,7 +10,7 @@ use std::alloc::AllocError;
 const LINE_LIMIT: usize = 65_536;
 
 /// What was cut from the reader's bytes.
-#[derive(Clone, Copy)]
+#[derive(Clone, Copy, PartialEq, Eq)]
 pub enum Cut {
     /// A line of at most 65,536 bytes, a last piece without a newline included.
     Line,

@@ -5,7 +5,7 @@ use rme_script::Job;
 use rme_words::Refusal;
 
 /// What a caller asks of one worker.
-#[derive(Clone, Copy)]
+#[derive(Clone, Copy, PartialEq, Eq)]
 pub enum Event {
     /// Hands the worker a job.
     Submit(u32, Job),

@@ -6,7 +6,7 @@ use rme_words::Shape;
 use std::marker::Model;
 
 /// The cells of one lock, at most sixteen.
-#[derive(Clone, Copy)]
+#[derive(Clone, Copy, PartialEq, Eq)]
 pub struct Row {
     cells: [u64; 16],
     len: u32,

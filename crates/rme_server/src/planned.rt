@@ -5,7 +5,7 @@ use rme_table::Chance;
 /// A planned crash of a session's worker.
 ///
 /// It is asked before each own step, and counts down. Once it has let the worker fall nothing is planned.
-#[derive(Clone, Copy)]
+#[derive(Clone, Copy, PartialEq, Eq)]
 pub enum Planned {
     /// No crash is planned.
     Nothing,
@@ -27,7 +27,7 @@ impl Chance for Planned {
 }
 
 /// A plan that a session's worker works by. It tells, after a fall, that the crash came when it was due.
-#[derive(Clone, Copy)]
+#[derive(Clone, Copy, PartialEq, Eq)]
 pub(crate) enum Countdown {
     /// The worker did not fall.
     Runs(Planned),

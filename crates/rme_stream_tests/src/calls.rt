@@ -25,7 +25,7 @@ pub fn take_twice<K: Tag, R: Abort + Wait>(rt: &R, desk: &Desk<'_, K>) {
 pub fn attach_and_crash<K: Tag, R: Abort + Wait>(rt: &R, desk: &Desk<'_, K>) {
     let order = Order::Attach(0);
     let (stand, reply) = obey(rt, Stand::empty(), order, desk.service, desk.slots);
-    assert!(rt; matches!(reply, SessionReply::Attached(0, Standing::Ready)));
+    assert!(rt; reply == SessionReply::Attached(0, Standing::Ready));
     match stand.crash() {
         Some(down) => desk.slots.give(rt, down),
         None => panic!(rt; "no worker is held"),

@@ -47,7 +47,7 @@ impl Gate for Free {
 }
 
 /// The blocked sweeps on one job: how many were made, and the most that may be.
-#[derive(Clone, Copy)]
+#[derive(Clone, Copy, PartialEq, Eq)]
 pub struct Tries {
     pub blocked: u32,
     pub most: u32,

@@ -14,7 +14,7 @@ use rme_words::Refusal;
 use std::alloc::AllocError;
 
 /// An order that is answered by its own word alone.
-#[derive(Clone, Copy)]
+#[derive(Clone, Copy, PartialEq, Eq)]
 pub enum Done {
     Open,
     Load,
@@ -129,7 +129,7 @@ pub fn push_history(out: &mut String, names: &Names, entries: &[Entry]) -> Resul
 }
 
 /// For each phase that has steps, the most own steps of one stay in it.
-#[derive(Clone, Copy)]
+#[derive(Clone, Copy, PartialEq, Eq)]
 pub struct Report {
     pub recover: u32,
     pub post: u32,

@@ -11,7 +11,7 @@ use rme_words::Refusal;
 use std::alloc::AllocError;
 
 /// What the worker is found to be at when a session takes it.
-#[derive(Clone, Copy)]
+#[derive(Clone, Copy, PartialEq, Eq)]
 pub enum Standing {
     /// It may be handed a job.
     Ready,
@@ -34,7 +34,7 @@ impl Standing {
 }
 
 /// What became of a job that a session handed over, or went on with.
-#[derive(Clone, Copy)]
+#[derive(Clone, Copy, PartialEq, Eq)]
 pub enum Outcome {
     /// It is finished.
     Receipt(Receipt),
@@ -47,7 +47,7 @@ pub enum Outcome {
 }
 
 /// The answer to a line of a session.
-#[derive(Clone, Copy)]
+#[derive(Clone, Copy, PartialEq, Eq)]
 pub enum SessionReply {
     /// The number of the pending job, or of the last one that is over.
     Attached(u32, Standing),

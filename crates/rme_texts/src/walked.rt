@@ -10,7 +10,7 @@ use std::marker::Model;
 const MOST_NOTES: usize = 5;
 
 /// Why a walk ended.
-#[derive(Clone, Copy)]
+#[derive(Clone, Copy, PartialEq, Eq)]
 pub enum WalkEnd {
     /// The note has the wanted kind.
     Until,

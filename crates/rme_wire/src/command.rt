@@ -14,7 +14,7 @@ use serde_json::Value;
 const MOST_STEPS: u32 = 10_000;
 
 /// The kind of note that ends a walk.
-#[derive(Clone, Copy)]
+#[derive(Clone, Copy, PartialEq, Eq)]
 pub enum Until {
     Asked,
     Entered,
