@@ -1,6 +1,5 @@
 -- A watcher is shown line by line what the lines of a transcript show.
-use Rattle.std.proofs.Common.{◌≡◌, ℕ, List, [], ◌∷◌, true, false, Option, Some, None, Result, Ok, Err, OnOk, IfOk, refl, sym, ap, subst, ◌∙◌}
-use Rattle.rme_words.specs.declared.refusal.NoMemory.{NoMemory}
+use Rattle.std.proofs.Common.{◌≡◌, ℕ, List, [], ◌∷◌, true, false, Option, Some, None, Result, Ok, Err, IfOk, refl, sym, ap, subst}
 use Rattle.rme_words.specs.declared.shape.Shape.{Shape}
 use Rattle.rme_machine.specs.Machine.{State, opening_state}
 use Rattle.rme_texts.specs.declared.event.EventLine.{EventLine}
@@ -12,10 +11,10 @@ use Rattle.rme_engine.specs.declared.judge.Found.{Found}
 use Rattle.rme_engine.specs.declared.judge.Found.TheVariants.{Step, NoStep, NoEvent}
 use Rattle.rme_engine.specs.declared.judge.Judge.{Judge}
 use Rattle.rme_engine.specs.Judging.{HasOpened, IsFound, IsFoundBy}
-use Rattle.rme_engine.specs.Runs.{AreLines, CutsOff, HasNone}
+use Rattle.rme_engine.specs.Runs.{CutsOff, HasNone}
 use Rattle.rme_engine.specs.Sights.{Sight, begins, takes}
-use Rattle.rme_engine.specs.Verdicts.{Opens, event_read}
-use Rattle.rme_engine.specs.Watching.{IsShown, IsShownOf, Shows, ShowsLine, ShowsOn, TakesIn, Watches, WatchesLeft, machine_in}
+use Rattle.rme_engine.specs.Verdicts.{event_read}
+use Rattle.rme_engine.specs.Watching.{IsShownOf, ShowsLine, ShowsOn, TakesIn, Watches, WatchesLeft, machine_in}
 use Rattle.rme_engine.proofs.JudgeLemmas.{lines_more, lines_none, some_lines, same_shape}
 
 -- ---- the lines that are left
