@@ -13,11 +13,10 @@ use Rattle.rme_machine.specs.Machine.{State, Run}
 use Rattle.rme_machine.specs.Shown.{act_of}
 use Rattle.rme_seats.specs.declared.operation.Operation.{Operation}
 use Rattle.rme_seats.specs.declared.operation.Operation.TheVariants as operation
-use Rattle.rme_seats.specs.declared.record.Part.{Part}
 use Rattle.rme_seats.specs.Parts.{advanced, restarted, submitted, withdrawing}
 use Rattle.rme_seats.specs.Rule.{memory_in, updated}
-use Rattle.rme_seats.specs.Running.{Moment, IsRunTo, IsWorldAt, MayAllCome, MayCome, RunningLaw, after_all, after_one, all_labels, labels_of, next_action, next_note, next_value, shown_at, with_part}
-use Rattle.rme_seats.specs.Steps.{Keeps, words_after}
+use Rattle.rme_seats.specs.Running.{Moment, IsRunTo, IsWorldAt, MayCome, RunningLaw, after_one, labels_of, next_action, next_note, next_value, shown_at, with_part}
+use Rattle.rme_seats.specs.Steps.{words_after}
 use Rattle.rme_seats.proofs.Keeping.{keeps}
 use Rattle.rme_seats.proofs.Leading.{restart_runs, submit_runs, withdraw_runs}
 
