@@ -48,10 +48,10 @@ pub fn receipt((worker, lock, number, place, reply): Numbers) -> Receipt {
 }
 
 /// An entry: a receipt and the operations of its job.
-pub type Told = (Numbers, &'static [Op]);
+pub type Told<'a> = (Numbers, &'a [Op]);
 
 /// Whether a list has just these entries.
-pub fn entries_are(entries: &[Entry], told: &[Told]) -> bool {
+pub fn entries_are(entries: &[Entry], told: &[Told<'_>]) -> bool {
     entries.len() == told.len()
         && entries
             .iter()
@@ -59,11 +59,11 @@ pub fn entries_are(entries: &[Entry], told: &[Told]) -> bool {
             .all(|(entry, told)| is_entry(entry, *told))
 }
 
-fn is_entry(entry: &Entry, (told, operations): Told) -> bool {
+fn is_entry(entry: &Entry, (told, operations): Told<'_>) -> bool {
     entry.receipt == receipt(told) && entry.script == Script::of(operations)
 }
 
 /// Whether a closed lock has just these cells, is settled or not, and has just these entries.
-pub fn lock_is(lock: &ClosedLock, cells: &[u64], settled: bool, told: &[Told]) -> bool {
+pub fn lock_is(lock: &ClosedLock, cells: &[u64], settled: bool, told: &[Told<'_>]) -> bool {
     lock.cells.as_slice() == cells && lock.settled == settled && entries_are(&lock.entries, told)
 }

@@ -7,8 +7,8 @@ ghost use Rattle.rme_supervisor.specs.Supervised.{AreAll};
 use crate::service::chances::Counting;
 use crate::service::plays::Call::{Ask, Enter, Exit, Perform};
 use crate::service::plays::{Call, live};
-use crate::supervisor::values::plan;
-use crate::told::{job, lock_is, open};
+use crate::supervisor::values::{Planned, locks_are, plans_of};
+use crate::told::open;
 use rme_script::Op;
 use rme_supervisor::{End, Free, supervise};
 use rme_table::{Down, Service};
@@ -45,6 +45,14 @@ const BEFORE: &[Call] = &[
     Ask(0, SECOND),
 ];
 
+const PLANNED: Planned<'static> = Planned {
+    jobs: &[(0, FIRST), (0, SECOND), (0, THIRD)],
+    rounds: 1,
+    falls: &[],
+    lives: 1,
+    sweeps: 1,
+};
+
 /// A worker that has done the first job of its plan, and fell while it waited with the second, is supervised: its
 /// first life makes the second job and the third, and not the first again.
 #[test]
@@ -54,9 +62,7 @@ fn begun(rt: HostRuntime) -> Result<(), Fail> {
     let down = live(&rt, &service, down, BEFORE, &mut Counting::new());
     assert!(rt; !down.fresh());
     let downs = alone(&rt, rt.alloc(), &service, down)?;
-    let jobs = [job(0, FIRST), job(0, SECOND), job(0, THIRD)];
-    let mut plans = Vec::new(rt.alloc());
-    plans.push(plan(rt.alloc(), &jobs, &[], 1, 1)?)?;
+    let plans = plans_of(rt.alloc(), &[PLANNED])?;
     let report = match supervise(&rt, rt.alloc(), service, downs, plans, &Free) {
         Ok(report) => report,
         Err(fault) => panic!(rt; "no report: {}", fault.why.name()),
@@ -68,7 +74,6 @@ fn begun(rt: HostRuntime) -> Result<(), Fail> {
         ((0, 0, 2, 1, 6), SECOND),
         ((0, 0, 3, 2, 40), THIRD),
     ];
-    assert!(rt; report.closed.locks.len() == 1);
-    assert!(rt; lock_is(&report.closed.locks[0], &[40], true, &told));
+    assert!(rt; locks_are(&report.closed.locks, &[(&[40], true, &told)]));
     Ok(())
 }

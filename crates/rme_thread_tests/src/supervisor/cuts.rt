@@ -1,7 +1,6 @@
 //! Row `cut everywhere`, supervised.
 
-use crate::supervisor::values::{plan, report_of};
-use crate::told::{job, lock_is};
+use crate::supervisor::values::{Planned, Run, run_is};
 use rme_script::Op;
 use rme_supervisor::{End, Free};
 use std::test::Fail;
@@ -19,24 +18,20 @@ const FIVE: &[Op] = &[
 #[test]
 fn cut_everywhere(rt: HostRuntime) -> Result<(), Fail> {
     for steps in 0..=57 {
-        let mut plans = Vec::new(rt.alloc());
-        plans.push(plan(rt.alloc(), &[job(0, FIVE)], &[steps], 2, 1)?)?;
-        let report = report_of(&rt, rt.alloc(), (1, 1, 2, 10), plans, &Free)?;
-        assert!(rt;
-            report.ends.as_slice() == [End::AllDone].as_slice(),
-            "{steps}"
-        );
-        assert!(rt; report.lives.as_slice() == [2].as_slice());
-        assert!(rt; report.closed.locks.len() == 1);
-        assert!(rt;
-            lock_is(
-                &report.closed.locks[0],
-                &[0, 5],
-                true,
-                &[((0, 0, 1, 0, 5), FIVE)]
-            ),
-            "{steps}"
-        );
+        let run = Run {
+            sizes: (1, 1, 2, 10),
+            plans: &[Planned {
+                jobs: &[(0, FIVE)],
+                rounds: 1,
+                falls: &[steps],
+                lives: 2,
+                sweeps: 1,
+            }],
+            ends: &[End::AllDone],
+            lives: &[2],
+            locks: &[(&[0, 5], true, &[((0, 0, 1, 0, 5), FIVE)])],
+        };
+        run_is(&rt, rt.alloc(), &run, &Free)?;
     }
     Ok(())
 }

@@ -38,17 +38,19 @@ impl Flag {
     }
 }
 
-/// Worker 0 is let into its section of lock 0 once worker 1 has left lock 1, and worker 1 into its section once
-/// worker 0 was asked for. So both are inside at the same time, or one waits in vain.
+/// Worker 1 is let into its section of lock 1 once worker 0 was asked for. Where worker 0 waits too, it is let into its
+/// section of lock 0 once worker 1 has left lock 1: so both are inside at the same time, or one waits in vain.
 #[derive(Drop)]
 pub struct Crossing {
+    waits: bool,
     asked: Flag,
     left: Flag,
 }
 
 impl Crossing {
-    pub fn new() -> Crossing {
+    pub fn new(waits: bool) -> Crossing {
         Crossing {
+            waits,
             asked: Flag::new(),
             left: Flag::new(),
         }
@@ -56,12 +58,12 @@ impl Crossing {
 }
 
 impl Gate for Crossing {
-    fn inside(&self, worker: u32, _lock: u32) -> bool {
-        if worker != 0 {
-            return self.asked.is_raised_in_time();
+    fn inside(&self, worker: u32, lock: u32) -> bool {
+        if worker == 0 {
+            self.asked.raise();
+            return !self.waits || self.left.is_raised_in_time();
         }
-        self.asked.raise();
-        self.left.is_raised_in_time()
+        lock != 1 || self.asked.is_raised_in_time()
     }
 
     fn over(&self, worker: u32, lock: u32, number: u32) {
@@ -71,39 +73,18 @@ impl Gate for Crossing {
     }
 }
 
-/// Worker 1 is let into its section of lock 1 once worker 0 was asked for.
+/// Lets all in or nobody, and counts what it is told.
 #[derive(Drop)]
-pub struct After {
-    asked: Flag,
-}
-
-impl After {
-    pub fn new() -> After {
-        After { asked: Flag::new() }
-    }
-}
-
-impl Gate for After {
-    fn inside(&self, worker: u32, lock: u32) -> bool {
-        if worker == 0 {
-            self.asked.raise();
-        }
-        (worker, lock) != (1, 1) || self.asked.is_raised_in_time()
-    }
-
-    fn over(&self, _worker: u32, _lock: u32, _number: u32) {}
-}
-
-/// Lets nobody in, and counts what it is told.
-#[derive(Drop)]
-pub struct Shut {
+pub struct Counted {
+    lets: bool,
     asked: AtomicU64,
     over: AtomicU64,
 }
 
-impl Shut {
-    pub fn new() -> Shut {
-        Shut {
+impl Counted {
+    pub fn new(lets: bool) -> Counted {
+        Counted {
+            lets,
             asked: AtomicU64::new(0),
             over: AtomicU64::new(0),
         }
@@ -118,38 +99,10 @@ impl Shut {
     }
 }
 
-impl Gate for Shut {
-    fn inside(&self, _worker: u32, _lock: u32) -> bool {
-        self.asked.fetch_add(1, Ordering::SeqCst);
-        false
-    }
-
-    fn over(&self, _worker: u32, _lock: u32, _number: u32) {
-        self.over.fetch_add(1, Ordering::SeqCst);
-    }
-}
-
-/// Lets all in, and counts the jobs that are over.
-#[derive(Drop)]
-pub struct Counted {
-    over: AtomicU64,
-}
-
-impl Counted {
-    pub fn new() -> Counted {
-        Counted {
-            over: AtomicU64::new(0),
-        }
-    }
-
-    pub fn over(&self) -> u64 {
-        self.over.load(Ordering::SeqCst)
-    }
-}
-
 impl Gate for Counted {
     fn inside(&self, _worker: u32, _lock: u32) -> bool {
-        true
+        self.asked.fetch_add(1, Ordering::SeqCst);
+        self.lets
     }
 
     fn over(&self, _worker: u32, _lock: u32, _number: u32) {

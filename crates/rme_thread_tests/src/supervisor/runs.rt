@@ -1,140 +1,205 @@
 //! Runs, and how each worker ends.
 
-use crate::supervisor::gates::{After, Counted, Crossing, Shut};
-use crate::supervisor::values::{plan, report_of};
-use crate::told::{job, lock_is};
+use crate::supervisor::gates::{Counted, Crossing};
+use crate::supervisor::values::{Planned, Run, report_of, run_is};
 use rme_script::Op;
 use rme_supervisor::{End, Free};
 use rme_words::Refusal;
 use std::test::Fail;
 
+/// The operations of a job that adds 5, and of one that adds 1.
+const FIVE: &[Op] = &[Op::Add(0, 5)];
+
+const ONE: &[Op] = &[Op::Add(0, 1)];
+
+/// A plan of nothing, in one round, with one life and one sweep.
+const IDLE: Planned<'static> = Planned {
+    jobs: &[],
+    rounds: 1,
+    falls: &[],
+    lives: 1,
+    sweeps: 1,
+};
+
+/// A worker that falls before the first step of its section of lock 0, and has no further life.
+const DEAD: Planned<'static> = Planned {
+    jobs: &[(0, FIVE)],
+    falls: &[9],
+    ..IDLE
+};
+
 /// Row `gate`: two workers are in the sections of different locks at the same time.
 #[test]
 fn gate(rt: HostRuntime) -> Result<(), Fail> {
-    let mut plans = Vec::new(rt.alloc());
-    plans.push(plan(rt.alloc(), &[job(0, &[])], &[], 1, 1)?)?;
-    plans.push(plan(rt.alloc(), &[job(1, &[])], &[], 1, 1)?)?;
-    let report = report_of(&rt, rt.alloc(), (2, 2, 1, 10), plans, &Crossing::new())?;
-    // Not `assert!`: `scripts/try-one-thread` reads the ends off what this prints when it fails.
-    assert_eq!(rt;
-        report.ends.as_slice(),
-        [End::AllDone, End::AllDone].as_slice()
-    );
-    assert!(rt; report.lives.as_slice() == [1, 1].as_slice());
-    assert!(rt; report.closed.locks.len() == 2);
-    assert!(rt;
-        lock_is(
-            &report.closed.locks[0],
-            &[0],
-            true,
-            &[((0, 0, 1, 0, 0), &[])]
-        )
-    );
-    assert!(rt;
-        lock_is(
-            &report.closed.locks[1],
-            &[0],
-            true,
-            &[((1, 1, 1, 0, 0), &[])]
-        )
-    );
-    Ok(())
+    let run = Run {
+        sizes: (2, 2, 1, 10),
+        plans: &[
+            Planned {
+                jobs: &[(0, &[])],
+                ..IDLE
+            },
+            Planned {
+                jobs: &[(1, &[])],
+                ..IDLE
+            },
+        ],
+        ends: &[End::AllDone, End::AllDone],
+        lives: &[1, 1],
+        locks: &[
+            (&[0], true, &[((0, 0, 1, 0, 0), &[])]),
+            (&[0], true, &[((1, 1, 1, 0, 0), &[])]),
+        ],
+    };
+    run_is(&rt, rt.alloc(), &run, &Crossing::new(true))
 }
 
 /// Row `dead owner`: worker 0 falls before the first step of its section and has no further life; worker 1 is
 /// done on the other lock, and sweeps in vain for this one.
 #[test]
 fn dead_owner(rt: HostRuntime) -> Result<(), Fail> {
-    let mut plans = Vec::new(rt.alloc());
-    plans.push(plan(rt.alloc(), &[job(0, &[Op::Add(0, 5)])], &[9], 1, 1)?)?;
-    let jobs = [job(1, &[]), job(0, &[Op::Add(0, 1)])];
-    plans.push(plan(rt.alloc(), &jobs, &[], 1, 3)?)?;
-    let report = report_of(&rt, rt.alloc(), (2, 2, 1, 10), plans, &After::new())?;
-    assert!(rt; report.ends.as_slice() == [End::OutOfLives, End::Stalled].as_slice());
-    assert!(rt; report.closed.locks.len() == 2);
-    assert!(rt; lock_is(&report.closed.locks[0], &[0], false, &[]));
-    assert!(rt;
-        lock_is(
-            &report.closed.locks[1],
-            &[0],
-            true,
-            &[((1, 1, 1, 0, 0), &[])]
-        )
-    );
-    Ok(())
+    let run = Run {
+        sizes: (2, 2, 1, 10),
+        plans: &[
+            DEAD,
+            Planned {
+                jobs: &[(1, &[]), (0, ONE)],
+                sweeps: 3,
+                ..IDLE
+            },
+        ],
+        ends: &[End::OutOfLives, End::Stalled],
+        lives: &[1, 1],
+        locks: &[(&[0], false, &[]), (&[0], true, &[((1, 1, 1, 0, 0), &[])])],
+    };
+    run_is(&rt, rt.alloc(), &run, &Crossing::new(false))
 }
 
 /// A job has its sweeps in all lives together: worker 1 is done on lock 1 after 20 own steps, asks for lock 0 by 6 more,
 /// and falls after two blocked sweeps. The next life recovers by 4 steps and has one sweep left; a second would fall.
 #[test]
 fn sweeps_in_all_lives(rt: HostRuntime) -> Result<(), Fail> {
-    let mut plans = Vec::new(rt.alloc());
-    plans.push(plan(rt.alloc(), &[job(0, &[Op::Add(0, 5)])], &[9], 1, 1)?)?;
-    let jobs = [job(1, &[]), job(0, &[Op::Add(0, 1)])];
-    plans.push(plan(rt.alloc(), &jobs, &[28, 33], 3, 3)?)?;
-    let report = report_of(&rt, rt.alloc(), (2, 2, 1, 10), plans, &After::new())?;
-    assert!(rt; report.ends.as_slice() == [End::OutOfLives, End::Stalled].as_slice());
-    assert!(rt; report.lives.as_slice() == [1, 2].as_slice());
-    Ok(())
+    let run = Run {
+        sizes: (2, 2, 1, 10),
+        plans: &[
+            DEAD,
+            Planned {
+                jobs: &[(1, &[]), (0, ONE)],
+                falls: &[28, 33],
+                lives: 3,
+                sweeps: 3,
+                ..IDLE
+            },
+        ],
+        ends: &[End::OutOfLives, End::Stalled],
+        lives: &[1, 2],
+        locks: &[(&[0], false, &[]), (&[0], true, &[((1, 1, 1, 0, 0), &[])])],
+    };
+    run_is(&rt, rt.alloc(), &run, &Crossing::new(false))
 }
 
 /// Row `threads program`, as a call: eight workers on one lock, a hundred jobs each, with three falls each.
 #[test]
 fn threads_program(rt: HostRuntime) -> Result<(), Fail> {
-    let jobs = [job(0, &[Op::Add(0, 1)]); 100];
-    let mut plans = Vec::new(rt.alloc());
-    for _ in 0..8 {
-        plans.push(plan(rt.alloc(), &jobs, &[7, 19, 40], 4, 1_000_000_000)?)?;
-    }
-    let gate = Counted::new();
-    let report = report_of(&rt, rt.alloc(), (8, 1, 1, 100), plans, &gate)?;
-    assert!(rt; report.ends.as_slice() == [End::AllDone; 8].as_slice());
-    assert!(rt; report.lives.as_slice() == [4; 8].as_slice());
+    let run = Run {
+        sizes: (8, 1, 1, 100),
+        plans: &[Planned {
+            jobs: &[(0, ONE)],
+            rounds: 100,
+            falls: &[7, 19, 40],
+            lives: 4,
+            sweeps: 1_000_000_000,
+        }; 8],
+        ends: &[End::AllDone; 8],
+        lives: &[4; 8],
+        locks: &[],
+    };
+    let gate = Counted::new(true);
+    let report = report_of(&rt, rt.alloc(), &run, &gate)?;
     assert!(rt; report.closed.locks.len() == 1);
     let lock = &report.closed.locks[0];
     assert!(rt; lock.cells.as_slice() == [800].as_slice());
     assert!(rt; lock.entries.len() == 800);
-    assert!(rt; gate.over() == 800);
+    let (_, over) = gate.counts();
+    assert!(rt; over == 800);
     Ok(())
 }
 
 /// A gate that answers false ends the worker inside: it has no entry, and owns its lock.
 #[test]
 fn shut_gate(rt: HostRuntime) -> Result<(), Fail> {
-    let mut plans = Vec::new(rt.alloc());
-    plans.push(plan(rt.alloc(), &[job(0, &[Op::Add(0, 5)])], &[], 3, 1)?)?;
-    let gate = Shut::new();
-    let report = report_of(&rt, rt.alloc(), (1, 1, 1, 10), plans, &gate)?;
-    assert!(rt; report.ends.as_slice() == [End::Stalled].as_slice());
-    assert!(rt; report.lives.as_slice() == [1].as_slice());
+    let run = Run {
+        sizes: (1, 1, 1, 10),
+        plans: &[Planned {
+            jobs: &[(0, FIVE)],
+            lives: 3,
+            ..IDLE
+        }],
+        ends: &[End::Stalled],
+        lives: &[1],
+        locks: &[(&[0], false, &[])],
+    };
+    let gate = Counted::new(false);
+    run_is(&rt, rt.alloc(), &run, &gate)?;
     assert!(rt; gate.counts() == (1, 0));
-    assert!(rt; report.closed.locks.len() == 1);
-    assert!(rt; lock_is(&report.closed.locks[0], &[0], false, &[]));
     Ok(())
 }
 
-/// A job that is refused ends its worker; the jobs before it are done.
-#[test]
-fn refused_job(rt: HostRuntime) -> Result<(), Fail> {
-    let jobs = [job(0, &[Op::Add(0, 5)]), job(1, &[])];
-    let mut plans = Vec::new(rt.alloc());
-    plans.push(plan(rt.alloc(), &jobs, &[], 1, 1)?)?;
-    let report = report_of(&rt, rt.alloc(), (1, 1, 1, 10), plans, &Free)?;
-    assert!(rt; report.ends.as_slice() == [End::Refused(Refusal::NoLock)].as_slice());
-    let told = [((0, 0, 1, 0, 5), [Op::Add(0, 5)].as_slice())];
-    assert!(rt; report.closed.locks.len() == 1);
-    assert!(rt; lock_is(&report.closed.locks[0], &[5], true, &told));
-    Ok(())
-}
+/// Runs of one worker without a gate: a job that is refused after one that is done; a fall before the first step of the
+/// first recovery, and one before the second; and two jobs in three rounds, with a fall on the way.
+const ALONE: [Run<'static>; 3] = [
+    Run {
+        sizes: (1, 1, 1, 10),
+        plans: &[Planned {
+            jobs: &[(0, FIVE), (1, &[])],
+            ..IDLE
+        }],
+        ends: &[End::Refused(Refusal::NoLock)],
+        lives: &[1],
+        locks: &[(&[5], true, &[((0, 0, 1, 0, 5), FIVE)])],
+    },
+    Run {
+        sizes: (1, 1, 1, 10),
+        plans: &[Planned {
+            falls: &[0, 1],
+            lives: 3,
+            ..DEAD
+        }],
+        ends: &[End::AllDone],
+        lives: &[3],
+        locks: &[(&[5], true, &[((0, 0, 1, 0, 5), FIVE)])],
+    },
+    Run {
+        sizes: (1, 1, 1, 10),
+        plans: &[Planned {
+            jobs: &[(0, ONE), (0, &[Op::Add(0, 10)])],
+            rounds: 3,
+            falls: &[50],
+            lives: 2,
+            ..IDLE
+        }],
+        ends: &[End::AllDone],
+        lives: &[2],
+        locks: &[(
+            &[33],
+            true,
+            &[
+                ((0, 0, 1, 0, 1), ONE),
+                ((0, 0, 2, 1, 11), &[Op::Add(0, 10)]),
+                ((0, 0, 3, 2, 12), ONE),
+                ((0, 0, 4, 3, 22), &[Op::Add(0, 10)]),
+                ((0, 0, 5, 4, 23), ONE),
+                ((0, 0, 6, 5, 33), &[Op::Add(0, 10)]),
+            ],
+        )],
+    },
+];
 
-/// A fall before the first step of the first recovery, and one before the second: two lives are lost there.
+/// A refused job ends its worker, two lives are lost in the recovery, and the rounds follow one another: each entry once.
 #[test]
-fn falls_from_the_first_step(rt: HostRuntime) -> Result<(), Fail> {
-    let mut plans = Vec::new(rt.alloc());
-    plans.push(plan(rt.alloc(), &[job(0, &[Op::Add(0, 5)])], &[0, 1], 3, 1)?)?;
-    let report = report_of(&rt, rt.alloc(), (1, 1, 1, 10), plans, &Free)?;
-    assert!(rt; report.ends.as_slice() == [End::AllDone].as_slice());
-    assert!(rt; report.lives.as_slice() == [3].as_slice());
+fn alone(rt: HostRuntime) -> Result<(), Fail> {
+    for run in &ALONE {
+        run_is(&rt, rt.alloc(), run, &Free)?;
+    }
     Ok(())
 }
 
@@ -142,37 +207,20 @@ fn falls_from_the_first_step(rt: HostRuntime) -> Result<(), Fail> {
 /// the two.
 #[test]
 fn out_of_lives(rt: HostRuntime) -> Result<(), Fail> {
-    let jobs = [job(0, &[Op::Add(0, 5)]); 10];
-    let mut plans = Vec::new(rt.alloc());
-    plans.push(plan(rt.alloc(), &jobs, &[3, 60], 2, 1)?)?;
-    let report = report_of(&rt, rt.alloc(), (1, 1, 1, 10), plans, &Free)?;
-    assert!(rt; report.ends.as_slice() == [End::OutOfLives].as_slice());
-    assert!(rt; report.lives.as_slice() == [2].as_slice());
+    let run = Run {
+        sizes: (1, 1, 1, 10),
+        plans: &[Planned {
+            jobs: &[(0, FIVE); 10],
+            falls: &[3, 60],
+            lives: 2,
+            ..IDLE
+        }],
+        ends: &[End::OutOfLives],
+        lives: &[2],
+        locks: &[],
+    };
+    let report = report_of(&rt, rt.alloc(), &run, &Free)?;
     assert!(rt; report.closed.locks.len() == 1);
     assert!(rt; !report.closed.locks[0].entries.is_empty());
-    Ok(())
-}
-
-/// Two jobs in three rounds, with a fall on the way: six entries, in the order of the rounds, each once.
-#[test]
-fn rounds(rt: HostRuntime) -> Result<(), Fail> {
-    let jobs = [job(0, &[Op::Add(0, 1)]), job(0, &[Op::Add(0, 10)])];
-    let mut thrice = plan(rt.alloc(), &jobs, &[50], 2, 1)?;
-    thrice.rounds = 3;
-    let mut plans = Vec::new(rt.alloc());
-    plans.push(thrice)?;
-    let report = report_of(&rt, rt.alloc(), (1, 1, 1, 10), plans, &Free)?;
-    assert!(rt; report.ends.as_slice() == [End::AllDone].as_slice());
-    assert!(rt; report.lives.as_slice() == [2].as_slice());
-    let told = [
-        ((0, 0, 1, 0, 1), [Op::Add(0, 1)].as_slice()),
-        ((0, 0, 2, 1, 11), [Op::Add(0, 10)].as_slice()),
-        ((0, 0, 3, 2, 12), [Op::Add(0, 1)].as_slice()),
-        ((0, 0, 4, 3, 22), [Op::Add(0, 10)].as_slice()),
-        ((0, 0, 5, 4, 23), [Op::Add(0, 1)].as_slice()),
-        ((0, 0, 6, 5, 33), [Op::Add(0, 10)].as_slice()),
-    ];
-    assert!(rt; report.closed.locks.len() == 1);
-    assert!(rt; lock_is(&report.closed.locks[0], &[33], true, &told));
     Ok(())
 }

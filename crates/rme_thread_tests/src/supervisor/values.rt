@@ -1,50 +1,104 @@
-//! Plans, and a run that must have a report.
+//! Supervised runs as tables: what the workers are to do, and what must be reported.
 
-use crate::told::open;
-use rme_script::Job;
-use rme_supervisor::{Gate, Report, WorkerPlan, supervise};
+use crate::told::{Told, job, lock_is, open};
+use rme_script::{Job, Op};
+use rme_supervisor::{End, Gate, Report, WorkerPlan, supervise};
+use rme_table::ClosedLock;
 use std::alloc::{AllocError, Global};
 use std::process::Abort;
 use std::sync::Wait;
 use std::test::Fail;
 use std::thread::Threads;
 
-/// A plan of these jobs, in one round, and of these falls, lives and sweeps.
-pub fn plan(
-    alloc: Global,
-    jobs: &[Job],
-    falls: &[u32],
-    lives: u32,
-    sweeps: u32,
-) -> Result<WorkerPlan, AllocError> {
-    Ok(WorkerPlan {
-        jobs: all_of(alloc, jobs)?,
-        rounds: 1,
-        falls: all_of(alloc, falls)?,
-        lives,
-        sweeps,
-    })
+/// What a worker is to do: its jobs, each a lock and operations, and the rest of its plan.
+#[derive(Clone, Copy)]
+pub struct Planned<'a> {
+    pub jobs: &'a [(u32, &'a [Op])],
+    pub rounds: u32,
+    pub falls: &'a [u32],
+    pub lives: u32,
+    pub sweeps: u32,
 }
 
-fn all_of<T: Copy>(alloc: Global, given: &[T]) -> Result<Vec<T>, AllocError> {
-    let mut all = Vec::new(alloc);
-    for item in given {
-        all.push(*item)?;
+/// A closed lock: its cells, whether it is settled, and its entries.
+pub type Locked<'a> = (&'a [u64], bool, &'a [Told<'a>]);
+
+/// A run of a new service of these workers, locks, cells and jobs: the plans, and what its report must show.
+#[derive(Clone, Copy)]
+pub struct Run<'a> {
+    pub sizes: (u32, u32, u32, u32),
+    pub plans: &'a [Planned<'a>],
+    pub ends: &'a [End],
+    pub lives: &'a [u32],
+    pub locks: &'a [Locked<'a>],
+}
+
+fn jobs_of(alloc: Global, planned: &Planned<'_>) -> Result<Vec<Job>, AllocError> {
+    let mut jobs = Vec::new(alloc);
+    for (lock, operations) in planned.jobs {
+        jobs.push(job(*lock, operations))?;
     }
-    Ok(all)
+    Ok(jobs)
 }
 
-/// A run of a new service, which must have a report.
+fn falls_of(alloc: Global, planned: &Planned<'_>) -> Result<Vec<u32>, AllocError> {
+    let mut falls = Vec::new(alloc);
+    for fall in planned.falls {
+        falls.push(*fall)?;
+    }
+    Ok(falls)
+}
+
+/// The plans of all workers.
+pub fn plans_of(alloc: Global, planned: &[Planned<'_>]) -> Result<Vec<WorkerPlan>, AllocError> {
+    let mut plans = Vec::new(alloc);
+    for plan in planned {
+        plans.push(WorkerPlan {
+            jobs: jobs_of(alloc, plan)?,
+            rounds: plan.rounds,
+            falls: falls_of(alloc, plan)?,
+            lives: plan.lives,
+            sweeps: plan.sweeps,
+        })?;
+    }
+    Ok(plans)
+}
+
+/// Makes a run, whose report must show these ends and lives. The closed locks are not looked at.
 pub fn report_of<G: Gate + Sync, R: Abort + Threads + Wait + Sync>(
     rt: &R,
     alloc: Global,
-    sizes: (u32, u32, u32, u32),
-    plans: Vec<WorkerPlan>,
+    run: &Run<'_>,
     gate: &G,
 ) -> Result<Report, Fail> {
-    let (service, downs) = open(alloc, sizes)?;
-    match supervise(rt, alloc, service, downs, plans, gate) {
-        Ok(report) => Ok(report),
+    let (service, downs) = open(alloc, run.sizes)?;
+    let plans = plans_of(alloc, run.plans)?;
+    let report = match supervise(rt, alloc, service, downs, plans, gate) {
+        Ok(report) => report,
         Err(fault) => panic!(rt; "no report: {}", fault.why.name()),
-    }
+    };
+    // Not `assert!`: `scripts/try-one-thread` reads the ends off what this prints when it fails.
+    assert_eq!(rt; report.ends.as_slice(), run.ends);
+    assert!(rt; report.lives.as_slice() == run.lives);
+    Ok(report)
+}
+
+/// Makes a run, whose report must be what the table says.
+pub fn run_is<G: Gate + Sync, R: Abort + Threads + Wait + Sync>(
+    rt: &R,
+    alloc: Global,
+    run: &Run<'_>,
+    gate: &G,
+) -> Result<(), Fail> {
+    let report = report_of(rt, alloc, run, gate)?;
+    assert!(rt; locks_are(&report.closed.locks, run.locks));
+    Ok(())
+}
+
+/// Whether the closed locks are these.
+pub fn locks_are(locks: &[ClosedLock], told: &[Locked<'_>]) -> bool {
+    locks.len() == told.len()
+        && locks.iter().zip(told).all(|(lock, (cells, settled, entries))| lock_is(
+            lock, cells, *settled, entries,
+        ))
 }
