@@ -22,9 +22,10 @@ def line_of(**order):
 
 
 def words_of(locks=("bank",), without=None, **changed):
-    """The words after `rme`, with these options in place of those of a small server."""
+    """The words after `rme`, with these options, as `at_once` for `--at-once`, in place of those of a small server."""
     options = {**SMALL, **changed}
-    given = [word for name, value in options.items() if name != without for word in ("--" + name, str(value))]
+    kept = {name.replace("_", "-"): str(value) for name, value in options.items() if name != without}
+    given = [word for name, value in kept.items() for word in ("--" + name, value)]
     return ["serve", *given, *locks]
 
 
@@ -40,14 +41,20 @@ class Server:
         self.first = self.program.stdout.readline()
         found = re.fullmatch(rb"listening (\d+)\n", self.first)
         self.port = int(found.group(1)) if found else None
-        self.connections = self.left = int(words[words.index("--connections") + 1])
+        # Without a number it serves until it is killed.
+        self.connections = self.left = int(words[words.index("--connections") + 1]) if "--connections" in words else 0
         self.counting = threading.Lock()
 
-    def connect(self):
-        """A connection without a Session, which counts as one of those that the server takes."""
+    def connect(self, room=None):
+        """A connection without a Session, which counts as one of those that the server takes; with room for so many bytes
+        that were not read yet, where that is said."""
         with self.counting:
             self.left -= 1
-        connection = socket.create_connection((HOST, self.port), timeout=60)
+        connection = socket.socket()
+        if room:
+            connection.setsockopt(socket.SOL_SOCKET, socket.SO_RCVBUF, room)
+        connection.settimeout(60)
+        connection.connect((HOST, self.port))
         connection.setsockopt(socket.IPPROTO_TCP, socket.TCP_NODELAY, 1)
         return connection
 
@@ -58,6 +65,11 @@ class Server:
         """The most memory that the server had so far, in KiB."""
         with open(f"/proc/{self.program.pid}/status", encoding="utf-8") as status:
             return next(int(line.split()[1]) for line in status if line.startswith("VmHWM"))
+
+    def kill(self):
+        """Ends it by a signal, and answers as `end` does."""
+        self.program.terminate()
+        return self.end()
 
     def end(self):
         """The status, and what was written after the first line to the standard output and to the standard error."""

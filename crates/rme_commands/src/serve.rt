@@ -9,16 +9,17 @@ use log::sink::Console;
 use log::{Level, Logged, info};
 use rme_faults::{Fault, why_not_locks, why_not_sizes};
 use rme_options::ServeTask;
-use rme_server::{Slots, serve};
+use rme_server::{Door, ServeFault, Slots, Trouble, serve};
 use rme_table::{Down, Service, Tag};
 use rme_wire::{GivenNames, Names};
 use rme_words::Shape;
-use std::io;
 use std::io::ErrorKind;
 use std::marker::Brand;
 use std::net::{Ipv4Addr, TcpListener};
 use std::sync::Wait;
 use std::thread::Threads;
+use std::time::Duration;
+use std::{io, thread};
 
 /// Serves the connections, prints what the locks then hold, and answers the status.
 pub fn run_serve<R: Threads + Wait + Sync>(
@@ -31,6 +32,8 @@ pub fn run_serve<R: Threads + Wait + Sync>(
     let ServeTask {
         port,
         connections,
+        at_once,
+        idle,
         locks,
         ..
     } = task;
@@ -40,15 +43,17 @@ pub fn run_serve<R: Threads + Wait + Sync>(
     }
     let shape = shape?;
     let names = locks.names(rt.alloc())?;
-    let listener = listen(rt, port)?;
     let host = Host {
         rt,
-        listener: &listener,
         port,
-        connections,
+        door: Door {
+            connections,
+            at_once,
+            idle,
+        },
         names: &names,
     };
-    serve_workers(threads, &host, shape)
+    serve_workers(threads, &host, listen(rt, port)?, shape)
 }
 
 /// The shape of the service that is asked for.
@@ -64,15 +69,30 @@ fn shape_of(task: &ServeTask) -> Result<Shape, Fault> {
     }
 }
 
-/// Where clients come from, how many of them, and how they name the locks.
+/// Where clients come from, which of them are taken, and how they name the locks.
 #[derive(Drop)]
 struct Host<'a> {
     rt: &'a HostRuntime,
-    listener: &'a TcpListener,
     /// The port that was asked for; the listener may have another for 0.
     port: u16,
-    connections: u32,
+    door: Door,
     names: &'a Names,
+}
+
+/// How many milliseconds it waits after a connection that could not be had or served, for others to end.
+const PAUSE: u64 = 100;
+
+/// Trouble is told of on the standard error.
+impl Trouble for Host<'_> {
+    fn not_accepted(&self, why: io::Error) {
+        let _ = eprintln!(self.rt; "rme: a connection can't be accepted: {why}");
+        thread::sleep(self.rt, Duration::from_millis(PAUSE));
+    }
+
+    fn no_thread(&self) {
+        let _ = eprintln!(self.rt; "rme: a connection is closed, since it can't have a thread");
+        thread::sleep(self.rt, Duration::from_millis(PAUSE));
+    }
 }
 
 /// Listens on a port of this machine alone.
@@ -88,12 +108,18 @@ fn listen(rt: &HostRuntime, port: u16) -> Result<TcpListener, Fault> {
 fn serve_workers<R: Threads + Wait + Sync>(
     threads: &R,
     host: &Host<'_>,
+    listener: TcpListener,
     shape: Shape,
 ) -> Result<u8, Fault> {
     let (service, downs) = Service::new(host.rt.alloc(), shape)?;
-    let downs = serve_all::<Brand, R>(threads, host, &service, downs)?;
-    log_served(host.rt, host.connections);
-    close(host, service, downs)
+    let port = print_port(host, &listener)?;
+    let (downs, served) = serve_all::<Brand, R>(threads, host, listener, &service, downs)?;
+    log_served(host.rt, host.door.connections.unwrap_or(0));
+    let status = close(host, service, downs)?;
+    match served {
+        Ok(()) => Ok(status),
+        Err(fault) => Err(Fault::of_serving(fault, port)),
+    }
 }
 
 /// The record of a server that has served all its connections.
@@ -111,43 +137,41 @@ fn close(host: &Host<'_>, service: Service, downs: Vec<Down>) -> Result<u8, Faul
 }
 
 /// Serves these workers, all of the service, to the sessions of the connections, and gives back those that are
-/// there at the end.
+/// there at the end, with the trouble that there was.
 fn serve_all<K: Tag + Send + Sync, R: Threads + Wait + Sync>(
     threads: &R,
     host: &Host<'_>,
+    listener: TcpListener,
     service: &Service,
     downs: Vec<Down>,
-) -> Result<Vec<Down>, Fault>
+) -> Result<(Vec<Down>, Result<(), ServeFault>), Fault>
     requires named { service.now ≡ K.ident }
     requires all { AreInPlace service.now downs.items }
-    ensures ours { IfOk result (λ downs. AreOf service.now downs.items) }
+    ensures ours { IfOk result (λ served. AreOf service.now served.0.items) }
 {
     let alloc = host.rt.alloc();
     let Ok(slots) = Slots::<K>::new(threads, alloc, downs) else {
         return Err(Fault::NoMemory);
     };
-    let port = print_port(host)?;
     let served = serve(
         threads,
         alloc,
-        host.listener,
-        host.connections,
+        listener,
+        host.door,
+        host,
         service,
         &slots,
         host.names,
     );
-    if let Err(fault) = served {
-        return Err(Fault::of_serving(fault, port));
-    }
     match slots.into_downs(threads) {
-        Ok(downs) => Ok(downs),
+        Ok(downs) => Ok((downs, served)),
         Err(_) => Err(Fault::NoMemory),
     }
 }
 
 /// Prints the port that clients connect to, and answers it.
-fn print_port(host: &Host<'_>) -> Result<u16, Fault> {
-    let port = match host.listener.local_addr() {
+fn print_port(host: &Host<'_>, listener: &TcpListener) -> Result<u16, Fault> {
+    let port = match listener.local_addr() {
         Ok(address) => address.port(),
         Err(error) => return Err(Fault::ListenFailed(host.port, error)),
     };

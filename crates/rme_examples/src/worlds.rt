@@ -25,7 +25,7 @@ fn job_runner(rt: HostRuntime) -> Result<(), Fail> {
     runner.world.restart(0)?;
     runner.walk(steps(10_000))?;
     let (cells, settled) = runner.world.cells(0)?;
-    assert_eq!(rt; (cells.len(), settled), (1, true));
-    assert_eq!(rt; cells.get(0), 5);
+    assert!(rt; (cells.len(), settled) == (1, true));
+    assert!(rt; cells.get(0) == 5);
     Ok(())
 }

@@ -83,5 +83,5 @@ advice_of_ending ending.BadArguments = codes "Nothing was read and nothing done.
 advice_of_ending ending.ReadFailed = codes "The standard input, or the file of --image, can't be read. What came before was obeyed and answered whole. Mend the input and run again; a world that --save would have saved is not saved."
 advice_of_ending ending.WriteFailed = codes "The standard output, or the file of --save, took no more; a front of the output was written. Look for a full disk or a reader that went away, and run again."
 advice_of_ending ending.NoMemory = codes "There was no room for a line, an answer or the world itself. All answers to the lines before were written whole. Give the program more memory, or give it less to hold."
-advice_of_ending ending.SocketFailed = codes "Another program may have the port, or the system allows no more open sockets. Choose another --port, or 0 for a free one, and start again."
-advice_of_ending ending.NoThread = codes "The system allows no more threads. Sessions that ran went on to their ends. Serve fewer --connections, or raise the limit of threads."
+advice_of_ending ending.SocketFailed = codes "Another program may have the port: choose another --port, or 0 for a free one, and start again. Or the system allowed no more open sockets for a while: serve fewer --at-once, or raise the limit of open files."
+advice_of_ending ending.NoThread = codes "The system allowed no more threads, and the connection was closed. The other sessions went on to their ends. Serve fewer --at-once, or raise the limit of threads."

@@ -98,10 +98,10 @@ impl Ending {
                 "There was no room for a line, an answer or the world itself. All answers to the lines before were written whole. Give the program more memory, or give it less to hold."
             }
             Ending::SocketFailed => {
-                "Another program may have the port, or the system allows no more open sockets. Choose another --port, or 0 for a free one, and start again."
+                "Another program may have the port: choose another --port, or 0 for a free one, and start again. Or the system allowed no more open sockets for a while: serve fewer --at-once, or raise the limit of open files."
             }
             Ending::NoThread => {
-                "The system allows no more threads. Sessions that ran went on to their ends. Serve fewer --connections, or raise the limit of threads."
+                "The system allowed no more threads, and the connection was closed. The other sessions went on to their ends. Serve fewer --at-once, or raise the limit of threads."
             }
         }
     }

@@ -58,7 +58,7 @@ pub enum Fault {
     FolderUnsynced(String, io::Error),
     /// The server can't listen on the port.
     ListenFailed(u16, io::Error),
-    /// The server of the port can accept no further connection.
+    /// The server of the port could not accept a connection.
     AcceptFailed(u16),
     /// A connection can't have a thread.
     NoThread,
@@ -103,7 +103,7 @@ impl fmt::Display for Fault {
             Fault::ListenFailed(port, why) => write!(f, "socket failed\n  port {port}: {why}"),
             Fault::AcceptFailed(port) => write!(
                 f,
-                "socket failed\n  port {port}: no further connection can be accepted"
+                "socket failed\n  port {port}: a connection could not be accepted"
             ),
             Fault::NoThread => f.write_str("no thread"),
             Fault::Unexplained(asked) => write!(

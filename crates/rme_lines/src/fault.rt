@@ -22,11 +22,11 @@ pub enum EngineFault {
     NoMemory,
 }
 
-/// Why a server of sessions gave up. The sessions that were running then went on to their ends, and each worker is back in
-/// its slot.
+/// The first trouble that a server of sessions had with a connection. It went on all the same, and when it answers each
+/// worker is back in its slot.
 #[derive(Clone, Copy, Debug, PartialEq, Eq, Error)]
 pub enum ServeFault {
-    /// No further connection could be accepted.
+    /// A connection could not be accepted.
     #[error("socket failed")]
     SocketFailed,
     /// No thread could be made for a connection, which was closed.

@@ -42,7 +42,8 @@ enum Value {
     Text,
     Number,
     Port,
-    Connections,
+    /// 1 to 1000000.
+    Count,
 }
 
 /// A command of the program.
@@ -202,12 +203,30 @@ fn serve_command<'a>(alloc: Global) -> Result<Command<'a>, AllocError> {
             "port",
             "The port to listen on; 0 takes a free one",
         ),
-        required(
-            number,
-            Value::Connections,
-            "connections",
-            "How many connections to serve, 1 to 1000",
-        ),
+        Word {
+            value: Value::Count,
+            ..optional(
+                "connections",
+                number,
+                "How many connections to serve, 1 to 1000000; without it it serves until it is killed",
+            )
+        },
+        Word {
+            value: Value::Count,
+            ..optional(
+                "at-once",
+                number,
+                "How many sessions run at a time, 1 to 1000000; 1000 without it",
+            )
+        },
+        Word {
+            value: Value::Count,
+            ..optional(
+                "idle",
+                Kind::Option("SECONDS"),
+                "How long a client may send nothing, 1 to 1000000; for good without it",
+            )
+        },
         required(
             Kind::Arguments(1),
             Value::Text,
@@ -298,6 +317,6 @@ fn valued(arg: Arg<'_>, value: Value) -> Arg<'_> {
         Value::Text => arg,
         Value::Number => arg.value_parser(value_parser!(u32)),
         Value::Port => arg.value_parser(value_parser!(u16)),
-        Value::Connections => arg.value_parser(value_parser!(u32).range(1..=1000)),
+        Value::Count => arg.value_parser(value_parser!(u32).range(1..=1_000_000)),
     }
 }

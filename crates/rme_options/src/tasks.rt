@@ -9,7 +9,7 @@ pub enum Task {
     Draw,
     /// Supervise workers that add to one cell.
     Threads(ThreadsTask),
-    /// Serve workers to the sessions of so many connections.
+    /// Serve workers to the sessions of connections.
     Serve(ServeTask),
 }
 
@@ -48,14 +48,19 @@ pub struct ThreadsTask {
     pub is_quiet: bool,
 }
 
-/// What `rme serve` is asked for: a service of these sizes with these locks, and so many connections on this port.
+/// What `rme serve` is asked for: a service of these sizes with these locks, and which connections on this port.
 #[derive(Drop)]
 pub struct ServeTask {
     pub workers: u32,
     pub cells: u32,
     pub jobs: u32,
     pub port: u16,
-    pub connections: u32,
+    /// So many connections, and else until it is killed.
+    pub connections: Option<u32>,
+    /// So many sessions at a time.
+    pub at_once: u32,
+    /// So many seconds of silence end a session, if any do.
+    pub idle: Option<u32>,
     /// The words for the names of its locks.
     pub locks: Vec<String>,
 }

@@ -184,9 +184,12 @@ pub fn serve_about<'a>() -> &'a str {
 
 pub fn serve_lines<'a>() -> &'a str {
     "\
-It prints `listening PORT` as soon as clients can connect. When all of its connections have ended it logs
-`served n` to the standard error, closes the service, and prints a line for each lock:
+It prints `listening PORT` as soon as clients can connect. With --connections it takes no more, and when all of
+these have ended it logs `served n` to the standard error, closes the service, and prints a line for each lock:
 `lock NAME cells V V .. entries E`, with what its cells hold and how many jobs they have seen.
+
+A connection for which there is no room (--at-once) is answered {\"code\":9,\"error\":\"Busy\"} and closed. One that
+can't be accepted or have a thread is told of on the standard error, and the server goes on.
 
 Each line of a client is one JSON object, which is obeyed and answered by one line:
 
@@ -229,11 +232,12 @@ A server and a client, for bash:
   lock bank cells 5 entries 1
 
 A client that is stuck or silent keeps its own worker alone, with what this one holds of a lock; the server
-goes on for all others, and ends after its last session. SIGTERM ends it at once, with no closing lines, and
-all that the service held is gone.
+goes on for all others. --idle ends a session that is silent for so long, and one whose client takes no answer
+for 10 seconds is ended always. SIGTERM ends the server at once, with no closing lines, and all that the
+service held is gone.
 
 Status: 0 after the closing lines, 1 with none of them where a worker was not given back, 2 for words that
 are refused (also 0 or more than 256 workers, 16 locks, 16 cells or 1000000 jobs, and a name that is none
-or stands twice), 4 where writing failed, 5 where memory ran out, 6 where it can't listen on the port or
-accept a connection, 7 where a connection can't have a thread."
+or stands twice), 4 where writing failed, 5 where memory ran out, 6 where it can't listen on the port. After
+the closing lines it is 5, 6 or 7 where a connection found no memory, could not be accepted or had no thread."
 }

@@ -5,6 +5,9 @@ use crate::tasks::{Images, LineTask, ServeTask, Task, ThreadsTask};
 use clap::{ArgMatches, Error};
 use std::alloc::{AllocError, Global};
 
+/// How many sessions a server runs at a time, where nothing else is asked for.
+const AT_ONCE: u32 = 1000;
+
 /// What the words ask for, the first of which is the program's own name.
 ///
 /// An error holds what is to be printed: help, the version or what is wrong; or its kind is `OutOfMemory`.
@@ -103,7 +106,9 @@ fn serve_task(alloc: Global, found: &ArgMatches<'_>) -> Result<ServeTask, AllocE
         cells: found.get_one("cells").unwrap_or(0),
         jobs: found.get_one("jobs").unwrap_or(0),
         port: found.get_one("port").unwrap_or(0),
-        connections: found.get_one("connections").unwrap_or(0),
+        connections: found.get_one("connections"),
+        at_once: found.get_one("at-once").unwrap_or(AT_ONCE),
+        idle: found.get_one("idle"),
         locks: texts_of(alloc, found, "LOCK")?,
     })
 }
