@@ -3,3 +3,4 @@ pub mod PieceLemmas
 pub mod ReaderLemmas
 pub mod RunLemmas
 pub mod TrafficLemmas
+pub mod MomentLemmas

@@ -13,11 +13,12 @@ use Rattle.rme_lines.specs.Cuts.{Cuts, line_read}
 use Rattle.rme_lines.specs.Pieces.{InputLine, TakesPiece, TakesWhole, line_of, lines_of, whole_lines_of}
 use Rattle.rme_lines.specs.Puts.{AppendsFront, Gathers}
 use Rattle.rme_lines.specs.declared.lines.LineReader.{LineReader}
-use Rattle.rme_lines.specs.Readers.{FailsToRead, ReadsNoMore, most_lines}
+use Rattle.rme_lines.specs.Readers.{FailsToRead, IsAllPut, ReadsNoMore, most_lines}
+use Rattle.rme_lines.specs.Traffic.{Moment}
 use Rattle.rme_lines.proofs.PutLemmas.{front_after, gathered_front, gathered_put}
 use Rattle.rme_lines.proofs.ReaderLemmas.{CameOn, came_no_more, came_to_fail}
 use Rattle.rme_lines.proofs.PieceLemmas.{lines_ended, lines_none, lines_piece, whole_lines_ended, whole_lines_piece}
-use Rattle.rme_lines.specs.Runs.{AllButLast, AreLines, BeginsWith, CutsOff, GivesUp, HasNone, Run, Spills, TakesOne, TurnFails, Turns, WereRead, WritesFirst, WritesTo, all_bytes}
+use Rattle.rme_lines.specs.Runs.{AllButLast, AreLines, BeginsWith, CutsOff, GivesUp, HasNone, IsPrompt, Run, Spills, TakesOne, TurnFails, Turns, WereRead, WritesFirst, WritesTo, all_bytes}
 
 -- ---- the lines of the input
 
@@ -219,6 +220,18 @@ module _ {S : Type 0} (has : S → InputLine → List ℕ → S → Type 0) wher
   all_put : (before held holds : Option (List ℕ)) (front kept all : List ℕ) → Appends before held front → front ++ kept ≡ all → Appends held holds kept → Appends before holds all
   all_put before held holds front kept all put e more =
       let P : List ℕ → Type 0 = λ l. Appends before holds l in subst P e (Appends-trans before held holds front kept put more)
+
+  -- a read that is made then comes after the bytes of all lines that were taken
+  pub prompt_at : (input before left held : Option (List ℕ)) (ended : Bool) (first now : S) (kept : List ℕ) → SoFar first input before left ended now held kept → ended ≡ false
+      → (moment : Moment) → IsAllPut left held kept moment → IsPrompt has first input before moment
+  prompt_at input before left held ended first now kept so going moment (piece, put) = (
+    so.lines,
+    so.all,
+    now,
+    so.run,
+    off_failed input left moment.left so.lines (so.off going) piece,
+    all_put before held moment.held so.front kept (all_bytes so.all) so.put so.rest put,
+  )
 
   pub finished : (input before left later held holds : Option (List ℕ)) (ended ends : Bool) (first now new : S) (kept keeps : List ℕ) → SoFar first input before left ended now held kept
       → Turns has left later ends now new held kept holds keeps false → WritesTo has first input before holds new

@@ -10,11 +10,11 @@ use Rattle.rme_lines.specs.Traffic.{Event, moved, at_end, interrupted, broke, Gr
 
 -- ---- lists
 
-pub grows_none : (held : Option (List Event)) → Grows held held []
+pub grows_none : {E : Type 0} (held : Option (List E)) → Grows held held []
 grows_none None = tt
 grows_none (Some before) = sym (append-nil before)
 
-pub grows_more : (old mid new : Option (List Event)) (events more : List Event) → Grows old mid events → Grows mid new more → Grows old new (events ++ more)
+pub grows_more : {E : Type 0} (old mid new : Option (List E)) (events more : List E) → Grows old mid events → Grows mid new more → Grows old new (events ++ more)
 grows_more old mid None events more g h = tt
 grows_more old None (Some after) events more g h = absurd h
 grows_more None (Some now) (Some after) events more g h = absurd g

@@ -1,8 +1,9 @@
 -- What a reader of lines has left.
-use Rattle.std.specs.Prelude.{◌≡◌, ℕ, ◌+◌, ◌-◌, ◌*◌, ◌<◌, ◌≤◌, List, [], slice_range, length, Bool, true, false, Option, Some, None}
-use Rattle.std.specs.Io.KnownBytes.{prepend_known}
+use Rattle.std.specs.Prelude.{◌≡◌, ℕ, ◌+◌, ◌-◌, ◌*◌, ◌<◌, ◌≤◌, All, List, [], slice_range, length, Bool, true, false, Option, Some, None}
+use Rattle.std.specs.Io.KnownBytes.{Appends, prepend_known}
+use Rattle.rme_lines.specs.Pieces.{TakesPiece}
 use Rattle.rme_lines.specs.declared.lines.LineReader.{LineReader}
-use Rattle.rme_lines.specs.Traffic.{Event, Grows, LastBroke, ReadsOn}
+use Rattle.rme_lines.specs.Traffic.{Event, Grows, LastBroke, Moment, ReadsOn}
 
 -- what will be read of the bytes that a reader has left, where it tells them: none once a read gave no byte
 abbrev pub unread : Bool → Option (List ℕ) → Option (List ℕ)
@@ -64,3 +65,17 @@ MakesReads gave old new = (reads : List Event) × Asks gave old new reads
 -- the last of the reads that were made failed, or was the last one allowed
 abbrev pub LastReadFails : {R : Type 0} → (R → Option (List Event)) → LineReader R → LineReader R → Type 0
 LastReadFails gave old new = (reads : List Event) × Asks gave old new reads × (0 < new.reads → LastBroke reads)
+
+-- ---- the moments of reads
+
+-- each read that was made was made at such a moment
+abbrev pub ReadsAt : {R : Type 0} → (R → Option (List Moment)) → LineReader R → LineReader R → (Moment → Type 0) → Type 0
+ReadsAt moments old new Is = (made : List Moment) × Grows (moments old.reader) (moments new.reader) made × All Is made
+
+-- since so much was left no newline was read, and the writer holds this
+abbrev pub IsWithin : Option (List ℕ) → Option (List ℕ) → Moment → Type 0
+IsWithin left held moment = TakesPiece left moment.left × (moment.held ≡ held)
+
+-- since so much was left no newline was read, and all that was kept back is written
+abbrev pub IsAllPut : Option (List ℕ) → Option (List ℕ) → List ℕ → Moment → Type 0
+IsAllPut left held kept moment = TakesPiece left moment.left × Appends held moment.held kept

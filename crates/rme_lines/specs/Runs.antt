@@ -6,6 +6,7 @@ use Rattle.rme_lines.specs.declared.fault.EngineFault.{EngineFault}
 use Rattle.rme_lines.specs.declared.fault.EngineFault.TheVariants.{ReadFailed, WriteFailed, NoMemory}
 use Rattle.rme_lines.specs.Pieces.{InputLine, TakesPiece, TakesWhole, lines_of, whole_lines_of}
 use Rattle.rme_lines.specs.Puts.{AppendsFront, Gathers}
+use Rattle.rme_lines.specs.Traffic.{Moment}
 
 -- each line has its bytes, in what the line before left open
 abbrev pub Run : {S : Type 0} → (S → InputLine → List ℕ → S → Type 0) → S → List InputLine → List (List ℕ) → S → Type 0
@@ -61,6 +62,11 @@ GaveUp WriteFailed input left lines before after bytes = BeginsWith input lines 
 abbrev pub WritesFirst : {S : Type 0} → (S → InputLine → List ℕ → S → Type 0) → S → EngineFault → Option (List ℕ) → Option (List ℕ) → Option (List ℕ) → Option (List ℕ) → Type 0
 WritesFirst {S = S} has first fault input left before after =
     (lines : List InputLine) × (all : List (List ℕ)) × (last : S) × Run has first lines all last × GaveUp fault input left lines before after (all_bytes all)
+
+-- at this moment the bytes of all lines whose newlines were read are written, and nothing else
+abbrev pub IsPrompt : {S : Type 0} → (S → InputLine → List ℕ → S → Type 0) → S → Option (List ℕ) → Option (List ℕ) → Moment → Type 0
+IsPrompt {S = S} has first input before moment =
+    (lines : List InputLine) × (all : List (List ℕ)) × (last : S) × Run has first lines all last × WereRead input moment.left lines × Appends before moment.held (all_bytes all)
 
 -- ---- one turn: a line is taken and its bytes are gathered
 

@@ -17,8 +17,13 @@ read_of count buffer = if count == 0 then at_end else moved (take count buffer)
 abbrev pub write_of : ℕ → List ℕ → Event
 write_of count buffer = if count == 0 then broke else moved (take count buffer)
 
--- a list grew by these events, as far as it is kept: from where that ends there is none
-abbrev pub Grows : Option (List Event) → Option (List Event) → List Event → Type 0
+-- what stood when a read was made: the bytes that were left to read, and those that the writer held, each where they are known
+pub record Moment : Type 0 where
+  pub left : Option (List ℕ)
+  pub held : Option (List ℕ)
+
+-- a list grew by these events, or moments, as far as it is kept: from where that ends there is none
+abbrev pub Grows : {E : Type 0} → Option (List E) → Option (List E) → List E → Type 0
 Grows old None events = Unit {0}
 Grows None (Some after) events = ⊥
 Grows (Some before) (Some after) events = after ≡ before ++ events

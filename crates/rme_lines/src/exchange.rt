@@ -1,10 +1,5 @@
 //! Lines that are taken, and answers that are kept back until they are written.
 
-ghost use Rattle.std.specs.Prelude.{◌≡◌, ◌≢◌, ◌<◌, ◌≤◌, [], false, IfOk, IfErr, OnErr, OnOk};
-ghost use Rattle.rme_lines.specs.Cuts.{Cuts};
-ghost use Rattle.rme_lines.specs.Pieces.{TakesPiece, TakesWhole};
-ghost use Rattle.rme_lines.specs.Readers.{FailsToRead, HasEnded, LastReadFails, MakesReads, ReadsNoMore, bytes_left, has_ended, most_lines, reads_left};
-
 use crate::cut::Cut;
 use crate::fault::EngineFault;
 use crate::lines::LineReader;
@@ -30,7 +25,7 @@ impl Exchange {
     ghost use Rattle.rme_lines.specs.Pieces.{TakesWhole};
     ghost use Rattle.rme_lines.specs.Puts.{AppendsFront, Gathers};
     ghost use Rattle.rme_lines.specs.Traffic.{LastWriteFails, MakesWrites};
-    ghost use Rattle.rme_lines.specs.Readers.{FailsToRead, HasEnded, LastReadFails, MakesReads, ReadsNoMore, bytes_left, has_ended, most_lines, reads_left};
+    ghost use Rattle.rme_lines.specs.Readers.{FailsToRead, HasEnded, IsAllPut, LastReadFails, MakesReads, ReadsAt, ReadsNoMore, bytes_left, has_ended, most_lines, reads_left};
     ghost use Rattle.rme_lines.specs.Runs.{GivesUp, Spills};
 
     /// No line was taken, and no answer is kept back.
@@ -80,6 +75,7 @@ impl Exchange {
         ensures reads { reads_left lines.new ≤ reads_left lines.old }
         ensures failed { IfErr result (λ fault. fault ≡ EngineFault.ReadFailed → FailsToRead lines.old lines.new) }
         ensures asks { MakesReads R.gave lines.old lines.new }
+        ensures prompt { ReadsAt R.moments lines.old lines.new (IsAllPut (bytes_left R.remaining lines.old) (W.contents writer.old) self.old.pending) }
         ensures read_broke { IfErr result (λ fault. fault ≡ EngineFault.ReadFailed → LastReadFails R.gave lines.old lines.new) }
         ensures writes { MakesWrites (W.took writer.old) (W.took writer.new) }
         ensures write_broke { IfErr result (λ fault. fault ≡ EngineFault.WriteFailed → LastWriteFails (W.took writer.old) (W.took writer.new)) }
@@ -93,7 +89,7 @@ impl Exchange {
             Ok(()) => {}
             Err(fault) => return Err(fault),
         }
-        read_on(lines, &mut self.line, &self.pending)
+        lines.next_line(&mut self.line, writer)
     }
 
     /// Keeps an answer back behind the others; where there is no room for it they are written. After `WriteFailed`
@@ -138,27 +134,4 @@ impl Exchange {
             Err(failed) => failed,
         }
     }
-}
-
-/// Takes the next line where none is at hand. Nothing is kept back while the reader is read.
-fn read_on<R: Source + Drop>(
-    lines: &mut LineReader<R>,
-    line: &mut Vec<u8>,
-    pending: &Pending,
-) -> Result<Cut, EngineFault>
-    requires { pending.now ≡ [] }
-    ensures cut { IfOk result (λ cut. Cuts (bytes_left R.remaining lines.old) (bytes_left R.remaining lines.new) cut line.new.items) }
-    ensures whole { OnOk result (has_ended lines.new ≡ false → TakesWhole (bytes_left R.remaining lines.old) (bytes_left R.remaining lines.new)) }
-    ensures lost { OnErr result (TakesPiece (bytes_left R.remaining lines.old) (bytes_left R.remaining lines.new)) }
-    ensures fewer { IfOk result (λ cut. cut ≢ Cut.End → most_lines lines.new < most_lines lines.old) }
-    ensures end { IfOk result (λ cut. cut ≡ Cut.End → HasEnded lines.new) }
-    ensures ended { HasEnded lines.old → ReadsNoMore lines.old lines.new }
-    ensures reads { reads_left lines.new ≤ reads_left lines.old }
-    ensures kind { IfErr result (λ fault. fault ≢ EngineFault.WriteFailed) }
-    ensures failed { IfErr result (λ fault. fault ≡ EngineFault.ReadFailed → FailsToRead lines.old lines.new) }
-    ensures asks { MakesReads R.gave lines.old lines.new }
-    ensures broke { IfErr result (λ fault. fault ≡ EngineFault.ReadFailed → LastReadFails R.gave lines.old lines.new) }
-{
-    let _kept_back = pending;
-    lines.next_line(line)
 }

@@ -4,7 +4,7 @@ ghost use Rattle.std.specs.Prelude.{◌≡◌, ◌+◌, ◌<◌, ◌≤◌, IfOk
 
 use crate::cut::{Cut, keep, last_cut, whole};
 use crate::fault::EngineFault;
-use crate::stream::{Source, is_interrupted};
+use crate::stream::{Sink, Source, is_interrupted};
 use memchr::memchr;
 use std::alloc::{AllocError, Global};
 
@@ -45,7 +45,7 @@ impl<R: Source + Drop> LineReader<R> {
     ghost use Rattle.std.specs.Io.KnownBytes.{IsAtEnd, Keeps};
     ghost use Rattle.rme_lines.specs.Pieces.{IsPiece, Takes, TakesPiece, TakesWhole};
     ghost use Rattle.rme_lines.specs.Cuts.{Cuts};
-    ghost use Rattle.rme_lines.specs.Readers.{FailsToRead, HasEnded, LastReadFails, MakesReads, ReadsNoMore, TakesOn, at_hand, bytes_left, has_ended, most_lines, reads_left};
+    ghost use Rattle.rme_lines.specs.Readers.{FailsToRead, HasEnded, IsWithin, LastReadFails, MakesReads, ReadsAt, ReadsNoMore, TakesOn, at_hand, bytes_left, has_ended, most_lines, reads_left};
 
     /// A reader of lines, which makes no read yet and 1,000,000,000 at most.
     pub fn new(alloc: Global, reader: R) -> Result<LineReader<R>, AllocError>
@@ -64,7 +64,7 @@ impl<R: Source + Drop> LineReader<R> {
     }
 
     /// Makes a read where the chunk is used up, and says whether a byte is there or may still come.
-    fn fill(&mut self) -> Result<bool, EngineFault>
+    fn fill<W: Sink>(&mut self, writer: &W) -> Result<bool, EngineFault>
         ensures kept { Keeps (bytes_left R.remaining self.old) (bytes_left R.remaining self.new) }
         ensures end { IfOk result (λ more. more ≡ false → IsAtEnd (bytes_left R.remaining self.new) × (self.new.ended ≡ true)) }
         ensures ended { self.old.ended ≡ true → ReadsNoMore self.old self.new }
@@ -74,6 +74,7 @@ impl<R: Source + Drop> LineReader<R> {
         ensures kind { IfErr result (λ fault. fault ≡ EngineFault.ReadFailed) }
         ensures failed { IfErr result (λ _. FailsToRead self.old self.new) }
         ensures asks { MakesReads R.gave self.old self.new }
+        ensures shown { ReadsAt R.moments self.old self.new (IsWithin (bytes_left R.remaining self.old) (W.contents writer.now)) }
         ensures broke { OnErr result (LastReadFails R.gave self.old self.new) }
     {
         if self.start < self.end {
@@ -86,7 +87,7 @@ impl<R: Source + Drop> LineReader<R> {
             return Err(EngineFault::ReadFailed);
         }
         self.reads -= 1;
-        match self.reader.read_some(&mut self.chunk[..]) {
+        match self.reader.read_some(&mut self.chunk[..], writer) {
             Ok(count) => {
                 self.start = 0;
                 self.end = count;
@@ -157,8 +158,8 @@ impl<R: Source + Drop> LineReader<R> {
     /// A read that was interrupted is made again. `ReadFailed` comes where the reader fails or all its reads
     /// are used up, and `NoMemory` where the line's copy finds no room; of the line that was begun the bytes that were
     /// taken are then lost, none of which is a newline. After a read that gave no byte the reader is not read again,
-    /// however often this is called.
-    pub fn next_line(&mut self, line: &mut Vec<u8>) -> Result<Cut, EngineFault>
+    /// however often this is called. Each read is shown the writer, where nothing is to be written one that keeps nothing.
+    pub fn next_line<W: Sink>(&mut self, line: &mut Vec<u8>, writer: &W) -> Result<Cut, EngineFault>
         ensures cut { IfOk result (λ cut. Cuts (bytes_left R.remaining self.old) (bytes_left R.remaining self.new) cut line.new.items) }
         ensures whole { IfOk result (λ _. has_ended self.new ≡ false → TakesWhole (bytes_left R.remaining self.old) (bytes_left R.remaining self.new)) }
         ensures end { IfOk result (λ cut. cut ≡ Cut.End → HasEnded self.new) }
@@ -169,11 +170,12 @@ impl<R: Source + Drop> LineReader<R> {
         ensures failed { IfErr result (λ fault. fault ≡ EngineFault.ReadFailed → FailsToRead self.old self.new) }
         ensures lost { OnErr result (TakesPiece (bytes_left R.remaining self.old) (bytes_left R.remaining self.new)) }
         ensures asks { MakesReads R.gave self.old self.new }
+        ensures shown { ReadsAt R.moments self.old self.new (IsWithin (bytes_left R.remaining self.old) (W.contents writer.now)) }
         ensures broke { IfErr result (λ fault. fault ≡ EngineFault.ReadFailed → LastReadFails R.gave self.old self.new) }
     {
         line.clear();
         loop {
-            match self.fill() {
+            match self.fill(writer) {
                 Ok(true) => {}
                 Ok(false) => return Ok(last_cut(line)),
                 Err(fault) => return Err(fault),

@@ -4,7 +4,7 @@ ghost use Rattle.std.specs.Prelude.{◌≡◌, ◌≢◌, ℕ, List, [], ◌∷�
 ghost use Rattle.std.specs.IoError.{error_kind};
 ghost use Rattle.std.specs.Io.{ReadsAtMost, WritesAtMost};
 ghost use Rattle.std.specs.Io.KnownBytes.{ReadConsumes, WriteAppends};
-ghost use Rattle.rme_lines.specs.Traffic.{Event, Grows, broke, interrupted, read_of, write_of};
+ghost use Rattle.rme_lines.specs.Traffic.{Event, Grows, Moment, broke, interrupted, read_of, write_of};
 
 use std::io::{Error, ErrorKind, Read, Result, Write};
 
@@ -18,10 +18,15 @@ pub trait Source {
     // What the reads gave so far, in order, where the source keeps that.
     ghost gave: { Self → Option (List Event) };
 
-    /// Makes one read, as `Read::read` does.
-    fn read_some(&mut self, buf: &mut [u8]) -> Result<usize>
+    // When the reads were made, in order, where the source keeps that.
+    ghost moments: { Self → Option (List Moment) };
+
+    /// Makes one read, as `Read::read` does. It is shown the writer of the answers, so that what that holds can be told of each
+    /// read.
+    fn read_some<W: Sink>(&mut self, buf: &mut [u8], writer: &W) -> Result<usize>
         ensures bound { ReadsAtMost result buf.new }
         ensures bytes { ReadConsumes (remaining self.old) (remaining self.new) result buf.new }
+        ensures shown { Grows (moments self.old) (moments self.new) (record { left = remaining self.old; held = W.contents writer.now } ∷ []) }
         ensures moved { IfOk result (λ count. Grows (gave self.old) (gave self.new) (read_of count buf.new ∷ [])) }
         ensures interrupted { IfErr result (λ error. error_kind error ≡ ErrorKind.Interrupted → Grows (gave self.old) (gave self.new) (interrupted ∷ [])) }
         ensures broke { IfErr result (λ error. error_kind error ≢ ErrorKind.Interrupted → Grows (gave self.old) (gave self.new) (broke ∷ [])) };
@@ -44,7 +49,7 @@ pub trait Sink {
         ensures broke { IfErr result (λ error. error_kind error ≢ ErrorKind.Interrupted → Grows (took self.old) (took self.new) (broke ∷ [])) };
 }
 
-/// A reader keeps no list.
+/// A reader keeps no lists.
 impl<R: Read> Source for R {
     ghost use Rattle.std.specs.Prelude.{None};
 
@@ -52,7 +57,9 @@ impl<R: Read> Source for R {
 
     ghost gave = { λ _. None };
 
-    fn read_some(&mut self, buf: &mut [u8]) -> Result<usize> {
+    ghost moments = { λ _. None };
+
+    fn read_some<W: Sink>(&mut self, buf: &mut [u8], _writer: &W) -> Result<usize> {
         self.read(buf)
     }
 }

@@ -1,7 +1,8 @@
 use Rattle.rme_lines.proofs.PieceLemmas.{saw_first, saw_same, saw_taken, cuts_taken, cuts_end, piece_lost, whole_taken}
 use Rattle.rme_lines.proofs.ReaderLemmas.{came_first, came_more}
 use Rattle.rme_lines.proofs.TrafficLemmas.{fails_more, makes_more, makes_none, makes_on}
-use Rattle.rme_lines.specs.Readers.{bytes_left}
+use Rattle.rme_lines.proofs.MomentLemmas.{read_none, read_on, read_within}
+use Rattle.rme_lines.specs.Readers.{IsWithin, bytes_left}
 use Rattle.rme_lines.proofs.lines.LineReader.next_line.Goals as goal
 
 pub returns-in-Ok-false-clause-cut : goal.returns-in-Ok-false-clause-cut
@@ -22,6 +23,7 @@ loop-line-init g c =
       saw = rw c.clear.ensures.items (saw_first 65537 (bytes_left g.R.Source.remaining c.args.self.now));
       came_on = came_first c.args.self.now c.clear.new.self.items c.clear.ensures.items;
       asks = makes_none g.R.Source.gave c.args.self.now;
+      shown = read_none g.R.Source.moments c.args.self.now (IsWithin (bytes_left g.R.Source.remaining c.args.self.now) (g.W.Sink.contents c.args.writer.now));
     }
 
 pub loop-line-preserved : goal.loop-line-preserved
@@ -35,6 +37,8 @@ loop-line-preserved g c =
           c.in-Ok-true.ensures.ended c.in-Ok-true.ensures.reads c.in-Ok-true.ensures.most more c.in-Ok-false-take_piece.ensures.on c.in-Ok-false-take_piece.ensures.used;
       asks = makes_more g.R.Source.gave c.args.self.now c.fill.new.self c.take_piece.new.self (makes_more g.R.Source.gave c.args.self.now c.loop-line.self c.fill.new.self c.loop-line.invariant.asks c.in-Ok-true.ensures.asks)
           (makes_on g.R.Source.gave c.fill.new.self c.take_piece.new.self c.in-Ok-false-take_piece.ensures.on);
+      shown = read_on g.R.Source.moments c.args.self.now c.fill.new.self c.take_piece.new.self (IsWithin (left c.args.self.now) (g.W.Sink.contents c.args.writer.now)) (read_within g.R.Source.moments (left c.args.self.now) (left c.loop-line.self) (g.W.Sink.contents c.args.writer.now) c.loop-line.line.items c.args.self.now c.loop-line.self c.fill.new.self c.loop-line.invariant.shown
+          c.loop-line.invariant.saw c.in-Ok-true.ensures.shown) c.in-Ok-false-take_piece.ensures.on;
     }
 
 pub returns-in-Ok-true-take_piece-clause-whole : goal.returns-in-Ok-true-take_piece-clause-whole
@@ -74,3 +78,27 @@ returns-in-Err-take_piece-clause-asks g c =
     makes_more g.R.Source.gave c.args.self.now c.fill.new.self c.take_piece.new.self
     (makes_more g.R.Source.gave c.args.self.now c.loop-line.self c.fill.new.self c.loop-line.invariant.asks c.in-Ok-true.ensures.asks)
     (makes_on g.R.Source.gave c.fill.new.self c.take_piece.new.self c.in-Err-take_piece.ensures.on)
+
+pub returns-in-Ok-false-clause-shown : goal.returns-in-Ok-false-clause-shown
+returns-in-Ok-false-clause-shown g c =
+    let left = bytes_left g.R.Source.remaining in
+    read_within g.R.Source.moments (left c.args.self.now) (left c.loop-line.self) (g.W.Sink.contents c.args.writer.now) c.loop-line.line.items c.args.self.now c.loop-line.self c.fill.new.self c.loop-line.invariant.shown
+    c.loop-line.invariant.saw c.in-Ok-false.ensures.shown
+
+pub returns-in-Err-clause-shown : goal.returns-in-Err-clause-shown
+returns-in-Err-clause-shown g c =
+    let left = bytes_left g.R.Source.remaining in
+    read_within g.R.Source.moments (left c.args.self.now) (left c.loop-line.self) (g.W.Sink.contents c.args.writer.now) c.loop-line.line.items c.args.self.now c.loop-line.self c.fill.new.self c.loop-line.invariant.shown
+    c.loop-line.invariant.saw c.in-Err.ensures.shown
+
+pub returns-in-Ok-true-take_piece-clause-shown : goal.returns-in-Ok-true-take_piece-clause-shown
+returns-in-Ok-true-take_piece-clause-shown g c =
+    let left = bytes_left g.R.Source.remaining in
+    read_on g.R.Source.moments c.args.self.now c.fill.new.self c.take_piece.new.self (IsWithin (left c.args.self.now) (g.W.Sink.contents c.args.writer.now)) (read_within g.R.Source.moments (left c.args.self.now) (left c.loop-line.self) (g.W.Sink.contents c.args.writer.now) c.loop-line.line.items c.args.self.now c.loop-line.self c.fill.new.self c.loop-line.invariant.shown
+    c.loop-line.invariant.saw c.in-Ok-true.ensures.shown) c.in-Ok-true-take_piece.ensures.on
+
+pub returns-in-Err-take_piece-clause-shown : goal.returns-in-Err-take_piece-clause-shown
+returns-in-Err-take_piece-clause-shown g c =
+    let left = bytes_left g.R.Source.remaining in
+    read_on g.R.Source.moments c.args.self.now c.fill.new.self c.take_piece.new.self (IsWithin (left c.args.self.now) (g.W.Sink.contents c.args.writer.now)) (read_within g.R.Source.moments (left c.args.self.now) (left c.loop-line.self) (g.W.Sink.contents c.args.writer.now) c.loop-line.line.items c.args.self.now c.loop-line.self c.fill.new.self c.loop-line.invariant.shown
+    c.loop-line.invariant.saw c.in-Ok-true.ensures.shown) c.in-Err-take_piece.ensures.on

@@ -1,5 +1,5 @@
 -- What the reader had is what was seen of the line, and what it has left; and it was read as often as a line allows.
-use Rattle.rme_lines.specs.Readers.{MakesReads, bytes_left, most_lines}
+use Rattle.rme_lines.specs.Readers.{IsWithin, MakesReads, ReadsAt, bytes_left, most_lines}
 use Rattle.rme_lines.proofs.PieceLemmas.{Saw}
 use Rattle.rme_lines.proofs.ReaderLemmas.{CameOn}
 use Rattle.rme_lines.proofs.lines.LineReader.next_line.Given as goal
@@ -9,6 +9,7 @@ invariant-loop-line g l = record {
   saw : Saw 65537 (bytes_left g.R.Source.remaining l.fn.self) (bytes_left g.R.Source.remaining l.self) l.line.items;
   came_on : CameOn l.fn.self l.self l.line.items;
   asks : MakesReads g.R.Source.gave l.fn.self l.self;
+  shown : ReadsAt g.R.Source.moments l.fn.self l.self (IsWithin (bytes_left g.R.Source.remaining l.fn.self) (g.W.Sink.contents l.fn.writer));
 }
 
 abbrev pub decreases-loop-line : goal.decreases-loop-line
