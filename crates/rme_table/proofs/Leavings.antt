@@ -1,5 +1,5 @@
 -- What a worker does that leaves: the whole of its exit, or the release of its lower nodes alone.
-use Rattle.std.proofs.Common.{◌≡◌, ℕ, ◌+◌, ◌<◌, ◌≤◌, sym, ◌∙◌, ap, subst, arith}
+use Rattle.std.proofs.Common.{◌≡◌, ℕ, ◌+◌, ◌<◌, ◌≤◌, refl, sym, ◌∙◌, ap, subst, arith}
 use Rattle.std.specs.Prelude.{true, false, Result, Ok, Err, MatchResult}
 use Rattle.std.specs.Result.{is_err}
 use Rattle.rme_words.specs.declared.shape.Shape.{Shape}
@@ -17,7 +17,8 @@ use Rattle.rme_phases.proofs.Parts.{before_at, begun_at}
 use Rattle.rme_table.specs.declared.way.Way.{Way}
 use Rattle.rme_table.specs.declared.way.Way.TheVariants.{Partial}
 use Rattle.rme_table.specs.Leaves.{IsLeave, way_stage}
-use Rattle.rme_table.specs.Calls.{Made}
+use Rattle.rme_table.specs.Calls.{KnowsNumber, Made}
+use Rattle.rme_table.proofs.Numbers.{numbered}
 
 -- What either call has done.
 abbrev pub HasLeft : Shape → Stand → Stand → Tally → Tally → ℕ → Result (Unit {0}) Fell → Type 0
@@ -109,4 +110,11 @@ module _ (self now : Stand) (service : Ident) (old new : Tally) (b : ℕ) (left 
     where
       by_left : (l : Result (Unit {0}) Fell) → HasLeft service.shape self now old new b l → is_err l ≡ false → Made service.shape onward self now old new 1 (service.shape.height + 2)
       by_left (Ok x) has fine = (let does = has.3 in record { count = has.0; enough = has.1; few = has.2; counted = does.counted; walks = does.walks; stays = does.stays })
+      by_left (Err e) has fine = cc
+
+  pub left_knows : HasLeft service.shape self now old new b left → is_err left ≡ false → KnowsNumber service.shape now.part
+  left_knows = by_left left
+    where
+      by_left : (l : Result (Unit {0}) Fell) → HasLeft service.shape self now old new b l → is_err l ≡ false → KnowsNumber service.shape now.part
+      by_left (Ok x) has fine = numbered service.shape now.part b Resting refl has.3.at
       by_left (Err e) has fine = cc

@@ -3,6 +3,7 @@ pub mod Filled
 pub mod Mixed
 pub mod Closes
 pub mod Holding
+pub mod Numbers
 pub mod Lasts
 pub mod Drafts
 pub mod Owners

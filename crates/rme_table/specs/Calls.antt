@@ -1,7 +1,7 @@
 -- What the calls of the five values promise.
 use Rattle.std.specs.Prelude.{◌≡◌, ℕ, ◌+◌, ◌*◌, ◌<◌, ◌≤◌, ◌==◌, Bool, true, false, nat_lt, if◌then◌else◌, ◌-◌, length, slice_get, List, [], ◌∷◌, ◌++◌, Option, Some, None, Result, Ok, Err}
 use Rattle.rme_words.specs.declared.shape.Shape.{Shape}
-use Rattle.rme_words.specs.declared.address.Address.TheVariants.{Place}
+use Rattle.rme_words.specs.declared.address.Address.TheVariants.{Begun, Place}
 use Rattle.rme_words.specs.declared.refusal.Refusal.{Refusal}
 use Rattle.rme_words.specs.declared.refusal.Refusal.TheVariants.{NoLock, TooManyJobs}
 use Rattle.rme_tree.specs.Nodes.{held_in, owner_in}
@@ -55,6 +55,11 @@ OwnsLock shape part lock = (words : List ℕ) (parts : ℕ → Part) (history : 
 abbrev pub HoldsNone : Shape → Part → Type 0
 HoldsNone shape part = (words : List ℕ) (parts : ℕ → Part) (history : List Entry) → World shape words parts history → parts part.worker ≡ part
     → (lock : ℕ) → lock < shape.locks → held_in shape (memory_in shape words) part.worker lock ≡ 0
+
+-- Wherever words and records show a world with this part in it, its worker's word Begun has the number that the part knows.
+abbrev pub KnowsNumber : Shape → Part → Type 0
+KnowsNumber shape part = (words : List ℕ) (parts : ℕ → Part) (history : List Entry) → World shape words parts history → parts part.worker ≡ part
+    → memory_in shape words (Begun part.worker) ≡ part.private.begun
 
 -- RECOVER
 

@@ -9,7 +9,7 @@ use Rattle.rme_seats.specs.Chances.{Tally}
 use Rattle.rme_seats.specs.Doing.{Walks}
 use Rattle.rme_seats.specs.Parts.{onward}
 use Rattle.rme_seats.specs.Stands.{Stand}
-use Rattle.rme_table.specs.Calls.{OwnsLock}
+use Rattle.rme_table.specs.Calls.{OwnsLock, levels_held}
 use Rattle.rme_table.specs.declared.driving.Driven.{Driven}
 use Rattle.rme_table.specs.declared.driving.Tries.{Tries}
 use Rattle.rme_table.specs.declared.driving.Driven.TheVariants.{Done, Waits, Stopped, Fell}
@@ -87,13 +87,27 @@ DoesNotWait driven = Unit {0}
 abbrev pub sweeps_left : Tries → ℕ
 sweeps_left tries = tries.most - tries.blocked
 
--- All of them were made, and each had an own step at least.
+-- All of them were made, each with one blocked step: the worker's other steps took the nodes that it holds more.
 pub record HasSwept (start climb : Stand) (old new : Tries) : Type 0 where
   pub most : new.most ≡ old.most
   pub blocked : new.blocked ≡ old.blocked + sweeps_left old
+  pub exact : levels_held start.part.private.stage + climb.part.steps ≡ start.part.steps + levels_held climb.part.private.stage + sweeps_left old
   pub steps : start.part.steps + sweeps_left old ≤ climb.part.steps
 
 -- A job waits only after all the sweeps that might be.
 abbrev pub Exhausts : Stand → Tries → Tries → Driven → Type 0
 Exhausts start old new (Waits climb) = HasSwept start climb old new
 Exhausts start old new driven = Unit {0}
+
+-- The worker where it is then.
+abbrev pub stand_after : Driven → Stand
+stand_after (Done ready receipt) = ready
+stand_after (Waits climb) = climb
+stand_after (Stopped held) = held
+stand_after (Fell down) = down
+
+-- What is told of the sweeps: never fewer than before, nor more than may be, and each had an own step at least.
+pub record Counts (start now : Stand) (old new : Tries) : Type 0 where
+  pub more : old.blocked ≤ new.blocked
+  pub few : new.blocked ≤ old.blocked + sweeps_left old
+  pub steps : start.part.steps + new.blocked ≤ now.part.steps + old.blocked

@@ -67,7 +67,7 @@ pub enum Driven {
 
 impl Climb {
     ghost use Rattle.std.specs.Prelude.{◌≡◌, true, false};
-    ghost use Rattle.rme_table.specs.Driving.{Drives, Exhausts, Passes, Watches};
+    ghost use Rattle.rme_table.specs.Driving.{Counts, Drives, Exhausts, Passes, Watches, stand_after};
 
     /// Goes on to readiness: sweep after sweep as long as there are tries, with a pause after each blocked one, and
     /// then as `Held::go_on`. A job that waits still had all the sweeps that might be.
@@ -85,6 +85,7 @@ impl Climb {
         ensures passes { G.lets_all ≡ true → Passes result }
         ensures watches { Watches (G.answered gate.now) (G.told gate.now) service.now.shape false self.part.worker result }
         ensures tries { Exhausts self tries.old tries.new result }
+        ensures counts { Counts self (stand_after result) tries.old tries.new }
         ensures most { tries.new.most ≡ tries.old.most }
     {
         let mut climb = self;

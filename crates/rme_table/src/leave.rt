@@ -13,7 +13,7 @@ impl Leave {
     ghost use Rattle.rme_program.specs.Phases.{phase_of};
     ghost use Rattle.rme_seats.specs.Doing.{Falling};
     ghost use Rattle.rme_seats.specs.Parts.{onward};
-    ghost use Rattle.rme_table.specs.Calls.{Made};
+    ghost use Rattle.rme_table.specs.Calls.{KnowsNumber, Made};
 
     /// The worker's number.
     pub fn worker(&self) -> u32
@@ -28,6 +28,7 @@ impl Leave {
         requires ours { self.ident ≡ service.now }
         ensures made { MatchResult result (λ ready. Made service.now.shape onward self ready (C.tally chance.old) (C.tally chance.new) 1 (service.now.shape.height + 2)) (λ down. Falling service.now.shape onward self down (C.tally chance.old) (C.tally chance.new) (service.now.shape.height + 2)) }
         ensures number { MatchResult result (λ ready. ready.part.private.begun ≡ self.part.private.begun) (λ _. Unit {0}) }
+        ensures knows { MatchResult result (λ ready. KnowsNumber service.now.shape ready.part) (λ _. Unit {0}) }
     {
         let Leave {
             mut seat,

@@ -50,7 +50,8 @@ impl Ready {
     /// shape has.
     pub fn post<C: Chance>(self, service: &Service, job: Job, chance: &mut C) -> Posted
         requires ours { self.ident ≡ service.now }
-        ensures { Posts service.now.shape job self (C.tally chance.old) (C.tally chance.new) result }
+        ensures posts { Posts service.now.shape job self (C.tally chance.old) (C.tally chance.new) result }
+        ensures lead { post_refusal service.now.shape self.part.private.begun job ≡ None → IsLed service.now.shape self.part (submitted job) (submit_labels self.part job) }
     {
         match self.admit(service, job) {
             Ok(admitted) => match admitted.post(service, chance) {

@@ -12,7 +12,7 @@ impl Down {
     ghost use Rattle.rme_seats.specs.Doing.{Falling};
     ghost use Rattle.rme_seats.specs.Parts.{restarted};
     ghost use Rattle.rme_seats.specs.Running.{IsLed, restart_labels};
-    ghost use Rattle.rme_table.specs.Calls.{Made, IsPhased, recover_steps, stand_of};
+    ghost use Rattle.rme_table.specs.Calls.{Made, IsPhased, KnowsNumber, recover_steps, stand_of};
 
     /// Comes up after a crash, or for the first time: reads where the last life ended, and goes on from there.
     /// `Err` where the worker fell again. To the abstract machine the worker crashed, and comes up, before its first step.
@@ -22,6 +22,7 @@ impl Down {
         ensures steps { MatchResult result (λ stance. (stand_of stance).part.steps ≡ self.part.steps + recover_steps service.now.shape stance) (λ _. Unit {0}) }
         ensures lead { IsLed service.now.shape self.part restarted (restart_labels self.part) }
         ensures phase { MatchResult result (λ stance. IsPhased stance) (λ _. Unit {0}) }
+        ensures number { MatchResult result (λ stance. KnowsNumber service.now.shape (stand_of stance).part) (λ _. Unit {0}) }
     {
         let Down { mut seat } = self;
         let Ok(recovered) = recover(&mut seat, &service.words, chance) else {

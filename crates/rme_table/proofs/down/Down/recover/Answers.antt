@@ -2,8 +2,9 @@ use Rattle.std.proofs.Common.{◌+◌, sym, ap, subst, arith}
 use Rattle.rme_seats.proofs.Leading.{led_restart}
 use Rattle.rme_seats.specs.Parts.{restarted}
 use Rattle.rme_seats.specs.Stands.{Ident, Stand}
-use Rattle.rme_table.specs.Calls.{Made, stand_of}
+use Rattle.rme_table.specs.Calls.{KnowsNumber, Made, stand_of}
 use Rattle.rme_table.proofs.Holding.{seen_made}
+use Rattle.rme_table.proofs.Numbers.{found_numbered}
 use Rattle.rme_table.proofs.down.Down.recover.Goals as goal
 use Rattle.rme_table.proofs.down.Down.recover.Goals.{in-Ready, in-Climbing, in-Inside, in-Leaving}
 
@@ -25,4 +26,16 @@ returns-clause-made g c =
       | in-Climbing w ↦ subst M (sym (ap stand_of w.result-is)) made
       | in-Inside w ↦ subst M (sym (ap stand_of w.result-is)) made
       | in-Leaving w ↦ subst M (sym (ap stand_of w.result-is)) made
+    ]
+
+pub returns-clause-number : goal.returns-clause-number
+returns-clause-number g c =
+    let finds = c.in-Ok.ensures in
+    let N : Stand → Type 0 = λ (now : Stand). KnowsNumber c.args.service.now.shape now.part in
+    let knows : N c.recover.new.seat = found_numbered c.recover.new.seat.part _ _ c.service.view_is finds.doing.at in
+    elim c.match-recovered.branch [
+      | in-Ready w ↦ subst N (sym (ap stand_of w.result-is)) knows
+      | in-Climbing w ↦ subst N (sym (ap stand_of w.result-is)) knows
+      | in-Inside w ↦ subst N (sym (ap stand_of w.result-is)) knows
+      | in-Leaving w ↦ subst N (sym (ap stand_of w.result-is)) knows
     ]

@@ -56,7 +56,9 @@ loop-blocked-preserved g c =
       so.2,
       refl,
       omega (arith, so.2, c.loop-blocked.auto.blocked, c.loop-blocked-test.true),
-      omega (arith, made.1.enough, made.1.counted, so.3, so.5),
+      omega (arith, so.5),
+      omega (arith, so.3, so.6, made.3),
+      omega (arith, made.1.enough, made.1.counted, so.3, so.7),
     )
 
 pub returns-in-Got-clause-tries : goal.returns-in-Got-clause-tries
@@ -67,5 +69,6 @@ returns-clause-tries g c =
     let so = c.loop-blocked.invariant in record {
       most = so.2;
       blocked = omega (arith, so.2, so.3, so.4, c.loop-blocked.auto.blocked, c.loop-blocked-test.false);
-      steps = omega (arith, so.2, so.3, so.4, so.5, c.loop-blocked.auto.blocked, c.loop-blocked-test.false);
+      exact = omega (arith, so.2, so.3, so.4, so.6, c.loop-blocked.auto.blocked, c.loop-blocked-test.false);
+      steps = omega (arith, so.2, so.3, so.4, so.7, c.loop-blocked.auto.blocked, c.loop-blocked-test.false);
     }
