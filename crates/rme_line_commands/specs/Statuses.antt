@@ -1,9 +1,11 @@
--- The status with which the program ends after a verdict, and the line that tells of it.
-use Rattle.std.specs.Prelude.{◌≡◌, ℕ, List, ◌++◌, Option, codes, decimal}
+-- The status with which the program ends after a verdict, and the line that tells of it; and after any task.
+use Rattle.std.specs.Prelude.{◌≡◌, ℕ, List, ◌++◌, Option, Result, Ok, Err, codes, decimal}
 use Rattle.std.specs.Io.KnownBytes.{Appends}
 use Rattle.rme_engine.specs.declared.check.Verdict.{Verdict}
 use Rattle.rme_engine.specs.declared.check.Verdict.TheVariants.{Yes, No, Bad}
 use Rattle.rme_engine.specs.Verdicts.{Finds}
+use Rattle.rme_faults.specs.Statuses.{status_of}
+use Rattle.rme_faults.specs.declared.fault.Fault.{Fault}
 
 -- the end after the verdict on a transcript
 abbrev pub status_of_verdict : Verdict → ℕ
@@ -22,3 +24,8 @@ pub record FindsIn (input before after : Option (List ℕ)) (status : ℕ) : Typ
   pub found : Finds input verdict
   pub told : Appends before after (text_of_verdict verdict)
   pub ends : status ≡ status_of_verdict verdict
+
+-- the status after a task: its own, or that of the fault that ended it early
+abbrev pub status_at_end : Result ℕ Fault → ℕ
+status_at_end (Ok status) = status
+status_at_end (Err fault) = status_of fault

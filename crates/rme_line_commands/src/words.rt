@@ -3,6 +3,7 @@
 ghost use Rattle.std.specs.Prelude.{◌≡◌, Bool};
 ghost use Rattle.clap.specs.Values.{kind_of};
 ghost use Rattle.rme_faults.specs.Statuses.{told};
+ghost use Rattle.rme_line_commands.specs.Statuses.{status_at_end};
 
 use clap::error::ErrorKind;
 use rme_faults::{Fault, answer_of};
@@ -30,12 +31,19 @@ pub fn read_words(rt: &HostRuntime) -> Result<Asked, Fault> {
 
 /// The status that the process ends with. A fault is told of on the standard error.
 pub fn end(rt: &HostRuntime, ended: Result<u8, Fault>) -> ExitCode {
+    if let Err(fault) = &ended {
+        let _ = eprintln!(rt; "fault: {fault}");
+    }
+    ExitCode::from(status_after(&ended))
+}
+
+/// The status after a task: its own, or that of the fault that ended it early.
+fn status_after(ended: &Result<u8, Fault>) -> u8
+    ensures { result ≡ status_at_end ended.now }
+{
     match ended {
-        Ok(status) => ExitCode::from(status),
-        Err(fault) => {
-            let _ = eprintln!(rt; "fault: {fault}");
-            ExitCode::from(fault.status())
-        }
+        Ok(status) => *status,
+        Err(fault) => fault.status(),
     }
 }
 
