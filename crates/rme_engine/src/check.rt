@@ -10,6 +10,7 @@ use crate::judge::{Found, Judge};
 use crate::watch::{Unwatched, Watch};
 use rme_wire::{Cut, EngineFault, LineReader, Source};
 use std::alloc::Global;
+use std::io;
 
 /// What a transcript is found to be. Lines are counted from 1.
 #[derive(Clone, Copy, Debug, PartialEq, Eq)]
@@ -60,7 +61,7 @@ pub fn watch_lines<R: Source + Drop, V: Watch>(
     ensures read_broke { IfErr result (λ fault. fault ≡ EngineFault.ReadFailed → LastReadFails R.gave lines.old lines.new) }
 {
     let mut line = Vec::new(alloc);
-    let first = match lines.next_line(&mut line) {
+    let first = match lines.next_line(&mut line, &io::sink()) {
         Ok(cut) => cut,
         Err(fault) => return Err(fault),
     };
@@ -96,7 +97,7 @@ fn judge_lines<R: Source + Drop, V: Watch>(
 {
     let mut number = 2u64;
     loop {
-        let cut = match lines.next_line(line) {
+        let cut = match lines.next_line(line, &io::sink()) {
             Ok(cut) => cut,
             Err(fault) => return Err(fault),
         };

@@ -1,12 +1,12 @@
 //! Answering lines until none is left.
 
 ghost use Rattle.std.specs.Prelude.{◌≡◌, ◌≢◌, ◌≤◌, ◌<◌, [], IfOk, IfErr, OnOk, true, false, string_bytes};
-ghost use Rattle.rme_lines.specs.Readers.{FailsToRead, HasEnded, LastReadFails, MakesReads, ReadsNoMore, bytes_left, has_ended, most_lines, reads_left};
+ghost use Rattle.rme_lines.specs.Readers.{FailsToRead, HasEnded, IsAllPut, LastReadFails, MakesReads, ReadsAt, ReadsNoMore, bytes_left, has_ended, most_lines, reads_left};
 ghost use Rattle.rme_engine.specs.Engines.{state_of};
 ghost use Rattle.rme_engine.specs.Lines.{IsAnswered};
 ghost use Rattle.rme_engine.specs.Outputs.{Tells};
 ghost use Rattle.rme_engine.specs.Transcripts.{IsTold};
-ghost use Rattle.rme_lines.specs.Runs.{TurnFails, Turns, WritesAll, WritesFirst, WritesTo};
+ghost use Rattle.rme_lines.specs.Runs.{IsPrompt, TurnFails, Turns, WritesAll, WritesFirst, WritesTo};
 ghost use Rattle.rme_lines.specs.Traffic.{LastWriteFails, MakesWrites};
 ghost use Rattle.rme_engine.specs.States.{nothing_open};
 
@@ -38,6 +38,7 @@ pub fn run_lines<R: Source + Drop, W: Sink>(
     ensures end { OnOk result (HasEnded lines.new) }
     ensures ended { HasEnded lines.old → ReadsNoMore lines.old lines.new }
     ensures failed { IfErr result (λ fault. fault ≡ EngineFault.ReadFailed → FailsToRead lines.old lines.new) }
+    ensures prompt { ReadsAt R.moments lines.old lines.new (IsPrompt IsAnswered nothing_open (bytes_left R.remaining lines.old) (W.contents writer.old)) }
     ensures reads { MakesReads R.gave lines.old lines.new }
     ensures read_broke { IfErr result (λ fault. fault ≡ EngineFault.ReadFailed → LastReadFails R.gave lines.old lines.new) }
     ensures write_broke { IfErr result (λ fault. fault ≡ EngineFault.WriteFailed → LastWriteFails (W.took writer.old) (W.took writer.new)) }
@@ -62,6 +63,7 @@ pub fn transcript_lines<R: Source + Drop, W: Sink>(
     ensures end { OnOk result (HasEnded lines.new) }
     ensures ended { HasEnded lines.old → ReadsNoMore lines.old lines.new }
     ensures failed { IfErr result (λ fault. fault ≡ EngineFault.ReadFailed → FailsToRead lines.old lines.new) }
+    ensures prompt { ReadsAt R.moments lines.old lines.new (IsPrompt IsTold nothing_open (bytes_left R.remaining lines.old) (W.contents writer.old)) }
     ensures reads { MakesReads R.gave lines.old lines.new }
     ensures read_broke { IfErr result (λ fault. fault ≡ EngineFault.ReadFailed → LastReadFails R.gave lines.old lines.new) }
     ensures write_broke { IfErr result (λ fault. fault ≡ EngineFault.WriteFailed → LastWriteFails (W.took writer.old) (W.took writer.new)) }
@@ -85,6 +87,7 @@ pub fn answer_lines<R: Source + Drop, W: Sink>(
     ensures end { OnOk result (HasEnded lines.new) }
     ensures ended { HasEnded lines.old → ReadsNoMore lines.old lines.new }
     ensures failed { IfErr result (λ fault. fault ≡ EngineFault.ReadFailed → FailsToRead lines.old lines.new) }
+    ensures prompt { ReadsAt R.moments lines.old lines.new (IsPrompt IsAnswered (state_of engine.old) (bytes_left R.remaining lines.old) (W.contents writer.old)) }
     ensures reads { MakesReads R.gave lines.old lines.new }
     ensures read_broke { IfErr result (λ fault. fault ≡ EngineFault.ReadFailed → LastReadFails R.gave lines.old lines.new) }
     ensures write_broke { IfErr result (λ fault. fault ≡ EngineFault.WriteFailed → LastWriteFails (W.took writer.old) (W.took writer.new)) }
@@ -105,6 +108,7 @@ fn start<R: Source + Drop, W: Sink>(
     ensures end { OnOk result (HasEnded lines.new) }
     ensures ended { HasEnded lines.old → ReadsNoMore lines.old lines.new }
     ensures failed { IfErr result (λ fault. fault ≡ EngineFault.ReadFailed → FailsToRead lines.old lines.new) }
+    ensures prompt { ReadsAt R.moments lines.old lines.new (IsPrompt (Tells output) nothing_open (bytes_left R.remaining lines.old) (W.contents writer.old)) }
     ensures reads { MakesReads R.gave lines.old lines.new }
     ensures read_broke { IfErr result (λ fault. fault ≡ EngineFault.ReadFailed → LastReadFails R.gave lines.old lines.new) }
     ensures write_broke { IfErr result (λ fault. fault ≡ EngineFault.WriteFailed → LastWriteFails (W.took writer.old) (W.took writer.new)) }
@@ -128,6 +132,7 @@ fn run<R: Source + Drop, W: Sink>(
     ensures end { OnOk result (HasEnded lines.new) }
     ensures ended { HasEnded lines.old → ReadsNoMore lines.old lines.new }
     ensures failed { IfErr result (λ fault. fault ≡ EngineFault.ReadFailed → FailsToRead lines.old lines.new) }
+    ensures prompt { ReadsAt R.moments lines.old lines.new (IsPrompt (Tells output) (state_of engine.old) (bytes_left R.remaining lines.old) (W.contents writer.old)) }
     ensures reads { MakesReads R.gave lines.old lines.new }
     ensures read_broke { IfErr result (λ fault. fault ≡ EngineFault.ReadFailed → LastReadFails R.gave lines.old lines.new) }
     ensures write_broke { IfErr result (λ fault. fault ≡ EngineFault.WriteFailed → LastWriteFails (W.took writer.old) (W.took writer.new)) }
@@ -167,6 +172,7 @@ fn turn<R: Source + Drop, W: Sink>(
     ensures fewer_reads { reads_left lines.new ≤ reads_left lines.old }
     ensures failed { IfErr result (λ fault. fault ≡ EngineFault.ReadFailed → FailsToRead lines.old lines.new) }
     ensures reads { MakesReads R.gave lines.old lines.new }
+    ensures prompt { ReadsAt R.moments lines.old lines.new (IsAllPut (bytes_left R.remaining lines.old) (W.contents writer.old) exchange.old.pending) }
     ensures writes { MakesWrites (W.took writer.old) (W.took writer.new) }
     ensures read_broke { IfErr result (λ fault. fault ≡ EngineFault.ReadFailed → LastReadFails R.gave lines.old lines.new) }
     ensures write_broke { IfErr result (λ fault. fault ≡ EngineFault.WriteFailed → LastWriteFails (W.took writer.old) (W.took writer.new)) }

@@ -3,8 +3,9 @@ use Rattle.rme_lines.proofs.ReaderLemmas.{came_first, ended_at_end}
 use Rattle.rme_lines.specs.Readers.{bytes_left}
 use Rattle.rme_engine.specs.Engines.{state_of}
 use Rattle.rme_engine.specs.Outputs.{Tells}
-use Rattle.rme_lines.specs.Runs.{Turns}
+use Rattle.rme_lines.specs.Runs.{IsPrompt, Turns}
 use Rattle.rme_lines.proofs.RunLemmas.{came_turn, failed, failed_first, finished, so_far_first, so_far_more}
+use Rattle.rme_lines.proofs.MomentLemmas.{prompt_turn, read_none}
 use Rattle.rme_lines.proofs.TrafficLemmas.{fails_after, fails_more, gave_up_writing, makes_more, makes_none, writes_more, writes_none}
 use Rattle.rme_engine.proofs.run.run.Goals as goal
 
@@ -19,6 +20,8 @@ loop-exchange-init g c = record {
   so_far = so_far_first (Tells c.args.output) (bytes_left g.R.Source.remaining c.args.lines.now) (g.W.Sink.contents c.args.writer.now) c.args.lines.now.ended (state_of c.args.engine.now) (state_of c.args.engine.now)
       c.in-Ok-new.exchange.pending refl c.in-Ok-new.ensures (ended_at_end g.R.Source.remaining c.args.lines.now);
   came_on = came_first c.args.lines.now [] refl;
+  prompt = read_none g.R.Source.moments c.args.lines.now
+      (IsPrompt (Tells c.args.output) (state_of c.args.engine.now) (bytes_left g.R.Source.remaining c.args.lines.now) (g.W.Sink.contents c.args.writer.now));
   reads = makes_none g.R.Source.gave c.args.lines.now;
   writes = writes_none (g.W.Sink.took c.args.writer.now);
 }
@@ -35,6 +38,8 @@ loop-exchange-preserved g c =
           (state_of now.engine) (state_of new.engine) now.exchange.pending new.exchange.pending now.invariant.so_far (λ e. (c.in-Ok-true.ensures.ended e).ended)
           (subst P c.in-Ok-true.field-0-test c.in-Ok-true.ensures.ok) (ended_at_end g.R.Source.remaining new.lines);
       came_on = came_turn c.args.lines.now now.lines new.lines now.invariant.came_on c.in-Ok-true.ensures.ended c.in-Ok-true.ensures.fewer_reads (c.in-Ok-true.ensures.fewer c.in-Ok-true.field-0-test);
+      prompt = prompt_turn g.R.Source.moments (Tells c.args.output) (left c.args.lines.now) (held c.args.writer.now) (left now.lines) (held now.writer) (state_of c.args.engine.now) (state_of now.engine)
+          now.exchange.pending c.args.lines.now now.lines new.lines now.invariant.prompt now.invariant.so_far c.in-Ok-true.ensures.ended c.in-Ok-true.ensures.prompt;
       reads = makes_more g.R.Source.gave c.args.lines.now now.lines new.lines now.invariant.reads c.in-Ok-true.ensures.reads;
       writes = writes_more (g.W.Sink.took c.args.writer.now) (g.W.Sink.took now.writer) (g.W.Sink.took new.writer) now.invariant.writes c.in-Ok-true.ensures.writes;
     }
@@ -78,3 +83,25 @@ returns-in-Err-clause-write_broke g c e =
     gave_up_writing took c.args.writer.now c.turn.new.writer c.give_up.new.writer c.in-Err.fault c.give_up.result
     (writes_more (took c.args.writer.now) (took now.writer) (took c.turn.new.writer) now.invariant.writes c.in-Err.ensures.writes)
     (λ failed. fails_after (took c.args.writer.now) (took now.writer) (took c.turn.new.writer) now.invariant.writes (c.in-Err.ensures.write_broke failed)) c.give_up.ensures.kept c.give_up.ensures.broke e
+
+pub returns-in-Ok-false-clause-prompt : goal.returns-in-Ok-false-clause-prompt
+returns-in-Ok-false-clause-prompt g c =
+    let held = g.W.Sink.contents in
+    let left = bytes_left g.R.Source.remaining in
+    let now = c.loop-exchange in
+    prompt_turn g.R.Source.moments (Tells c.args.output) (left c.args.lines.now) (held c.args.writer.now) (left now.lines) (held now.writer) (state_of c.args.engine.now) (state_of now.engine)
+    now.exchange.pending c.args.lines.now now.lines c.turn.new.lines now.invariant.prompt now.invariant.so_far c.in-Ok-false.ensures.ended c.in-Ok-false.ensures.prompt
+
+pub returns-in-Err-clause-prompt : goal.returns-in-Err-clause-prompt
+returns-in-Err-clause-prompt g c =
+    let held = g.W.Sink.contents in
+    let left = bytes_left g.R.Source.remaining in
+    let now = c.loop-exchange in
+    prompt_turn g.R.Source.moments (Tells c.args.output) (left c.args.lines.now) (held c.args.writer.now) (left now.lines) (held now.writer) (state_of c.args.engine.now) (state_of now.engine)
+    now.exchange.pending c.args.lines.now now.lines c.turn.new.lines now.invariant.prompt now.invariant.so_far c.in-Err.ensures.ended c.in-Err.ensures.prompt
+
+pub returns-in_default-clause-prompt : goal.returns-in_default-clause-prompt
+returns-in_default-clause-prompt g c = read_none g.R.Source.moments c.args.lines.now (IsPrompt (Tells c.args.output) (state_of c.args.engine.now) (bytes_left g.R.Source.remaining c.args.lines.now) (g.W.Sink.contents c.args.writer.now))
+
+pub returns-in_default-new-clause-prompt : goal.returns-in_default-new-clause-prompt
+returns-in_default-new-clause-prompt g c = read_none g.R.Source.moments c.args.lines.now (IsPrompt (Tells c.args.output) (state_of c.args.engine.now) (bytes_left g.R.Source.remaining c.args.lines.now) (g.W.Sink.contents c.args.writer.now))
