@@ -1,5 +1,5 @@
 -- An order that is obeyed in two parts is obeyed.
-use Rattle.std.proofs.Common.{◌≡◌, ℕ, ◌+◌, ◌-◌, ◌≤◌, arith, inl, inr, refl, sym, ap, ◌∙◌, subst}
+use Rattle.std.proofs.Common.{◌≡◌, ℕ, ◌+◌, ◌-◌, ◌<◌, ◌≤◌, arith, inl, inr, refl, sym, ap, ◌∙◌, subst}
 use Rattle.std.specs.Prelude.{◌==◌, Bool, true, false, Option, Some, None}
 use Rattle.std.proofs.lemmas.Option.{none-some, same_Some}
 use Rattle.rme_words.specs.declared.shape.Shape.{Shape}
@@ -158,7 +158,7 @@ resumes_climbs (Ready ready) mid waits = absurd waits
 resumes_climbs (Climb pending) mid waits = goes_climbs pending mid waits
 resumes_climbs (Held pending) mid waits = goes_climbs pending mid waits
 
-climb_not_refused : (mid : Session) (why : Refusal) → IsClimb mid → Some why ≡ resume_refusal mid → ⊥
+pub climb_not_refused : (mid : Session) (why : Refusal) → IsClimb mid → Some why ≡ resume_refusal mid → ⊥
 climb_not_refused Nobody why climbs refuses = climbs
 climb_not_refused (Ready ready) why climbs refuses = climbs
 climb_not_refused (Climb pending) why climbs refuses = none-some why (sym refuses)
@@ -217,6 +217,19 @@ module _ (shape : Shape) (one two : ℕ) (old mid now : View) where
   both_parts its (Submitted Waiting) last waits obeys resumes = absurd obeys.1
   both_parts its (Resumed Waiting) last waits obeys resumes = absurd obeys.1
   both_parts its reply last waits obeys resumes = absurd (false_true waits)
+
+-- After a first try whose job waits the worker climbs, and it made a step.
+module _ (shape : Shape) (made : ℕ) (old mid : View) where
+  pub still_climbs : (its : Order) (reply : SessionReply) → still_waits reply ≡ true → ObeysBy shape made old (first_of its) mid reply → IsClimb mid.session × (0 < made)
+  still_climbs (Submit its) (Submitted Waiting) waits (none, (submits, left, first)) = (submits_climbs old.session mid.session (once its) submits, omega (arith, first))
+  still_climbs (Resume tries) (Resumed Waiting) waits (none, (resumes, left, first)) = (resumes_climbs old.session mid.session resumes, omega (arith, first))
+  still_climbs (Submit its) (Resumed Waiting) waits obeys = absurd obeys.1
+  still_climbs (Resume tries) (Submitted Waiting) waits obeys = absurd obeys.1
+  still_climbs (Attach worker) (Submitted Waiting) waits obeys = absurd obeys.1
+  still_climbs (Attach worker) (Resumed Waiting) waits obeys = absurd obeys.1
+  still_climbs its (Submitted Waiting) waits obeys = absurd obeys.1
+  still_climbs its (Resumed Waiting) waits obeys = absurd obeys.1
+  still_climbs its reply waits obeys = absurd (false_true waits)
 
 -- A first try, and the resumption after it, are one order.
 pub obeyed_in_parts : (shape : Shape) (old mid now : View) (its : Order) (reply last : SessionReply) → still_waits reply ≡ true → Obeys shape old (first_of its) mid reply

@@ -26,7 +26,8 @@ left_of Fallen = Nothing
 -- A plan was asked whether the worker falls before its next own step: it falls where the crash is due before it, and else
 -- the crash comes one step sooner. One that is asked again after a fall says yes again, and nothing is planned then.
 abbrev pub IsAsked : Countdown → Bool → Countdown → Type 0
-IsAsked (Runs old) false (Runs now) = Leaves old 1 now
-IsAsked (Runs old) true Fallen = IsDue old 0
-IsAsked Fallen true (Runs now) = now ≡ Nothing
+IsAsked (Runs Nothing) false (Runs Nothing) = Unit {0}
+IsAsked (Runs (After left)) false (Runs (After rest)) = (left ≡ rest + 1) × (left < 4294967296)
+IsAsked (Runs (After left)) true Fallen = left ≡ 0
+IsAsked Fallen true (Runs Nothing) = Unit {0}
 IsAsked old answer now = ⊥
