@@ -1,6 +1,7 @@
 pub mod Ordering
 pub mod Planning
 pub mod Rising
+pub mod Showing
 pub mod Working
 mod Trying
 mod Talking

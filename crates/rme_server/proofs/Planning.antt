@@ -1,4 +1,4 @@
--- Plans that are asked before each own step.
+-- Walks, and plans that are asked before each own step of theirs.
 use Rattle.std.proofs.Common.{◌≡◌, ℕ, ◌+◌, ◌<◌, length, [], Result, Ok, Err, refl, subst, ◌∙◌, arith}
 use Rattle.std.specs.Prelude.{Option, Some, None}
 use Rattle.rme_words.specs.declared.shape.Shape.{Shape}
@@ -9,15 +9,17 @@ use Rattle.rme_seats.specs.Parts.{onward}
 use Rattle.rme_seats.specs.Stands.{Stand}
 use Rattle.rme_seats.proofs.Chains.{led_then}
 use Rattle.rme_texts.specs.declared.session.Outcome.{Outcome}
-use Rattle.rme_server.specs.Plans.{IsDue, Leaves, tally_by}
+use Rattle.rme_orders.specs.Plans.{IsDue, Leaves}
+use Rattle.rme_orders.proofs.Counting.{due_on, left_on}
+use Rattle.rme_server.specs.Plans.{tally_by}
 use Rattle.rme_server.specs.Stands.{held_by}
 use Rattle.rme_server.specs.Tasks.{FallsBy, Spares, Spends}
 use Rattle.rme_server.specs.Works.{Falls, HasWalked, IsSpared, WentOn, steps_in}
 use Rattle.rme_server.specs.declared.stand.Holding.{Holding}
-use Rattle.rme_server.specs.declared.planned.Countdown.{Countdown}
-use Rattle.rme_server.specs.declared.planned.Countdown.TheVariants.{Runs, Fallen}
-use Rattle.rme_server.specs.declared.planned.Planned.{Planned}
-use Rattle.rme_server.specs.declared.planned.Planned.TheVariants.{Nothing, After}
+use Rattle.rme_orders.specs.declared.planned.Countdown.{Countdown}
+use Rattle.rme_orders.specs.declared.planned.Countdown.TheVariants.{Runs, Fallen}
+use Rattle.rme_orders.specs.declared.planned.Planned.{Planned}
+use Rattle.rme_orders.specs.declared.planned.Planned.TheVariants.{Nothing, After}
 
 left_after : (old now : Planned) (made : ℕ) → Asks (tally_by (Runs old)) (tally_by (Runs now)) made 0 → Leaves old made now
 left_after Nothing Nothing made asks = tt
@@ -36,22 +38,6 @@ due_after Nothing Fallen made asks = let yes = asks.yes in omega (arith, yes)
 due_after (After left) (Runs Nothing) made asks = absurd (let yes = asks.yes in omega (arith, yes))
 due_after (After left) (Runs (After rest)) made asks = absurd (let yes = asks.yes in omega (arith, yes))
 due_after (After left) Fallen made asks = λ small. (let asked = asks.asked in omega (arith, small, asked))
-
-left_on : (a b c : Planned) (m n : ℕ) → Leaves a m b → Leaves b n c → Leaves a (m + n) c
-left_on Nothing Nothing Nothing m n first then_ = tt
-left_on Nothing Nothing (After last) m n first then_ = absurd then_
-left_on Nothing (After left) c m n first then_ = absurd first
-left_on (After left) Nothing c m n first then_ = absurd first
-left_on (After left) (After rest) Nothing m n first then_ = absurd then_
-left_on (After left) (After rest) (After last) m n first then_ = λ small.
-    (let one = first small in let less : rest < 4294967296 = omega (arith, one, small) in let two = then_ less in omega (arith, one, two))
-
-due_on : (a b : Planned) (m n : ℕ) → Leaves a m b → IsDue b n → IsDue a (m + n)
-due_on Nothing Nothing m n first due = absurd due
-due_on Nothing (After rest) m n first due = absurd first
-due_on (After left) Nothing m n first due = absurd due
-due_on (After left) (After rest) m n first due = λ small.
-    (let one = first small in let less : rest < 4294967296 = omega (arith, one, small) in let two = due less in omega (arith, one, two))
 
 -- A walk, without its questions.
 abbrev pub uncounted : Tally
@@ -107,7 +93,7 @@ walked_on shape lead a b c m n some one two =
     }
 
 module _ (shape : Shape) (lead : Part → Part) where
-  went_on : (start mid end : Option Stand) (m n : ℕ) → 0 < m → WentOn shape lead start mid m → WentOn shape onward mid end n → WentOn shape lead start end (m + n)
+  pub went_on : (start mid end : Option Stand) (m n : ℕ) → 0 < m → WentOn shape lead start mid m → WentOn shape onward mid end n → WentOn shape lead start end (m + n)
   went_on (Some a) (Some b) (Some c) m n some one two = walked_on shape lead a b c m n some one two
   went_on (Some a) (Some b) None m n some one two = absurd two
   went_on (Some a) None end m n some one two = absurd one

@@ -7,15 +7,19 @@ use Rattle.rme_seats.specs.Parts.{onward, restarted}
 use Rattle.rme_seats.specs.Stands.{Ident, Stand}
 use Rattle.rme_table.specs.Calls.{Made, recover_steps}
 use Rattle.rme_table.specs.declared.kinds.Stance.TheVariants as stance
+use Rattle.rme_texts.specs.declared.session.Standing.{Standing}
+use Rattle.rme_texts.specs.declared.session.Standing.TheVariants as at
 use Rattle.rme_texts.specs.declared.session.SessionReply.{SessionReply}
 use Rattle.rme_texts.specs.declared.session.SessionReply.TheVariants.{Attached}
 use Rattle.rme_wire.specs.declared.order.Order.TheVariants.{Attach}
-use Rattle.rme_server.specs.Obeyed.{Acts, AnswersOf}
-use Rattle.rme_server.specs.Refusals.{attach_refusal}
+use Rattle.rme_orders.specs.Obeyed as sight
+use Rattle.rme_orders.specs.Refusals.{attach_refusal}
+use Rattle.rme_server.specs.Obeyed.{Acts}
+use Rattle.rme_server.specs.Stands.{session_of}
 use Rattle.rme_server.specs.Slots.{IsOf}
-use Rattle.rme_server.specs.declared.planned.Planned.TheVariants.{Nothing}
+use Rattle.rme_orders.specs.declared.planned.Planned.TheVariants.{Nothing}
 use Rattle.rme_server.specs.declared.stand.Stand.{Stand as Session}
-use Rattle.rme_server.specs.Rises.{ComesOut, ComesUp, KeepsAll}
+use Rattle.rme_server.specs.Rises.{AnswersOf, ComesOut, ComesUp, KeepsAll}
 use Rattle.rme_server.specs.declared.stand.Holding.{Holding}
 use Rattle.rme_server.specs.declared.stand.Holding.TheVariants.{Empty, Ready, Climb, Held}
 use Rattle.rme_server.proofs.Planning.{walked_by, walked_on}
@@ -51,8 +55,23 @@ risen_inside shape down held (Climb climb) old new most made steps out = absurd 
 risen_inside shape down held (Held now) old new most made steps out = rw out (risen shape down held old new 2 most made, steps)
 
 -- An order to attach that is not refused.
-pub attaches : (ident : Ident) (count : ℕ) (old : Session) (worker : ℕ) (down : Stand) (value : Holding) (answer : SessionReply) → attach_refusal ident.shape worker old.value ≡ None
-    → IsOf ident worker down → AnswersOf ident worker value answer → ComesUp ident.shape down value
+shown_attached : (ident : Ident) (worker : ℕ) (value : Holding) (number : ℕ) (standing : Standing) → AnswersOf ident worker value (Attached number standing)
+    → sight.Attaches worker (session_of None value) number standing
+shown_attached ident worker (Ready ready) number at.Ready (is, same) = (is.own, same)
+shown_attached ident worker (Climb climb) number at.Climb (is, same) = (is.own, same)
+shown_attached ident worker (Held held) number at.Held (is, same, pending) = (is.own, same)
+shown_attached ident worker value number standing answers = absurd answers
+
+pub attaches : (ident : Ident) (count : ℕ) (old : Session) (worker : ℕ) (down : Stand) (value : Holding) (answer : SessionReply)
+    → attach_refusal ident.shape worker (session_of None old.value) ≡ None → IsOf ident worker down → AnswersOf ident worker value answer → ComesUp ident.shape down value
     → Acts ident count old (Attach worker) (record { value = value; planned = Nothing }) answer None
-attaches ident count old worker down value (Attached number standing) none is answers up = (sym none, (answers, (down, is, up), refl, refl))
+attaches ident count old worker down value (Attached number standing) none is answers up = record {
+  made = 0;
+  before = None;
+  after = None;
+  obeys = (sym none, (shown_attached ident worker value number standing answers, refl));
+  told_before = tt;
+  told_after = tt;
+  adds = ((down, is, up), refl);
+}
 attaches ident count old worker down value answer none is answers up = absurd answers

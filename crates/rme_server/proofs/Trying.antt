@@ -1,14 +1,14 @@
 -- An order that is obeyed in two parts is obeyed.
-use Rattle.std.proofs.Common.{◌≡◌, ℕ, ◌+◌, ◌-◌, ◌<◌, ◌≤◌, List, [], ◌∷◌, ◌++◌, arith, inl, inr, refl, sym, ap, ◌∙◌}
-use Rattle.std.specs.Prelude.{◌==◌, Bool, true, false, Option, Some, None}
-use Rattle.std.proofs.lemmas.Option.{none-some, same_Some}
+use Rattle.std.proofs.Common.{◌≡◌, ℕ, ◌+◌, ◌-◌, ◌<◌, List, [], inl, inr, refl, sym, ap, ◌∙◌, subst}
+use Rattle.std.specs.Prelude.{◌==◌, ◌⊎◌, Bool, true, false, Option, Some}
 use Rattle.rme_words.specs.declared.shape.Shape.{Shape}
 use Rattle.rme_words.specs.declared.refusal.Refusal.{Refusal}
-use Rattle.rme_words.specs.declared.refusal.Refusal.TheVariants.{Differs}
+use Rattle.rme_script.specs.Programs.{Program}
 use Rattle.rme_script.specs.declared.job.Job.{Job}
 use Rattle.rme_program.specs.declared.note.Entry.{Entry}
+use Rattle.rme_program.specs.declared.note.Receipt as program
 use Rattle.rme_seats.specs.declared.record.Part.{Part}
-use Rattle.rme_seats.specs.Parts.{onward}
+use Rattle.rme_seats.specs.Parts.{draft_script, onward}
 use Rattle.rme_seats.specs.Stands.{Ident, Stand}
 use Rattle.rme_texts.specs.declared.session.Outcome.{Outcome}
 use Rattle.rme_texts.specs.declared.session.Outcome.TheVariants.{Receipt, Withdrawn, Waiting, Fell}
@@ -17,225 +17,176 @@ use Rattle.rme_texts.specs.declared.session.SessionReply.TheVariants.{Submitted,
 use Rattle.rme_wire.specs.declared.order.Order.{Order}
 use Rattle.rme_wire.specs.declared.order.Order.TheVariants.{Attach, Submit, Resume}
 use Rattle.rme_wire.specs.declared.order.Submission.{Submission}
-use Rattle.rme_server.specs.Obeyed.{Acts, IsLeft, Obeys, Resumes, Submits}
-use Rattle.rme_server.specs.Refusals.{PendingRefuses, SubmitRefuses, resume_refusal}
-use Rattle.rme_server.specs.Stands.{held_by}
-use Rattle.rme_server.specs.Sessions.{answer_as, first_of, rest_of, still_waits}
-use Rattle.rme_server.specs.Works.{Awaits, GoesOn, Hands, HasFinished, IsSpared, IsTried, StillAwaits, Task, Works, its_task, lead_of, next_task, steps_of}
+use Rattle.rme_orders.specs.Obeyed.{ObeysBy, Resumes}
+use Rattle.rme_orders.specs.Refusals.{resume_refusal}
+use Rattle.rme_orders.specs.Sessions.{answer_as, first_of, rest_of, still_waits}
+use Rattle.rme_orders.specs.declared.view.PendingWorker.{PendingWorker}
+use Rattle.rme_orders.specs.declared.view.Session as shown
+use Rattle.rme_orders.specs.declared.view.View.{View}
+use Rattle.rme_orders.proofs.Trying as sight
+use Rattle.rme_orders.proofs.Trying.{IsAll, IsClimb, climb_not_refused, false_true, once}
+use Rattle.rme_server.specs.Obeyed.{Adds, Enters, HandsOver, IsWalked, Obeys, ResumeEnters, SubmitEnters}
+use Rattle.rme_server.specs.Stands.{draft_in, entries_in, held_by, session_of, view_of}
+use Rattle.rme_server.specs.Works.{WentOn, lead_of}
 use Rattle.rme_server.specs.declared.stand.Holding.{Holding}
 use Rattle.rme_server.specs.declared.stand.Holding.TheVariants.{Empty, Ready, Climb, Held}
 use Rattle.rme_server.specs.declared.stand.Stand.{Stand as Session}
-use Rattle.rme_server.proofs.Planning.{falls_on, spared_on}
+use Rattle.rme_server.proofs.Planning.{went_on}
 
--- How many tries an order has changes nothing of what it is refused for, nor of what it may come to.
-abbrev once : Submission → Submission
-once its = record { number = its.number; job = its.job; tries = 1 }
+-- One part alone.
+enters_once : (shape : Shape) (start : Holding) (its : Submission) (now : Holding) (became : Outcome) → SubmitEnters shape start (once its) now became → SubmitEnters shape start its now became
+enters_once shape Empty its now became enters = enters
+enters_once shape (Ready ready) its now became enters = enters
+enters_once shape (Climb climb) its now became enters = enters
+enters_once shape (Held held) its now became enters = enters
 
-pending_once : (number : ℕ) (draft : Option Job) (its : Submission) (why : Option Refusal) → PendingRefuses number draft (once its) why → PendingRefuses number draft its why
-pending_once number draft its None refuses = refuses
-pending_once number draft its (Some Differs) refuses = refuses
-pending_once number draft its (Some why) refuses = refuses
-
-refuses_once : (shape : Shape) (value : Holding) (its : Submission) (why : Option Refusal) → SubmitRefuses shape value (once its) why → SubmitRefuses shape value its why
-refuses_once shape Empty its why refuses = refuses
-refuses_once shape (Ready ready) its why refuses = refuses
-refuses_once shape (Climb climb) its why refuses = pending_once climb.part.private.begun climb.part.draft its why refuses
-refuses_once shape (Held held) its why refuses = pending_once held.part.private.begun held.part.draft its why refuses
-
-submits_once : (shape : Shape) (value : Holding) (its : Submission) (now : Holding) (became : Outcome) → Submits shape value (once its) now became → Submits shape value its now became
-submits_once shape Empty its now became submits = submits
-submits_once shape (Ready ready) its now became submits = submits
-submits_once shape (Climb climb) its now became submits = submits
-submits_once shape (Held held) its now became submits = submits
-
--- The first part was all: the job does not wait, or no try is left.
-tried_once : (most steps : ℕ) (value : Holding) (became : Outcome) → ((became ≡ Waiting) → most ≤ 1) → IsTried 1 steps value became → IsTried most steps value became
-tried_once most steps value (Receipt receipt) few tried = tt
-tried_once most steps value Withdrawn few tried = tt
-tried_once most steps value Waiting few tried = let at = few refl in omega (arith, at, tried)
-tried_once most steps value Fell few tried = tt
-
--- No try is left after the first, or the job does not wait.
-abbrev pub IsAll : Order → SessionReply → Type 0
-IsAll its reply = still_waits reply ≡ true → rest_of its ≡ 0
-
-module _ (ident : Ident) (count : ℕ) (old now : Session) (let_go : Option Stand) where
-  acts_first : (its : Order) (reply : SessionReply) → IsAll its reply → Acts ident count old (first_of its) now reply let_go → Acts ident count old its now reply let_go
-  acts_first (Submit its) (Refused why) all (same, inl refuses) = (same, inl (refuses_once ident.shape old.value its (Some why) refuses))
-  acts_first (Submit its) (Refused why) all (same, inr refuses) = absurd refuses
-  acts_first (Submit its) (Submitted became) all (none, (submits, left, tried)) =
-      let few : (became ≡ Waiting) → its.tries ≤ 1 = λ waits. (let none_left = all (ap (λ (o : Outcome). still_waits (Submitted o)) waits) in omega (arith, none_left)) in (
-        refuses_once ident.shape old.value its None none,
-        (submits_once ident.shape old.value its now.value became submits, left, tried_once its.tries (steps_of old.value) now.value became few tried),
-      )
-  acts_first (Submit its) reply all (none, does) = absurd does
-  acts_first (Resume tries) (Refused why) all obeys = obeys
-  acts_first (Resume tries) (Resumed became) all (none, (resumes, left, tried)) =
-      let few : (became ≡ Waiting) → tries ≤ 1 = λ waits. (let none_left = all (ap (λ (o : Outcome). still_waits (Resumed o)) waits) in omega (arith, none_left)) in
-      (none, (resumes, left, tried_once tries (steps_of old.value) now.value became few tried))
-  acts_first (Resume tries) reply all (none, does) = absurd does
-  acts_first its reply all obeys = obeys
+module _ (ident : Ident) (count made : ℕ) (old now : Session) (let_go : Option Stand) where
+  adds_first : (its : Order) (reply : SessionReply) → Adds ident count made old (first_of its) now reply let_go → Adds ident count made old its now reply let_go
+  adds_first (Submit its) (Refused why) adds = adds
+  adds_first (Submit its) (Submitted became) (enters, walked) = (enters_once ident.shape old.value its now.value became enters, walked)
+  adds_first (Submit its) reply adds = absurd adds
+  adds_first (Resume tries) (Refused why) adds = adds
+  adds_first (Resume tries) (Resumed became) adds = adds
+  adds_first (Resume tries) reply adds = absurd adds
+  adds_first its reply adds = adds
 
 pub only_first : (ident : Ident) (count : ℕ) (old now : Session) (its : Order) (reply : SessionReply) → IsAll its reply → Obeys ident count old (first_of its) now reply → Obeys ident count old its now reply
-only_first ident count old now its reply all obeys = record { let_go = obeys.let_go; acts = acts_first ident count old now obeys.let_go its reply all obeys.acts }
+only_first ident count old now its reply all obeys = let acts = obeys.acts in record {
+  let_go = obeys.let_go;
+  acts = record {
+    made = acts.made;
+    before = acts.before;
+    after = acts.after;
+    obeys = sight.only_first ident.shape acts.made (view_of acts.before old) (view_of acts.after now) its reply all acts.obeys;
+    told_before = acts.told_before;
+    told_after = acts.told_after;
+    adds = adds_first ident count acts.made old now obeys.let_go its reply acts.adds;
+  };
+}
 
--- A worker waited with a job, and then went on with it.
-finished_after : (task : Task) (before : List Entry) (climb ready : Stand) (job : Job) (entry : Entry) → Awaits task before climb → climb.part.draft ≡ Some job
-    → HasFinished (its_task climb job) climb.part.entries ready entry → HasFinished task before ready entry
-finished_after task before climb ready job entry waits draft done =
-    let same : job ≡ task.job = same_Some job task.job (sym draft ∙ waits.draft) in record {
-      is_of = record {
-        by = done.is_of.by ∙ waits.own;
-        number = done.is_of.number ∙ waits.number;
-        lock = done.is_of.lock ∙ ap (λ (j : Job). j.lock) same;
-        script = done.is_of.script ∙ ap (λ (j : Job). j.script) same;
-      };
-      entries = done.entries ∙ ap (λ (es : List Entry). es ++ entry ∷ []) waits.entries;
-      own = done.own ∙ waits.own;
-      number = done.number ∙ waits.number;
-    }
+-- Two parts: the entries, and the own steps.
+enters_both : (before : List Entry) (script second : Program) (mid now : Holding) (became : Outcome) → Enters before script mid Waiting → second ≡ script
+    → Enters (entries_in (held_by mid)) second now became → Enters before script now became
+enters_both before script second mid now (Receipt receipt) waits same enters =
+    let P : List Entry → Type 0 = λ es. Enters es second now (Receipt receipt) in
+    let Q : Program → Type 0 = λ its. Enters before its now (Receipt receipt) in subst Q same (subst P waits enters)
+enters_both before script second mid now Withdrawn waits same enters = absurd enters
+enters_both before script second mid now Waiting waits same enters = enters ∙ waits
+enters_both before script second mid now Fell waits same enters = tt
 
-works_after : (task : Task) (before : List Entry) (climb : Stand) (value : Holding) (became : Outcome) → Awaits task before climb → GoesOn climb value became → Works task before value became
-works_after task before climb (Ready ready) (Receipt receipt) waits (job, draft, (entry, done, told)) = (entry, finished_after task before climb ready job entry waits draft done, told)
-works_after task before climb (Climb later) Waiting waits still =
-    record { draft = still.draft ∙ waits.draft; entries = still.entries ∙ waits.entries; own = still.own ∙ waits.own; number = still.number ∙ waits.number }
-works_after task before climb Empty Fell waits fell = tt
-works_after task before climb value became waits goes = absurd goes
+hands_both : (shape : Shape) (again : Bool) (ready : Stand) (job : Job) (mid now : Holding) (became : Outcome) → HandsOver shape again ready job mid Waiting → draft_in (held_by mid) ≡ Some job
+    → ResumeEnters mid now became → HandsOver shape again ready job now became
+hands_both shape true ready job mid now became waits has enters = absurd waits
+hands_both shape false ready job mid now became waits has enters =
+    enters_both ready.part.entries job.script (draft_script (draft_in (held_by mid))) mid now became waits (ap (λ (d : Option Job). draft_script d) has) enters
 
-goes_after : (start climb : Stand) (value : Holding) (became : Outcome) → StillAwaits start climb → GoesOn climb value became → GoesOn start value became
-goes_after start climb (Ready ready) (Receipt receipt) still (job, draft, (entry, done, told)) =
-    let has : start.part.draft ≡ Some job = sym still.draft ∙ draft in
-    let waits : Awaits (its_task start job) start.part.entries climb = record { draft = draft; entries = still.entries; own = still.own; number = still.number } in
-    (job, has, (entry, finished_after (its_task start job) start.part.entries climb ready job entry waits draft done, told))
-goes_after start climb (Climb later) Waiting still more =
-    record { draft = more.draft ∙ still.draft; entries = more.entries ∙ still.entries; own = more.own ∙ still.own; number = more.number ∙ still.number }
-goes_after start climb Empty Fell still fell = tt
-goes_after start climb value became still goes = absurd goes
+submit_both : (shape : Shape) (start mid now : Holding) (its : Submission) (became : Outcome) → SubmitEnters shape start (once its) mid Waiting → draft_in (held_by mid) ≡ Some its.job
+    → ResumeEnters mid now became → SubmitEnters shape start its now became
+submit_both shape Empty mid now its became waits has enters =
+    enters_both [] its.job.script (draft_script (draft_in (held_by mid))) mid now became waits (ap (λ (d : Option Job). draft_script d) has) enters
+submit_both shape (Ready ready) mid now its became waits has enters = hands_both shape (its.number == ready.part.private.begun) ready its.job mid now became waits has enters
+submit_both shape (Climb climb) mid now its became waits has enters =
+    enters_both climb.part.entries its.job.script (draft_script (draft_in (held_by mid))) mid now became waits (ap (λ (d : Option Job). draft_script d) has) enters
+submit_both shape (Held held) mid now its became waits has enters =
+    enters_both held.part.entries its.job.script (draft_script (draft_in (held_by mid))) mid now became waits (ap (λ (d : Option Job). draft_script d) has) enters
 
--- Going on after a wait, whatever the session held before.
-goes_waiting : (start : Stand) (mid value : Holding) (became : Outcome) → GoesOn start mid Waiting → Resumes mid value became → GoesOn start value became
-goes_waiting start Empty value became waits resumes = absurd waits
-goes_waiting start (Ready ready) value became waits resumes = absurd waits
-goes_waiting start (Climb climb) value became waits resumes = goes_after start climb value became waits resumes
-goes_waiting start (Held held) value became waits resumes = absurd waits
+walked_both : (shape : Shape) (lead : Part → Part) (one two : ℕ) (old mid now : Session) (became : Outcome) (let_go : Option Stand) → 0 < one
+    → WentOn shape lead (held_by old.value) (held_by mid.value) one → IsWalked shape onward two mid now became let_go → IsWalked shape lead (one + two) old now became let_go
+walked_both shape lead one two old mid now (Receipt receipt) let_go some first (went, none) = (went_on shape lead (held_by old.value) (held_by mid.value) (held_by now.value) one two some first went, none)
+walked_both shape lead one two old mid now Withdrawn let_go some first (went, none) = (went_on shape lead (held_by old.value) (held_by mid.value) (held_by now.value) one two some first went, none)
+walked_both shape lead one two old mid now Waiting let_go some first (went, none) = (went_on shape lead (held_by old.value) (held_by mid.value) (held_by now.value) one two some first went, none)
+walked_both shape lead one two old mid now Fell let_go some first went = went_on shape lead (held_by old.value) (held_by mid.value) let_go one two some first went
 
-works_waiting : (task : Task) (before : List Entry) (mid value : Holding) (became : Outcome) → Works task before mid Waiting → Resumes mid value became → Works task before value became
-works_waiting task before Empty value became waits resumes = absurd waits
-works_waiting task before (Ready ready) value became waits resumes = absurd waits
-works_waiting task before (Climb climb) value became waits resumes = works_after task before climb value became waits resumes
-works_waiting task before (Held held) value became waits resumes = absurd waits
+-- What a worker that waits shows does not depend on its last receipt.
+same_session : (value : Holding) (one two : Option program.Receipt) → IsClimb (session_of one value) → session_of one value ≡ session_of two value
+same_session Empty one two climbs = absurd climbs
+same_session (Ready ready) one two climbs = absurd climbs
+same_session (Climb climb) one two climbs = refl
+same_session (Held held) one two climbs = absurd climbs
 
-hands_waiting : (shape : Shape) (again : Bool) (ready : Stand) (job : Job) (mid value : Holding) (became : Outcome) → Hands shape again ready job mid Waiting → Resumes mid value became
-    → Hands shape again ready job value became
-hands_waiting shape true ready job mid value became waits resumes = absurd waits
-hands_waiting shape false ready job mid value became waits resumes = works_waiting (next_task ready job) ready.part.entries mid value became waits resumes
+same_view : (mid : Session) (one two : Option program.Receipt) → IsClimb (session_of one mid.value) → view_of one mid ≡ view_of two mid
+same_view mid one two climbs = ap (λ (s : shown.Session). record { session = s; planned = mid.planned }) (same_session mid.value one two climbs)
 
-submits_waiting : (shape : Shape) (start mid value : Holding) (its : Submission) (became : Outcome) → Submits shape start (once its) mid Waiting → Resumes mid value became
-    → Submits shape start its value became
-submits_waiting shape Empty mid value its became waits resumes = absurd waits
-submits_waiting shape (Ready ready) mid value its became waits resumes = hands_waiting shape (its.number == ready.part.private.begun) ready its.job mid value became waits resumes
-submits_waiting shape (Climb climb) mid value its became waits resumes = goes_waiting climb mid value became waits resumes
-submits_waiting shape (Held held) mid value its became waits resumes = goes_waiting held mid value became waits resumes
+-- The job of a worker that waits.
+draft_of_waiting : (shape : Shape) (made : ℕ) (old : View) (value : Holding) (mid : View) (last : Option program.Receipt) (its : Submission) → mid.session ≡ session_of last value
+    → IsClimb (session_of last value) → ObeysBy shape made old (Submit its) mid (Submitted Waiting) → draft_in (held_by value) ≡ Some its.job
+draft_of_waiting shape made old Empty mid last its at climbs obeys = absurd climbs
+draft_of_waiting shape made old (Ready ready) mid last its at climbs obeys = absurd climbs
+draft_of_waiting shape made old (Climb climb) mid last its at climbs obeys = sight.waits_with shape made old mid _ its at obeys
+draft_of_waiting shape made old (Held held) mid last its at climbs obeys = absurd climbs
 
-resumes_waiting : (start mid value : Holding) (became : Outcome) → Resumes start mid Waiting → Resumes mid value became → Resumes start value became
-resumes_waiting Empty mid value became waits resumes = absurd waits
-resumes_waiting (Ready ready) mid value became waits resumes = absurd waits
-resumes_waiting (Climb climb) mid value became waits resumes = goes_waiting climb mid value became waits resumes
-resumes_waiting (Held held) mid value became waits resumes = goes_waiting held mid value became waits resumes
+draft_of_resumed : (start value : Holding) (one two : Option program.Receipt) → Resumes (session_of one start) (session_of two value) Waiting → draft_in (held_by value) ≡ draft_in (held_by start)
+draft_of_resumed Empty value one two waits = absurd waits
+draft_of_resumed (Ready ready) value one two waits = absurd waits
+draft_of_resumed (Climb start) Empty one two waits = absurd waits
+draft_of_resumed (Climb start) (Ready ready) one two waits = absurd waits
+draft_of_resumed (Climb start) (Climb climb) one two waits = ap (λ (p : PendingWorker). p.draft) waits
+draft_of_resumed (Climb start) (Held held) one two waits = absurd waits
+draft_of_resumed (Held start) Empty one two waits = absurd waits
+draft_of_resumed (Held start) (Ready ready) one two waits = absurd waits
+draft_of_resumed (Held start) (Climb climb) one two waits = ap (λ (p : PendingWorker). p.draft) waits
+draft_of_resumed (Held start) (Held held) one two waits = absurd waits
 
--- What was planned comes sooner by the own steps of both parts.
-module _ (shape : Shape) (lead : Part → Part) (old mid now : Session) (more : steps_of old.value < steps_of mid.value)
-    (so : IsSpared shape lead old.planned (held_by old.value) mid.planned (held_by mid.value)) (let_go : Option Stand) where
-  spared_after : IsSpared shape onward mid.planned (held_by mid.value) now.planned (held_by now.value) → IsSpared shape lead old.planned (held_by old.value) now.planned (held_by now.value)
-  spared_after its = spared_on shape lead old.planned mid.planned (held_by old.value) (held_by mid.value) more so now.planned (held_by now.value) its
+module _ (ident : Ident) (count one two : ℕ) (old mid now : Session) (before between : Option program.Receipt) (shows : View) (first_go let_go : Option Stand)
+    (climbs : IsClimb (session_of between mid.value)) (some : 0 < one) where
+  never_refused : (why : Refusal) → (Some why ≡ resume_refusal (session_of between mid.value)) ⊎ ⊥ → ⊥
+  never_refused why (inl refuses) = climb_not_refused (session_of between mid.value) why climbs refuses
+  never_refused why (inr misses) = misses
 
-  left_after_both : (became : Outcome) → IsLeft shape onward mid now became let_go → IsLeft shape lead old now became let_go
-  left_after_both (Receipt receipt) (left, none) = (spared_after left, none)
-  left_after_both Withdrawn (left, none) = (spared_after left, none)
-  left_after_both Waiting (left, none) = (spared_after left, none)
-  left_after_both Fell (falls, same) = (falls_on shape lead old.planned mid.planned (held_by old.value) (held_by mid.value) more so let_go falls, same)
-
--- A job that waits is not refused to be let_go on with.
-goes_not_refused : (start : Stand) (mid : Holding) (why : Refusal) → GoesOn start mid Waiting → Some why ≡ resume_refusal mid → ⊥
-goes_not_refused start Empty why waits refuses = waits
-goes_not_refused start (Ready ready) why waits refuses = waits
-goes_not_refused start (Climb climb) why waits refuses = none-some why (sym refuses)
-goes_not_refused start (Held held) why waits refuses = waits
-
-works_not_refused : (task : Task) (before : List Entry) (mid : Holding) (why : Refusal) → Works task before mid Waiting → Some why ≡ resume_refusal mid → ⊥
-works_not_refused task before Empty why waits refuses = waits
-works_not_refused task before (Ready ready) why waits refuses = waits
-works_not_refused task before (Climb climb) why waits refuses = none-some why (sym refuses)
-works_not_refused task before (Held held) why waits refuses = waits
-
-hands_not_refused : (shape : Shape) (again : Bool) (ready : Stand) (job : Job) (mid : Holding) (why : Refusal) → Hands shape again ready job mid Waiting → Some why ≡ resume_refusal mid → ⊥
-hands_not_refused shape true ready job mid why waits refuses = waits
-hands_not_refused shape false ready job mid why waits refuses = works_not_refused (next_task ready job) ready.part.entries mid why waits refuses
-
-waiting_is_held : (shape : Shape) (start mid : Holding) (its : Submission) (why : Refusal) → Submits shape start (once its) mid Waiting → Some why ≡ resume_refusal mid → ⊥
-waiting_is_held shape Empty mid its why waits refuses = waits
-waiting_is_held shape (Ready ready) mid its why waits refuses = hands_not_refused shape (its.number == ready.part.private.begun) ready its.job mid why waits refuses
-waiting_is_held shape (Climb climb) mid its why waits refuses = goes_not_refused climb mid why waits refuses
-waiting_is_held shape (Held held) mid its why waits refuses = goes_not_refused held mid why waits refuses
-
-waiting_is_resumed : (start mid : Holding) (why : Refusal) → Resumes start mid Waiting → Some why ≡ resume_refusal mid → ⊥
-waiting_is_resumed Empty mid why waits refuses = waits
-waiting_is_resumed (Ready ready) mid why waits refuses = waits
-waiting_is_resumed (Climb climb) mid why waits refuses = goes_not_refused climb mid why waits refuses
-waiting_is_resumed (Held held) mid why waits refuses = goes_not_refused held mid why waits refuses
-
-pub false_true : false ≡ true → ⊥
-false_true same = cc
-
-tried_both : (most rest steps later : ℕ) (value : Holding) (became : Outcome) → most ≤ rest + 1 → steps + 1 ≤ later → IsTried rest later value became → IsTried most steps value became
-tried_both most rest steps later value (Receipt receipt) enough first tried = tt
-tried_both most rest steps later value Withdrawn enough first tried = tt
-tried_both most rest steps later value Waiting enough first tried = omega (arith, enough, first, tried)
-tried_both most rest steps later value Fell enough first tried = tt
-
--- Both parts were needed. What the first let go is none, since the job waits.
-module _ (ident : Ident) (count : ℕ) (old mid now : Session) (first_go let_go : Option Stand) where
-  submitted_on : (its : Submission) (last : SessionReply) → Acts ident count old (Submit (once its)) mid (Submitted Waiting) first_go → Acts ident count mid (Resume (its.tries - 1)) now last let_go
-      → Acts ident count old (Submit its) now (answer_as (Submitted Waiting) last) let_go
-  submitted_on its (Resumed became) (none, (submits, left, first)) (some, (resumes, later, tried)) = (
-    refuses_once ident.shape old.value its None none,
-    (
-      submits_waiting ident.shape old.value mid.value now.value its became submits resumes,
-      left_after_both ident.shape (lead_of old.value its.job) old mid now (omega (arith, first)) left.0 let_go became later,
-      tried_both its.tries (its.tries - 1) (steps_of old.value) (steps_of mid.value) now.value became (omega arith) first tried,
-    ),
+  submit_adds : (its : Submission) (last : SessionReply) → ObeysBy ident.shape one (view_of before old) (Submit (once its)) (view_of between mid) (Submitted Waiting)
+      → Adds ident count one old (Submit (once its)) mid (Submitted Waiting) first_go → ObeysBy ident.shape two (view_of between mid) (Resume (its.tries - 1)) shows last
+      → Adds ident count two mid (Resume (its.tries - 1)) now last let_go → Adds ident count (one + two) old (Submit its) now (answer_as (Submitted Waiting) last) let_go
+  submit_adds its (Resumed became) obeys (enters, (went, none)) more (later, walked) = (
+    submit_both ident.shape old.value mid.value now.value its became enters
+        (draft_of_waiting ident.shape one (view_of before old) mid.value (view_of between mid) between (once its) refl climbs obeys) later,
+    walked_both ident.shape (lead_of old.value its.job) one two old mid now became let_go some went walked,
   )
-  submitted_on its (Refused why) (none, (submits, left, first)) (same, inl refuses) = absurd (waiting_is_held ident.shape old.value mid.value its why submits refuses)
-  submitted_on its (Refused why) obeys (same, inr refuses) = absurd refuses
-  submitted_on its last obeys (some, does) = absurd does
+  submit_adds its (Refused why) obeys adds more later = absurd (never_refused why more.1)
+  submit_adds its last obeys adds more later = absurd later
 
-  resumed_on : (tries : ℕ) (last : SessionReply) → Acts ident count old (Resume 1) mid (Resumed Waiting) first_go → Acts ident count mid (Resume (tries - 1)) now last let_go
-      → Acts ident count old (Resume tries) now (answer_as (Resumed Waiting) last) let_go
-  resumed_on tries (Resumed became) (none, (resumes, left, first)) (some, (more, later, tried)) = (
-    none,
-    (
-      resumes_waiting old.value mid.value now.value became resumes more,
-      left_after_both ident.shape onward old mid now (omega (arith, first)) left.0 let_go became later,
-      tried_both tries (tries - 1) (steps_of old.value) (steps_of mid.value) now.value became (omega arith) first tried,
-    ),
+  resume_adds : (tries : ℕ) (last : SessionReply) → ObeysBy ident.shape one (view_of before old) (Resume 1) (view_of between mid) (Resumed Waiting)
+      → Adds ident count one old (Resume 1) mid (Resumed Waiting) first_go → ObeysBy ident.shape two (view_of between mid) (Resume (tries - 1)) shows last
+      → Adds ident count two mid (Resume (tries - 1)) now last let_go → Adds ident count (one + two) old (Resume tries) now (answer_as (Resumed Waiting) last) let_go
+  resume_adds tries (Resumed became) (refuses, (resumes, left, tried)) (enters, (went, none)) more (later, walked) = (
+    enters_both (entries_in (held_by old.value)) (draft_script (draft_in (held_by old.value))) (draft_script (draft_in (held_by mid.value))) mid.value now.value became enters
+        (ap (λ (d : Option Job). draft_script d) (draft_of_resumed old.value mid.value before between resumes)) later,
+    walked_both ident.shape onward one two old mid now became let_go some went walked,
   )
-  resumed_on tries (Refused why) (none, (resumes, left, first)) (same, inl refuses) = absurd (waiting_is_resumed old.value mid.value why resumes refuses)
-  resumed_on tries (Refused why) obeys (same, inr refuses) = absurd refuses
-  resumed_on tries last obeys (some, does) = absurd does
+  resume_adds tries (Refused why) obeys adds more later = absurd (never_refused why more.1)
+  resume_adds tries last obeys adds more later = absurd later
 
-  acts_both : (its : Order) (reply last : SessionReply) → still_waits reply ≡ true → Acts ident count old (first_of its) mid reply first_go → Acts ident count mid (Resume (rest_of its)) now last let_go
-      → Acts ident count old its now (answer_as reply last) let_go
-  acts_both (Submit its) (Submitted Waiting) last waits obeys resumes = submitted_on its last obeys resumes
-  acts_both (Resume tries) (Resumed Waiting) last waits obeys resumes = resumed_on tries last obeys resumes
-  acts_both (Submit its) (Resumed Waiting) last waits obeys resumes = absurd obeys.1
-  acts_both (Resume tries) (Submitted Waiting) last waits obeys resumes = absurd obeys.1
-  acts_both (Attach worker) (Submitted Waiting) last waits obeys resumes = absurd obeys.1.0
-  acts_both (Attach worker) (Resumed Waiting) last waits obeys resumes = absurd obeys.1.0
-  acts_both its (Submitted Waiting) last waits obeys resumes = absurd obeys.1
-  acts_both its (Resumed Waiting) last waits obeys resumes = absurd obeys.1
-  acts_both its reply last waits obeys resumes = absurd (false_true waits)
+  adds_both : (its : Order) (reply last : SessionReply) → still_waits reply ≡ true → ObeysBy ident.shape one (view_of before old) (first_of its) (view_of between mid) reply
+      → Adds ident count one old (first_of its) mid reply first_go → ObeysBy ident.shape two (view_of between mid) (Resume (rest_of its)) shows last
+      → Adds ident count two mid (Resume (rest_of its)) now last let_go → Adds ident count (one + two) old its now (answer_as reply last) let_go
+  adds_both (Submit its) (Submitted Waiting) last waits obeys adds more later = submit_adds its last obeys adds more later
+  adds_both (Resume tries) (Resumed Waiting) last waits obeys adds more later = resume_adds tries last obeys adds more later
+  adds_both (Submit its) (Resumed Waiting) last waits obeys adds more later = absurd obeys.1
+  adds_both (Resume tries) (Submitted Waiting) last waits obeys adds more later = absurd obeys.1
+  adds_both (Attach worker) (Submitted Waiting) last waits obeys adds more later = absurd obeys.1
+  adds_both (Attach worker) (Resumed Waiting) last waits obeys adds more later = absurd obeys.1
+  adds_both its (Submitted Waiting) last waits obeys adds more later = absurd obeys.1
+  adds_both its (Resumed Waiting) last waits obeys adds more later = absurd obeys.1
+  adds_both its reply last waits obeys adds more later = absurd (false_true waits)
 
+-- A first try, and the resumption after it, are one order.
 pub both_parts : (ident : Ident) (count : ℕ) (old mid now : Session) (its : Order) (reply last : SessionReply) → still_waits reply ≡ true → Obeys ident count old (first_of its) mid reply
     → Obeys ident count mid (Resume (rest_of its)) now last → Obeys ident count old its now (answer_as reply last)
-both_parts ident count old mid now its reply last waits first more =
-    record { let_go = more.let_go; acts = acts_both ident count old mid now first.let_go more.let_go its reply last waits first.acts more.acts }
+both_parts ident count old mid now its reply last waits first then =
+    let one = first.acts in
+    let two = then.acts in
+    let still = sight.still_climbs ident.shape one.made (view_of one.before old) (view_of one.after mid) its reply waits one.obeys in
+    let same = same_view mid one.after two.before still.0 in
+    let P : View → Type 0 = λ view. ObeysBy ident.shape two.made view (Resume (rest_of its)) (view_of two.after now) last in
+    let more = subst P (sym same) two.obeys in record {
+      let_go = then.let_go;
+      acts = record {
+        made = one.made + two.made;
+        before = one.before;
+        after = two.after;
+        obeys = sight.both_parts ident.shape one.made two.made (view_of one.before old) (view_of one.after mid) (view_of two.after now) its reply last waits one.obeys more;
+        told_before = one.told_before;
+        told_after = two.told_after;
+        adds = adds_both ident count one.made two.made old mid now one.before one.after (view_of two.after now) first.let_go then.let_go still.0 still.1 its reply last waits one.obeys one.adds more
+            two.adds;
+      };
+    }

@@ -1,7 +1,6 @@
 -- A worker that went on with its job.
-use Rattle.std.proofs.Common.{◌≡◌, ℕ, [], ◌+◌, ◌-◌, ◌≤◌, Result, Ok, Err, sym, subst, ◌∙◌, refl, arith}
+use Rattle.std.proofs.Common.{◌≡◌, ℕ, [], ◌-◌, ◌≤◌, Result, Ok, Err, sym, subst, ◌∙◌, refl, arith}
 use Rattle.std.specs.Prelude.{false, Option, Some, None}
-use Rattle.std.proofs.lemmas.Bool.{eq-eqb, lt-ltb, ne_eqb}
 use Rattle.rme_words.specs.declared.shape.Shape.{Shape}
 use Rattle.rme_script.specs.declared.job.Job.{Job}
 use Rattle.rme_program.specs.declared.note.Receipt.{Receipt}
@@ -16,16 +15,15 @@ use Rattle.rme_table.specs.declared.driving.Tries.{Tries}
 use Rattle.rme_texts.specs.declared.session.Outcome.{Outcome}
 use Rattle.rme_texts.specs.declared.session.Outcome.TheVariants as outcome
 use Rattle.rme_wire.specs.declared.order.Submission.{Submission}
-use Rattle.rme_server.specs.Obeyed.{IsLeft, Resumes, Settles, Submits}
-use Rattle.rme_server.specs.Plans.{Leaves, left_of, tally_by}
-use Rattle.rme_server.specs.Refusals.{SubmitRefuses, resume_refusal}
+use Rattle.rme_orders.specs.Plans.{left_of}
+use Rattle.rme_orders.proofs.Counting.{leaves_none}
+use Rattle.rme_server.specs.Plans.{tally_by}
 use Rattle.rme_server.specs.Stands.{HasSlot, MayWork, held_by}
-use Rattle.rme_server.specs.Tasks.{IsResumed, IsSubmitted, Makes, Spares, Spends, holding_of, lead_by, worked_of}
-use Rattle.rme_server.specs.Works.{AreTried, Ends, GoesOn, IsSpared, IsTried, IsUp, Repeats, WentOn, Works, lead_of, next_task}
-use Rattle.rme_server.specs.declared.planned.Countdown.{Countdown}
-use Rattle.rme_server.specs.declared.planned.Countdown.TheVariants.{Runs, Fallen}
-use Rattle.rme_server.specs.declared.planned.Planned.{Planned}
-use Rattle.rme_server.specs.declared.planned.Planned.TheVariants.{Nothing, After}
+use Rattle.rme_server.specs.Tasks.{IsResumed, IsSubmitted, IsThrough, Makes, Settles, Spares, Spends, holding_of, lead_by, worked_of}
+use Rattle.rme_server.specs.Works.{AreTried, Ends, GoesOn, IsSpared, IsTried, IsUp, Repeats, WentOn, lead_of}
+use Rattle.rme_orders.specs.declared.planned.Countdown.{Countdown}
+use Rattle.rme_orders.specs.declared.planned.Countdown.TheVariants.{Runs, Fallen}
+use Rattle.rme_orders.specs.declared.planned.Planned.{Planned}
 use Rattle.rme_server.specs.declared.stand.Holding.{Holding}
 use Rattle.rme_server.specs.declared.stand.Holding.TheVariants.{Ready}
 use Rattle.rme_server.specs.declared.stand.Stand.{Stand as Session}
@@ -77,7 +75,7 @@ module _ (shape : Shape) (start : Stand) (old now : Countdown) where
 -- What the session is left with: a worker that did not fall was spared.
 module _ (shape : Shape) (lead : Part → Part) where
   left_up : (old now : Session) (its : Outcome) (let_go : Option Stand) → IsUp its → let_go ≡ None → IsSpared shape lead old.planned (held_by old.value) now.planned (held_by now.value)
-      → IsLeft shape lead old now its let_go
+      → IsThrough shape lead old now its let_go
   left_up old now (outcome.Receipt receipt) let_go up none spares = (spares, none)
   left_up old now outcome.Withdrawn let_go up none spares = (spares, none)
   left_up old now outcome.Waiting let_go up none spares = (spares, none)
@@ -89,7 +87,7 @@ module _ (shape : Shape) (lead : Part → Part) where
 
   pub left_so : (old : Session) (Has : Holding → Outcome → Type 0) (countdown : Countdown) (worked : Result (Holding × Outcome) Stand) (now : Session) (its : Outcome) (let_go : Option Stand)
       → Ends worked Has → Spends shape lead (Runs old.planned) (held_by old.value) countdown worked → Settles worked (left_of countdown) now its let_go
-      → Has now.value its × IsLeft shape lead old now its let_go
+      → Has now.value its × IsThrough shape lead old now its let_go
   left_so old Has countdown (Ok (value, became)) now its let_go (has, up) spares (now_is, its_is, none) =
       rw (now_is, its_is) (
         has,
@@ -98,10 +96,6 @@ module _ (shape : Shape) (lead : Part → Part) where
   left_so old Has countdown (Err down) now its let_go has falls (now_is, its_is, go_is) = rw (now_is, its_is, go_is) (has, (falls, refl))
 
 -- A worker that answers its last number again makes no step.
-leaves_none : (planned : Planned) → Leaves planned 0 planned
-leaves_none Nothing = tt
-leaves_none (After left) = λ small. omega arith
-
 spares_none : (shape : Shape) (ready : Stand) (plan : Countdown) → Spares shape onward plan (Some ready) plan (Some ready)
 spares_none shape ready (Runs planned) =
     (0, record { ident = refl; own = refl; values = []; walk = refl; found = tt; count = refl; steps = omega arith }, leaves_none planned)
@@ -114,26 +108,9 @@ repeats_spares shape ready plan value outcome.Withdrawn (same, last) = rw same (
 repeats_spares shape ready plan value outcome.Waiting repeats = absurd repeats
 repeats_spares shape ready plan value outcome.Fell repeats = absurd repeats
 
--- A submission that is not refused, and the work that it asks.
-not_refused : (shape : Shape) (its : Submission) (work : Work) → IsSubmitted shape its work → SubmitRefuses shape (holding_of work) its None
-not_refused shape its (Repeat ready) (some, same) =
-    rw (ne_eqb its.number (ready.part.private.begun + 1) (omega (arith, same)), lt-ltb 0 its.number some, eq-eqb its.number ready.part.private.begun same) refl
-not_refused shape its (Post admitted tries) (next, same, none) = rw (eq-eqb its.number (admitted.ready.part.private.begun + 1) next) (sym none)
-not_refused shape its (GoIn climb tries) pending = pending
-not_refused shape its (GoOn held) pending = pending
-
-submits : (shape : Shape) (its : Submission) (work : Work) (value : Holding) (became : Outcome) → IsSubmitted shape its work → Makes shape work value became
-    → Submits shape (holding_of work) its value became
-submits shape its (Repeat ready) value became (some, same) makes = rw (eq-eqb its.number ready.part.private.begun same) makes
-submits shape its (Post admitted tries) value became (next, same, none) makes =
-    let P : Job → Type 0 = λ job. Works (next_task admitted.ready job) admitted.ready.part.entries value became in
-    rw (ne_eqb its.number admitted.ready.part.private.begun (omega (arith, next))) (subst P same makes)
-submits shape its (GoIn climb tries) value became pending makes = makes
-submits shape its (GoOn held) value became pending makes = makes
-
 -- What stands before the first step of the work stands there for the order; to answer the last number again takes no step.
 repeated : (shape : Shape) (ready : Stand) (planned : Planned) (job : Job) (now : Session) (became : Outcome) (let_go : Option Stand) → Repeats shape ready now.value became
-    → IsLeft shape onward (record { value = Ready ready; planned = planned }) now became let_go → IsLeft shape (handed job) (record { value = Ready ready; planned = planned }) now became let_go
+    → IsThrough shape onward (record { value = Ready ready; planned = planned }) now became let_go → IsThrough shape (handed job) (record { value = Ready ready; planned = planned }) now became let_go
 repeated shape ready planned job now (outcome.Receipt receipt) let_go (same, last, is_last) ((made, went, left), none) =
     let P : Holding → Type 0 = λ value. WentOn shape onward (Some ready) (held_by value) made in
     let Q : Holding → Type 0 = λ value. WentOn shape (handed job) (Some ready) (held_by value) made in
@@ -145,46 +122,22 @@ repeated shape ready planned job now outcome.Withdrawn let_go (same, last) ((mad
 repeated shape ready planned job now outcome.Waiting let_go repeats left = absurd repeats
 repeated shape ready planned job now outcome.Fell let_go repeats left = absurd repeats
 
-led_so : (shape : Shape) (its : Submission) (work : Work) (planned : Planned) (now : Session) (became : Outcome) (let_go : Option Stand) → IsSubmitted shape its work
-    → Makes shape work now.value became → IsLeft shape (lead_by work) (record { value = holding_of work; planned = planned }) now became let_go
-    → IsLeft shape (lead_of (holding_of work) its.job) (record { value = holding_of work; planned = planned }) now became let_go
+pub led_so : (shape : Shape) (its : Submission) (work : Work) (planned : Planned) (now : Session) (became : Outcome) (let_go : Option Stand) → IsSubmitted shape its work
+    → Makes shape work now.value became → IsThrough shape (lead_by work) (record { value = holding_of work; planned = planned }) now became let_go
+    → IsThrough shape (lead_of (holding_of work) its.job) (record { value = holding_of work; planned = planned }) now became let_go
 led_so shape its (Repeat ready) planned now became let_go asked makes left = repeated shape ready planned its.job now became let_go makes left
 led_so shape its (Post admitted tries) planned now became let_go (next, same, none) makes left =
-    let P : Job → Type 0 = λ job. IsLeft shape (handed job) (record { value = Ready admitted.ready; planned = planned }) now became let_go in subst P same left
+    let P : Job → Type 0 = λ job. IsThrough shape (handed job) (record { value = Ready admitted.ready; planned = planned }) now became let_go in subst P same left
 led_so shape its (GoIn climb tries) planned now became let_go asked makes left = left
 led_so shape its (GoOn held) planned now became let_go asked makes left = left
 
-pub submitted : (shape : Shape) (its : Submission) (work : Work) (old now : Session) (became : Outcome) (let_go : Option Stand) → holding_of work ≡ old.value → IsSubmitted shape its work
-    → Makes shape work now.value became × IsLeft shape (lead_by work) (record { value = holding_of work; planned = old.planned }) now became let_go
-    → SubmitRefuses shape old.value its None × (Submits shape old.value its now.value became × IsLeft shape (lead_of old.value its.job) old now became let_go)
-submitted shape its work old now became let_go same asked (makes, left) =
-    let P : Holding → Type 0 =
-    λ value. SubmitRefuses shape value its None
-    × (Submits shape value its now.value became × IsLeft shape (lead_of value its.job) (record { value = value; planned = old.planned }) now became let_go) in
-    subst P same (not_refused shape its work asked, (submits shape its work now.value became asked makes, led_so shape its work old.planned now became let_go asked makes left))
-
 -- The work of an order that goes on.
-resumes : (shape : Shape) (work : Work) (value : Holding) (became : Outcome) → IsResumed work → Makes shape work value became → (None ≡ resume_refusal (holding_of work)) × Resumes (holding_of work) value became
-resumes shape (Repeat ready) value became asked makes = absurd asked
-resumes shape (Post admitted tries) value became asked makes = absurd asked
-resumes shape (GoIn climb tries) value became asked makes = (refl, makes)
-resumes shape (GoOn held) value became asked makes = (refl, makes)
-
-led_onward : (shape : Shape) (work : Work) (old now : Session) (became : Outcome) (let_go : Option Stand) → IsResumed work → IsLeft shape (lead_by work) old now became let_go
-    → IsLeft shape onward old now became let_go
+pub led_onward : (shape : Shape) (work : Work) (old now : Session) (became : Outcome) (let_go : Option Stand) → IsResumed work → IsThrough shape (lead_by work) old now became let_go
+    → IsThrough shape onward old now became let_go
 led_onward shape (Repeat ready) old now became let_go asked left = absurd asked
 led_onward shape (Post admitted tries) old now became let_go asked left = absurd asked
 led_onward shape (GoIn climb tries) old now became let_go asked left = left
 led_onward shape (GoOn held) old now became let_go asked left = left
-
-pub resumed : (shape : Shape) (work : Work) (old now : Session) (became : Outcome) (let_go : Option Stand) → holding_of work ≡ old.value → IsResumed work
-    → Makes shape work now.value became × IsLeft shape (lead_by work) (record { value = holding_of work; planned = old.planned }) now became let_go
-    → (None ≡ resume_refusal old.value) × (Resumes old.value now.value became × IsLeft shape onward old now became let_go)
-resumed shape work old now became let_go same asked (makes, left) =
-    let P : Holding → Type 0 =
-    λ value. (None ≡ resume_refusal value) × (Resumes value now.value became × IsLeft shape onward (record { value = value; planned = old.planned }) now became let_go) in
-    let so = resumes shape work now.value became asked makes in
-    subst P same (so.0, (so.1, led_onward shape work (record { value = holding_of work; planned = old.planned }) now became let_go asked left))
 
 -- The tries that were made before a job waits.
 pub driven_tried : (start : Stand) (before after : Tries) (drive : Driven) → Exhausts start before after drive → Passes drive → AreTried (before.most - before.blocked) start.part.steps (worked_of drive)

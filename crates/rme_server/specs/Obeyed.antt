@@ -1,114 +1,99 @@
 -- What an order does to a session, and what it is answered.
-use Rattle.std.specs.Prelude.{◌≡◌, ◌⊎◌, ℕ, ◌<◌, ◌≤◌, ◌==◌, false, Option, Some, None, Result, Ok, Err}
+use Rattle.std.specs.Prelude.{◌≡◌, ℕ, ◌<◌, ◌≤◌, ◌==◌, Bool, true, false, List, [], ◌∷◌, ◌++◌, Option, None}
 use Rattle.rme_words.specs.declared.shape.Shape.{Shape}
 use Rattle.rme_words.specs.declared.refusal.Refusal.{Refusal}
 use Rattle.rme_words.specs.declared.refusal.Refusal.TheVariants.{NoWorker, Taken}
+use Rattle.rme_script.specs.Programs.{Program}
+use Rattle.rme_script.specs.declared.job.Job.{Job}
+use Rattle.rme_program.specs.declared.note.Entry.{Entry}
 use Rattle.rme_program.specs.declared.note.Receipt.{Receipt}
 use Rattle.rme_seats.specs.declared.record.Part.{Part}
-use Rattle.rme_seats.specs.Parts.{onward, withdrawing}
+use Rattle.rme_seats.specs.Parts.{draft_script, onward, withdrawing}
 use Rattle.rme_seats.specs.Stands as seat
-use Rattle.rme_table.specs.Calls.{IsLast, is_over}
+use Rattle.rme_table.specs.Calls.{IsLast}
 use Rattle.rme_texts.specs.declared.session.Outcome.{Outcome}
-use Rattle.rme_texts.specs.declared.session.Outcome.TheVariants.{Fell}
-use Rattle.rme_texts.specs.declared.session.Standing.{Standing}
-use Rattle.rme_texts.specs.declared.session.Standing.TheVariants as at
+use Rattle.rme_texts.specs.declared.session.Outcome.TheVariants as outcome
 use Rattle.rme_texts.specs.declared.session.SessionReply.{SessionReply}
 use Rattle.rme_texts.specs.declared.session.SessionReply.TheVariants as reply
 use Rattle.rme_wire.specs.declared.order.Order.{Order}
 use Rattle.rme_wire.specs.declared.order.Order.TheVariants as order
 use Rattle.rme_wire.specs.declared.order.Submission.{Submission}
-use Rattle.rme_server.specs.Slots.{IsOf}
-use Rattle.rme_server.specs.Refusals.{Refuses, attach_refusal}
+use Rattle.rme_orders.specs.Obeyed.{ObeysBy}
 use Rattle.rme_server.specs.Rises.{TakesOut}
-use Rattle.rme_server.specs.Stands.{held_by}
-use Rattle.rme_server.specs.Works.{Falls, GoesOn, Hands, IsSpared, IsTried, lead_of, steps_of}
-use Rattle.rme_server.specs.declared.planned.Planned.{Planned}
-use Rattle.rme_server.specs.declared.planned.Planned.TheVariants.{Nothing, After}
+use Rattle.rme_server.specs.Stands.{Tells, draft_in, entries_in, held_by, view_of}
+use Rattle.rme_server.specs.Works.{Repeats, WentOn, lead_of}
 use Rattle.rme_server.specs.declared.stand.Stand.{Stand}
 use Rattle.rme_server.specs.declared.stand.Holding.{Holding}
-use Rattle.rme_server.specs.declared.stand.Holding.TheVariants.{Empty, Ready, Climb, Held}
+use Rattle.rme_server.specs.declared.stand.Holding.TheVariants.{Ready}
 
--- No worker, and nothing planned: so a session begins, and so a fall and DETACH leave it.
-abbrev pub nobody : Stand
-nobody = record { value = Empty; planned = Nothing }
+-- What only the running service can say of an order: of its slots, of the entries of its workers, and of their own steps in
+-- the worlds of the core.
 
--- ATTACH: the session holds this worker, and the answer says its number and what it is at.
-abbrev pub Attaches : seat.Ident → ℕ → Holding → ℕ → Standing → Type 0
-Attaches ident worker (Ready ready) number at.Ready = IsOf ident worker ready × (ready.part.private.begun ≡ number)
-Attaches ident worker (Climb climb) number at.Climb = IsOf ident worker climb × (climb.part.private.begun ≡ number)
-Attaches ident worker (Held held) number at.Held = IsOf ident worker held × (held.part.private.begun ≡ number) × (is_over held.part.private.stage ≡ false)
-Attaches ident worker value number standing = ⊥
+-- Among so many slots that of the worker to be attached is empty, or there is none.
+abbrev pub IsOfSlot : ℕ → Shape → Order → Refusal → Type 0
+IsOfSlot count shape (order.Attach worker) Taken = worker < count
+IsOfSlot count shape (order.Attach worker) NoWorker = worker < shape.workers → count ≤ worker
+IsOfSlot count shape its why = Unit {0}
 
-abbrev pub AnswersOf : seat.Ident → ℕ → Holding → SessionReply → Type 0
-AnswersOf ident worker value (reply.Attached number standing) = Attaches ident worker value number standing
-AnswersOf ident worker value answer = ⊥
+-- A job of this script that is finished made the entries longer by its one, whose receipt is answered; one that waits left
+-- them as they were.
+abbrev pub Enters : List Entry → Program → Holding → Outcome → Type 0
+Enters before script value (outcome.Receipt receipt) = entries_in (held_by value) ≡ before ++ record { receipt = receipt; script = script } ∷ []
+Enters before script value outcome.Waiting = entries_in (held_by value) ≡ before
+Enters before script value outcome.Fell = Unit {0}
+Enters before script value outcome.Withdrawn = ⊥
 
--- SUBMIT: a worker that is ready answers its last number again, or posts the job; one that has a job goes on with that.
-abbrev pub Submits : Shape → Holding → Submission → Holding → Outcome → Type 0
-Submits shape Empty its value outcome = ⊥
-Submits shape (Ready ready) its value outcome = Hands shape (its.number == ready.part.private.begun) ready its.job value outcome
-Submits shape (Climb climb) its value outcome = GoesOn climb value outcome
-Submits shape (Held held) its value outcome = GoesOn held value outcome
+-- SUBMIT: a last number that is answered again leaves the worker as it was.
+abbrev pub HandsOver : Shape → Bool → seat.Stand → Job → Holding → Outcome → Type 0
+HandsOver shape true ready job value became = Repeats shape ready value became
+HandsOver shape false ready job value became = Enters ready.part.entries job.script value became
 
--- RESUME: the worker goes on with the job that it has.
-abbrev pub Resumes : Holding → Holding → Outcome → Type 0
-Resumes (Climb climb) value outcome = GoesOn climb value outcome
-Resumes (Held held) value outcome = GoesOn held value outcome
-Resumes other value outcome = ⊥
+abbrev pub SubmitEnters : Shape → Holding → Submission → Holding → Outcome → Type 0
+SubmitEnters shape (Ready ready) its value became = HandsOver shape (its.number == ready.part.private.begun) ready its.job value became
+SubmitEnters shape start its value became = Enters (entries_in (held_by start)) its.job.script value became
 
--- WITHDRAW: the worker that waited is ready, its job's number is given up, and its entries are as they were.
-abbrev pub Withdraws : Holding → Holding → ℕ → Type 0
-Withdraws (Climb climb) (Ready ready) number =
-    (climb.part.private.begun ≡ number) × (ready.part.private.begun ≡ number) × (ready.part.entries ≡ climb.part.entries) × (ready.part.worker ≡ climb.part.worker)
-Withdraws other value number = ⊥
+-- RESUME: the job is the one that was pending.
+abbrev pub ResumeEnters : Holding → Holding → Outcome → Type 0
+ResumeEnters start value became = Enters (entries_in (held_by start)) (draft_script (draft_in (held_by start))) value became
 
--- LAST: the worker's last receipt; None after a withdrawal, and where it has none.
-abbrev pub Lasts : Shape → Holding → Option Receipt → Type 0
-Lasts shape (Ready ready) receipt = IsLast shape ready.part receipt
-Lasts shape other receipt = ⊥
+-- LAST: the worker's word `place`, as it was read, tells whether its last number was withdrawn.
+abbrev pub HasLast : Shape → Holding → Option Receipt → Type 0
+HasLast shape (Ready ready) receipt = IsLast shape ready.part receipt
+HasLast shape other receipt = ⊥
 
--- A worker that falls made exactly as many own steps as were planned, and is let go; the session has no worker then, and
--- nothing is planned. Without a fall the crash comes sooner by the steps that the worker made. Either way nothing was done to
--- the worker but its own steps, behind what the order lets stand before them.
-abbrev pub IsLeft : Shape → (Part → Part) → Stand → Stand → Outcome → Option seat.Stand → Type 0
-IsLeft shape lead old now Fell let_go = Falls shape lead old.planned (held_by old.value) let_go × (now ≡ nobody)
-IsLeft shape lead old now outcome let_go = IsSpared shape lead old.planned (held_by old.value) now.planned (held_by now.value) × (let_go ≡ None)
+-- Nothing was done to the worker but these own steps, behind what the order lets stand before them; one that fell is let go.
+abbrev pub IsWalked : Shape → (Part → Part) → ℕ → Stand → Stand → Outcome → Option seat.Stand → Type 0
+IsWalked shape lead made old now outcome.Fell let_go = WentOn shape lead (held_by old.value) let_go made
+IsWalked shape lead made old now became let_go = WentOn shape lead (held_by old.value) (held_by now.value) made × (let_go ≡ None)
 
--- What an order that is not refused does, its answer, and the Down of the worker that is let go. A job that is submitted, or
--- that the worker goes on with, waits only after all its tries. DETACH lets the worker go as it was.
-abbrev pub Does : seat.Ident → Stand → Order → Stand → SessionReply → Option seat.Stand → Type 0
-Does ident old (order.Attach worker) now answer let_go = AnswersOf ident worker now.value answer × TakesOut ident worker now.value × (now.planned ≡ Nothing) × (let_go ≡ None)
-Does ident old (order.Submit its) now (reply.Submitted outcome) let_go =
-    Submits ident.shape old.value its now.value outcome × IsLeft ident.shape (lead_of old.value its.job) old now outcome let_go × IsTried its.tries (steps_of old.value) now.value outcome
-Does ident old (order.Resume tries) now (reply.Resumed outcome) let_go =
-    Resumes old.value now.value outcome × IsLeft ident.shape onward old now outcome let_go × IsTried tries (steps_of old.value) now.value outcome
-Does ident old order.Withdraw now (reply.Withdrew number) let_go =
-    Withdraws old.value now.value number × IsSpared ident.shape withdrawing old.planned (held_by old.value) now.planned (held_by now.value) × (let_go ≡ None)
-Does ident old order.Withdraw now reply.WithdrawFell let_go = Falls ident.shape withdrawing old.planned (held_by old.value) let_go × (now ≡ nobody)
-Does ident old order.Last now (reply.Last receipt) let_go = Lasts ident.shape old.value receipt × (now ≡ old) × (let_go ≡ None)
-Does ident old (order.CrashAfter steps) now reply.CrashPlanned let_go = (now ≡ record { value = old.value; planned = After steps }) × (let_go ≡ None)
-Does ident old order.Detach now reply.Detached let_go = (now ≡ nobody) × (let_go ≡ held_by old.value)
-Does ident old its now answer let_go = ⊥
+-- So each order, with the Down of the worker that it lets go. A refused one leaves all. DETACH lets the worker go as it was.
+abbrev pub Adds : seat.Ident → ℕ → ℕ → Stand → Order → Stand → SessionReply → Option seat.Stand → Type 0
+Adds ident count made old its now (reply.Refused why) let_go = (now ≡ old) × IsOfSlot count ident.shape its why × (let_go ≡ None)
+Adds ident count made old (order.Attach worker) now answer let_go = TakesOut ident worker now.value × (let_go ≡ None)
+Adds ident count made old (order.Submit its) now (reply.Submitted became) let_go =
+    SubmitEnters ident.shape old.value its now.value became × IsWalked ident.shape (lead_of old.value its.job) made old now became let_go
+Adds ident count made old (order.Resume tries) now (reply.Resumed became) let_go =
+    ResumeEnters old.value now.value became × IsWalked ident.shape onward made old now became let_go
+Adds ident count made old order.Withdraw now (reply.Withdrew number) let_go =
+    (entries_in (held_by now.value) ≡ entries_in (held_by old.value)) × WentOn ident.shape withdrawing (held_by old.value) (held_by now.value) made × (let_go ≡ None)
+Adds ident count made old order.Withdraw now reply.WithdrawFell let_go = WentOn ident.shape withdrawing (held_by old.value) let_go made
+Adds ident count made old order.Last now (reply.Last receipt) let_go = HasLast ident.shape old.value receipt × (now ≡ old) × (let_go ≡ None)
+Adds ident count made old (order.CrashAfter steps) now answer let_go = (now.value ≡ old.value) × (let_go ≡ None)
+Adds ident count made old order.Detach now answer let_go = let_go ≡ held_by old.value
+Adds ident count made old its now answer let_go = ⊥
 
--- Among so many slots the one of a worker that may be attached is empty, or there is none.
-abbrev pub SlotRefuses : ℕ → Shape → Holding → Order → Refusal → Type 0
-SlotRefuses count shape value (order.Attach worker) Taken = (attach_refusal shape worker value ≡ None) × (worker < count)
-SlotRefuses count shape value (order.Attach worker) NoWorker = (attach_refusal shape worker value ≡ None) × (count ≤ worker)
-SlotRefuses count shape value its why = ⊥
-
--- A session of this service, which has so many slots, obeyed an order: it refused it, for the reason that the order has
--- there, and is as it was; or the order is not refused there, and did what it does. It let this worker go, if any.
-abbrev pub Acts : seat.Ident → ℕ → Stand → Order → Stand → SessionReply → Option seat.Stand → Type 0
-Acts ident count old its now (reply.Refused why) let_go =
-    ((now ≡ old) × (let_go ≡ None)) × (Refuses ident.shape old.value its (Some why) ⊎ SlotRefuses count ident.shape old.value its why)
-Acts ident count old its now answer let_go = Refuses ident.shape old.value its None × Does ident old its now answer let_go
+-- A session of this service, which has so many slots, obeyed an order, and let this worker go, if any. What it shows obeyed,
+-- by the own steps that its worker made; a receipt that it shows is that of the worker's last entry.
+pub record Acts (ident : seat.Ident) (count : ℕ) (old : Stand) (its : Order) (now : Stand) (answer : SessionReply) (let_go : Option seat.Stand) : Type 0 where
+  pub made : ℕ
+  pub before : Option Receipt
+  pub after : Option Receipt
+  pub obeys : ObeysBy ident.shape made (view_of before old) its (view_of after now) answer
+  pub told_before : Tells old.value before
+  pub told_after : Tells now.value after
+  pub adds : Adds ident count made old its now answer let_go
 
 -- The same, whatever worker was let go, if any was.
 pub record Obeys (ident : seat.Ident) (count : ℕ) (old : Stand) (its : Order) (now : Stand) (answer : SessionReply) : Type 0 where
   pub let_go : Option seat.Stand
   pub acts : Acts ident count old its now answer let_go
-
--- What the session holds after work, what is answered of it, and the worker that fell.
-abbrev pub Settles : Result (Holding × Outcome) seat.Stand → Planned → Stand → Outcome → Option seat.Stand → Type 0
-Settles (Ok done) planned now outcome let_go = (now ≡ record { value = done.0; planned = planned }) × (outcome ≡ done.1) × (let_go ≡ None)
-Settles (Err down) planned now outcome let_go = (now ≡ nobody) × (outcome ≡ Fell) × (let_go ≡ Some down)

@@ -1,10 +1,10 @@
--- The crash that a client plans.
-use Rattle.std.specs.Prelude.{◌≡◌, ℕ, ◌+◌, ◌-◌, ◌<◌, Some, None}
+-- The crash that a client plans, as a Chance.
+use Rattle.std.specs.Prelude.{◌-◌, Some, None}
 use Rattle.rme_seats.specs.Chances.{Tally}
-use Rattle.rme_server.specs.declared.planned.Countdown.{Countdown}
-use Rattle.rme_server.specs.declared.planned.Countdown.TheVariants.{Runs, Fallen}
-use Rattle.rme_server.specs.declared.planned.Planned.{Planned}
-use Rattle.rme_server.specs.declared.planned.Planned.TheVariants.{Nothing, After}
+use Rattle.rme_orders.specs.declared.planned.Countdown.{Countdown}
+use Rattle.rme_orders.specs.declared.planned.Countdown.TheVariants.{Runs, Fallen}
+use Rattle.rme_orders.specs.declared.planned.Planned.{Planned}
+use Rattle.rme_orders.specs.declared.planned.Planned.TheVariants.{Nothing, After}
 
 -- What contracts see of a plan. It answers yes once: where nothing is planned, it has. Its questions are counted so that it
 -- has been asked 2^32 times when its yes is due; a plan counts by 32 bits.
@@ -18,21 +18,3 @@ abbrev pub tally_by : Countdown → Tally
 tally_by (Runs Nothing) = record { yeses = 2; questions = None }
 tally_by (Runs (After left)) = record { yeses = 0; questions = Some (4294967296 - left) }
 tally_by Fallen = record { yeses = 1; questions = Some 4294967297 }
-
--- What is planned then: a fall uses the plan up.
-abbrev pub left_of : Countdown → Planned
-left_of (Runs planned) = planned
-left_of Fallen = Nothing
-
--- What so many own steps without a fall leave of a plan: the crash comes so many steps sooner. Where nothing was planned,
--- nothing is.
-abbrev pub Leaves : Planned → ℕ → Planned → Type 0
-Leaves Nothing made Nothing = Unit {0}
-Leaves Nothing made (After rest) = ⊥
-Leaves (After left) made Nothing = ⊥
-Leaves (After left) made (After rest) = left < 4294967296 → left ≡ rest + made
-
--- A crash is due after exactly as many own steps as were planned.
-abbrev pub IsDue : Planned → ℕ → Type 0
-IsDue Nothing made = ⊥
-IsDue (After left) made = left < 4294967296 → made ≡ left

@@ -1,11 +1,15 @@
 -- What becomes of a worker that is attached.
-use Rattle.std.specs.Prelude.{◌≡◌, ℕ, ◌+◌}
+use Rattle.std.specs.Prelude.{◌≡◌, ℕ, ◌+◌, false}
 use Rattle.rme_words.specs.declared.shape.Shape.{Shape}
 use Rattle.rme_seats.specs.declared.record.Part.{Part}
 use Rattle.rme_seats.specs.Parts.{onward, restarted}
 use Rattle.rme_seats.specs.Stands.{Ident, Stand}
-use Rattle.rme_table.specs.Calls.{recover_steps}
+use Rattle.rme_table.specs.Calls.{is_over, recover_steps}
 use Rattle.rme_table.specs.declared.kinds.Stance.TheVariants as stance
+use Rattle.rme_texts.specs.declared.session.Standing.{Standing}
+use Rattle.rme_texts.specs.declared.session.Standing.TheVariants as at
+use Rattle.rme_texts.specs.declared.session.SessionReply.{SessionReply}
+use Rattle.rme_texts.specs.declared.session.SessionReply.TheVariants.{Attached}
 use Rattle.rme_server.specs.Slots.{IsOf}
 use Rattle.rme_server.specs.Works.{HasWalked}
 use Rattle.rme_server.specs.declared.stand.Holding.{Holding}
@@ -34,3 +38,14 @@ ComesOut shape held value = ⊥
 -- The Down of this worker was taken out of its slot, and came up.
 abbrev pub TakesOut : Ident → ℕ → Holding → Type 0
 TakesOut ident worker value = (down : Stand) × IsOf ident worker down × ComesUp ident.shape down value
+
+-- ATTACH: the session holds this worker, and the answer says its number and what it is at.
+abbrev pub Attaches : Ident → ℕ → Holding → ℕ → Standing → Type 0
+Attaches ident worker (Ready ready) number at.Ready = IsOf ident worker ready × (ready.part.private.begun ≡ number)
+Attaches ident worker (Climb climb) number at.Climb = IsOf ident worker climb × (climb.part.private.begun ≡ number)
+Attaches ident worker (Held held) number at.Held = IsOf ident worker held × (held.part.private.begun ≡ number) × (is_over held.part.private.stage ≡ false)
+Attaches ident worker value number standing = ⊥
+
+abbrev pub AnswersOf : Ident → ℕ → Holding → SessionReply → Type 0
+AnswersOf ident worker value (Attached number standing) = Attaches ident worker value number standing
+AnswersOf ident worker value answer = ⊥

@@ -1,39 +1,8 @@
--- What the lines of a session are answered.
-use Rattle.std.specs.Prelude.{◌≡◌, ℕ, ◌-◌, Bool, true, false, List, [], ◌∷◌, ◌++◌, Option, Some, None}
-use Rattle.rme_words.specs.declared.refusal.Refusal.TheVariants.{BadLine, LineTooLong}
-use Rattle.rme_seats.specs.Stands.{Ident}
-use Rattle.rme_texts.specs.declared.session.Outcome.TheVariants.{Waiting}
-use Rattle.rme_texts.specs.declared.session.SessionReply.{SessionReply}
-use Rattle.rme_texts.specs.declared.session.SessionReply.TheVariants.{Submitted, Resumed, Refused}
-use Rattle.rme_texts.specs.Sessions.{session_text}
+-- What is left where a line of a session has no reply.
+use Rattle.std.specs.Prelude.{ℕ, List, [], Option}
 use Rattle.rme_lines.specs.declared.fault.EngineFault.{EngineFault}
 use Rattle.rme_lines.specs.declared.fault.EngineFault.TheVariants.{ReadFailed, WriteFailed, NoMemory}
-use Rattle.rme_lines.specs.Pieces.{InputLine, text, too_long}
 use Rattle.rme_lines.specs.Puts.{AppendsFront, Gathers}
-use Rattle.rme_wire.specs.declared.order.Order.{Order}
-use Rattle.rme_wire.specs.declared.order.Order.TheVariants.{Submit, Resume}
-use Rattle.rme_wire.specs.Orders.{order_of_line}
-use Rattle.rme_server.specs.Obeyed.{Obeys}
-use Rattle.rme_server.specs.declared.stand.Stand.{Stand}
-
--- An answer and its newline.
-abbrev pub session_line : List (List ℕ) → SessionReply → List ℕ
-session_line names reply = session_text names reply ++ 10 ∷ []
-
--- A line that is an order of this service, which has so many slots, is obeyed; one that is none is a bad line, and the
--- session is as it was.
-abbrev pub RepliesTo : Ident → ℕ → Stand → Option Order → SessionReply → Stand → Type 0
-RepliesTo ident count old None reply now = (reply ≡ Refused BadLine) × (now ≡ old)
-RepliesTo ident count old (Some its) reply now = Obeys ident count old its now reply
-
--- The reply to a line, where the service's locks have these names. A line that is too long leaves the session as it was.
-abbrev pub Replies : Ident → ℕ → List (List ℕ) → Stand → InputLine → SessionReply → Stand → Type 0
-Replies ident count names old too_long reply now = (reply ≡ Refused LineTooLong) × (now ≡ old)
-Replies ident count names old (text bytes) reply now = RepliesTo ident count old (order_of_line names bytes) reply now
-
--- A line is answered by the text of its reply and a newline.
-abbrev pub IsAnswered : Ident → ℕ → List (List ℕ) → Stand → InputLine → List ℕ → Stand → Type 0
-IsAnswered ident count names old line bytes now = (reply : SessionReply) × Replies ident count names old line reply now × (bytes ≡ session_line names reply)
 
 -- What was written of the answers that were kept back where a line has no reply: for want of memory the others are kept
 -- back still, and where the writer failed a front of them was written.
@@ -41,25 +10,3 @@ abbrev pub Breaks : EngineFault → Option (List ℕ) → List ℕ → Option (L
 Breaks ReadFailed held kept holds keeps = ⊥
 Breaks NoMemory held kept holds keeps = Gathers held kept [] holds keeps
 Breaks WriteFailed held kept holds keeps = AppendsFront held holds kept
-
--- An order that is obeyed in two parts: with one of its tries, and by going on with those that are left.
-abbrev pub first_of : Order → Order
-first_of (Submit its) = Submit record { number = its.number; job = its.job; tries = 1 }
-first_of (Resume tries) = Resume 1
-first_of its = its
-
-abbrev pub rest_of : Order → ℕ
-rest_of (Submit its) = its.tries - 1
-rest_of (Resume tries) = tries - 1
-rest_of its = 0
-
--- The job waits for its lock still.
-abbrev pub still_waits : SessionReply → Bool
-still_waits (Submitted Waiting) = true
-still_waits (Resumed Waiting) = true
-still_waits reply = false
-
--- What the second part came to, as an answer to the order.
-abbrev pub answer_as : SessionReply → SessionReply → SessionReply
-answer_as (Submitted first) (Resumed last) = Submitted last
-answer_as first last = last

@@ -4,19 +4,20 @@ use Rattle.rme_words.specs.declared.shape.Shape.{Shape}
 use Rattle.rme_seats.specs.declared.record.Part.{Part}
 use Rattle.rme_seats.specs.Parts.{onward, submitted}
 use Rattle.rme_seats.specs.Stands.{Stand}
-use Rattle.rme_table.specs.Calls.{post_refusal}
 use Rattle.rme_table.specs.declared.driving.Driven.{Driven}
 use Rattle.rme_table.specs.declared.driving.Driven.TheVariants as driven
 use Rattle.rme_texts.specs.declared.session.Outcome.{Outcome}
 use Rattle.rme_texts.specs.declared.session.Outcome.TheVariants as outcome
 use Rattle.rme_wire.specs.declared.order.Submission.{Submission}
-use Rattle.rme_server.specs.Refusals.{PendingRefuses}
-use Rattle.rme_server.specs.Stands.{held_by}
+use Rattle.rme_orders.specs.Refusals.{PendingRefuses, job_refusal}
+use Rattle.rme_orders.specs.declared.planned.Countdown.{Countdown}
+use Rattle.rme_orders.specs.declared.planned.Countdown.TheVariants.{Runs, Fallen}
+use Rattle.rme_orders.specs.declared.planned.Planned.{Planned}
+use Rattle.rme_server.specs.Stands.{held_by, nobody}
 use Rattle.rme_server.specs.Works.{Falls, GoesOn, IsSpared, Repeats, Works, next_task}
-use Rattle.rme_server.specs.declared.planned.Countdown.{Countdown}
-use Rattle.rme_server.specs.declared.planned.Countdown.TheVariants.{Runs, Fallen}
 use Rattle.rme_server.specs.declared.stand.Holding.{Holding}
 use Rattle.rme_server.specs.declared.stand.Holding.TheVariants as holds
+use Rattle.rme_server.specs.declared.stand.Stand.{Stand as Standing}
 use Rattle.rme_server.specs.declared.work.Work.{Work}
 use Rattle.rme_server.specs.declared.work.Work.TheVariants.{Repeat, Post, GoIn, GoOn}
 
@@ -32,7 +33,7 @@ holding_of (GoOn held) = holds.Held held
 abbrev pub IsSubmitted : Shape → Submission → Work → Type 0
 IsSubmitted shape its (Repeat ready) = (0 < its.number) × (its.number ≡ ready.part.private.begun)
 IsSubmitted shape its (Post admitted tries) =
-    (its.number ≡ admitted.ready.part.private.begun + 1) × (admitted.job ≡ its.job) × (post_refusal shape admitted.ready.part.private.begun its.job ≡ None)
+    (its.number ≡ admitted.ready.part.private.begun + 1) × (admitted.job ≡ its.job) × (job_refusal shape admitted.ready.part.private.begun its.job ≡ None)
 IsSubmitted shape its (GoIn climb tries) = PendingRefuses climb.part.private.begun climb.part.draft its None
 IsSubmitted shape its (GoOn held) = PendingRefuses held.part.private.begun held.part.draft its None
 
@@ -82,3 +83,15 @@ FallsBy shape lead Fallen start down = Unit {0}
 abbrev pub Spends : Shape → (Part → Part) → Countdown → Option Stand → Countdown → Result (Holding × Outcome) Stand → Type 0
 Spends shape lead old start now worked =
     MatchResult worked (λ (done : Holding × Outcome). Spares shape lead old start now (held_by done.0)) (λ (down : Stand). FallsBy shape lead old start (Some down))
+
+-- What the session holds after work, what is answered of it, and the worker that fell.
+abbrev pub Settles : Result (Holding × Outcome) Stand → Planned → Standing → Outcome → Option Stand → Type 0
+Settles (Ok done) planned now became let_go = (now ≡ record { value = done.0; planned = planned }) × (became ≡ done.1) × (let_go ≡ None)
+Settles (Err down) planned now became let_go = (now ≡ nobody) × (became ≡ outcome.Fell) × (let_go ≡ Some down)
+
+-- A worker that falls made exactly as many own steps as were planned, and is let go; the session has no worker then, and
+-- nothing is planned. Without a fall the crash comes sooner by the steps that the worker made. Either way nothing was done to
+-- the worker but its own steps, behind what stands before them.
+abbrev pub IsThrough : Shape → (Part → Part) → Standing → Standing → Outcome → Option Stand → Type 0
+IsThrough shape lead old now outcome.Fell let_go = Falls shape lead old.planned (held_by old.value) let_go × (now ≡ nobody)
+IsThrough shape lead old now became let_go = IsSpared shape lead old.planned (held_by old.value) now.planned (held_by now.value) × (let_go ≡ None)

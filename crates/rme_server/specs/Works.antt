@@ -1,5 +1,5 @@
 -- What becomes of a worker's job within one order.
-use Rattle.std.specs.Prelude.{◌≡◌, ℕ, ◌+◌, ◌≤◌, Bool, true, false, length, List, [], ◌∷◌, ◌++◌, Option, Some, None, Result, MatchResult}
+use Rattle.std.specs.Prelude.{◌≡◌, ℕ, ◌+◌, ◌≤◌, length, List, [], ◌∷◌, ◌++◌, Option, Some, None, Result, MatchResult}
 use Rattle.rme_words.specs.declared.shape.Shape.{Shape}
 use Rattle.rme_script.specs.declared.job.Job.{Job}
 use Rattle.rme_program.specs.declared.note.Entry.{Entry}
@@ -10,17 +10,13 @@ use Rattle.rme_seats.specs.Stands.{Stand}
 use Rattle.rme_table.specs.Calls.{IsLast, last_receipt}
 use Rattle.rme_texts.specs.declared.session.Outcome.{Outcome}
 use Rattle.rme_texts.specs.declared.session.Outcome.TheVariants as outcome
-use Rattle.rme_server.specs.Plans.{IsDue, Leaves}
-use Rattle.rme_server.specs.Stands.{held_by}
-use Rattle.rme_server.specs.declared.planned.Planned.{Planned}
+use Rattle.rme_orders.specs.Plans.{IsDue, Leaves}
+use Rattle.rme_orders.specs.Sights as sight
+use Rattle.rme_orders.specs.Sights.{Task}
+use Rattle.rme_orders.specs.declared.planned.Planned.{Planned}
+use Rattle.rme_server.specs.Stands.{held_by, shown_pending, shown_ready}
 use Rattle.rme_server.specs.declared.stand.Holding.{Holding}
 use Rattle.rme_server.specs.declared.stand.Holding.TheVariants.{Empty, Ready, Climb}
-
--- A worker's job, which is pending or is posted now, with its number.
-pub record Task : Type 0 where
-  pub worker : ℕ
-  pub number : ℕ
-  pub job : Job
 
 -- The entry is that of this job.
 pub record IsEntryOf (task : Task) (entry : Entry) : Type 0 where
@@ -53,10 +49,10 @@ Works task before value its = ⊥
 
 -- The job that a worker has, and the next one.
 abbrev pub its_task : Stand → Job → Task
-its_task start job = record { worker = start.part.worker; number = start.part.private.begun; job = job }
+its_task start job = sight.its_task (shown_pending start) job
 
 abbrev pub next_task : Stand → Job → Task
-next_task start job = record { worker = start.part.worker; number = start.part.private.begun + 1; job = job }
+next_task start job = sight.next_task (shown_ready None start) job
 
 -- The worker waits with the job that it had.
 pub record StillAwaits (start climb : Stand) : Type 0 where
@@ -78,11 +74,6 @@ abbrev pub Repeats : Shape → Stand → Holding → Outcome → Type 0
 Repeats shape start value (outcome.Receipt receipt) = (value ≡ Ready start) × (last_receipt start.part.entries ≡ Some receipt) × IsLast shape start.part (Some receipt)
 Repeats shape start value outcome.Withdrawn = (value ≡ Ready start) × IsLast shape start.part None
 Repeats shape start value its = ⊥
-
--- A worker that is ready is handed a job: it is a repetition, or it is posted with the next number.
-abbrev pub Hands : Shape → Bool → Stand → Job → Holding → Outcome → Type 0
-Hands shape true start job value its = Repeats shape start value its
-Hands shape false start job value its = Works (next_task start job) start.part.entries value its
 
 -- How work ended, where a fall leaves the session without a worker.
 abbrev pub IsUp : Outcome → Type 0

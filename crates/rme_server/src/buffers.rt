@@ -1,7 +1,7 @@
 //! The lines that a session takes, and the texts of its answers.
 
 ghost use Rattle.std.specs.Prelude.{◌≡◌, ◌++◌, OnOk, string_bytes};
-ghost use Rattle.rme_server.specs.Sessions.{session_line};
+ghost use Rattle.rme_orders.specs.Sessions.{session_line};
 
 use rme_wire::{EngineFault, Exchange, Names, SessionReply, Sink, push_session_reply};
 use std::alloc::{AllocError, Global};
@@ -20,7 +20,7 @@ impl Buffers {
     ghost use Rattle.std.specs.Prelude.{◌≡◌, ◌≢◌, ◌++◌, [], IfOk, IfErr, OnOk};
     ghost use Rattle.rme_lines.specs.Puts.{AppendsFront, Gathers};
     ghost use Rattle.rme_lines.specs.Traffic.{LastWriteFails, MakesWrites};
-    ghost use Rattle.rme_server.specs.Sessions.{session_line};
+    ghost use Rattle.rme_orders.specs.Sessions.{session_line};
 
     pub(crate) fn new(alloc: Global) -> Result<Buffers, AllocError>
         ensures { IfOk result (λ buffers. buffers.exchange.pending ≡ []) }

@@ -10,17 +10,18 @@ ghost use Rattle.rme_wire.specs.declared.order.Order.TheVariants as order;
 ghost use Rattle.rme_server.specs.Slots.{IsOf};
 ghost use Rattle.rme_server.specs.Stands.{HasSlot, MayHold, MayWork};
 ghost use Rattle.rme_server.specs.declared.stand.Holding.TheVariants as spec;
-ghost use Rattle.rme_server.specs.declared.planned.Planned.TheVariants as planned;
-ghost use Rattle.rme_server.specs.Tasks.{HasTries, Makes, holding_of, lead_by};
-ghost use Rattle.rme_server.specs.Rises.{ComesOut, ComesUp, KeepsAll};
+ghost use Rattle.rme_orders.specs.declared.planned.Planned.TheVariants as planned;
+ghost use Rattle.rme_server.specs.Tasks.{HasTries, IsThrough, Makes, Settles, holding_of, lead_by};
+ghost use Rattle.rme_server.specs.Rises.{AnswersOf, ComesOut, ComesUp, KeepsAll};
 ghost use Rattle.rme_server.specs.Works.{IsTried, steps_of};
-ghost use Rattle.rme_server.specs.Obeyed.{Acts, AnswersOf, IsLeft, Obeys, Settles};
+ghost use Rattle.rme_server.specs.Obeyed.{Acts, Obeys};
 
-use crate::planned::{Countdown, Planned};
+use crate::planned::Counting;
 use crate::refusal::{Refused, to_attach, to_hold, to_resume, to_submit, to_tell, to_withdraw};
 use crate::slots::Slots;
 use crate::stand::{Holding, Stand};
 use crate::work::{Work, Worked, carry_out};
+use rme_orders::{Countdown, Planned};
 use rme_table::{Climb, Down, Held, Leave, Never, Ready, Service, Stance, Tag};
 use rme_wire::{Order, Outcome, SessionReply, Standing, Submission};
 use std::sync::Wait;
@@ -148,12 +149,14 @@ fn make<K: Tag>(
     requires ours { MayHold K.ident slots.now (holding_of work) }
     ensures ours { MayHold K.ident slots.now result.0.value }
     ensures slot { IfSome result.2 (HasSlot K.ident slots.now) }
-    ensures did { Makes service.now.shape work result.0.value result.1 × IsLeft service.now.shape (lead_by work) (record { value = holding_of work; planned = planned }) result.0 result.1 result.2 }
+    ensures did { Makes service.now.shape work result.0.value result.1 × IsThrough service.now.shape (lead_by work) (record { value = holding_of work; planned = planned }) result.0 result.1 result.2 }
     ensures tried { (most : ℕ) → HasTries most work → IsTried most (steps_of (holding_of work)) result.0.value result.1 }
 {
-    let mut countdown = Countdown::Runs(planned);
-    let worked = carry_out(work, &mut countdown, service);
-    settle(worked, countdown.left(), slots)
+    let mut counting = Counting {
+        countdown: Countdown::Runs(planned),
+    };
+    let worked = carry_out(work, &mut counting, service);
+    settle(worked, counting.countdown.left(), slots)
 }
 
 /// Where the session stands after work: a worker that fell is let go, and its plan is used up.
@@ -290,12 +293,14 @@ fn withdraw<K: Tag>(stand: Stand, service: &Service, slots: &Slots<K>) -> Acted
         Ok(climb) => climb,
         Err(refused) => return refuse(refused, planned),
     };
-    let mut countdown = Countdown::Runs(planned);
-    match climb.withdraw(service, &mut countdown) {
+    let mut counting = Counting {
+        countdown: Countdown::Runs(planned),
+    };
+    match climb.withdraw(service, &mut counting) {
         Ok(ready) => {
             let number = ready.number();
             let value = Holding::Ready(ready);
-            let planned = countdown.left();
+            let planned = counting.countdown.left();
             let stand = Stand { value, planned };
             (stand, SessionReply::Withdrew(number), None)
         }

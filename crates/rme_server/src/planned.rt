@@ -1,75 +1,41 @@
-//! The crash that a client plans.
+//! The crash that a client plans, as a Chance of the running service: it is asked before each own step.
 
+use rme_orders::{Countdown, Planned};
 use rme_table::Chance;
 
-/// A planned crash of a session's worker.
-///
-/// It is asked before each own step, and counts down. Once it has let the worker fall nothing is planned.
+/// A planned crash, as a Chance. Once it has let a worker fall nothing is planned.
 #[derive(Clone, Copy, PartialEq, Eq)]
-pub enum Planned {
-    /// No crash is planned.
-    Nothing,
-    /// The worker falls after so many further own steps.
-    After(u32),
+pub struct Plan {
+    pub planned: Planned,
 }
 
-impl Chance for Planned {
+impl Chance for Plan {
     ghost use Rattle.rme_server.specs.Plans.{tally_of};
+    ghost use Rattle.rme_server.specs.declared.planned.Plan.{Plan};
 
-    ghost tally = { tally_of };
+    ghost tally = { λ (plan : Plan). tally_of plan.planned };
 
     fn falls(&mut self) -> bool {
-        let mut countdown = Countdown::Runs(*self);
-        let falls = countdown.falls();
-        *self = countdown.left();
+        let mut countdown = Countdown::Runs(self.planned);
+        let falls = countdown.ask();
+        self.planned = countdown.left();
         falls
     }
 }
 
-/// A plan that a session's worker works by. It tells, after a fall, that the crash came when it was due.
-#[derive(Clone, Copy, PartialEq, Eq)]
-pub(crate) enum Countdown {
-    /// The worker did not fall.
-    Runs(Planned),
-    /// The worker fell at the last question. A worker that fell asks nothing more: one that asked would fall again.
-    Fallen,
+/// A plan that a session's worker works by, as a Chance.
+#[derive(Drop)]
+pub(crate) struct Counting {
+    pub(crate) countdown: Countdown,
 }
 
-impl Countdown {
-    ghost use Rattle.std.specs.Prelude.{◌≡◌};
-    ghost use Rattle.rme_server.specs.Plans.{left_of};
-
-    /// What is planned then: after a fall nothing is.
-    pub(crate) fn left(self) -> Planned
-        ensures { result ≡ left_of self }
-    {
-        match self {
-            Countdown::Runs(planned) => planned,
-            Countdown::Fallen => Planned::Nothing,
-        }
-    }
-}
-
-impl Chance for Countdown {
+impl Chance for Counting {
     ghost use Rattle.rme_server.specs.Plans.{tally_by};
+    ghost use Rattle.rme_server.specs.declared.planned.Counting.{Counting};
 
-    ghost tally = { tally_by };
+    ghost tally = { λ (counting : Counting). tally_by counting.countdown };
 
     fn falls(&mut self) -> bool {
-        match *self {
-            Countdown::Runs(Planned::Nothing) => false,
-            Countdown::Runs(Planned::After(0)) => {
-                *self = Countdown::Fallen;
-                true
-            }
-            Countdown::Runs(Planned::After(left)) => {
-                *self = Countdown::Runs(Planned::After(left - 1));
-                false
-            }
-            Countdown::Fallen => {
-                *self = Countdown::Runs(Planned::Nothing);
-                true
-            }
-        }
+        self.countdown.ask()
     }
 }

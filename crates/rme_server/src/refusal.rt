@@ -3,15 +3,15 @@
 //! Each order takes what the session holds by value: what is refused gives it back, and what is not gives the step that
 //! is to be made of it.
 
-ghost use Rattle.std.specs.Prelude.{◌≡◌, ◌≢◌, ◌≤◌, ◌+◌, ℕ, Some, None, IfOk, IfErr, OnOk};
-ghost use Rattle.rme_server.specs.Stands.{MayHold};
-ghost use Rattle.rme_server.specs.Refusals as spec;
+ghost use Rattle.std.specs.Prelude.{◌≡◌, ℕ, Some, None, IfOk, IfErr, OnOk};
+ghost use Rattle.rme_orders.specs.Refusals as spec;
+ghost use Rattle.rme_server.specs.Stands.{MayHold, session_of};
 ghost use Rattle.rme_server.specs.Tasks.{HasTries, IsResumed, IsSubmitted, holding_of};
 ghost use Rattle.rme_server.specs.declared.stand.Holding.TheVariants as holds;
 
 use crate::stand::Holding;
 use crate::work::Work;
-use rme_script::Job;
+use rme_orders::{Asked, asked_of_ready, pending_refusal};
 use rme_table::{Climb, Held, Ready, Service};
 use rme_wire::Submission;
 use rme_words::{Refusal, Shape};
@@ -21,8 +21,8 @@ pub(crate) type Refused = (Holding, Refusal);
 
 /// A session that is asked to attach a worker has none.
 pub(crate) fn to_attach(value: Holding, worker: u32, shape: Shape) -> Result<(), Refused>
-    ensures none { OnOk result ((value ≡ holds.Empty) × (spec.attach_refusal shape worker value ≡ None)) }
-    ensures refused { IfErr result (λ refused. (refused.0 ≡ value) × (spec.attach_refusal shape worker value ≡ Some refused.1)) }
+    ensures none { OnOk result ((value ≡ holds.Empty) × (spec.attach_refusal shape worker (session_of None value) ≡ None)) }
+    ensures refused { IfErr result (λ refused. (refused.0 ≡ value) × (spec.attach_refusal shape worker (session_of None value) ≡ Some refused.1)) }
 {
     if worker >= shape.workers() {
         return Err((value, Refusal::NoWorker));
@@ -42,7 +42,7 @@ pub(crate) fn to_submit(
     requires ours { (count : ℕ) × MayHold service.now count value }
     ensures work { IfOk result (λ work. (holding_of work ≡ value) × IsSubmitted service.now.shape submission.now work) }
     ensures tries { IfOk result (HasTries submission.now.tries) }
-    ensures refused { IfErr result (λ refused. (refused.0 ≡ value) × spec.SubmitRefuses service.now.shape value submission.now (Some refused.1)) }
+    ensures refused { IfErr result (λ refused. (refused.0 ≡ value) × spec.SubmitRefuses service.now.shape (session_of None value) submission.now (Some refused.1)) }
 {
     match value {
         Holding::Empty => Err((Holding::Empty, Refusal::NotAttached)),
@@ -60,27 +60,14 @@ fn to_post(ready: Ready, submission: &Submission, service: &Service) -> Result<W
     ensures tries { IfOk result (HasTries submission.now.tries) }
     ensures refused { IfErr result (λ refused. (refused.0 ≡ holds.Ready ready) × (spec.posting_refusal service.now.shape ready.part.private.begun submission.now ≡ Some refused.1)) }
 {
-    let last = ready.number();
-    let next = next_after(last, service.shape());
-    if submission.number == next {
-        return match ready.admit(service, submission.job) {
+    match asked_of_ready(ready.number(), submission, service.shape()) {
+        Ok(Asked::Post) => match ready.admit(service, submission.job) {
             Ok(admitted) => Ok(Work::Post(admitted, submission.tries)),
             Err((ready, why)) => Err((Holding::Ready(ready), why)),
-        };
+        },
+        Ok(Asked::Repeat) => Ok(Work::Repeat(ready)),
+        Err(why) => Err((Holding::Ready(ready), why)),
     }
-    if submission.number > 0 && submission.number == last {
-        return Ok(Work::Repeat(ready));
-    }
-    Err((Holding::Ready(ready), Refusal::WrongNumber(next)))
-}
-
-/// The number after one of a job, which is at most as many as there are.
-fn next_after(last: u32, shape: Shape) -> u32
-    requires few { last ≤ shape.jobs }
-    ensures { result ≡ last + 1 }
-{
-    let _most = shape.jobs();
-    last + 1
 }
 
 /// The work that a submission asks of a worker that waits.
@@ -111,24 +98,11 @@ fn to_go_on(mut held: Held, submission: &Submission, service: &Service) -> Resul
     }
 }
 
-/// Why a worker with a pending job refuses a submission: it is of another number, or another job.
-fn pending_refusal(number: u32, job: &Job, submission: &Submission) -> Option<Refusal>
-    ensures { spec.PendingRefuses number (Some job.now) submission.now result }
-{
-    if submission.number != number {
-        return Some(Refusal::WrongNumber(number));
-    }
-    if submission.job.lock != job.lock || !submission.job.script.same(&job.script) {
-        return Some(Refusal::Differs);
-    }
-    None
-}
-
 /// The work that is left of the job that is pending.
 pub(crate) fn to_resume(value: Holding, tries: u32) -> Result<Work, Refused>
     ensures work { IfOk result (λ work. (holding_of work ≡ value) × IsResumed work) }
     ensures tries { IfOk result (HasTries tries) }
-    ensures refused { IfErr result (λ refused. (refused.0 ≡ value) × (spec.resume_refusal value ≡ Some refused.1)) }
+    ensures refused { IfErr result (λ refused. (refused.0 ≡ value) × (spec.resume_refusal (session_of None value) ≡ Some refused.1)) }
 {
     match value {
         Holding::Empty => Err((Holding::Empty, Refusal::NotAttached)),
@@ -141,7 +115,7 @@ pub(crate) fn to_resume(value: Holding, tries: u32) -> Result<Work, Refused>
 /// The worker that waits, to withdraw its job.
 pub(crate) fn to_withdraw(value: Holding) -> Result<Climb, Refused>
     ensures waits { IfOk result (λ climb. value ≡ holds.Climb climb) }
-    ensures refused { IfErr result (λ refused. (refused.0 ≡ value) × (spec.withdraw_refusal value ≡ Some refused.1)) }
+    ensures refused { IfErr result (λ refused. (refused.0 ≡ value) × (spec.withdraw_refusal (session_of None value) ≡ Some refused.1)) }
 {
     match value {
         Holding::Climb(climb) => Ok(climb),
@@ -153,7 +127,7 @@ pub(crate) fn to_withdraw(value: Holding) -> Result<Climb, Refused>
 /// The worker that is ready, to tell its last receipt.
 pub(crate) fn to_tell(value: Holding) -> Result<Ready, Refused>
     ensures ready { IfOk result (λ ready. value ≡ holds.Ready ready) }
-    ensures refused { IfErr result (λ refused. (refused.0 ≡ value) × (spec.last_refusal value ≡ Some refused.1)) }
+    ensures refused { IfErr result (λ refused. (refused.0 ≡ value) × (spec.last_refusal (session_of None value) ≡ Some refused.1)) }
 {
     match value {
         Holding::Ready(ready) => Ok(ready),
@@ -164,8 +138,8 @@ pub(crate) fn to_tell(value: Holding) -> Result<Ready, Refused>
 
 /// What a session with a worker holds, to plan its crash or to let it go.
 pub(crate) fn to_hold(value: Holding) -> Result<Holding, Refused>
-    ensures holds { IfOk result (λ holding. (holding ≡ value) × (spec.bare_refusal value ≡ None)) }
-    ensures refused { IfErr result (λ refused. (refused.0 ≡ value) × (spec.bare_refusal value ≡ Some refused.1)) }
+    ensures holds { IfOk result (λ holding. (holding ≡ value) × (spec.bare_refusal (session_of None value) ≡ None)) }
+    ensures refused { IfErr result (λ refused. (refused.0 ≡ value) × (spec.bare_refusal (session_of None value) ≡ Some refused.1)) }
 {
     match value {
         Holding::Empty => Err((Holding::Empty, Refusal::NotAttached)),

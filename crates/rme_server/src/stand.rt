@@ -1,6 +1,6 @@
 //! What a session has in its hands.
 
-use crate::planned::Planned;
+use rme_orders::Planned;
 use rme_table::{Climb, Down, Held, Ready};
 
 /// What a session holds of a worker. It cannot be dropped: a worker that it holds is spent by `Stand::crash`.
@@ -23,8 +23,7 @@ pub struct Stand {
 
 impl Stand {
     ghost use Rattle.std.specs.Prelude.{◌≡◌};
-    ghost use Rattle.rme_server.specs.Stands.{held_by};
-    ghost use Rattle.rme_server.specs.Obeyed.{nobody};
+    ghost use Rattle.rme_server.specs.Stands.{held_by, nobody};
 
     /// No worker, and nothing planned.
     pub fn empty() -> Stand

@@ -7,9 +7,10 @@ ghost use Rattle.rme_lines.specs.Puts.{Gathers};
 ghost use Rattle.rme_lines.specs.Readers.{FailsToRead, HasEnded, ReadsNoMore, bytes_left, has_ended};
 ghost use Rattle.rme_lines.specs.Runs.{GivesUp, TurnFails, Turns, WritesAll, WritesFirst, WritesTo};
 ghost use Rattle.rme_lines.specs.Traffic.{LastWriteFails, MakesWrites};
-ghost use Rattle.rme_server.specs.Obeyed.{Obeys, nobody};
-ghost use Rattle.rme_server.specs.Sessions.{Breaks, IsAnswered, Replies, answer_as, first_of, rest_of, still_waits};
-ghost use Rattle.rme_server.specs.Stands.{MayHold};
+ghost use Rattle.rme_orders.specs.Sessions.{IsAnswered, Replies, answer_as, first_of, rest_of, still_waits};
+ghost use Rattle.rme_server.specs.Obeyed.{Obeys};
+ghost use Rattle.rme_server.specs.Sessions.{Breaks};
+ghost use Rattle.rme_server.specs.Stands.{MayHold, nobody};
 ghost use Rattle.rme_wire.specs.Orders.{order_of_line};
 ghost use Rattle.rme_words.specs.declared.refusal.Refusal.TheVariants.{BadLine};
 
@@ -51,8 +52,8 @@ pub fn session<K: Tag, R: Wait, I: Source + Drop, O: Sink>(
     names: &Names,
 ) -> Result<(), EngineFault>
     requires ours { service.now ≡ K.ident }
-    ensures ok { OnOk result (WritesAll (IsAnswered K.ident slots.now names.now) nobody (I.remaining reader) (O.contents writer.old) (O.contents writer.new)) }
-    ensures err { IfErr result (λ fault. (left : Option (List ℕ)) × WritesFirst (IsAnswered K.ident slots.now names.now) nobody fault (I.remaining reader) left (O.contents writer.old) (O.contents writer.new)) }
+    ensures ok { OnOk result (WritesAll (IsAnswered (Obeys K.ident slots.now) names.now) nobody (I.remaining reader) (O.contents writer.old) (O.contents writer.new)) }
+    ensures err { IfErr result (λ fault. (left : Option (List ℕ)) × WritesFirst (IsAnswered (Obeys K.ident slots.now) names.now) nobody fault (I.remaining reader) left (O.contents writer.old) (O.contents writer.new)) }
     ensures write_broke { IfErr result (λ fault. fault ≡ EngineFault.WriteFailed → LastWriteFails (O.took writer.old) (O.took writer.new)) }
 {
     let Ok(mut lines) = LineReader::new(alloc, reader) else {
@@ -86,9 +87,9 @@ fn converse<K: Tag, R: Wait, I: Source + Drop, O: Sink>(
     requires ours { shared.now.service.now ≡ K.ident }
     requires none_kept { buffers.old.exchange.pending ≡ [] }
     ensures ours { MayHold K.ident shared.now.slots.now result.0.value }
-    ensures ok { OnOk result.1 (WritesTo (IsAnswered K.ident shared.now.slots.now shared.now.names.now) nobody (bytes_left I.remaining lines.old) (O.contents writer.old) (O.contents writer.new) result.0) }
+    ensures ok { OnOk result.1 (WritesTo (IsAnswered (Obeys K.ident shared.now.slots.now) shared.now.names.now) nobody (bytes_left I.remaining lines.old) (O.contents writer.old) (O.contents writer.new) result.0) }
     ensures err { IfErr result.1 (λ fault. (holds : Option (List ℕ)) (last : EngineFault) → GivesUp fault (O.contents writer.new) buffers.new.exchange.pending holds last
-        → WritesFirst (IsAnswered K.ident shared.now.slots.now shared.now.names.now) nobody last (bytes_left I.remaining lines.old) (bytes_left I.remaining lines.new) (O.contents writer.old) holds) }
+        → WritesFirst (IsAnswered (Obeys K.ident shared.now.slots.now) shared.now.names.now) nobody last (bytes_left I.remaining lines.old) (bytes_left I.remaining lines.new) (O.contents writer.old) holds) }
     ensures writes { MakesWrites (O.took writer.old) (O.took writer.new) }
     ensures write_broke { IfErr result.1 (λ fault. fault ≡ EngineFault.WriteFailed → LastWriteFails (O.took writer.old) (O.took writer.new)) }
 {
@@ -116,9 +117,9 @@ fn turn<K: Tag, R: Wait, I: Source + Drop, O: Sink>(
     requires ours { shared.now.service.now ≡ K.ident }
     requires stand { MayHold K.ident shared.now.slots.now stand.value }
     ensures ours { MayHold K.ident shared.now.slots.now result.0.value }
-    ensures ok { IfOk result.1 (Turns (IsAnswered K.ident shared.now.slots.now shared.now.names.now) (bytes_left I.remaining lines.old) (bytes_left I.remaining lines.new) (has_ended lines.new) stand result.0
+    ensures ok { IfOk result.1 (Turns (IsAnswered (Obeys K.ident shared.now.slots.now) shared.now.names.now) (bytes_left I.remaining lines.old) (bytes_left I.remaining lines.new) (has_ended lines.new) stand result.0
         (O.contents writer.old) buffers.old.exchange.pending (O.contents writer.new) buffers.new.exchange.pending) }
-    ensures err { IfErr result.1 (λ fault. TurnFails (IsAnswered K.ident shared.now.slots.now shared.now.names.now) fault (bytes_left I.remaining lines.old) (bytes_left I.remaining lines.new) stand
+    ensures err { IfErr result.1 (λ fault. TurnFails (IsAnswered (Obeys K.ident shared.now.slots.now) shared.now.names.now) fault (bytes_left I.remaining lines.old) (bytes_left I.remaining lines.new) stand
         (O.contents writer.old) buffers.old.exchange.pending (O.contents writer.new) buffers.new.exchange.pending) }
     ensures ended { HasEnded lines.old → ReadsNoMore lines.old lines.new }
     ensures failed { IfErr result.1 (λ fault. fault ≡ EngineFault.ReadFailed → FailsToRead lines.old lines.new) }
@@ -155,7 +156,7 @@ fn reply_to<K: Tag, R: Wait, O: Sink>(
     requires ours { shared.now.service.now ≡ K.ident }
     requires stand { MayHold K.ident shared.now.slots.now stand.value }
     ensures ours { MayHold K.ident shared.now.slots.now result.0.value }
-    ensures replies { IfOk result.1 (λ reply. Replies K.ident shared.now.slots.now shared.now.names.now stand (line_read cut buffers.old.exchange.line.items) reply result.0) }
+    ensures replies { IfOk result.1 (λ reply. Replies (Obeys K.ident shared.now.slots.now) shared.now.names.now stand (line_read cut buffers.old.exchange.line.items) reply result.0) }
     ensures gathers { OnOk result.1 (Gathers (O.contents writer.old) buffers.old.exchange.pending [] (O.contents writer.new) buffers.new.exchange.pending) }
     ensures err { IfErr result.1 (λ fault. Breaks fault (O.contents writer.old) buffers.old.exchange.pending (O.contents writer.new) buffers.new.exchange.pending) }
     ensures writes { MakesWrites (O.took writer.old) (O.took writer.new) }

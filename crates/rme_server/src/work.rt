@@ -7,7 +7,7 @@ ghost use Rattle.rme_seats.specs.Parts.{onward, submitted};
 ghost use Rattle.rme_server.specs.Tasks.{HasTries, Makes, Spends, holding_of, lead_by, worked_of};
 ghost use Rattle.rme_server.specs.Works.{AreTried, Ends, GoesOn, Repeats, Works, next_task, steps_of};
 
-use crate::planned::Countdown;
+use crate::planned::Counting;
 use crate::stand::Holding;
 use crossbeam_utils::Backoff;
 use rme_table::{Admitted, Climb, Down, Driven, Free, Held, Ready, Service, Tries};
@@ -31,13 +31,13 @@ pub(crate) enum Work {
 /// Does the work. `Err` is a fall.
 pub(crate) fn carry_out(
     work: Work,
-    planned: &mut Countdown,
+    planned: &mut Counting,
     service: &Service,
 ) -> Result<Worked, Down>
     requires ours { (count : ℕ) × MayHold service.now count (holding_of work) }
     ensures ours { (count : ℕ) → MayHold service.now count (holding_of work) → MayWork service.now count result }
     ensures did { Ends result (Makes service.now.shape work) }
-    ensures plan { Spends service.now.shape (lead_by work) planned.old (held_by (holding_of work)) planned.new result }
+    ensures plan { Spends service.now.shape (lead_by work) planned.old.countdown (held_by (holding_of work)) planned.new.countdown result }
     ensures tried { (most : ℕ) → HasTries most work → AreTried most (steps_of (holding_of work)) result }
 {
     match work {
@@ -64,13 +64,13 @@ fn repeat(mut ready: Ready, service: &Service) -> Worked
 fn post(
     admitted: Admitted,
     tries: u32,
-    planned: &mut Countdown,
+    planned: &mut Counting,
     service: &Service,
 ) -> Result<Worked, Down>
     requires ours { admitted.ready.ident ≡ service.now }
     ensures ours { (count : ℕ) → HasSlot service.now count admitted.ready → MayWork service.now count result }
     ensures did { Ends result (Works (next_task admitted.ready admitted.job) admitted.ready.part.entries) }
-    ensures plan { Spends service.now.shape (submitted admitted.job) planned.old (Some admitted.ready) planned.new result }
+    ensures plan { Spends service.now.shape (submitted admitted.job) planned.old.countdown (Some admitted.ready) planned.new.countdown result }
     ensures tried { AreTried tries admitted.ready.part.steps result }
 {
     match admitted.post(service, planned) {
@@ -83,13 +83,13 @@ fn post(
 fn go_in(
     climb: Climb,
     tries: u32,
-    planned: &mut Countdown,
+    planned: &mut Counting,
     service: &Service,
 ) -> Result<Worked, Down>
     requires ours { climb.ident ≡ service.now }
     ensures ours { (count : ℕ) → HasSlot service.now count climb → MayWork service.now count result }
     ensures did { Ends result (GoesOn climb) }
-    ensures plan { Spends service.now.shape onward planned.old (Some climb) planned.new result }
+    ensures plan { Spends service.now.shape onward planned.old.countdown (Some climb) planned.new.countdown result }
     ensures tried { AreTried tries climb.part.steps result }
 {
     let backoff = Backoff::new();
@@ -101,12 +101,12 @@ fn go_in(
 }
 
 /// From the lock's entry to readiness.
-fn go_on(held: Held, planned: &mut Countdown, service: &Service) -> Result<Worked, Down>
+fn go_on(held: Held, planned: &mut Counting, service: &Service) -> Result<Worked, Down>
     requires ours { held.ident ≡ service.now }
     requires pending { is_over held.part.private.stage ≡ false }
     ensures ours { (count : ℕ) → HasSlot service.now count held → MayWork service.now count result }
     ensures did { Ends result (GoesOn held) }
-    ensures plan { Spends service.now.shape onward planned.old (Some held) planned.new result }
+    ensures plan { Spends service.now.shape onward planned.old.countdown (Some held) planned.new.countdown result }
     ensures tried { (most : ℕ) → AreTried most held.part.steps result }
 {
     worked(held.go_on(service, planned, &Free))

@@ -2,9 +2,9 @@ use Rattle.std.proofs.Common.{◌≡◌, ℕ, ap, subst, ◌∙◌}
 use Rattle.std.specs.Prelude.{None}
 use Rattle.rme_words.specs.declared.shape.Shape.{Shape}
 use Rattle.rme_seats.specs.Stands.{Ident}
-use Rattle.rme_server.specs.Obeyed.{AnswersOf}
-use Rattle.rme_server.specs.Refusals.{attach_refusal}
-use Rattle.rme_server.specs.Rises.{ComesUp}
+use Rattle.rme_orders.specs.Refusals.{attach_refusal}
+use Rattle.rme_server.specs.Rises.{AnswersOf, ComesUp}
+use Rattle.rme_server.specs.Stands.{session_of}
 use Rattle.rme_server.proofs.Rising.{attaches}
 use Rattle.rme_server.proofs.orders.attach.Goals as goal
 
@@ -15,7 +15,7 @@ returns-clause-acts g c =
     let is = c.in-Ok-take.ensures.1 in
     let value = c.come_up-value.result.0 in
     let reply = c.come_up-value.result.1 in
-    let P : Shape → Type 0 = λ shape. attach_refusal shape c.args.worker c.args.stand.value ≡ None in
+    let P : Shape → Type 0 = λ shape. attach_refusal shape c.args.worker (session_of None c.args.stand.value) ≡ None in
     let Q : Ident → Type 0 = λ its. AnswersOf its down.part.worker value reply in
     let R : ℕ → Type 0 = λ worker. AnswersOf ident worker value reply in
     let S : Ident → Type 0 = λ its. ComesUp its.shape down value in

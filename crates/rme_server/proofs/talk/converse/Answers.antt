@@ -6,8 +6,9 @@ use Rattle.rme_lines.specs.Readers.{FailsToRead, bytes_left}
 use Rattle.rme_lines.specs.Runs.{TurnFails, Turns}
 use Rattle.rme_lines.proofs.ReaderLemmas.{ended_at_end}
 use Rattle.rme_lines.proofs.RunLemmas.{failed, finished, so_far_first, so_far_more}
-use Rattle.rme_server.specs.Obeyed.{nobody}
-use Rattle.rme_server.specs.Sessions.{IsAnswered}
+use Rattle.rme_orders.specs.Sessions.{IsAnswered}
+use Rattle.rme_server.specs.Obeyed.{Obeys}
+use Rattle.rme_server.specs.Stands.{nobody}
 use Rattle.rme_lines.specs.Traffic.{LastWriteFails}
 use Rattle.rme_lines.proofs.TrafficLemmas.{fails_after, writes_more, writes_none}
 use Rattle.rme_server.proofs.talk.converse.Goals as goal
@@ -15,7 +16,7 @@ use Rattle.rme_server.proofs.talk.converse.Goals as goal
 pub loop-init : goal.loop-init
 loop-init g c = record {
   ours = rw c.empty-stand.ensures tt;
-  so_far = so_far_first (IsAnswered g.K.Tag.ident c.args.shared.now.slots.now c.args.shared.now.names.now) (bytes_left g.I.Source.remaining c.args.lines.now) (g.O.Sink.contents c.args.writer.now)
+  so_far = so_far_first (IsAnswered (Obeys g.K.Tag.ident c.args.shared.now.slots.now) c.args.shared.now.names.now) (bytes_left g.I.Source.remaining c.args.lines.now) (g.O.Sink.contents c.args.writer.now)
       c.args.lines.now.ended nobody c.empty-stand.result c.args.buffers.now.exchange.pending c.empty-stand.ensures c.requires.none_kept
       (ended_at_end g.I.Source.remaining c.args.lines.now);
   writes = writes_none (g.O.Sink.took c.args.writer.now);
@@ -23,7 +24,7 @@ loop-init g c = record {
 
 pub loop-preserved : goal.loop-preserved
 loop-preserved g c =
-    let has = IsAnswered g.K.Tag.ident c.args.shared.now.slots.now c.args.shared.now.names.now in
+    let has = IsAnswered (Obeys g.K.Tag.ident c.args.shared.now.slots.now) c.args.shared.now.names.now in
     let held = g.O.Sink.contents in
     let left = bytes_left g.I.Source.remaining in
     let now = c.loop in
@@ -40,7 +41,7 @@ loop-preserved g c =
 
 pub returns-in-Ok-false-clause-ok : goal.returns-in-Ok-false-clause-ok
 returns-in-Ok-false-clause-ok g c =
-    let has = IsAnswered g.K.Tag.ident c.args.shared.now.slots.now c.args.shared.now.names.now in
+    let has = IsAnswered (Obeys g.K.Tag.ident c.args.shared.now.slots.now) c.args.shared.now.names.now in
     let held = g.O.Sink.contents in
     let left = bytes_left g.I.Source.remaining in
     let now = c.loop in
@@ -54,7 +55,7 @@ returns-in-Ok-false-clause-ok g c =
 
 pub returns-in-Err-clause-err : goal.returns-in-Err-clause-err
 returns-in-Err-clause-err g c =
-    let has = IsAnswered g.K.Tag.ident c.args.shared.now.slots.now c.args.shared.now.names.now in
+    let has = IsAnswered (Obeys g.K.Tag.ident c.args.shared.now.slots.now) c.args.shared.now.names.now in
     let held = g.O.Sink.contents in
     let left = bytes_left g.I.Source.remaining in
     let now = c.loop in

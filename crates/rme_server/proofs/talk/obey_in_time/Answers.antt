@@ -2,7 +2,8 @@ use Rattle.std.proofs.Common.{ℕ, ◌∙◌, subst, sym}
 use Rattle.rme_wire.specs.declared.order.Order.{Order}
 use Rattle.rme_wire.specs.declared.order.Order.TheVariants.{Resume}
 use Rattle.rme_server.specs.Obeyed.{Obeys}
-use Rattle.rme_server.proofs.Trying.{both_parts, false_true, only_first}
+use Rattle.rme_orders.proofs.Trying.{false_true}
+use Rattle.rme_server.proofs.Trying.{both_parts, only_first}
 use Rattle.rme_server.proofs.talk.obey_in_time.Goals as goal
 
 pub returns-then-rest-eq0-clause-obeys : goal.returns-then-rest-eq0-clause-obeys

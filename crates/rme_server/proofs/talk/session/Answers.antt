@@ -5,17 +5,18 @@ use Rattle.rme_lines.specs.declared.fault.EngineFault.TheVariants.{WriteFailed}
 use Rattle.rme_lines.specs.Traffic.{LastWriteFails}
 use Rattle.rme_lines.proofs.RunLemmas.{failed_first}
 use Rattle.rme_lines.proofs.TrafficLemmas.{gave_up_writing}
-use Rattle.rme_server.specs.Obeyed.{nobody}
-use Rattle.rme_server.specs.Sessions.{IsAnswered}
+use Rattle.rme_orders.specs.Sessions.{IsAnswered}
+use Rattle.rme_server.specs.Obeyed.{Obeys}
+use Rattle.rme_server.specs.Stands.{nobody}
 use Rattle.rme_server.proofs.talk.session.Goals as goal
 
 pub returns-in_default-clause-err : goal.returns-in_default-clause-err
 returns-in_default-clause-err g c =
-    (g.I.Source.remaining c.args.reader, failed_first (IsAnswered g.K.Tag.ident c.args.slots.now c.args.names.now) nobody (g.I.Source.remaining c.args.reader) (g.O.Sink.contents c.args.writer.now))
+    (g.I.Source.remaining c.args.reader, failed_first (IsAnswered (Obeys g.K.Tag.ident c.args.slots.now) c.args.names.now) nobody (g.I.Source.remaining c.args.reader) (g.O.Sink.contents c.args.writer.now))
 
 pub returns-in_default-new-clause-err : goal.returns-in_default-new-clause-err
 returns-in_default-new-clause-err g c =
-    (g.I.Source.remaining c.args.reader, failed_first (IsAnswered g.K.Tag.ident c.args.slots.now c.args.names.now) nobody (g.I.Source.remaining c.args.reader) (g.O.Sink.contents c.args.writer.now))
+    (g.I.Source.remaining c.args.reader, failed_first (IsAnswered (Obeys g.K.Tag.ident c.args.slots.now) c.args.names.now) nobody (g.I.Source.remaining c.args.reader) (g.O.Sink.contents c.args.writer.now))
 
 pub returns-clause-write_broke : goal.returns-clause-write_broke
 returns-clause-write_broke g c e =

@@ -9,7 +9,7 @@ returns-in-Repeat-clause-tried c =
 
 pub returns-in-Repeat-clause-plan : goal.returns-in-Repeat-clause-plan
 returns-in-Repeat-clause-plan c =
-    rw c.in-Repeat.is (repeats_spares c.args.service.now.shape c.in-Repeat.ready c.args.planned.now c.repeat.result.0 c.repeat.result.1 c.repeat.ensures)
+    rw c.in-Repeat.is (repeats_spares c.args.service.now.shape c.in-Repeat.ready c.args.planned.now.countdown c.repeat.result.0 c.repeat.result.1 c.repeat.ensures)
 
 pub returns-in-Post-clause-tried : goal.returns-in-Post-clause-tried
 returns-in-Post-clause-tried c =

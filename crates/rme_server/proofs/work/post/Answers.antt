@@ -9,19 +9,19 @@ pub returns-in-Ok-clause-plan : goal.returns-in-Ok-clause-plan
 returns-in-Ok-clause-plan c =
     let ready = c.args.admitted.ready in
     let climb = c.in-Ok.climb in
-    let old = c.args.planned.now in
-    let mid = c.post.new.chance in
+    let old = c.args.planned.now.countdown in
+    let mid = c.post.new.chance.countdown in
     let made = c.in-Ok.ensures.made in
     let posted = spared c.args.service.now.shape (submitted c.args.admitted.job) ready climb old mid made.walks made.stays.ident made.stays.own in
     let counted = made.counted in
     let enough = made.enough in
     let more : ready.part.steps < climb.part.steps = omega (arith, counted, enough) in
-    spent_on c.args.service.now.shape (submitted c.args.admitted.job) (Some ready) (Some climb) more old mid c.go_in.new.planned c.go_in.result posted c.go_in.ensures.plan
+    spent_on c.args.service.now.shape (submitted c.args.admitted.job) (Some ready) (Some climb) more old mid c.go_in.new.planned.countdown c.go_in.result posted c.go_in.ensures.plan
 
 pub returns-in-Err-clause-plan : goal.returns-in-Err-clause-plan
 returns-in-Err-clause-plan c =
     let falls = c.in-Err.ensures.made in
-    fallen c.args.service.now.shape (submitted c.args.admitted.job) c.args.admitted.ready c.in-Err.down c.args.planned.now c.post.new.chance falls.walks falls.ident falls.own
+    fallen c.args.service.now.shape (submitted c.args.admitted.job) c.args.admitted.ready c.in-Err.down c.args.planned.now.countdown c.post.new.chance.countdown falls.walks falls.ident falls.own
 
 pub returns-in-Ok-clause-tried : goal.returns-in-Ok-clause-tried
 returns-in-Ok-clause-tried c =

@@ -1,0 +1,59 @@
+//! What a submission asks, as far as its number and its job tell.
+//!
+//! A look answers the step that is to be made, or the refusal: what it let pass is not looked at again. The job's own
+//! refusals are those of whoever posts it.
+
+ghost use Rattle.std.specs.Prelude.{◌≡◌, ◌≤◌, ◌+◌, IfOk, IfErr, Some, None};
+ghost use Rattle.rme_orders.specs.Refusals as spec;
+
+use rme_script::Job;
+use rme_wire::Submission;
+use rme_words::{Refusal, Shape};
+
+/// What a submission asks of a worker that is ready.
+#[derive(Clone, Copy, PartialEq, Eq)]
+pub enum Asked {
+    /// To post the job, if the job itself is not refused.
+    Post,
+    /// To answer the last number again.
+    Repeat,
+}
+
+/// What a submission asks of a worker that is ready, whose last number this is: its number is the next, or the last
+/// again. `WrongNumber` where it is neither.
+pub fn asked_of_ready(last: u32, submission: &Submission, shape: Shape) -> Result<Asked, Refusal>
+    requires few { last ≤ shape.jobs }
+    ensures asked { IfOk result (spec.IsAsked last submission.now.number) }
+    ensures refused { IfErr result (λ refusal. spec.number_refusal last submission.now.number ≡ Some refusal) }
+{
+    let next = next_after(last, shape);
+    if submission.number == next {
+        return Ok(Asked::Post);
+    }
+    if submission.number > 0 && submission.number == last {
+        return Ok(Asked::Repeat);
+    }
+    Err(Refusal::WrongNumber(next))
+}
+
+/// The number after one of a job, which is at most as many as there are.
+fn next_after(last: u32, shape: Shape) -> u32
+    requires few { last ≤ shape.jobs }
+    ensures { result ≡ last + 1 }
+{
+    let _most = shape.jobs();
+    last + 1
+}
+
+/// Why a worker with a pending job refuses a submission: it is of another number, or another job.
+pub fn pending_refusal(number: u32, job: &Job, submission: &Submission) -> Option<Refusal>
+    ensures { spec.PendingRefuses number (Some job.now) submission.now result }
+{
+    if submission.number != number {
+        return Some(Refusal::WrongNumber(number));
+    }
+    if submission.job.lock != job.lock || !submission.job.script.same(&job.script) {
+        return Some(Refusal::Differs);
+    }
+    None
+}
