@@ -5,7 +5,7 @@ use Rattle.rme_words.specs.declared.shape.Shape.{Shape}
 use Rattle.rme_seats.specs.Chances.{Tally}
 use Rattle.rme_seats.specs.Parts.{onward, restarted}
 use Rattle.rme_seats.specs.Stands.{Ident, Stand}
-use Rattle.rme_table.specs.Calls.{Made, recover_steps}
+use Rattle.rme_table.specs.Calls.{KnowsNumber, Made, recover_steps}
 use Rattle.rme_table.specs.declared.kinds.Stance.TheVariants as stance
 use Rattle.rme_texts.specs.declared.session.Standing.{Standing}
 use Rattle.rme_texts.specs.declared.session.Standing.TheVariants as at
@@ -24,35 +24,39 @@ use Rattle.rme_server.specs.declared.stand.Holding.{Holding}
 use Rattle.rme_server.specs.declared.stand.Holding.TheVariants.{Empty, Ready, Climb, Held}
 use Rattle.rme_server.proofs.Planning.{walked_by, walked_on}
 
-risen : (shape : Shape) (start now : Stand) (old new : Tally) (least most : ℕ) → Made shape restarted start now old new least most → KeepsAll shape restarted start now
-risen shape start now old new least most made = record {
+pub risen : (shape : Shape) (start now : Stand) (old new : Tally) (least most : ℕ) → Made shape restarted start now old new least most → KnowsNumber shape now.part
+    → KeepsAll shape restarted start now
+risen shape start now old new least most made number = record {
   made = length made.walks.values;
   walked = walked_by shape restarted start now old new 0 made.walks made.stays.ident made.stays.own;
   draft = made.stays.draft;
   entries = made.stays.entries;
+  number = number;
 }
 
 -- After a recovery, which has two steps at least.
 pub risen_on : (shape : Shape) (down mid ready : Stand) (old new : Tally) (most : ℕ) → Made shape restarted down mid old new 2 most → KeepsAll shape onward mid ready → KeepsAll shape restarted down ready
 risen_on shape down mid ready old new most made out =
-    let first = risen shape down mid old new 2 most made in
+    let first = walked_by shape restarted down mid old new 0 made.walks made.stays.ident made.stays.own in
+    let count = length made.walks.values in
     let counted = made.counted in
     let enough = made.enough in
-    let steps = first.walked.steps in
-    let some : 0 < first.made = omega (arith, counted, enough, steps) in record {
-      made = first.made + out.made;
-      walked = walked_on shape restarted down mid ready first.made out.made some first.walked out.walked;
-      draft = out.draft ∙ first.draft;
-      entries = out.entries ∙ first.entries;
+    let steps = first.steps in
+    let some : 0 < count = omega (arith, counted, enough, steps) in record {
+      made = count + out.made;
+      walked = walked_on shape restarted down mid ready count out.made some first out.walked;
+      draft = out.draft ∙ made.stays.draft;
+      entries = out.entries ∙ made.stays.entries;
+      number = out.number;
     }
 
 -- A worker that comes up inside.
 pub risen_inside : (shape : Shape) (down held : Stand) (value : Holding) (old new : Tally) (most : ℕ) → Made shape restarted down held old new 2 most
-    → held.part.steps ≡ down.part.steps + recover_steps shape (stance.Held held) → ComesOut shape held value → ComesUp shape down value
-risen_inside shape down held Empty old new most made steps out = absurd out
-risen_inside shape down held (Ready ready) old new most made steps out = risen_on shape down held ready old new most made out
-risen_inside shape down held (Climb climb) old new most made steps out = absurd out
-risen_inside shape down held (Held now) old new most made steps out = rw out (risen shape down held old new 2 most made, steps)
+    → held.part.steps ≡ down.part.steps + recover_steps shape (stance.Held held) → KnowsNumber shape held.part → ComesOut shape held value → ComesUp shape down value
+risen_inside shape down held Empty old new most made steps number out = absurd out
+risen_inside shape down held (Ready ready) old new most made steps number out = risen_on shape down held ready old new most made out
+risen_inside shape down held (Climb climb) old new most made steps number out = absurd out
+risen_inside shape down held (Held now) old new most made steps number out = rw out (risen shape down held old new 2 most made number, steps)
 
 -- An order to attach that is not refused.
 shown_attached : (ident : Ident) (worker : ℕ) (value : Holding) (number : ℕ) (standing : Standing) → AnswersOf ident worker value (Attached number standing)

@@ -4,7 +4,7 @@ use Rattle.rme_words.specs.declared.shape.Shape.{Shape}
 use Rattle.rme_seats.specs.declared.record.Part.{Part}
 use Rattle.rme_seats.specs.Parts.{onward, restarted}
 use Rattle.rme_seats.specs.Stands.{Ident, Stand}
-use Rattle.rme_table.specs.Calls.{is_over, recover_steps}
+use Rattle.rme_table.specs.Calls.{KnowsNumber, is_over, recover_steps}
 use Rattle.rme_table.specs.declared.kinds.Stance.TheVariants as stance
 use Rattle.rme_texts.specs.declared.session.Standing.{Standing}
 use Rattle.rme_texts.specs.declared.session.Standing.TheVariants as at
@@ -15,12 +15,13 @@ use Rattle.rme_server.specs.Works.{HasWalked}
 use Rattle.rme_server.specs.declared.stand.Holding.{Holding}
 use Rattle.rme_server.specs.declared.stand.Holding.TheVariants.{Empty, Ready, Climb, Held}
 
--- The worker made own steps, and has the job and the entries that it had.
+-- The worker made own steps, has the job and the entries that it had, and knows its number: in any world it is its word Begun.
 pub record KeepsAll (shape : Shape) (lead : Part → Part) (start now : Stand) : Type 0 where
   pub made : ℕ
   pub walked : HasWalked shape lead start now made
   pub draft : now.part.draft ≡ start.part.draft
   pub entries : now.part.entries ≡ start.part.entries
+  pub number : KnowsNumber shape now.part
 
 -- A worker that was down came up, and kept all that it had. Where its job is pending it made no step but those of Recover.
 abbrev pub ComesUp : Shape → Stand → Holding → Type 0

@@ -1,9 +1,9 @@
 -- The end of a run.
-use Rattle.std.proofs.Common.{◌≡◌, ◌<◌, List, length, sym, subst, ◌∙◌, arith, inl, inr}
+use Rattle.std.proofs.Common.{◌≡◌, ℕ, ◌<◌, List, length, sym, subst, ◌∙◌, arith, inl, inr}
 use Rattle.std.specs.Prelude.{Bool, true, false, ◌==◌, ◌↔◌, IsTrue}
 use Rattle.std.proofs.lemmas.Bool.{eq-eqb}
 use Rattle.std.proofs.lemmas.List.Folds.{list_any_at}
-use Rattle.std.proofs.lemmas.Option.{slice_get_cases, slice_get_within}
+use Rattle.std.proofs.lemmas.Option.{slice_get_cases}
 use Rattle.rme_words.specs.declared.shape.Shape.{Shape}
 use Rattle.rme_seats.specs.Stands.{Ident, Stand}
 use Rattle.rme_words.specs.declared.refusal.Refusal.{Refusal}
@@ -47,17 +47,17 @@ module _ (s t : Shape) (plans : List WorkerPlan) (fresh : Bool) (d downs : List 
   not_whole found means denied whole = let both : true ≡ false = sym (means.1 (whole_back whole)) ∙ denied in cc
 
 -- A close that found all workers had no memory.
-pub unclosed_late : (ident : Ident) (plans : List WorkerPlan) (fresh : Bool) (downs : List Stand) (u : Unclosed) → AreOf ident downs → AreAll ident.shape downs → IsUnclosed ident downs u
-    → IsLate ident plans fresh (record { why = u.why; service = u.service; downs = u.downs })
-unclosed_late ident plans fresh downs u ours all un =
-    let given = given_all ident.shape downs all in
-    let why : u.why ≡ NoMemory = rw given at un.why in
-    let P : Refusal → Type 0 = λ w. IsLateWhy w ident plans fresh u.downs.items in
+pub unclosed_late : (ident : Ident) (turned : ℕ → Type 0) (plans : List WorkerPlan) (given : List Stand) (fresh : Bool) (downs : List Stand) (u : Unclosed) → AreOf ident downs → AreAll ident.shape downs
+    → IsUnclosed ident downs u → IsLate ident turned plans given fresh (record { why = u.why; service = u.service; downs = u.downs })
+unclosed_late ident turned plans given fresh downs u ours all un =
+    let found = given_all ident.shape downs all in
+    let why : u.why ≡ NoMemory = rw found at un.why in
+    let P : Refusal → Type 0 = λ w. IsLateWhy w ident turned plans given fresh u.downs.items in
     record { back = record { service = un.service; ours = rw un.downs_back ours }; why = subst P (sym why) (rw un.downs_back all) }
 
-module _ (ident : Ident) (plans : List WorkerPlan) (s : Settled) (fresh : Bool) (closed : Closed) (is : IsSettled ident plans s) (all : AreAll ident.shape s.downs.items)
+module _ (ident : Ident) (turned : ℕ → Type 0) (plans : List WorkerPlan) (given : List Stand) (s : Settled) (fresh : Bool) (closed : Closed) (is : IsSettled ident turned plans given s) (all : AreAll ident.shape s.downs.items)
     (follow : fresh ≡ true → AllFollow plans s.downs.items s.ends.items) (close : IsClose ident.shape s.downs.items closed.locks.items) where
-  pub over : IsOver ident.shape plans fresh (record { ends = s.ends; lives = s.lives; closed = closed })
+  pub over : IsOver ident.shape turned plans given fresh (record { ends = s.ends; lives = s.lives; closed = closed })
   over = record {
     downs = s.downs.items;
     all = all;
@@ -68,10 +68,7 @@ module _ (ident : Ident) (plans : List WorkerPlan) (s : Settled) (fresh : Bool) 
       earned = is.earned worker down end plan at ended (rw (all.order worker down at) planned);
       follows = λ f. follow f worker plan down end planned at ended;
     };
-    lived = λ worker plan end lives planned ended counted.
-        let within : worker < length s.ends.items = slice_get_within s.ends.items worker end ended in
-        elim (slice_get_cases s.downs.items worker).1 [
-          | inl p ↦ is.lived worker p.0 end lives plan p.2 ended counted (rw (all.order worker p.0 p.2) planned)
-          | inr p ↦ absurd (omega (arith, within, p.0, is.ends))
-        ];
+    lived = λ worker plan first down end lives planned was at ended counted.
+        let own : down.part.worker ≡ worker = all.order worker down at in
+        is.lived worker down end lives plan first at ended counted (rw own planned) (rw own was);
   }

@@ -1,5 +1,8 @@
 mod Lists
 mod Rounds
+mod Fallen
+mod Lives
+mod Stalling
 mod Rests
 mod Following
 mod Ending

@@ -1,41 +1,71 @@
 -- What the slots held in the end, one slot after another.
-use Rattle.std.proofs.Common.{◌≡◌, ℕ, ◌<◌, List, [], ◌∷◌, ◌++◌, length, refl, ap, arith, inl, inr}
-use Rattle.std.specs.Prelude.{slice_get, Option, Some, None, unwrap_or}
+use Rattle.std.proofs.Common.{◌≡◌, ◌⊎◌, ℕ, ◌<◌, List, [], ◌∷◌, ◌++◌, length, refl, ap, arith, inl, inr}
+use Rattle.std.specs.Prelude.{true, slice_get, Option, Some, None, unwrap_or}
 use Rattle.std.proofs.lemmas.List.{length-append}
 use Rattle.std.proofs.lemmas.Option.{slice_get_within}
 use Rattle.rme_words.specs.declared.shape.Shape.{Shape}
 use Rattle.rme_seats.specs.Stands.{Ident, Stand}
 use Rattle.rme_supervisor.specs.declared.end.End.{End}
-use Rattle.rme_supervisor.specs.declared.end.End.TheVariants.{NoStart, OutOfLives}
+use Rattle.rme_supervisor.specs.declared.end.End.TheVariants.{AllDone, Stalled, NoStart, OutOfLives, Refused}
 use Rattle.rme_supervisor.specs.declared.plan.WorkerPlan.{WorkerPlan}
-use Rattle.rme_supervisor.specs.Ends.{AreSettled, HasLived, IsEarned}
-use Rattle.rme_supervisor.specs.Berths.{IsRest}
+use Rattle.rme_supervisor.specs.Ends.{AreSettled, HasLived, IsEarned, is_outside}
+use Rattle.rme_supervisor.specs.Falling.{FellAt}
+use Rattle.rme_supervisor.specs.Berths.{HasRested, IsRest, Rest}
 use Rattle.rme_supervisor.proofs.Lists.{in_snoc}
 
 -- The end of a worker in its slot is one that its plan allows, NoStart where it has none.
-pub rested : (shape : Shape) (plans : List WorkerPlan) (stand : Stand) (end : Option End) (fallen blocked lives : ℕ) → IsRest shape plans (record { stand = stand; end = end; fallen = fallen; blocked = blocked; lives = lives })
-    → (plan : WorkerPlan) → slice_get plans stand.part.worker ≡ Some plan → IsEarned shape plan stand.part.private.begun (unwrap_or end NoStart)
-rested shape plans stand None fallen blocked lives is plan planned = tt
-rested shape plans stand (Some end) fallen blocked lives is plan planned = is.earned plan end planned refl
+module _ (shape : Shape) (turned : ℕ → Type 0) (plans : List WorkerPlan) (given : List Stand) (stand : Stand) (blocked lives : ℕ) where
+  abbrev Rests : Option End → Type 0
+  Rests end = IsRest shape turned plans given (record { stand = stand; end = end; blocked = blocked; lives = lives })
 
--- So many lives are those that its plan allows.
-pub rested_lives : (shape : Shape) (plans : List WorkerPlan) (stand : Stand) (end : Option End) (fallen blocked lives : ℕ) → IsRest shape plans (record { stand = stand; end = end; fallen = fallen; blocked = blocked; lives = lives })
-    → (plan : WorkerPlan) → slice_get plans stand.part.worker ≡ Some plan → HasLived plan (unwrap_or end NoStart) lives
-rested_lives shape plans stand None fallen blocked lives is plan planned =
-    let has = is.fallen plan planned in record { most = has.most; out = λ e. absurd (let bad : NoStart ≡ OutOfLives = e in cc); left = λ e some. has.more refl some; lived = λ no. absurd (no refl) }
-rested_lives shape plans stand (Some end) fallen blocked lives is plan planned =
-    let has = is.fallen plan planned in
-    let own = has.ended end refl in record {
-      most = has.most;
-      out = λ e. (has.out (ap (λ (x : End). Some x) e)).1;
-      left = λ e some. absurd (own.0 e);
-      lived = λ no. own.1;
-    }
+  pub rested : (end : Option End) → Rests end → (plan : WorkerPlan) → slice_get plans stand.part.worker ≡ Some plan → IsEarned shape plan stand.part.private.begun (unwrap_or end NoStart)
+  rested None is plan planned = tt
+  rested (Some end) is plan planned = is.earned plan end planned refl
 
-module _ (ident : Ident) (plans : List WorkerPlan) (ds dt : List Stand) (es et : List End) (ls lt : List ℕ) (down : Stand) (end : End) (lives : ℕ) (is : AreSettled ident plans ds es ls) (downs : dt ≡ ds ++ down ∷ [])
-    (ends : et ≡ es ++ end ∷ []) (lived : lt ≡ ls ++ lives ∷ []) (own : down.ident ≡ ident)
+  fell_so : (plan : WorkerPlan) (first : Stand) (end : End) (has : HasRested turned plan first (record { stand = stand; end = Some end; blocked = blocked; lives = lives })) → is_outside end ≡ true
+      → FellAt plan.falls.items lives has.made
+  fell_so plan first AllDone has outside = cc
+  fell_so plan first Stalled has outside = cc
+  fell_so plan first OutOfLives has outside = (has.out refl).0
+  fell_so plan first NoStart has outside = absurd ((has.ended NoStart refl).0 refl)
+  fell_so plan first (Refused refusal) has outside = cc
+
+  -- So many lives are those that its plan allows.
+  pub rested_lives : (end : Option End) → Rests end → (plan : WorkerPlan) (first : Stand) → slice_get plans stand.part.worker ≡ Some plan → slice_get given stand.part.worker ≡ Some first
+      → HasLived turned plan first stand (unwrap_or end NoStart) lives
+  rested_lives None is plan first planned was =
+      let has = is.rested plan first planned was in record {
+        made = has.made;
+        steps = has.steps;
+        most = has.most;
+        out = λ e. absurd (let bad : NoStart ≡ OutOfLives = e in cc);
+        left = λ e some. has.more refl some;
+        lived = λ no. absurd (no refl);
+        fell = λ outside. has.falls refl;
+        stood = λ inside. cc;
+        stalled = λ e. absurd (let bad : NoStart ≡ Stalled = e in cc);
+      }
+  rested_lives (Some end) is plan first planned was =
+      let has = is.rested plan first planned was in
+      let own = has.ended end refl in record {
+        made = has.made;
+        steps = has.steps;
+        most = has.most;
+        out = λ e. (has.out (ap (λ (x : End). Some x) e)).1;
+        left = λ e some. absurd (own.0 e);
+        lived = λ no. own.1;
+        fell = λ outside. fell_so plan first end has outside;
+        stood = λ inside. has.stood end refl inside;
+        stalled = λ e. elim (has.stalled (ap (λ (x : End). Some x) e)) [
+          | inl all ↦ inl (let swept = has.swept in omega (arith, all, swept))
+          | inr away ↦ inr away
+        ];
+      }
+
+module _ (ident : Ident) (turned : ℕ → Type 0) (plans : List WorkerPlan) (given ds dt : List Stand) (es et : List End) (ls lt : List ℕ) (down : Stand) (end : End) (lives : ℕ)
+    (is : AreSettled ident turned plans given ds es ls) (downs : dt ≡ ds ++ down ∷ []) (ends : et ≡ es ++ end ∷ []) (lived : lt ≡ ls ++ lives ∷ []) (own : down.ident ≡ ident)
     (earned : (plan : WorkerPlan) → slice_get plans down.part.worker ≡ Some plan → IsEarned ident.shape plan down.part.private.begun end)
-    (has_lived : (plan : WorkerPlan) → slice_get plans down.part.worker ≡ Some plan → HasLived plan end lives) where
+    (has_lived : (plan : WorkerPlan) (first : Stand) → slice_get plans down.part.worker ≡ Some plan → slice_get given down.part.worker ≡ Some first → HasLived turned plan first down end lives) where
   ours : (k : ℕ) (seat : Stand) → slice_get dt k ≡ Some seat → seat.ident ≡ ident
   ours k seat at = elim (in_snoc ds down k seat (rw (← downs) at)) [
     | inl h ↦ is.ours k seat h
@@ -55,12 +85,12 @@ module _ (ident : Ident) (plans : List WorkerPlan) (ds dt : List Stand) (es et :
     ]
   ]
 
-  each_lived : (k : ℕ) (d : Stand) (e : End) (l : ℕ) (plan : WorkerPlan) → slice_get dt k ≡ Some d → slice_get et k ≡ Some e → slice_get lt k ≡ Some l
-      → slice_get plans d.part.worker ≡ Some plan → HasLived plan e l
-  each_lived k d e l plan at ended counted planned = elim (in_snoc ds down k d (rw (← downs) at)) [
+  each_lived : (k : ℕ) (d : Stand) (e : End) (l : ℕ) (plan : WorkerPlan) (first : Stand) → slice_get dt k ≡ Some d → slice_get et k ≡ Some e → slice_get lt k ≡ Some l
+      → slice_get plans d.part.worker ≡ Some plan → slice_get given d.part.worker ≡ Some first → HasLived turned plan first d e l
+  each_lived k d e l plan first at ended counted planned was = elim (in_snoc ds down k d (rw (← downs) at)) [
     | inl h ↦ let within : k < length ds = slice_get_within ds k d h in elim (in_snoc es end k e (rw (← ends) ended)) [
       | inl i ↦ elim (in_snoc ls lives k l (rw (← lived) counted)) [
-        | inl j ↦ is.lived k d e l plan h i j planned
+        | inl j ↦ is.lived k d e l plan first h i j planned was
         | inr j ↦ absurd (omega (arith, within, j.0, is.lives))
       ]
       | inr i ↦ absurd (omega (arith, within, i.0, is.ends))
@@ -69,12 +99,12 @@ module _ (ident : Ident) (plans : List WorkerPlan) (ds dt : List Stand) (es et :
       | inl i ↦ let within : k < length es = slice_get_within es k e i in absurd (omega (arith, within, h.0, is.ends))
       | inr i ↦ elim (in_snoc ls lives k l (rw (← lived) counted)) [
         | inl j ↦ let within : k < length ls = slice_get_within ls k l j in absurd (omega (arith, within, h.0, is.lives))
-        | inr j ↦ rw (← i.1, ← j.1) (has_lived plan (rw h.1 planned))
+        | inr j ↦ rw (← h.1, ← i.1, ← j.1) (has_lived plan first (rw h.1 planned) (rw h.1 was))
       ]
     ]
   ]
 
-  pub settled_more : AreSettled ident plans dt et lt
+  pub settled_more : AreSettled ident turned plans given dt et lt
   settled_more = record {
     ours = ours;
     ends = rw (downs, ends) (let d = length-append ds (down ∷ []) in let e = length-append es (end ∷ []) in omega (arith, d, e, is.ends));

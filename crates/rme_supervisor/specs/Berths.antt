@@ -1,33 +1,64 @@
 -- A worker between two lives.
-use Rattle.std.specs.Prelude.{◌≡◌, ◌≢◌, ℕ, ◌<◌, ◌≤◌, List, Option, Some, None, slice_get}
+use Rattle.std.specs.Prelude.{◌≡◌, ◌≢◌, ◌⊎◌, ℕ, ◌+◌, ◌<◌, ◌≤◌, Bool, true, false, List, Option, Some, None, slice_get}
 use Rattle.rme_words.specs.declared.shape.Shape.{Shape}
-use Rattle.rme_seats.specs.Stands.{Stand}
+use Rattle.rme_seats.specs.Stands.{Ident, Stand}
 use Rattle.rme_supervisor.specs.declared.end.End.{End}
-use Rattle.rme_supervisor.specs.declared.end.End.TheVariants.{OutOfLives, NoStart}
+use Rattle.rme_supervisor.specs.declared.end.End.TheVariants.{OutOfLives, NoStart, Stalled}
 use Rattle.rme_supervisor.specs.declared.plan.WorkerPlan.{WorkerPlan}
-use Rattle.rme_supervisor.specs.Ends.{IsEarned, MayLive}
+use Rattle.rme_supervisor.specs.Ends.{IsEarned, is_outside}
+use Rattle.rme_supervisor.specs.Falling.{FellAt, StoodAt}
+use Rattle.rme_supervisor.specs.Plans.{IsPlan}
+use Rattle.rme_supervisor.specs.Stops.{IsTurnedAway}
 
--- The worker, how its lives ended if they have, how often it fell, how many blocked sweeps it made on its job, and how many lives
--- were started.
+-- The worker, how its lives ended if they have, how many blocked sweeps it made on its job, and how many lives were started.
 pub record Rest : Type 0 where
   pub stand : Stand
   pub end : Option End
-  pub fallen : ℕ
   pub blocked : ℕ
   pub lives : ℕ
 
--- No more lives were started than the plan has. Of a worker that may have a further one, or is out of them, each ended at a
--- fall; where it is out of them they were as many as the plan has, and else it may have a further one. What a life ended with is
--- no want of a thread.
-pub record HasFallen (plan : WorkerPlan) (rest : Rest) : Type 0 where
+-- A worker that had this at the call has made so many own steps since, in no more lives than its plan has, and as many blocked
+-- sweeps on its job at most. Of one that may have a further life, or is out of them, each life ended at the plan's next fall; where
+-- it is out of them they were as many as the plan has, and else it may have a further one. What a life ended with is no want of a
+-- thread; it was before the next fall; and where it was a stall, as many sweeps were made as may be, or the gate turned it away.
+pub record HasRested (turned : ℕ → Type 0) (plan : WorkerPlan) (first : Stand) (rest : Rest) : Type 0 where
+  pub made : ℕ
+  pub steps : rest.stand.part.steps ≡ first.part.steps + made
+  pub swept : rest.blocked ≤ made
+  pub few : rest.blocked ≤ plan.sweeps
   pub most : rest.lives ≤ plan.lives
-  pub falls : rest.end ≡ None → rest.lives ≡ rest.fallen
-  pub more : rest.end ≡ None → 0 < plan.lives → MayLive plan rest.lives
-  pub out : rest.end ≡ Some OutOfLives → (rest.lives ≡ rest.fallen) × (rest.lives ≡ plan.lives)
+  pub falls : rest.end ≡ None → FellAt plan.falls.items rest.lives made
+  pub more : rest.end ≡ None → 0 < plan.lives → rest.lives < plan.lives
+  pub out : rest.end ≡ Some OutOfLives → FellAt plan.falls.items rest.lives made × (rest.lives ≡ plan.lives)
   pub ended : (end : End) → rest.end ≡ Some end → (end ≢ NoStart) × (0 < rest.lives)
+  pub stood : (end : End) → rest.end ≡ Some end → is_outside end ≡ false → StoodAt plan.falls.items rest.lives made
+  pub stalled : rest.end ≡ Some Stalled → (plan.sweeps ≤ rest.blocked) ⊎ turned rest.stand.part.worker
+
+-- A worker lives again exactly where it fell, and in fewer lives than its plan has: it is out of lives only where they were as many.
+abbrev pub LivesAgain : WorkerPlan → ℕ → Option End → Type 0
+LivesAgain plan lives None = lives < plan.lives
+LivesAgain plan lives (Some end) = is_outside end ≡ true → lives ≡ plan.lives
 
 -- An end, and a number of lives, is one that the worker's plan allows.
-pub record IsRest (shape : Shape) (plans : List WorkerPlan) (rest : Rest) : Type 0 where
+pub record IsRest (shape : Shape) (turned : ℕ → Type 0) (plans : List WorkerPlan) (given : List Stand) (rest : Rest) : Type 0 where
   pub earned : (plan : WorkerPlan) (end : End) → slice_get plans rest.stand.part.worker ≡ Some plan → rest.end ≡ Some end
       → IsEarned shape plan rest.stand.part.private.begun end
-  pub fallen : (plan : WorkerPlan) → slice_get plans rest.stand.part.worker ≡ Some plan → HasFallen plan rest
+  pub rested : (plan : WorkerPlan) (first : Stand) → slice_get plans rest.stand.part.worker ≡ Some plan → slice_get given rest.stand.part.worker ≡ Some first
+      → HasRested turned plan first rest
+
+-- Each of these is its worker's Down at the call.
+abbrev pub AreGiven : List Stand → List Stand → Type 0
+AreGiven given downs = (k : ℕ) (down : Stand) → slice_get downs k ≡ Some down → slice_get given down.part.worker ≡ Some down
+
+-- The lives of this worker go by its plan, which is a good one, in this service; and a worker that the gate turns away is known as
+-- one of those.
+pub record AreOrders (ident : Ident) (turned : ℕ → Type 0) (plans : List WorkerPlan) (answered : ℕ → ℕ → Bool → Type 0) (lets_all : Bool) (service : Ident) (worker : ℕ) (plan : WorkerPlan) : Type 0 where
+  pub ours : service ≡ ident
+  pub planned : slice_get plans worker ≡ Some plan
+  pub good : IsPlan plan
+  pub away : (other : ℕ) → IsTurnedAway answered lets_all service.shape other → turned other
+
+-- So do those of each worker that has a plan.
+abbrev pub AllOrders : Ident → (ℕ → Type 0) → List WorkerPlan → (ℕ → ℕ → Bool → Type 0) → Bool → Ident → List WorkerPlan → Type 0
+AllOrders ident turned plans answered lets_all service given =
+    (worker : ℕ) (plan : WorkerPlan) → slice_get given worker ≡ Some plan → AreOrders ident turned plans answered lets_all service worker plan

@@ -1,5 +1,5 @@
 -- How a worker's lives may end.
-use Rattle.std.specs.Prelude.{◌≡◌, ◌≢◌, ℕ, ◌<◌, ◌≤◌, ◌⊎◌, Bool, true, false, List, length, slice_get, Some}
+use Rattle.std.specs.Prelude.{◌≡◌, ◌≢◌, ℕ, ◌+◌, ◌<◌, ◌≤◌, ◌⊎◌, Bool, true, false, List, length, slice_get, Some}
 use Rattle.rme_words.specs.declared.shape.Shape.{Shape}
 use Rattle.rme_words.specs.declared.refusal.Refusal.{Refusal}
 use Rattle.rme_script.specs.declared.job.Job.{Job}
@@ -9,6 +9,7 @@ use Rattle.rme_table.specs.Calls.{post_refusal}
 use Rattle.rme_supervisor.specs.declared.end.End.{End}
 use Rattle.rme_supervisor.specs.declared.end.End.TheVariants.{AllDone, Stalled, OutOfLives, NoStart, Refused}
 use Rattle.rme_supervisor.specs.declared.plan.WorkerPlan.{WorkerPlan}
+use Rattle.rme_supervisor.specs.Falling.{FellAt, StoodAt}
 use Rattle.rme_supervisor.specs.Plans.{planned}
 
 -- The plan's next job is refused for this reason.
@@ -32,24 +33,28 @@ is_outside OutOfLives = true
 is_outside NoStart = true
 is_outside _ = false
 
--- A worker that fell in each of so many lives may have a further one: its plan has more lives, or more than it has falls.
-abbrev pub MayLive : WorkerPlan → ℕ → Type 0
-MayLive plan lives = (lives < plan.lives) ⊎ (length plan.falls.items < plan.lives)
-
 -- Of so many lives of a worker that were started, no more than its plan has, it is out only where they were as many; it had no
--- thread only where it might have a further one; and each other end is that of a life.
-pub record HasLived (plan : WorkerPlan) (end : End) (lives : ℕ) : Type 0 where
+-- thread only where it might have a further one; and each other end is that of a life. Each life but the last ended at the plan's
+-- next fall, before the own step that would follow so many, counted over all lives since the call; so did the last one of a worker
+-- that is out of lives, or had no thread for a further one; and in a life that ended otherwise it made no step behind the next fall.
+-- One that stalled did so after as many blocked sweeps as the plan has, each with an own step at least, or the gate turned it away.
+pub record HasLived (turned : ℕ → Type 0) (plan : WorkerPlan) (first down : Stand) (end : End) (lives : ℕ) : Type 0 where
+  pub made : ℕ
+  pub steps : down.part.steps ≡ first.part.steps + made
   pub most : lives ≤ plan.lives
   pub out : end ≡ OutOfLives → lives ≡ plan.lives
-  pub left : end ≡ NoStart → 0 < plan.lives → MayLive plan lives
+  pub left : end ≡ NoStart → 0 < plan.lives → lives < plan.lives
   pub lived : end ≢ NoStart → 0 < lives
+  pub fell : is_outside end ≡ true → FellAt plan.falls.items lives made
+  pub stood : is_outside end ≡ false → StoodAt plan.falls.items lives made
+  pub stalled : end ≡ Stalled → (plan.sweeps ≤ made) ⊎ turned down.part.worker
 
 -- Workers of this service, how the lives of each ended, and how many were started: each of these is what its plan allows.
-pub record AreSettled (ident : Ident) (plans : List WorkerPlan) (downs : List Stand) (ended : List End) (counts : List ℕ) : Type 0 where
+pub record AreSettled (ident : Ident) (turned : ℕ → Type 0) (plans : List WorkerPlan) (given : List Stand) (downs : List Stand) (ended : List End) (counts : List ℕ) : Type 0 where
   pub ours : AreOf ident downs
   pub ends : length ended ≡ length downs
   pub lives : length counts ≡ length downs
   pub earned : (k : ℕ) (down : Stand) (end : End) (plan : WorkerPlan) → slice_get downs k ≡ Some down → slice_get ended k ≡ Some end → slice_get plans down.part.worker ≡ Some plan
       → IsEarned ident.shape plan down.part.private.begun end
-  pub lived : (k : ℕ) (down : Stand) (end : End) (lives : ℕ) (plan : WorkerPlan) → slice_get downs k ≡ Some down → slice_get ended k ≡ Some end → slice_get counts k ≡ Some lives
-      → slice_get plans down.part.worker ≡ Some plan → HasLived plan end lives
+  pub lived : (k : ℕ) (down : Stand) (end : End) (lives : ℕ) (plan : WorkerPlan) (first : Stand) → slice_get downs k ≡ Some down → slice_get ended k ≡ Some end → slice_get counts k ≡ Some lives
+      → slice_get plans down.part.worker ≡ Some plan → slice_get given down.part.worker ≡ Some first → HasLived turned plan first down end lives

@@ -1,6 +1,6 @@
 -- What the slots held when all keepers had ended.
 use Rattle.std.specs.Prelude.{◌≡◌, ℕ, ◌+◌, ◌≤◌, List, [], length, vec_capacity}
-use Rattle.rme_seats.specs.Stands.{Ident}
+use Rattle.rme_seats.specs.Stands.{Ident, Stand}
 use Rattle.rme_supervisor.specs.declared.plan.WorkerPlan.{WorkerPlan}
 use Rattle.rme_supervisor.specs.declared.settling.Settled.{Settled}
 use Rattle.rme_supervisor.specs.Ends.{AreSettled}
@@ -12,8 +12,8 @@ pub record HasRoom (count : ℕ) (settled : Settled) : Type 0 where
   pub lives : length settled.lives.items + count ≤ vec_capacity settled.lives
 
 -- What was found in the slots is settled.
-abbrev pub IsSettled : Ident → List WorkerPlan → Settled → Type 0
-IsSettled ident plans settled = AreSettled ident plans settled.downs.items settled.ends.items settled.lives.items
+abbrev pub IsSettled : Ident → (ℕ → Type 0) → List WorkerPlan → List Stand → Settled → Type 0
+IsSettled ident turned plans given settled = AreSettled ident turned plans given settled.downs.items settled.ends.items settled.lives.items
 
 pub record IsEmpty (count : ℕ) (settled : Settled) : Type 0 where
   pub room : HasRoom count settled

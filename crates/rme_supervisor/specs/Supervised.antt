@@ -49,8 +49,9 @@ pub record IsEnded (shape : Shape) (fresh : Bool) (plan : WorkerPlan) (down : St
   pub earned : IsEarned shape plan down.part.private.begun end
   pub follows : fresh ≡ true → Follows plan down.part.entries end
 
--- The service was closed with the Downs of all workers at the end; and each worker ended as it says, after so many lives.
-pub record IsOver (shape : Shape) (plans : List WorkerPlan) (fresh : Bool) (report : Report) : Type 0 where
+-- The service was closed with the Downs of all workers at the end; and each worker ended as it says, after so many lives, having had
+-- its Down at the call.
+pub record IsOver (shape : Shape) (turned : ℕ → Type 0) (plans : List WorkerPlan) (given : List Stand) (fresh : Bool) (report : Report) : Type 0 where
   pub downs : List Stand
   pub all : AreAll shape downs
   pub closed : IsClose shape downs report.closed.locks.items
@@ -58,13 +59,14 @@ pub record IsOver (shape : Shape) (plans : List WorkerPlan) (fresh : Bool) (repo
   pub lives : length report.lives.items ≡ shape.workers
   pub each : (worker : ℕ) (down : Stand) (plan : WorkerPlan) (end : End) → slice_get downs worker ≡ Some down → slice_get plans worker ≡ Some plan
       → slice_get report.ends.items worker ≡ Some end → IsEnded shape fresh plan down end
-  pub lived : (worker : ℕ) (plan : WorkerPlan) (end : End) (lives : ℕ) → slice_get plans worker ≡ Some plan → slice_get report.ends.items worker ≡ Some end
-      → slice_get report.lives.items worker ≡ Some lives → HasLived plan end lives
+  pub lived : (worker : ℕ) (plan : WorkerPlan) (first down : Stand) (end : End) (lives : ℕ) → slice_get plans worker ≡ Some plan → slice_get given worker ≡ Some first
+      → slice_get downs worker ≡ Some down → slice_get report.ends.items worker ≡ Some end → slice_get report.lives.items worker ≡ Some lives
+      → HasLived turned plan first down end lives
 
 -- The plans were good, and the run is over.
-pub record IsReport (shape : Shape) (plans : List WorkerPlan) (given : List Stand) (report : Report) : Type 0 where
+pub record IsReport (shape : Shape) (turned : ℕ → Type 0) (plans : List WorkerPlan) (given : List Stand) (report : Report) : Type 0 where
   pub good : ArePlans plans (length given)
-  pub over : IsOver shape plans (all_fresh given) report
+  pub over : IsOver shape turned plans given (all_fresh given) report
 
 -- These are the Downs of all workers, in order, and their entries follow the plans if all workers were fresh.
 pub record IsWhole (shape : Shape) (plans : List WorkerPlan) (fresh : Bool) (downs : List Stand) (ends : List End) : Type 0 where
@@ -72,32 +74,32 @@ pub record IsWhole (shape : Shape) (plans : List WorkerPlan) (fresh : Bool) (dow
   pub follow : fresh ≡ true → AllFollow plans downs ends
 
 -- A worker is missing, or its entries do not follow its plan: what was found is not whole.
-pub record IsAmiss (ident : Ident) (plans : List WorkerPlan) (fresh : Bool) (back : List Stand) : Type 0 where
+pub record IsAmiss (ident : Ident) (turned : ℕ → Type 0) (plans : List WorkerPlan) (given : List Stand) (fresh : Bool) (back : List Stand) : Type 0 where
   pub ends : List End
   pub lives : List ℕ
-  pub settled : AreSettled ident plans back ends lives
+  pub settled : AreSettled ident turned plans given back ends lives
   pub amiss : IsWhole ident.shape plans fresh back ends → ⊥
 
 -- Why a run has no report: want of memory, and the Downs of all workers come back, in order; or a worker that is missing.
-abbrev pub IsLateWhy : Refusal → Ident → List WorkerPlan → Bool → List Stand → Type 0
-IsLateWhy NoMemory ident plans fresh back = AreAll ident.shape back
-IsLateWhy NoWorker ident plans fresh back = IsAmiss ident plans fresh back
-IsLateWhy _ ident plans fresh back = ⊥
+abbrev pub IsLateWhy : Refusal → Ident → (ℕ → Type 0) → List WorkerPlan → List Stand → Bool → List Stand → Type 0
+IsLateWhy NoMemory ident turned plans given fresh back = AreAll ident.shape back
+IsLateWhy NoWorker ident turned plans given fresh back = IsAmiss ident turned plans given fresh back
+IsLateWhy _ ident turned plans given fresh back = ⊥
 
 -- Or bad plans, and nothing was done.
-abbrev pub IsWhy : Refusal → Ident → List WorkerPlan → List Stand → List Stand → Type 0
-IsWhy BadShape ident plans given back = (ArePlans plans (length given) → ⊥) × (back ≡ given)
-IsWhy why ident plans given back = ArePlans plans (length given) × IsLateWhy why ident plans (all_fresh given) back
+abbrev pub IsWhy : Refusal → Ident → (ℕ → Type 0) → List WorkerPlan → List Stand → List Stand → Type 0
+IsWhy BadShape ident turned plans given back = (ArePlans plans (length given) → ⊥) × (back ≡ given)
+IsWhy why ident turned plans given back = ArePlans plans (length given) × IsLateWhy why ident turned plans given (all_fresh given) back
 
 -- The service comes back, and Downs of its workers.
 pub record IsBack (ident : Ident) (fault : Fault) : Type 0 where
   pub service : fault.service ≡ ident
   pub ours : AreOf ident fault.downs.items
 
-pub record IsLate (ident : Ident) (plans : List WorkerPlan) (fresh : Bool) (fault : Fault) : Type 0 where
+pub record IsLate (ident : Ident) (turned : ℕ → Type 0) (plans : List WorkerPlan) (given : List Stand) (fresh : Bool) (fault : Fault) : Type 0 where
   pub back : IsBack ident fault
-  pub why : IsLateWhy fault.why ident plans fresh fault.downs.items
+  pub why : IsLateWhy fault.why ident turned plans given fresh fault.downs.items
 
-pub record IsFault (ident : Ident) (plans : List WorkerPlan) (given : List Stand) (fault : Fault) : Type 0 where
+pub record IsFault (ident : Ident) (turned : ℕ → Type 0) (plans : List WorkerPlan) (given : List Stand) (fault : Fault) : Type 0 where
   pub back : IsBack ident fault
-  pub why : IsWhy fault.why ident plans given fault.downs.items
+  pub why : IsWhy fault.why ident turned plans given fault.downs.items

@@ -1,6 +1,7 @@
 //! The type that names a supervised run.
 
-ghost use Rattle.std.specs.Prelude.{List};
+ghost use Rattle.std.specs.Prelude.{ℕ, List};
+ghost use Rattle.rme_seats.specs.Stands.{Stand};
 ghost use Rattle.rme_supervisor.specs.declared.plan.WorkerPlan.{WorkerPlan};
 
 use rme_table::Tag;
@@ -8,12 +9,21 @@ use std::marker::Brand;
 
 /// A type that names one service and the plans of its workers, for the proofs alone.
 pub trait Course: Tag {
-    // The plan of each worker, in order.
+    // The plan of each worker, in order, and its Down at the call.
     ghost plans: { List WorkerPlan };
+
+    ghost given: { List Stand };
+
+    // What is known of a worker that the gate turned away.
+    ghost turned: { ℕ → Type 0 };
 }
 
 impl Course for Brand {
-    ghost use Rattle.std.specs.Prelude.{[]};
+    ghost use Rattle.std.specs.Prelude.{[], ⊤};
 
     ghost plans = { [] };
+
+    ghost given = { [] };
+
+    ghost turned = { λ _. ⊤ };
 }

@@ -1,60 +1,63 @@
-//! The falls of a plan, as a chance.
+//! The fall of a life, as a chance.
 
 ghost use Rattle.std.specs.Prelude.{◌≡◌};
 
 use rme_table::Chance;
 
-/// Lets a worker fall before the own step that would follow so many, for each of the counts in turn.
-#[derive(Drop)]
-pub(crate) struct Falls<'a> {
-    counts: &'a [u32],
-    steps: u64,
-    fallen: usize,
+/// Whether a worker falls in a life, and when.
+///
+/// It is asked before each own step, and counts down.
+#[derive(Clone, Copy, PartialEq, Eq)]
+pub(crate) enum Falls {
+    /// The plan has no further fall.
+    Never,
+    /// The worker falls before the own step that would follow so many.
+    After(u32),
+    /// The worker fell at the last question. A worker that fell asks nothing more: one that asked would fall again.
+    Fallen,
 }
 
-impl<'a> Falls<'a> {
-    ghost use Rattle.std.specs.Prelude.{◌≡◌};
+impl Falls {
+    ghost use Rattle.rme_supervisor.specs.Plans.{IsRising};
+    ghost use Rattle.rme_supervisor.specs.Falling.{IsNextFall};
 
-    /// The counts after so many falls, the worker having made so many own steps.
-    pub(crate) fn after(counts: &'a [u32], steps: u64, fallen: usize) -> Falls<'a>
-        ensures { result.fallen ≡ fallen }
+    /// The fall of a life that is lived behind so many, each of which ended at a fall: the plan's counts are those of
+    /// all lives, and the life before it fell at the last count.
+    pub(crate) fn next(counts: &[u32], lives: u32) -> Falls
+        requires rising { IsRising counts.now }
+        ensures { IsNextFall counts.now lives result }
     {
-        Falls {
-            counts,
-            steps,
-            fallen,
+        let place = lives as usize;
+        if place >= counts.len() {
+            return Falls::Never;
         }
-    }
-
-    /// The own steps so far, blocked ones included.
-    pub(crate) fn steps(&self) -> u64 {
-        self.steps
-    }
-
-    /// The falls so far.
-    pub(crate) fn fallen(&self) -> usize
-        ensures { result ≡ self.now.fallen }
-    {
-        self.fallen
+        if place == 0 {
+            return Falls::After(counts[0]);
+        }
+        Falls::After(counts[place] - counts[place - 1])
     }
 }
 
-impl<'a> Chance for Falls<'a> {
-    ghost use Rattle.std.specs.Prelude.{◌≡◌, ◌↔◌, IsTrue, Some, None, slice_get};
-    ghost use Rattle.rme_seats.specs.Chances.{Asks, answers};
+impl Chance for Falls {
+    ghost use Rattle.rme_supervisor.specs.Falling.{tally_of};
 
-    ghost tally = { λ falls. record { yeses = falls.fallen; questions = None } };
+    ghost tally = { tally_of };
 
-    fn falls(&mut self) -> bool
-        ensures asks { Asks (record { yeses = self.old.fallen; questions = None }) (record { yeses = self.new.fallen; questions = None }) 1 (answers result) }
-        ensures exact { IsTrue result ↔ (slice_get self.old.counts.now self.old.fallen ≡ Some self.old.steps) }
-        ensures counts { self.new.counts.now ≡ self.old.counts.now }
-    {
-        if self.fallen < self.counts.len() && u64::from(self.counts[self.fallen]) == self.steps {
-            self.fallen += 1;
-            return true;
+    fn falls(&mut self) -> bool {
+        match *self {
+            Falls::Never => false,
+            Falls::After(0) => {
+                *self = Falls::Fallen;
+                true
+            }
+            Falls::After(left) => {
+                *self = Falls::After(left - 1);
+                false
+            }
+            Falls::Fallen => {
+                *self = Falls::Never;
+                true
+            }
         }
-        self.steps = self.steps.saturating_add(1);
-        false
     }
 }

@@ -1,6 +1,7 @@
 //! The keepers: a thread for each worker, and in it a thread for each of the worker's lives.
 
-ghost use Rattle.std.specs.Prelude.{◌≡◌, ◌≤◌, slice_get, length, Some};
+ghost use Rattle.std.specs.Prelude.{◌≡◌, length};
+ghost use Rattle.rme_supervisor.specs.Berths.{AllOrders, AreOrders};
 
 use crate::course::Course;
 use crate::life::Orders;
@@ -19,16 +20,14 @@ pub(crate) fn keep_all<K: Course + Send + Sync, G: Gate + Sync, R: Threads + Wai
     plans: &[WorkerPlan],
     gate: &G,
 )
-    requires ours { service.now ≡ K.Tag.ident }
-    requires planned { plans.now ≡ K.plans }
+    requires orders { AllOrders K.Tag.ident K.turned K.plans (G.answered gate.now) G.lets_all service.now plans.now }
     requires all { (length slots.now ≡ service.now.shape.workers) × (length plans.now ≡ service.now.shape.workers) }
 {
     thread::scope(
         thread::scope_env(),
         rt,
         |scope|
-            requires ours { service.now ≡ K.Tag.ident }
-            requires planned { plans.now ≡ K.plans }
+            requires orders { AllOrders K.Tag.ident K.turned K.plans (G.answered gate.now) G.lets_all service.now plans.now }
             requires all { (length slots.now ≡ service.now.shape.workers) × (length plans.now ≡ service.now.shape.workers) }
         {
             for worker in 0..service.shape().workers() {
@@ -39,8 +38,7 @@ pub(crate) fn keep_all<K: Course + Send + Sync, G: Gate + Sync, R: Threads + Wai
                     unreachable!()
                 };
                 let keeper = move ||
-                    requires ours { service.now ≡ K.Tag.ident }
-                    requires planned { slice_get K.plans worker ≡ Some plan.now }
+                    requires orders { AreOrders K.Tag.ident K.turned K.plans (G.answered gate.now) G.lets_all service.now worker plan.now }
                 {
                     keep(
                         rt,
@@ -67,8 +65,7 @@ fn keep<K: Course + Send + Sync, G: Gate + Sync, R: Threads + Wait + Sync>(
     worker: u32,
     orders: &Orders<'_, G>,
 )
-    requires ours { orders.now.service.now ≡ K.Tag.ident }
-    requires planned { slice_get K.plans worker ≡ Some orders.now.plan.now }
+    requires orders { AreOrders K.Tag.ident K.turned K.plans (G.answered orders.now.gate.now) G.lets_all orders.now.service.now worker orders.now.plan.now }
 {
     for _ in 0..orders.plan.lives {
         if !is_lived(rt, slot, worker, orders) || has_ended(rt, slot) {
@@ -84,19 +81,16 @@ fn is_lived<K: Course + Send + Sync, G: Gate + Sync, R: Threads + Wait + Sync>(
     worker: u32,
     orders: &Orders<'_, G>,
 ) -> bool
-    requires ours { orders.now.service.now ≡ K.Tag.ident }
-    requires planned { slice_get K.plans worker ≡ Some orders.now.plan.now }
+    requires orders { AreOrders K.Tag.ident K.turned K.plans (G.answered orders.now.gate.now) G.lets_all orders.now.service.now worker orders.now.plan.now }
 {
     thread::scope(
         thread::scope_env(),
         rt,
         |scope| -> bool
-            requires ours { orders.now.service.now ≡ K.Tag.ident }
-            requires planned { slice_get K.plans worker ≡ Some orders.now.plan.now }
+            requires orders { AreOrders K.Tag.ident K.turned K.plans (G.answered orders.now.gate.now) G.lets_all orders.now.service.now worker orders.now.plan.now }
         {
             let life = move ||
-                requires ours { orders.now.service.now ≡ K.Tag.ident }
-                requires planned { slice_get K.plans worker ≡ Some orders.now.plan.now }
+                requires orders { AreOrders K.Tag.ident K.turned K.plans (G.answered orders.now.gate.now) G.lets_all orders.now.service.now worker orders.now.plan.now }
             { live_in(rt, slot, worker, orders) };
             scope.spawn(life).is_ok()
         },

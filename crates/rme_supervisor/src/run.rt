@@ -1,9 +1,10 @@
 //! A supervised run.
 
-ghost use Rattle.std.specs.Prelude.{◌≡◌, ◌≤◌, [], length, vec_capacity, IfOk, IfErr};
+ghost use Rattle.std.specs.Prelude.{◌≡◌, ℕ, ◌≤◌, [], length, vec_capacity, IfOk, IfErr};
 ghost use Rattle.rme_seats.specs.Closing.{AreOf};
 ghost use Rattle.rme_supervisor.specs.Plans.{ArePlans};
 ghost use Rattle.rme_supervisor.specs.Settled.{IsSettled, IsEmpty};
+ghost use Rattle.rme_supervisor.specs.Stops.{IsTurnedAway};
 ghost use Rattle.rme_supervisor.specs.Supervised.{AreAll, IsReport, IsFault, IsOver, IsLate};
 
 use crate::checking::{are_fresh, are_plans, is_whole};
@@ -12,8 +13,8 @@ use crate::keeping::keep_all;
 use crate::plan::WorkerPlan;
 use crate::report::{Fault, Report};
 use crate::settling::{Settled, settle};
-use crate::slots::Slot;
-use rme_table::{Down, Gate, Service, Unclosed, fill};
+use crate::slots::{Slot, fill};
+use rme_table::{Down, Gate, Service, Unclosed};
 use rme_words::{NoMemory, Refusal};
 use std::alloc::Global;
 use std::marker::Brand;
@@ -40,8 +41,8 @@ pub fn supervise<G: Gate + Sync, R: Threads + Wait + Sync>(
 ) -> Result<Report, Fault>
     requires ours { AreOf service downs.items }
     requires all { AreAll service.shape downs.items }
-    ensures report { IfOk result (λ report. IsReport service.shape plans.items downs.items report) }
-    ensures fault { IfErr result (λ fault. IsFault service plans.items downs.items fault) }
+    ensures report { IfOk result (λ report. IsReport service.shape (IsTurnedAway (G.answered gate.now) G.lets_all service.shape) plans.items downs.items report) }
+    ensures fault { IfErr result (λ fault. IsFault service (IsTurnedAway (G.answered gate.now) G.lets_all service.shape) plans.items downs.items fault) }
 {
     if !are_plans(&plans, downs.len()) {
         return Err(Fault {
@@ -62,12 +63,13 @@ fn run<K: Course + Send + Sync, G: Gate + Sync, R: Threads + Wait + Sync>(
     plans: &[WorkerPlan],
     gate: &G,
 ) -> Result<Report, Fault>
-    requires named { (service ≡ K.Tag.ident) × (plans.now ≡ K.plans) }
+    requires named { (service ≡ K.Tag.ident) × (plans.now ≡ K.plans) × (downs.items ≡ K.given) }
+    requires away { (worker : ℕ) → IsTurnedAway (G.answered gate.now) G.lets_all service.shape worker → K.turned worker }
     requires ours { AreOf service downs.items }
     requires all { AreAll service.shape downs.items }
     requires good { ArePlans plans.now (length downs.items) }
-    ensures report { IfOk result (λ report. IsReport service.shape plans.now downs.items report) }
-    ensures fault { IfErr result (λ fault. IsFault service plans.now downs.items fault) }
+    ensures report { IfOk result (λ report. IsReport service.shape K.turned plans.now downs.items report) }
+    ensures fault { IfErr result (λ fault. IsFault service K.turned plans.now downs.items fault) }
 {
     let Ok((slots, settled)) = room_for::<K>(alloc, downs.len()) else {
         return Err(Fault {
@@ -79,7 +81,7 @@ fn run<K: Course + Send + Sync, G: Gate + Sync, R: Threads + Wait + Sync>(
     let fresh = are_fresh(&downs);
     let slots = fill(downs, slots);
     keep_all(rt, &slots, &service, plans, gate);
-    end(service, plans, settle(slots, settled), fresh)
+    end::<K>(service, plans, settle(slots, settled), fresh)
 }
 
 /// Room for so many slots, and for what they hold in the end.
@@ -95,16 +97,16 @@ fn room_for<K: Course>(alloc: Global, count: usize) -> Result<(Vec<Slot<K>>, Set
 }
 
 /// The answer of a run that is over.
-fn end(
+fn end<K: Course>(
     service: Service,
     plans: &[WorkerPlan],
     settled: Settled,
     fresh: bool,
 ) -> Result<Report, Fault>
-    requires settled { IsSettled service plans.now settled }
+    requires settled { IsSettled service K.turned plans.now K.given settled }
     requires plans { length plans.now ≡ service.shape.workers }
-    ensures report { IfOk result (λ report. IsOver service.shape plans.now fresh report) }
-    ensures fault { IfErr result (λ fault. IsLate service plans.now fresh fault) }
+    ensures report { IfOk result (λ report. IsOver service.shape K.turned plans.now K.given fresh report) }
+    ensures fault { IfErr result (λ fault. IsLate service K.turned plans.now K.given fresh fault) }
 {
     let Settled { downs, ends, lives } = settled;
     if !is_whole(fresh, plans, &downs, &ends, service.shape()) {

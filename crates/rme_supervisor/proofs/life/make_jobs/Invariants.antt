@@ -1,7 +1,13 @@
 -- The worker is the one that began, it has not fallen, and may make as many sweeps.
 use Rattle.std.specs.Prelude.{◌≡◌}
-use Rattle.rme_supervisor.specs.Stops.{IsOf}
+use Rattle.rme_supervisor.specs.Falling.{HasAsked}
+use Rattle.rme_supervisor.specs.Stops.{HasTried, IsOf}
 use Rattle.rme_supervisor.proofs.life.make_jobs.Given as goal
 
 abbrev pub invariant-loop : goal.invariant-loop
-invariant-loop g l = record { own : IsOf l.initial.ready.ident l.initial.ready.part.worker l.ready; falls : l.trail.falls.fallen ≡ l.fn.trail.falls.fallen; most : l.trail.tries.most ≡ l.fn.trail.tries.most }
+invariant-loop g l = record {
+  own : IsOf l.initial.ready.ident l.initial.ready.part.worker l.ready;
+  falls : HasAsked l.fn.trail.falls l.trail.falls l.initial.ready l.ready 0;
+  tries : HasTried l.fn.trail.tries l.trail.tries l.initial.ready l.ready;
+  most : l.trail.tries.most ≡ l.fn.trail.tries.most;
+}
