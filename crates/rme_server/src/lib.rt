@@ -21,7 +21,7 @@ mod work;
 
 pub use orders::obey;
 pub use planned::Planned;
-pub use rme_lines::ServeFault;
+pub use rme_lines::{LineReader, ServeFault};
 pub use server::serve;
 pub use slots::Slots;
 pub use stand::{Holding, Stand};

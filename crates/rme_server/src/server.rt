@@ -6,7 +6,7 @@ use crate::slots::Slots;
 use crate::talk::session;
 use rme_lines::ServeFault;
 use rme_table::{Service, Tag};
-use rme_wire::Names;
+use rme_wire::{LineReader, Names};
 use std::alloc::Global;
 use std::io::ErrorKind;
 use std::net::{TcpListener, TcpStream};
@@ -83,5 +83,8 @@ fn welcome<K: Tag, R: Wait>(
     // An answer is not held back for further ones. A socket that refuses this is served all the same.
     let _ = client.set_nodelay(true);
     let mut writer = client;
-    let _ = session(rt, alloc, client, &mut writer, service, slots, names);
+    let Ok(mut lines) = LineReader::new(alloc, client) else {
+        return;
+    };
+    let _ = session(rt, alloc, &mut lines, &mut writer, service, slots, names);
 }
