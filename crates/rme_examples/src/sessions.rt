@@ -5,7 +5,7 @@ ghost use Rattle.rme.specs.Closing.{AreOf};
 ghost use Rattle.rme.specs.Slots.{AreInPlace};
 
 use rme::Shape;
-use rme::lines::Names;
+use rme::lines::{LineReader, Names};
 use rme::service::{Down, Service, Tag};
 use rme::sessions::{Slots, session};
 use std::alloc::Global;
@@ -47,16 +47,9 @@ fn talk<K: Tag, R: Abort + Wait>(
     let Ok(slots) = Slots::<K>::new(rt, alloc, downs) else {
         panic!(rt; "no room for the slots");
     };
+    let mut lines = LineReader::new(alloc, SAID.as_bytes())?;
     let mut heard = Vec::new(alloc);
-    session(
-        rt,
-        alloc,
-        SAID.as_bytes(),
-        &mut heard,
-        service,
-        &slots,
-        &names,
-    )?;
+    session(rt, alloc, &mut lines, &mut heard, service, &slots, &names)?;
     assert!(rt; str::from_utf8(heard.as_slice()).ok() == Some(HEARD));
     match slots.into_downs(rt) {
         Ok(downs) => Ok(downs),

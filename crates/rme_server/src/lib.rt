@@ -22,7 +22,7 @@ mod work;
 
 pub use orders::obey;
 pub use planned::Plan;
-pub use rme_lines::ServeFault;
+pub use rme_lines::{LineReader, ServeFault};
 pub use rme_orders::Planned;
 pub use server::{Door, Trouble, serve};
 pub use slots::Slots;

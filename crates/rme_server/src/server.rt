@@ -7,7 +7,7 @@ use crate::slots::Slots;
 use crate::talk::session;
 use rme_lines::ServeFault;
 use rme_table::{Service, Tag};
-use rme_wire::{Names, SessionReply};
+use rme_wire::{LineReader, Names, SessionReply};
 use rme_words::Refusal;
 use std::alloc::Global;
 use std::io::{Error, ErrorKind};
@@ -207,5 +207,8 @@ fn welcome<K: Tag, R: Wait>(
     requires ours { service.now ≡ K.ident }
 {
     let mut writer = client;
-    let _ = session(rt, alloc, client, &mut writer, service, slots, names);
+    let Ok(mut lines) = LineReader::new(alloc, client) else {
+        return;
+    };
+    let _ = session(rt, alloc, &mut lines, &mut writer, service, slots, names);
 }

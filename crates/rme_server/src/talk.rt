@@ -1,11 +1,11 @@
 //! A session: the orders of one client's lines, and their answers.
 
-ghost use Rattle.std.specs.Prelude.{◌≡◌, ℕ, [], IfErr, IfOk, List, OnOk, Option};
+ghost use Rattle.std.specs.Prelude.{◌≡◌, ◌<◌, ◌≤◌, ℕ, [], IfErr, IfOk, List, OnOk, Option, false, true};
 ghost use Rattle.std.specs.Option.{ok_or};
 ghost use Rattle.rme_lines.specs.Cuts.{line_read};
 ghost use Rattle.rme_lines.specs.Puts.{Gathers};
-ghost use Rattle.rme_lines.specs.Readers.{FailsToRead, HasEnded, ReadsNoMore, bytes_left, has_ended};
-ghost use Rattle.rme_lines.specs.Runs.{GivesUp, TurnFails, Turns, WritesAll, WritesFirst, WritesTo};
+ghost use Rattle.rme_lines.specs.Readers.{FailsToRead, HasEnded, IsAllPut, LastReadFails, MakesReads, ReadsAt, ReadsNoMore, bytes_left, has_ended, most_lines, reads_left};
+ghost use Rattle.rme_lines.specs.Runs.{GivesUp, IsPrompt, TurnFails, Turns, WritesAll, WritesFirst, WritesTo};
 ghost use Rattle.rme_lines.specs.Traffic.{LastWriteFails, MakesWrites};
 ghost use Rattle.rme_orders.specs.Sessions.{IsAnswered, Replies, answer_as, first_of, rest_of, still_waits};
 ghost use Rattle.rme_server.specs.Obeyed.{Obeys};
@@ -45,20 +45,24 @@ struct Shared<'a, K: Tag> {
 pub fn session<K: Tag, R: Wait, I: Source + Drop, O: Sink>(
     rt: &R,
     alloc: Global,
-    reader: I,
+    lines: &mut LineReader<I>,
     writer: &mut O,
     service: &Service,
     slots: &Slots<K>,
     names: &Names,
 ) -> Result<(), EngineFault>
     requires ours { service.now ≡ K.ident }
-    ensures ok { OnOk result (WritesAll (IsAnswered (Obeys K.ident slots.now) names.now) nobody (I.remaining reader) (O.contents writer.old) (O.contents writer.new)) }
-    ensures err { IfErr result (λ fault. (left : Option (List ℕ)) × WritesFirst (IsAnswered (Obeys K.ident slots.now) names.now) nobody fault (I.remaining reader) left (O.contents writer.old) (O.contents writer.new)) }
+    ensures ok { OnOk result (WritesAll (IsAnswered (Obeys K.ident slots.now) names.now) nobody (bytes_left I.remaining lines.old) (O.contents writer.old) (O.contents writer.new)) }
+    ensures err { IfErr result (λ fault. WritesFirst (IsAnswered (Obeys K.ident slots.now) names.now) nobody fault (bytes_left I.remaining lines.old) (bytes_left I.remaining lines.new)
+        (O.contents writer.old) (O.contents writer.new)) }
+    ensures end { OnOk result (HasEnded lines.new) }
+    ensures ended { HasEnded lines.old → ReadsNoMore lines.old lines.new }
+    ensures failed { IfErr result (λ fault. fault ≡ EngineFault.ReadFailed → FailsToRead lines.old lines.new) }
+    ensures reads { MakesReads I.gave lines.old lines.new }
+    ensures prompt { ReadsAt I.moments lines.old lines.new (IsPrompt (IsAnswered (Obeys K.ident slots.now) names.now) nobody (bytes_left I.remaining lines.old) (O.contents writer.old)) }
+    ensures read_broke { IfErr result (λ fault. fault ≡ EngineFault.ReadFailed → LastReadFails I.gave lines.old lines.new) }
     ensures write_broke { IfErr result (λ fault. fault ≡ EngineFault.WriteFailed → LastWriteFails (O.took writer.old) (O.took writer.new)) }
 {
-    let Ok(mut lines) = LineReader::new(alloc, reader) else {
-        return Err(EngineFault::NoMemory);
-    };
     let Ok(mut buffers) = Buffers::new(alloc) else {
         return Err(EngineFault::NoMemory);
     };
@@ -68,7 +72,7 @@ pub fn session<K: Tag, R: Wait, I: Source + Drop, O: Sink>(
         slots,
         names,
     };
-    let (stand, ended) = converse(rt, &mut lines, &mut buffers, writer, &shared);
+    let (stand, ended) = converse(rt, lines, &mut buffers, writer, &shared);
     let_go(rt, stand, slots);
     match ended {
         Ok(()) => Ok(()),
@@ -90,6 +94,12 @@ fn converse<K: Tag, R: Wait, I: Source + Drop, O: Sink>(
     ensures ok { OnOk result.1 (WritesTo (IsAnswered (Obeys K.ident shared.now.slots.now) shared.now.names.now) nobody (bytes_left I.remaining lines.old) (O.contents writer.old) (O.contents writer.new) result.0) }
     ensures err { IfErr result.1 (λ fault. (holds : Option (List ℕ)) (last : EngineFault) → GivesUp fault (O.contents writer.new) buffers.new.exchange.pending holds last
         → WritesFirst (IsAnswered (Obeys K.ident shared.now.slots.now) shared.now.names.now) nobody last (bytes_left I.remaining lines.old) (bytes_left I.remaining lines.new) (O.contents writer.old) holds) }
+    ensures end { OnOk result.1 (HasEnded lines.new) }
+    ensures ended { HasEnded lines.old → ReadsNoMore lines.old lines.new }
+    ensures failed { IfErr result.1 (λ fault. fault ≡ EngineFault.ReadFailed → FailsToRead lines.old lines.new) }
+    ensures reads { MakesReads I.gave lines.old lines.new }
+    ensures prompt { ReadsAt I.moments lines.old lines.new (IsPrompt (IsAnswered (Obeys K.ident shared.now.slots.now) shared.now.names.now) nobody (bytes_left I.remaining lines.old) (O.contents writer.old)) }
+    ensures read_broke { IfErr result.1 (λ fault. fault ≡ EngineFault.ReadFailed → LastReadFails I.gave lines.old lines.new) }
     ensures writes { MakesWrites (O.took writer.old) (O.took writer.new) }
     ensures write_broke { IfErr result.1 (λ fault. fault ≡ EngineFault.WriteFailed → LastWriteFails (O.took writer.old) (O.took writer.new)) }
 {
@@ -121,8 +131,14 @@ fn turn<K: Tag, R: Wait, I: Source + Drop, O: Sink>(
         (O.contents writer.old) buffers.old.exchange.pending (O.contents writer.new) buffers.new.exchange.pending) }
     ensures err { IfErr result.1 (λ fault. TurnFails (IsAnswered (Obeys K.ident shared.now.slots.now) shared.now.names.now) fault (bytes_left I.remaining lines.old) (bytes_left I.remaining lines.new) stand
         (O.contents writer.old) buffers.old.exchange.pending (O.contents writer.new) buffers.new.exchange.pending) }
+    ensures fewer { IfOk result.1 (λ more. more ≡ true → most_lines lines.new < most_lines lines.old) }
+    ensures end { IfOk result.1 (λ more. more ≡ false → HasEnded lines.new) }
     ensures ended { HasEnded lines.old → ReadsNoMore lines.old lines.new }
+    ensures fewer_reads { reads_left lines.new ≤ reads_left lines.old }
     ensures failed { IfErr result.1 (λ fault. fault ≡ EngineFault.ReadFailed → FailsToRead lines.old lines.new) }
+    ensures reads { MakesReads I.gave lines.old lines.new }
+    ensures prompt { ReadsAt I.moments lines.old lines.new (IsAllPut (bytes_left I.remaining lines.old) (O.contents writer.old) buffers.old.exchange.pending) }
+    ensures read_broke { IfErr result.1 (λ fault. fault ≡ EngineFault.ReadFailed → LastReadFails I.gave lines.old lines.new) }
     ensures writes { MakesWrites (O.took writer.old) (O.took writer.new) }
     ensures write_broke { IfErr result.1 (λ fault. fault ≡ EngineFault.WriteFailed → LastWriteFails (O.took writer.old) (O.took writer.new)) }
 {

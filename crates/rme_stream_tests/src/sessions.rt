@@ -4,7 +4,7 @@ use crate::desk::{Desk, Trial, at_desk};
 use crate::flaky::{Flaky, Limits, first_lines, lines_given};
 use rme_server::session;
 use rme_table::Tag;
-use rme_wire::EngineFault;
+use rme_wire::{EngineFault, LineReader};
 use std::io::{Read, Write};
 use std::process::Abort;
 use std::sync::Wait;
@@ -40,10 +40,11 @@ fn run<K: Tag, R: Wait, I: Read + Drop, O: Write>(
     reader: I,
     writer: &mut O,
 ) -> Result<(), EngineFault> {
+    let mut lines = LineReader::new(desk.alloc, reader)?;
     session(
         rt,
         desk.alloc,
-        reader,
+        &mut lines,
         writer,
         desk.service,
         desk.slots,

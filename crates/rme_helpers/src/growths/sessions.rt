@@ -4,7 +4,7 @@ ghost use Rattle.std.specs.Prelude.{◌≡◌};
 ghost use Rattle.rme_server.specs.Slots.{AreInPlace};
 
 use crate::growths::TRIES;
-use rme_server::{Slots, session};
+use rme_server::{LineReader, Slots, session};
 use rme_table::{Down, Service, Tag};
 use rme_texts::Names;
 use rme_words::{NoMemory, Shape};
@@ -71,11 +71,15 @@ fn sessions<K: Tag, R: Wait>(
             println!(rt; "names: NoMemory")?;
             continue;
         };
+        let Ok(mut lines) = LineReader::new(rt.alloc(), LINES) else {
+            println!(rt; "lines: NoMemory")?;
+            continue;
+        };
         let mut answers = Counted { lines: 0 };
         let ended = session(
             wait,
             rt.alloc(),
-            LINES,
+            &mut lines,
             &mut answers,
             service,
             slots,

@@ -1,16 +1,17 @@
-use Rattle.std.proofs.Common.{◌≡◌, Bool, subst}
+use Rattle.std.proofs.Common.{◌≡◌, ◌<◌, [], Bool, false, refl, subst, true}
 use Rattle.std.specs.Prelude.{IfErr, IfOk, Result}
 use Rattle.rme_lines.specs.declared.fault.EngineFault.{EngineFault}
 use Rattle.rme_lines.specs.declared.fault.EngineFault.TheVariants.{ReadFailed, WriteFailed}
-use Rattle.rme_lines.specs.Readers.{FailsToRead, bytes_left}
-use Rattle.rme_lines.specs.Runs.{TurnFails, Turns}
-use Rattle.rme_lines.proofs.ReaderLemmas.{ended_at_end}
-use Rattle.rme_lines.proofs.RunLemmas.{failed, finished, so_far_first, so_far_more}
+use Rattle.rme_lines.specs.Readers.{FailsToRead, HasEnded, LastReadFails, bytes_left, most_lines}
+use Rattle.rme_lines.specs.Runs.{IsPrompt, TurnFails, Turns}
+use Rattle.rme_lines.proofs.MomentLemmas.{prompt_turn, read_none}
+use Rattle.rme_lines.proofs.ReaderLemmas.{came_first, came_no_more, ended_at_end}
+use Rattle.rme_lines.proofs.RunLemmas.{came_turn, failed, fails_to_read, finished, so_far_first, so_far_more}
 use Rattle.rme_orders.specs.Sessions.{IsAnswered}
 use Rattle.rme_server.specs.Obeyed.{Obeys}
 use Rattle.rme_server.specs.Stands.{nobody}
 use Rattle.rme_lines.specs.Traffic.{LastWriteFails}
-use Rattle.rme_lines.proofs.TrafficLemmas.{fails_after, writes_more, writes_none}
+use Rattle.rme_lines.proofs.TrafficLemmas.{fails_after, fails_more, makes_more, makes_none, writes_more, writes_none}
 use Rattle.rme_server.proofs.talk.converse.Goals as goal
 
 pub loop-init : goal.loop-init
@@ -19,6 +20,9 @@ loop-init g c = record {
   so_far = so_far_first (IsAnswered (Obeys g.K.Tag.ident c.args.shared.now.slots.now) c.args.shared.now.names.now) (bytes_left g.I.Source.remaining c.args.lines.now) (g.O.Sink.contents c.args.writer.now)
       c.args.lines.now.ended nobody c.empty-stand.result c.args.buffers.now.exchange.pending c.empty-stand.ensures c.requires.none_kept
       (ended_at_end g.I.Source.remaining c.args.lines.now);
+  came_on = came_first c.args.lines.now [] refl;
+  reads = makes_none g.I.Source.gave c.args.lines.now;
+  prompt = read_none g.I.Source.moments c.args.lines.now (IsPrompt (IsAnswered (Obeys g.K.Tag.ident c.args.shared.now.slots.now) c.args.shared.now.names.now) nobody (bytes_left g.I.Source.remaining c.args.lines.now) (g.O.Sink.contents c.args.writer.now));
   writes = writes_none (g.O.Sink.took c.args.writer.now);
 }
 
@@ -31,11 +35,17 @@ loop-preserved g c =
     let new = c.turn-next.new in
     let P : Bool → Type 0 = λ more. Turns has (left now.lines) (left new.lines) new.lines.ended now.stand c.turn-next.result.0 (held now.writer) now.buffers.exchange.pending (held new.writer)
     new.buffers.exchange.pending more in
-    let R : Result Bool EngineFault → Type 0 = λ r. IfOk r P in record {
+    let R : Result Bool EngineFault → Type 0 = λ r. IfOk r P in
+    let L : Result Bool EngineFault → Type 0 = λ r. IfOk r (λ more. more ≡ true → most_lines new.lines < most_lines now.lines) in
+    let fewer = subst L c.in-Ok-true.is c.turn-next.ensures.fewer in record {
       ours = c.turn-next.ensures.ours;
       so_far = so_far_more has (left c.args.lines.now) (held c.args.writer.now) (left now.lines) (left new.lines) (held now.writer) (held new.writer) now.lines.ended new.lines.ended nobody
           now.stand c.turn-next.result.0 now.buffers.exchange.pending new.buffers.exchange.pending now.invariant.so_far (λ e. (c.turn-next.ensures.ended e).ended)
           (subst P c.in-Ok-true.field-0-test (subst R c.in-Ok-true.is c.turn-next.ensures.ok)) (ended_at_end g.I.Source.remaining new.lines);
+      came_on = came_turn c.args.lines.now now.lines new.lines now.invariant.came_on c.turn-next.ensures.ended c.turn-next.ensures.fewer_reads (fewer c.in-Ok-true.field-0-test);
+      reads = makes_more g.I.Source.gave c.args.lines.now now.lines new.lines now.invariant.reads c.turn-next.ensures.reads;
+      prompt = prompt_turn g.I.Source.moments has (left c.args.lines.now) (held c.args.writer.now) (left now.lines) (held now.writer) nobody now.stand now.buffers.exchange.pending c.args.lines.now
+          now.lines new.lines now.invariant.prompt now.invariant.so_far c.turn-next.ensures.ended c.turn-next.ensures.prompt;
       writes = writes_more (g.O.Sink.took c.args.writer.now) (g.O.Sink.took now.writer) (g.O.Sink.took new.writer) now.invariant.writes c.turn-next.ensures.writes;
     }
 
@@ -82,3 +92,69 @@ returns-in-Err-clause-write_broke g c e =
     let P : Result Bool EngineFault → Type 0 = λ r. IfErr r (λ fault. fault ≡ WriteFailed → LastWriteFails (took c.loop.writer) (took c.turn-next.new.writer)) in
     let fails = subst P c.in-Err.is c.turn-next.ensures.write_broke in
     fails_after (took c.args.writer.now) (took c.loop.writer) (took c.turn-next.new.writer) c.loop.invariant.writes (fails e)
+
+pub returns-in-Ok-false-clause-reads : goal.returns-in-Ok-false-clause-reads
+returns-in-Ok-false-clause-reads g c =
+    let now = c.loop in
+    let new = c.turn-next.new in
+    makes_more g.I.Source.gave c.args.lines.now now.lines new.lines now.invariant.reads c.turn-next.ensures.reads
+
+pub returns-in-Ok-false-clause-prompt : goal.returns-in-Ok-false-clause-prompt
+returns-in-Ok-false-clause-prompt g c =
+    let has = IsAnswered (Obeys g.K.Tag.ident c.args.shared.now.slots.now) c.args.shared.now.names.now in
+    let held = g.O.Sink.contents in
+    let left = bytes_left g.I.Source.remaining in
+    let now = c.loop in
+    let new = c.turn-next.new in
+    prompt_turn g.I.Source.moments has (left c.args.lines.now) (held c.args.writer.now) (left now.lines) (held now.writer) nobody now.stand now.buffers.exchange.pending c.args.lines.now
+    now.lines new.lines now.invariant.prompt now.invariant.so_far c.turn-next.ensures.ended c.turn-next.ensures.prompt
+
+pub returns-in-Ok-false-clause-ended : goal.returns-in-Ok-false-clause-ended
+returns-in-Ok-false-clause-ended g c =
+    let now = c.loop in
+    let new = c.turn-next.new in
+    came_no_more c.args.lines.now now.lines new.lines now.invariant.came_on.ended c.turn-next.ensures.ended
+
+pub returns-in-Err-clause-reads : goal.returns-in-Err-clause-reads
+returns-in-Err-clause-reads g c =
+    let now = c.loop in
+    let new = c.turn-next.new in
+    makes_more g.I.Source.gave c.args.lines.now now.lines new.lines now.invariant.reads c.turn-next.ensures.reads
+
+pub returns-in-Err-clause-prompt : goal.returns-in-Err-clause-prompt
+returns-in-Err-clause-prompt g c =
+    let has = IsAnswered (Obeys g.K.Tag.ident c.args.shared.now.slots.now) c.args.shared.now.names.now in
+    let held = g.O.Sink.contents in
+    let left = bytes_left g.I.Source.remaining in
+    let now = c.loop in
+    let new = c.turn-next.new in
+    prompt_turn g.I.Source.moments has (left c.args.lines.now) (held c.args.writer.now) (left now.lines) (held now.writer) nobody now.stand now.buffers.exchange.pending c.args.lines.now
+    now.lines new.lines now.invariant.prompt now.invariant.so_far c.turn-next.ensures.ended c.turn-next.ensures.prompt
+
+pub returns-in-Err-clause-ended : goal.returns-in-Err-clause-ended
+returns-in-Err-clause-ended g c =
+    let now = c.loop in
+    let new = c.turn-next.new in
+    came_no_more c.args.lines.now now.lines new.lines now.invariant.came_on.ended c.turn-next.ensures.ended
+
+pub returns-in-Ok-false-clause-end : goal.returns-in-Ok-false-clause-end
+returns-in-Ok-false-clause-end g c =
+    let now = c.loop in
+    let new = c.turn-next.new in
+    let Q : Result Bool EngineFault → Type 0 = λ r. IfOk r (λ more. more ≡ false → HasEnded new.lines) in
+    let ends = subst Q c.in-Ok-false.is c.turn-next.ensures.end in
+    ends c.in-Ok-false.field-0-test
+
+pub returns-in-Err-clause-failed : goal.returns-in-Err-clause-failed
+returns-in-Err-clause-failed g c e =
+    let now = c.loop in
+    let new = c.turn-next.new in
+    let Q : Result Bool EngineFault → Type 0 = λ r. IfErr r (λ fault. fault ≡ ReadFailed → FailsToRead now.lines new.lines) in
+    let fails = subst Q c.in-Err.is c.turn-next.ensures.failed in fails_to_read c.args.lines.now now.lines new.lines now.invariant.came_on (fails e)
+
+pub returns-in-Err-clause-read_broke : goal.returns-in-Err-clause-read_broke
+returns-in-Err-clause-read_broke g c e =
+    let now = c.loop in
+    let new = c.turn-next.new in
+    let Q : Result Bool EngineFault → Type 0 = λ r. IfErr r (λ fault. fault ≡ ReadFailed → LastReadFails g.I.Source.gave now.lines new.lines) in
+    let fails = subst Q c.in-Err.is c.turn-next.ensures.read_broke in fails_more g.I.Source.gave c.args.lines.now now.lines new.lines now.invariant.reads (fails e)

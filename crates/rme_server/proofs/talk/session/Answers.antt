@@ -3,8 +3,11 @@ use Rattle.std.specs.Prelude.{IfErr, Result}
 use Rattle.rme_lines.specs.declared.fault.EngineFault.{EngineFault}
 use Rattle.rme_lines.specs.declared.fault.EngineFault.TheVariants.{WriteFailed}
 use Rattle.rme_lines.specs.Traffic.{LastWriteFails}
+use Rattle.rme_lines.specs.Readers.{bytes_left}
+use Rattle.rme_lines.specs.Runs.{IsPrompt}
+use Rattle.rme_lines.proofs.MomentLemmas.{read_none}
 use Rattle.rme_lines.proofs.RunLemmas.{failed_first}
-use Rattle.rme_lines.proofs.TrafficLemmas.{gave_up_writing}
+use Rattle.rme_lines.proofs.TrafficLemmas.{gave_up_writing, makes_none}
 use Rattle.rme_orders.specs.Sessions.{IsAnswered}
 use Rattle.rme_server.specs.Obeyed.{Obeys}
 use Rattle.rme_server.specs.Stands.{nobody}
@@ -12,11 +15,15 @@ use Rattle.rme_server.proofs.talk.session.Goals as goal
 
 pub returns-in_default-clause-err : goal.returns-in_default-clause-err
 returns-in_default-clause-err g c =
-    (g.I.Source.remaining c.args.reader, failed_first (IsAnswered (Obeys g.K.Tag.ident c.args.slots.now) c.args.names.now) nobody (g.I.Source.remaining c.args.reader) (g.O.Sink.contents c.args.writer.now))
+    failed_first (IsAnswered (Obeys g.K.Tag.ident c.args.slots.now) c.args.names.now) nobody (bytes_left g.I.Source.remaining c.args.lines.now) (g.O.Sink.contents c.args.writer.now)
 
-pub returns-in_default-new-clause-err : goal.returns-in_default-new-clause-err
-returns-in_default-new-clause-err g c =
-    (g.I.Source.remaining c.args.reader, failed_first (IsAnswered (Obeys g.K.Tag.ident c.args.slots.now) c.args.names.now) nobody (g.I.Source.remaining c.args.reader) (g.O.Sink.contents c.args.writer.now))
+pub returns-in_default-clause-reads : goal.returns-in_default-clause-reads
+returns-in_default-clause-reads g c = makes_none g.I.Source.gave c.args.lines.now
+
+pub returns-in_default-clause-prompt : goal.returns-in_default-clause-prompt
+returns-in_default-clause-prompt g c =
+    read_none g.I.Source.moments c.args.lines.now
+    (IsPrompt (IsAnswered (Obeys g.K.Tag.ident c.args.slots.now) c.args.names.now) nobody (bytes_left g.I.Source.remaining c.args.lines.now) (g.O.Sink.contents c.args.writer.now))
 
 pub returns-clause-write_broke : goal.returns-clause-write_broke
 returns-clause-write_broke g c e =
