@@ -3,7 +3,9 @@
 //! `Slots` keeps the Downs of a service that no session has. `session` obeys the lines of one client, from any
 //! reader to any writer; `serve` does so for connections over TCP; `obey` is one order by a call, without lines.
 
-pub use rme_server::{Holding, Planned, ServeFault, Slots, Stand, obey, serve, session};
+pub use rme_server::{
+    Door, Holding, Planned, ServeFault, Slots, Stand, Trouble, obey, serve, session,
+};
 pub use rme_wire::{
     Order, Outcome, SessionReply, Standing, Submission, order_of, push_session_reply,
 };
