@@ -124,7 +124,3 @@ pub fails_still : {T R : Type 0} (gave : R → Option (List Event)) (old mid new
     → IfErr result (λ fault. fault ≡ ReadFailed → LastReadFails gave mid new) → IfErr result (λ fault. fault ≡ ReadFailed → LastReadFails gave old new)
 fails_still gave old mid new (Ok value) reads fails = fails
 fails_still gave old mid new (Err fault) reads fails = λ e. fails_more gave old mid new reads (fails e)
-
--- nor do bytes of the chunk that are taken before
-pub fails_on : {R : Type 0} (gave : R → Option (List Event)) (old mid new : LineReader R) → TakesOn old mid → LastReadFails gave mid new → LastReadFails gave old new
-fails_on gave old mid new on fails = fails_more gave old mid new (makes_on gave old mid on) fails

@@ -58,7 +58,6 @@ impl Exchange {
     ///
     /// After `ReadFailed` all was written, and after `WriteFailed` a front of it; after `NoMemory` what was not
     /// written is still kept back.
-    #[tactic(auto, using(crate::proofs::MomentLemmas::read_put, crate::proofs::TrafficLemmas::fails_on))]
     pub fn next_line<R: Source + Drop, W: Sink>(
         &mut self,
         lines: &mut LineReader<R>,
@@ -90,10 +89,7 @@ impl Exchange {
             Ok(()) => {}
             Err(fault) => return Err(fault),
         }
-        match lines.next_line(&mut self.line, writer) {
-            Ok(cut) => Ok(cut),
-            Err(fault) => Err(fault),
-        }
+        lines.next_line(&mut self.line, writer)
     }
 
     /// Keeps an answer back behind the others; where there is no room for it they are written. After `WriteFailed`

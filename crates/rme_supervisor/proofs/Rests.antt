@@ -1,5 +1,5 @@
 -- What the slots held in the end, one slot after another.
-use Rattle.std.proofs.Common.{◌≡◌, ◌⊎◌, ℕ, ◌<◌, List, [], ◌∷◌, ◌++◌, length, refl, ap, arith, inl, inr}
+use Rattle.std.proofs.Common.{◌≡◌, ℕ, ◌<◌, List, [], ◌∷◌, ◌++◌, length, refl, ap, arith, inl, inr}
 use Rattle.std.specs.Prelude.{true, slice_get, Option, Some, None, unwrap_or}
 use Rattle.std.proofs.lemmas.List.{length-append}
 use Rattle.std.proofs.lemmas.Option.{slice_get_within}
@@ -10,7 +10,7 @@ use Rattle.rme_supervisor.specs.declared.end.End.TheVariants.{AllDone, Stalled, 
 use Rattle.rme_supervisor.specs.declared.plan.WorkerPlan.{WorkerPlan}
 use Rattle.rme_supervisor.specs.Ends.{AreSettled, HasLived, IsEarned, is_outside}
 use Rattle.rme_supervisor.specs.Falling.{FellAt}
-use Rattle.rme_supervisor.specs.Berths.{HasRested, IsRest, Rest}
+use Rattle.rme_supervisor.specs.Berths.{HasRested, IsRest}
 use Rattle.rme_supervisor.proofs.Lists.{in_snoc}
 
 -- The end of a worker in its slot is one that its plan allows, NoStart where it has none.

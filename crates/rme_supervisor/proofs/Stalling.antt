@@ -1,5 +1,5 @@
 -- A worker that stalls with a job that it has posted.
-use Rattle.std.proofs.Common.{◌≡◌, ◌⊎◌, ℕ, ◌≤◌, subst, arith, inl, inr}
+use Rattle.std.proofs.Common.{◌≡◌, ℕ, subst, arith, inl, inr}
 use Rattle.std.specs.Prelude.{Bool, Result, Ok, Err, IfErr}
 use Rattle.rme_words.specs.declared.shape.Shape.{Shape}
 use Rattle.rme_script.specs.declared.job.Job.{Job}
