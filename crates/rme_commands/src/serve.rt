@@ -154,14 +154,7 @@ fn serve_all<K: Tag + Send + Sync, R: Threads + Wait + Sync>(
         return Err(Fault::NoMemory);
     };
     let served = serve(
-        threads,
-        alloc,
-        listener,
-        host.door,
-        host,
-        service,
-        &slots,
-        host.names,
+        threads, alloc, listener, host.door, host, service, &slots, host.names,
     );
     match slots.into_downs(threads) {
         Ok(downs) => Ok((downs, served)),
