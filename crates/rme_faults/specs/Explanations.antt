@@ -1,7 +1,7 @@
 -- What is printed of a refusal and of a status: its name, the sentence that says when it comes, and the remedy.
 use Rattle.std.specs.Prelude.{List, codes, ℕ}
 use Rattle.rme_words.specs.declared.refusal.Refusal.{Refusal}
-use Rattle.rme_words.specs.declared.refusal.Refusal.TheVariants.{BadLine, LineTooLong, NotOpen, AlreadyOpen, BadShape, NoWorker, Down, Up, Busy, Idle, NoLock, BadScript, NoCell, TooManyJobs, BadImage, WrongNumber, Differs, Taken, NotAttached, NoMemory, NotWaiting}
+use Rattle.rme_words.specs.declared.refusal.Refusal.TheVariants.{BadLine, LineTooLong, NotOpen, AlreadyOpen, BadShape, NoWorker, Down, Up, Busy, Idle, NoLock, BadScript, NoCell, TooManyJobs, BadImage, WrongNumber, Differs, Taken, NotAttached, NoMemory, NotWaiting, NotInside}
 use Rattle.rme_faults.specs.declared.ending.Ending.{Ending}
 use Rattle.rme_faults.specs.declared.ending.Ending.TheVariants as ending
 
@@ -28,6 +28,7 @@ when_of Taken = codes "attach of a worker that another session has"
 when_of NotAttached = codes "an order of a session that has no worker"
 when_of NoMemory = codes "memory was refused"
 when_of NotWaiting = codes "withdraw of a worker that is up and does not wait in phase Enter"
+when_of NotInside = codes "commit of a worker whose job waits for its lock"
 
 -- what a refusal means, and what the caller does about it
 abbrev pub advice_of : Refusal → List ℕ
@@ -52,6 +53,7 @@ advice_of Taken = codes "One session has a worker at a time. Attach another work
 advice_of NotAttached = codes "The session has taken no worker, or it let it go or lost it by a planned crash. Send `attach` first."
 advice_of NoMemory = codes "The line changed nothing, so it can be sent again when there is memory. If it comes again and again, give the program more memory or open a smaller world."
 advice_of NotWaiting = codes "Only a worker that waits for its lock can give its job up. One that is inside finishes by `walk`, or `resume` in a session; one that is ready or leaves has nothing to give up."
+advice_of NotInside = codes "The worker's job waits for its lock. Send `enter` again until its answer says held, do what is to be done inside, and then commit; or let `resume` make the job whole."
 
 -- the name of a status
 abbrev pub name_of_ending : Ending → List ℕ

@@ -8,14 +8,14 @@ use crate::texts;
 use rme_words::Refusal;
 
 /// The greatest number of a refusal.
-pub const LAST_CODE: u32 = 21;
+pub const LAST_CODE: u32 = 22;
 
 /// The refusal of a number, and none of a number that is not in the list: 1 to `LAST_CODE`.
 ///
 /// Of `WrongNumber` it is the one that expects 1: what is expected has no part in the number.
 pub fn refusal_of(code: u32) -> Option<Refusal>
     ensures some { IfSome result (λ refusal. code_of refusal ≡ code) }
-    ensures listed { 1 ≤ code → code ≤ 21 → IsSome result }
+    ensures listed { 1 ≤ code → code ≤ 22 → IsSome result }
 {
     match code {
         1 => Some(Refusal::BadLine),
@@ -39,6 +39,7 @@ pub fn refusal_of(code: u32) -> Option<Refusal>
         19 => Some(Refusal::NotAttached),
         20 => Some(Refusal::NoMemory),
         21 => Some(Refusal::NotWaiting),
+        22 => Some(Refusal::NotInside),
         _ => None,
     }
 }
@@ -46,7 +47,7 @@ pub fn refusal_of(code: u32) -> Option<Refusal>
 /// When a line is refused so, in the words of the table of refusals. Each refusal has a number of the list.
 pub fn when(refusal: &Refusal) -> &'static str
     ensures first { 1 ≤ code_of refusal.now }
-    ensures last { code_of refusal.now ≤ 21 }
+    ensures last { code_of refusal.now ≤ 22 }
     ensures text { result.now ≡ when_of refusal.now }
 {
     match refusal {
@@ -75,6 +76,7 @@ pub fn when(refusal: &Refusal) -> &'static str
         Refusal::NotAttached => "an order of a session that has no worker",
         Refusal::NoMemory => "memory was refused",
         Refusal::NotWaiting => "withdraw of a worker that is up and does not wait in phase Enter",
+        Refusal::NotInside => "commit of a worker whose job waits for its lock",
     }
 }
 
@@ -104,5 +106,6 @@ pub fn advice(refusal: &Refusal) -> &'static str
         Refusal::NotAttached => texts::not_attached(),
         Refusal::NoMemory => texts::no_memory(),
         Refusal::NotWaiting => texts::not_waiting(),
+        Refusal::NotInside => texts::not_inside(),
     }
 }

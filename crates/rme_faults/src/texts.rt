@@ -3,7 +3,7 @@
 //! The texts are functions and no constants: what a constant holds is known wherever it is used, and a long text is dear there.
 
 ghost use Rattle.std.specs.Prelude.{◌≡◌, ℕ};
-ghost use Rattle.rme_words.specs.declared.refusal.Refusal.TheVariants.{BadLine, LineTooLong, NotOpen, AlreadyOpen, BadShape, NoWorker, Down, Up, Busy, Idle, NoLock, BadScript, NoCell, TooManyJobs, BadImage, WrongNumber, Differs, Taken, NotAttached, NoMemory, NotWaiting};
+ghost use Rattle.rme_words.specs.declared.refusal.Refusal.TheVariants.{BadLine, LineTooLong, NotOpen, AlreadyOpen, BadShape, NoWorker, Down, Up, Busy, Idle, NoLock, BadScript, NoCell, TooManyJobs, BadImage, WrongNumber, Differs, Taken, NotAttached, NoMemory, NotWaiting, NotInside};
 ghost use Rattle.rme_faults.specs.Explanations.{advice_of};
 
 pub fn bad_line() -> &'static str
@@ -171,4 +171,12 @@ pub fn not_waiting() -> &'static str
     "\
 Only a worker that waits for its lock can give its job up. One that is inside finishes by `walk`, or \
 `resume` in a session; one that is ready or leaves has nothing to give up."
+}
+
+pub fn not_inside() -> &'static str
+    ensures { result.now ≡ advice_of NotInside }
+{
+    "\
+The worker's job waits for its lock. Send `enter` again until its answer says held, do what is to be done inside, \
+and then commit; or let `resume` make the job whole."
 }

@@ -7,7 +7,7 @@ use Rattle.rme_words.specs.declared.refusal.Refusal.{Refusal}
 use Rattle.rme_words.specs.declared.refusal.Refusal.TheVariants.{Differs}
 use Rattle.rme_script.specs.declared.job.Job.{Job}
 use Rattle.rme_texts.specs.declared.session.Outcome.{Outcome}
-use Rattle.rme_texts.specs.declared.session.Outcome.TheVariants.{Receipt, Withdrawn, Waiting, Fell}
+use Rattle.rme_texts.specs.declared.session.Outcome.TheVariants.{Receipt, Withdrawn, Waiting, Fell, Inside}
 use Rattle.rme_texts.specs.declared.session.SessionReply.{SessionReply}
 use Rattle.rme_texts.specs.declared.session.SessionReply.TheVariants.{Submitted, Resumed, Refused}
 use Rattle.rme_wire.specs.declared.order.Order.{Order}
@@ -52,6 +52,7 @@ tried_once most made (Receipt receipt) few tried = tt
 tried_once most made Withdrawn few tried = tt
 tried_once most made Waiting few tried = let at = few refl in omega (arith, at, tried)
 tried_once most made Fell few tried = tt
+tried_once most made (Inside number) few tried = tt
 
 -- No try is left after the first, or the job does not wait.
 abbrev pub IsAll : Order → SessionReply → Type 0
@@ -123,6 +124,7 @@ left_both : (one two : ℕ) (old mid now : View) (became : Outcome) → Leaves o
 left_both one two old mid now (Receipt receipt) first left = left_on old.planned mid.planned now.planned one two first left
 left_both one two old mid now Withdrawn first left = left_on old.planned mid.planned now.planned one two first left
 left_both one two old mid now Waiting first left = left_on old.planned mid.planned now.planned one two first left
+left_both one two old mid now (Inside number) first left = left_on old.planned mid.planned now.planned one two first left
 left_both one two old mid now Fell first (due, same) = (due_on old.planned mid.planned one two first due, same)
 
 -- A job that waits is that of a worker that climbs, and so it is not refused to be gone on with.
@@ -173,6 +175,7 @@ tried_both most rest one two (Receipt receipt) enough first tried = tt
 tried_both most rest one two Withdrawn enough first tried = tt
 tried_both most rest one two Waiting enough first tried = omega (arith, enough, first, tried)
 tried_both most rest one two Fell enough first tried = tt
+tried_both most rest one two (Inside number) enough first tried = tt
 
 -- Both parts were needed.
 module _ (shape : Shape) (one two : ℕ) (old mid now : View) where

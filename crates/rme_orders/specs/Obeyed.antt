@@ -64,6 +64,30 @@ Submits (Ready ready) its session became = Hands (its.number == ready.number) re
 Submits (Climb pending) its session became = GoesOn pending session became
 Submits (Held pending) its session became = GoesOn pending session became
 
+-- ENTER: a worker that is ready answers its last number again, or posts the job; one that has a job goes on with that. It stops
+-- once it is inside, owning the job's lock, and shows the number. One that is inside already makes no step.
+abbrev pub GoesInside : PendingWorker → Session → Outcome → Type 0
+GoesInside start (Held pending) (outcome.Inside number) = (pending ≡ start) × (number ≡ start.number)
+GoesInside start (Climb pending) outcome.Waiting = pending ≡ start
+GoesInside start Nobody outcome.Fell = Unit {0}
+GoesInside start session became = ⊥
+
+abbrev pub HandsInside : Bool → ReadyWorker → Job → Session → Outcome → Type 0
+HandsInside true ready job session became = Repeats ready session became
+HandsInside false ready job session became = GoesInside (waiting_with (next_task ready job)) session became
+
+abbrev pub Enters : ℕ → Session → Submission → Session → Outcome → Type 0
+Enters made Nobody its session became = ⊥
+Enters made (Ready ready) its session became = HandsInside (its.number == ready.number) ready its.job session became
+Enters made (Climb pending) its session became = GoesInside pending session became
+Enters made (Held pending) its session became = (made ≡ 0) × (session ≡ Held pending) × (became ≡ outcome.Inside pending.number)
+
+-- COMMIT: the worker that is inside finishes its job, or falls.
+abbrev pub Commits : Session → Session → Outcome → Type 0
+Commits (Held start) (Ready ready) (outcome.Receipt receipt) = GoesOn start (Ready ready) (outcome.Receipt receipt)
+Commits (Held start) Nobody outcome.Fell = Unit {0}
+Commits other session became = ⊥
+
 -- RESUME: the worker goes on with the job that it has.
 abbrev pub Resumes : Session → Session → Outcome → Type 0
 Resumes (Climb pending) session became = GoesOn pending session became
@@ -97,6 +121,8 @@ abbrev pub Does : ℕ → View → Order → View → SessionReply → Type 0
 Does made old (order.Attach worker) now (reply.Attached number its) = Attaches worker now.session number its × (now.planned ≡ Nothing)
 Does made old (order.Submit its) now (reply.Submitted became) = Submits old.session its now.session became × IsLeft made old now became × IsTried its.tries made became
 Does made old (order.Resume tries) now (reply.Resumed became) = Resumes old.session now.session became × IsLeft made old now became × IsTried tries made became
+Does made old (order.Enter its) now (reply.Entered became) = Enters made old.session its now.session became × IsLeft made old now became × IsTried its.tries made became
+Does made old order.Commit now (reply.Committed became) = Commits old.session now.session became × IsLeft made old now became
 Does made old order.Withdraw now (reply.Withdrew number) = Withdraws old.session now.session number × Leaves old.planned made now.planned
 Does made old order.Withdraw now reply.WithdrawFell = IsDue old.planned made × (now ≡ nobody)
 Does made old order.Last now (reply.Last receipt) = Lasts old.session receipt × (now ≡ old)

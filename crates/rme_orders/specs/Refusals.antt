@@ -2,11 +2,11 @@
 use Rattle.std.specs.Prelude.{◌≡◌, ◌≢◌, ℕ, ◌+◌, ◌<◌, ◌==◌, nat_lt, if◌then◌else◌, Option, Some, None, Result, Ok, Err}
 use Rattle.rme_words.specs.declared.shape.Shape.{Shape}
 use Rattle.rme_words.specs.declared.refusal.Refusal.{Refusal}
-use Rattle.rme_words.specs.declared.refusal.Refusal.TheVariants.{NoWorker, Busy, Idle, NoLock, TooManyJobs, WrongNumber, Differs, NotAttached, NotWaiting, Taken}
+use Rattle.rme_words.specs.declared.refusal.Refusal.TheVariants.{NoWorker, Busy, Idle, NoLock, TooManyJobs, WrongNumber, Differs, NotAttached, NotWaiting, NotInside, Taken}
 use Rattle.rme_script.specs.declared.job.Job.{Job}
 use Rattle.rme_script.specs.Scripts.{check_of}
 use Rattle.rme_wire.specs.declared.order.Order.{Order}
-use Rattle.rme_wire.specs.declared.order.Order.TheVariants.{Attach, Submit, Resume, Withdraw, Last, CrashAfter, Detach}
+use Rattle.rme_wire.specs.declared.order.Order.TheVariants.{Attach, Submit, Resume, Enter, Commit, Withdraw, Last, CrashAfter, Detach}
 use Rattle.rme_wire.specs.declared.order.Submission.{Submission}
 use Rattle.rme_orders.specs.declared.refusal.Asked.{Asked}
 use Rattle.rme_orders.specs.declared.refusal.Asked.TheVariants.{Post, Repeat}
@@ -21,7 +21,7 @@ busy_refusal session = Some Busy
 abbrev pub attach_refusal : Shape → ℕ → Session → Option Refusal
 attach_refusal shape worker session = if nat_lt worker shape.workers then busy_refusal session else Some NoWorker
 
--- SUBMIT
+-- SUBMIT, ENTER
 
 -- A new job is refused for its lock, its script, and the number of jobs.
 abbrev pub unless_checked : Result (Unit {0}) Refusal → Option Refusal → Option Refusal
@@ -61,11 +61,17 @@ SubmitRefuses shape (at.Ready ready) its why = why ≡ posting_refusal shape rea
 SubmitRefuses shape (at.Climb pending) its why = PendingRefuses pending.number pending.draft its why
 SubmitRefuses shape (at.Held pending) its why = PendingRefuses pending.number pending.draft its why
 
--- RESUME, WITHDRAW, LAST: there is no worker, or it is not at this.
+-- RESUME, COMMIT, WITHDRAW, LAST: there is no worker, or it is not at this.
 abbrev pub resume_refusal : Session → Option Refusal
 resume_refusal at.Nobody = Some NotAttached
 resume_refusal (at.Ready ready) = Some Idle
 resume_refusal session = None
+
+abbrev pub commit_refusal : Session → Option Refusal
+commit_refusal at.Nobody = Some NotAttached
+commit_refusal (at.Ready ready) = Some Idle
+commit_refusal (at.Climb pending) = Some NotInside
+commit_refusal (at.Held pending) = None
 
 abbrev pub withdraw_refusal : Session → Option Refusal
 withdraw_refusal at.Nobody = Some NotAttached
@@ -87,6 +93,8 @@ abbrev pub Refuses : Shape → Session → Order → Option Refusal → Type 0
 Refuses shape session (Attach worker) why = why ≡ attach_refusal shape worker session
 Refuses shape session (Submit its) why = SubmitRefuses shape session its why
 Refuses shape session (Resume tries) why = why ≡ resume_refusal session
+Refuses shape session (Enter its) why = SubmitRefuses shape session its why
+Refuses shape session Commit why = why ≡ commit_refusal session
 Refuses shape session Withdraw why = why ≡ withdraw_refusal session
 Refuses shape session Last why = why ≡ last_refusal session
 Refuses shape session (CrashAfter steps) why = why ≡ bare_refusal session

@@ -27,21 +27,23 @@ use Rattle.rme_wire.specs.declared.order.Submission.{Submission}
 use Rattle.rme_orders.specs.Obeyed as sight
 use Rattle.rme_orders.specs.Refusals as refusal
 use Rattle.rme_orders.specs.Refusals.{PendingRefuses, Refuses, SubmitRefuses, job_refusal, last_refusal, posting_refusal, resume_refusal}
-use Rattle.rme_orders.specs.Sights.{IsReceiptOf, Task}
+use Rattle.rme_orders.specs.Sights.{IsReceiptOf, Task, waiting_with}
 use Rattle.rme_orders.specs.declared.planned.Planned.{Planned}
 use Rattle.rme_orders.specs.declared.view.PendingWorker.{PendingWorker}
 use Rattle.rme_orders.specs.declared.view.ReadyWorker.{ReadyWorker}
+use Rattle.rme_orders.specs.declared.view.Session as shown
+use Rattle.rme_orders.specs.declared.view.Session.TheVariants as at
 use Rattle.rme_orders.proofs.Refusing.{last_repeated, next_posted}
-use Rattle.rme_server.specs.Obeyed.{Acts, Enters, IsOfSlot, IsWalked, ResumeEnters, SubmitEnters}
+use Rattle.rme_server.specs.Obeyed.{Acts, Enters, EntersInside, IsInside, IsOfSlot, IsWalked, ResumeEnters, SubmitEnters}
 use Rattle.rme_server.specs.Stands.{Tells, held_by, session_of, shown_pending, view_of}
-use Rattle.rme_server.specs.Tasks.{IsResumed, IsSubmitted, IsThrough, Makes, holding_of, lead_by}
-use Rattle.rme_server.specs.Works.{GoesOn, IsSpared, IsTried, Repeats, WentOn, Works, its_task, lead_of, next_task, steps_in, steps_of}
+use Rattle.rme_server.specs.Tasks.{IsResumed, IsSubmitted, IsThrough, Makes, holding_of, lead_by, stopped_inside}
+use Rattle.rme_server.specs.Works.{Arrives, GoesInside, GoesOn, IsSpared, IsTried, Repeats, WentOn, Works, its_task, lead_of, next_task, steps_in, steps_of}
 use Rattle.rme_server.specs.declared.stand.Holding.{Holding}
 use Rattle.rme_server.specs.declared.stand.Holding.TheVariants.{Empty, Ready, Climb, Held}
 use Rattle.rme_server.specs.declared.stand.Stand.{Stand as Session}
 use Rattle.rme_server.specs.declared.work.Work.{Work}
-use Rattle.rme_server.specs.declared.work.Work.TheVariants.{Repeat, Post, GoIn, GoOn}
-use Rattle.rme_server.proofs.Working.{led_onward, led_so}
+use Rattle.rme_server.specs.declared.work.Work.TheVariants.{Repeat, Post, GoIn, GoOn, PostInside, GoInside, Stay}
+use Rattle.rme_server.proofs.Working.{led_inside, led_onward, led_so}
 
 -- The running service refuses a job as every server does.
 same_unless : (checked : Result (Unit {0}) Refusal) (rest : Option Refusal) → table.unless_checked checked rest ≡ refusal.unless_checked checked rest
@@ -126,6 +128,7 @@ pub through_shown : (shape : Shape) (lead : Part → Part) (old now : Session) (
 through_shown shape lead old now (outcome.Receipt receipt) let_go before after ((made, went, leaves), none) = (made, leaves, (went, none))
 through_shown shape lead old now outcome.Withdrawn let_go before after ((made, went, leaves), none) = (made, leaves, (went, none))
 through_shown shape lead old now outcome.Waiting let_go before after ((made, went, leaves), none) = (made, leaves, (went, none))
+through_shown shape lead old now (outcome.Inside number) let_go before after ((made, went, leaves), none) = (made, leaves, (went, none))
 through_shown shape lead old now outcome.Fell let_go before after ((made, went, due), same) = (made, (due, ap (λ (s : Session). view_of after s) same), went)
 
 steps_made : (shape : Shape) (lead : Part → Part) (start end : Option Stand) (made : ℕ) → WentOn shape lead start end made → steps_in end ≡ steps_in start + made
@@ -140,6 +143,7 @@ tried_shown shape lead tries made old now outcome.Withdrawn let_go walked tried 
 tried_shown shape lead tries made old now outcome.Waiting let_go walked tried =
     let steps = steps_made shape lead (held_by old.value) (held_by now.value) made walked.0 in omega (arith, steps, tried)
 tried_shown shape lead tries made old now outcome.Fell let_go walked tried = tt
+tried_shown shape lead tries made old now (outcome.Inside number) let_go walked tried = tt
 
 -- A refused order.
 pub refused_so : (ident : Ident) (count : ℕ) (old : Session) (its : Order) (why : Refusal) → Refuses ident.shape (session_of None old.value) its (Some why) → IsOfSlot count ident.shape its why
@@ -196,6 +200,7 @@ module _ (ident : Ident) (count : ℕ) (its : Submission) (planned : Planned) (n
       (rw (eq-eqb its.number ready.part.private.begun number) (same, last)) through tt
   repeated_so ready outcome.Waiting asked repeats through = absurd repeats
   repeated_so ready outcome.Fell asked repeats through = absurd repeats
+  repeated_so ready (outcome.Inside number) asked repeats through = absurd repeats
 
   module _ (became : Outcome) where
     posted_so : (ready : Stand) → its.number ≡ ready.part.private.begun + 1 → job_refusal ident.shape ready.part.private.begun its.job ≡ None
@@ -232,6 +237,156 @@ module _ (ident : Ident) (count : ℕ) (its : Submission) (planned : Planned) (n
         posted_so admitted.ready next none (subst P same makes) through tried
     work_submitted (GoIn climb tries) asked makes through tried = waited_so climb asked makes through tried
     work_submitted (GoOn held) asked makes through tried = inside_so held asked makes through tried
+    work_submitted (PostInside admitted tries) asked makes through tried = absurd asked
+    work_submitted (GoInside climb tries) asked makes through tried = absurd asked
+    work_submitted (Stay held) asked makes through tried = absurd asked
+
+-- ENTER
+arrives_shown : (task : Task) (before : List Entry) (value : Holding) (became : Outcome) → Arrives task before value became
+    → sight.GoesInside (waiting_with task) (session_of None value) became × IsInside before value became
+arrives_shown task before (Held held) (outcome.Inside number) (awaits, entered, is) = (
+  (same_pending held.part.worker task.worker held.part.private.begun task.number held.part.draft (Some task.job) awaits.own awaits.number awaits.draft, is),
+  (awaits.entries, entered),
+)
+arrives_shown task before (Climb climb) outcome.Waiting awaits = (
+  same_pending climb.part.worker task.worker climb.part.private.begun task.number climb.part.draft (Some task.job) awaits.own awaits.number awaits.draft,
+  awaits.entries,
+)
+arrives_shown task before Empty outcome.Fell fell = (tt, tt)
+arrives_shown task before value became arrives = absurd arrives
+
+inside_shown : (start : Stand) (value : Holding) (became : Outcome) → GoesInside start value became
+    → sight.GoesInside (shown_pending start) (session_of None value) became × IsInside start.part.entries value became
+inside_shown start (Held held) (outcome.Inside number) (still, entered, is) = (
+  (
+    same_pending held.part.worker start.part.worker held.part.private.begun start.part.private.begun held.part.draft start.part.draft still.own still.number still.draft,
+    is,
+  ),
+  (still.entries, entered),
+)
+inside_shown start (Climb climb) outcome.Waiting still = (
+  same_pending climb.part.worker start.part.worker climb.part.private.begun start.part.private.begun climb.part.draft start.part.draft still.own still.number still.draft,
+  still.entries,
+)
+inside_shown start Empty outcome.Fell fell = (tt, tt)
+inside_shown start value became goes = absurd goes
+
+module _ (ident : Ident) (count : ℕ) (its : Submission) (old now : Session) (became : Outcome) (let_go : Option Stand) where
+  entered_so : (before after : Option Receipt) → SubmitRefuses ident.shape (session_of before old.value) its None
+      → ((made : ℕ) → IsWalked ident.shape (lead_of old.value its.job) made old now became let_go → sight.Enters made (session_of before old.value) its (session_of after now.value) became)
+      → Tells old.value before → Tells now.value after → EntersInside ident.shape old.value its now.value became
+      → IsThrough ident.shape (lead_of old.value its.job) old now became let_go → IsTried its.tries (steps_of old.value) now.value became
+      → Acts ident count old (order.Enter its) now (reply.Entered became) let_go
+  entered_so before after refuses enters told_before told_after adds through tried =
+      let so = through_shown ident.shape (lead_of old.value its.job) old now became let_go before after through in record {
+        made = so.0;
+        before = before;
+        after = after;
+        obeys = (refuses, (enters so.0 so.2, so.1, tried_shown ident.shape (lead_of old.value its.job) its.tries so.0 old now became let_go so.2 tried));
+        told_before = told_before;
+        told_after = told_after;
+        adds = (adds, so.2);
+      }
+
+module _ (ident : Ident) (count : ℕ) (its : Submission) (planned : Planned) (now : Session) (let_go : Option Stand) where
+  abbrev starts_by : Holding → Session
+  starts_by value = record { value = value; planned = planned }
+
+  repeated_inside : (ready : Stand) (became : Outcome) → IsSubmitted ident.shape its (Repeat ready) → Repeats ident.shape ready now.value became
+      → IsThrough ident.shape (lead_of (Ready ready) its.job) (starts_by (Ready ready)) now became let_go → Acts ident count (starts_by (Ready ready)) (order.Enter its) now (reply.Entered became) let_go
+  repeated_inside ready (outcome.Receipt receipt) (some, number) (same, last, is_last) through =
+      entered_so ident count its (starts_by (Ready ready)) now (outcome.Receipt receipt) let_go (Some receipt) (Some receipt)
+      (sym (last_repeated ident.shape ready.part.private.begun its some number))
+      (λ made walked. rw (eq-eqb its.number ready.part.private.begun number) (ap (λ (value : Holding). session_of (Some receipt) value) same, refl)) last
+      (let P : Holding → Type 0 = λ value. Tells value (Some receipt) in subst P (sym same) last)
+      (rw (eq-eqb its.number ready.part.private.begun number) (same, last, is_last)) through tt
+  repeated_inside ready outcome.Withdrawn (some, number) (same, last) through =
+      entered_so ident count its (starts_by (Ready ready)) now outcome.Withdrawn let_go None None (sym (last_repeated ident.shape ready.part.private.begun its some number))
+      (λ made walked. rw (eq-eqb its.number ready.part.private.begun number) (ap (λ (value : Holding). session_of None value) same, refl)) tt tt
+      (rw (eq-eqb its.number ready.part.private.begun number) (same, last)) through tt
+  repeated_inside ready outcome.Waiting asked repeats through = absurd repeats
+  repeated_inside ready outcome.Fell asked repeats through = absurd repeats
+  repeated_inside ready (outcome.Inside number) asked repeats through = absurd repeats
+
+  module _ (became : Outcome) where
+    posted_inside : (ready : Stand) → its.number ≡ ready.part.private.begun + 1 → job_refusal ident.shape ready.part.private.begun its.job ≡ None
+        → Arrives (next_task ready its.job) ready.part.entries now.value became → IsThrough ident.shape (lead_of (Ready ready) its.job) (starts_by (Ready ready)) now became let_go
+        → IsTried its.tries ready.part.steps now.value became → Acts ident count (starts_by (Ready ready)) (order.Enter its) now (reply.Entered became) let_go
+    posted_inside ready next none arrives through tried =
+        let so = arrives_shown (next_task ready its.job) ready.part.entries now.value became arrives in
+        let other : (its.number == ready.part.private.begun) ≡ false = ne_eqb its.number ready.part.private.begun (omega (arith, next)) in
+        entered_so ident count its (starts_by (Ready ready)) now became let_go None None (sym (next_posted ident.shape ready.part.private.begun its next ∙ none))
+        (λ made walked. rw other so.0) tt tt (rw other so.1) through tried
+
+    waited_inside : (climb : Stand) → PendingRefuses climb.part.private.begun climb.part.draft its None → GoesInside climb now.value became
+        → IsThrough ident.shape onward (starts_by (Climb climb)) now became let_go → IsTried its.tries climb.part.steps now.value became
+        → Acts ident count (starts_by (Climb climb)) (order.Enter its) now (reply.Entered became) let_go
+    waited_inside climb pending goes through tried =
+        let so = inside_shown climb now.value became goes in
+        entered_so ident count its (starts_by (Climb climb)) now became let_go None None pending (λ made walked. so.0) tt tt so.1 through tried
+
+  no_step : (held : Stand) (number made : ℕ) → now.value ≡ Held held → IsWalked ident.shape onward made (starts_by (Held held)) now (outcome.Inside number) let_go → made ≡ 0
+  no_step held number made same walked =
+      let P : Holding → Type 0 = λ value. WentOn ident.shape onward (Some held) (held_by value) made in
+      let went = subst P same walked.0 in let steps = went.steps in omega (arith, steps)
+
+  stayed_inside : (held : Stand) → PendingRefuses held.part.private.begun held.part.draft its None → now.value ≡ Held held
+      → IsThrough ident.shape onward (starts_by (Held held)) now (outcome.Inside held.part.private.begun) let_go
+      → Acts ident count (starts_by (Held held)) (order.Enter its) now (reply.Entered (outcome.Inside held.part.private.begun)) let_go
+  stayed_inside held pending same through =
+      entered_so ident count its (starts_by (Held held)) now (outcome.Inside held.part.private.begun) let_go None None pending
+      (λ made walked. (no_step held held.part.private.begun made same walked, ap (λ (value : Holding). session_of None value) same, refl)) tt tt same through tt
+
+  work_entered : (became : Outcome) (work : Work) → IsSubmitted ident.shape its work → Makes ident.shape (stopped_inside work) now.value became
+      → IsThrough ident.shape (lead_of (holding_of work) its.job) (starts_by (holding_of work)) now became let_go → IsTried its.tries (steps_of (holding_of work)) now.value became
+      → Acts ident count (starts_by (holding_of work)) (order.Enter its) now (reply.Entered became) let_go
+  work_entered became (Repeat ready) asked makes through tried = repeated_inside ready became asked makes through
+  work_entered became (Post admitted tries) (next, same, none) makes through tried =
+      let P : Job → Type 0 = λ job. Arrives (next_task admitted.ready job) admitted.ready.part.entries now.value became in
+      posted_inside became admitted.ready next none (subst P same makes) through tried
+  work_entered became (GoIn climb tries) asked makes through tried = waited_inside became climb asked makes through tried
+  work_entered became (GoOn held) asked (same, is) through tried =
+      let P : Outcome → Type 0 = λ o. IsThrough ident.shape onward (starts_by (Held held)) now o let_go in
+      let Q : Outcome → Type 0 = λ o. Acts ident count (starts_by (Held held)) (order.Enter its) now (reply.Entered o) let_go in
+      subst Q (sym is) (stayed_inside held asked same (subst P is through))
+  work_entered became (PostInside admitted tries) asked makes through tried = absurd asked
+  work_entered became (GoInside climb tries) asked makes through tried = absurd asked
+  work_entered became (Stay held) asked makes through tried = absurd asked
+
+pub entered : (ident : Ident) (count : ℕ) (work : Work) (old now : Session) (became : Outcome) (let_go : Option Stand) (its : Submission) → holding_of work ≡ old.value → IsSubmitted ident.shape its work
+    → Makes ident.shape (stopped_inside work) now.value became
+    → IsThrough ident.shape (lead_by (stopped_inside work)) (record { value = holding_of (stopped_inside work); planned = old.planned }) now became let_go
+    → IsTried its.tries (steps_of (holding_of work)) now.value became → Acts ident count old (order.Enter its) now (reply.Entered became) let_go
+entered ident count work old now became let_go its same asked makes through tried =
+    let P : Holding → Type 0 = λ value. Acts ident count (record { value = value; planned = old.planned }) (order.Enter its) now (reply.Entered became) let_go in
+    subst P same (work_entered ident count its old.planned now let_go became work asked makes (led_inside ident.shape its work old.planned now became let_go asked makes through) tried)
+
+-- COMMIT: a worker that owned its lock does not wait.
+commits_of : (start : PendingWorker) (session : shown.Session) (became : Outcome) → sight.GoesOn start session became → (became ≡ outcome.Waiting → ⊥) → sight.Commits (at.Held start) session became
+commits_of start (at.Ready ready) (outcome.Receipt receipt) goes never = goes
+commits_of start (at.Climb pending) outcome.Waiting goes never = absurd (never refl)
+commits_of start at.Nobody outcome.Fell goes never = tt
+commits_of start session became goes never = absurd goes
+
+never_waits : (steps : ℕ) (value : Holding) (became : Outcome) → ((most : ℕ) → IsTried most steps value became) → became ≡ outcome.Waiting → ⊥
+never_waits steps value became tried waits =
+    let P : Outcome → Type 0 = λ o. IsTried (steps_of value + 1) steps value o in
+    let some = subst P waits (tried (steps_of value + 1)) in omega (arith, some)
+
+pub committed : (ident : Ident) (count : ℕ) (held : Stand) (planned : Planned) (now : Session) (became : Outcome) (let_go : Option Stand) → GoesOn held now.value became
+    → IsThrough ident.shape onward (record { value = Held held; planned = planned }) now became let_go → ((most : ℕ) → IsTried most held.part.steps now.value became)
+    → Acts ident count (record { value = Held held; planned = planned }) order.Commit now (reply.Committed became) let_go
+committed ident count held planned now became let_go goes through tried =
+    let so = goes_shown held now.value became goes in
+    let walk = through_shown ident.shape onward (record { value = Held held; planned = planned }) now became let_go None so.0 through in record {
+      made = walk.0;
+      before = None;
+      after = so.0;
+      obeys = (refl, (commits_of (shown_pending held) (session_of so.0 now.value) became so.1 (never_waits held.part.steps now.value became tried), walk.1));
+      told_before = tt;
+      told_after = so.2;
+      adds = (so.3, walk.2);
+    }
 
 -- The work of an order that goes on.
 module _ (ident : Ident) (count : ℕ) (planned : Planned) (now : Session) (let_go : Option Stand) (became : Outcome) where
@@ -242,6 +397,9 @@ module _ (ident : Ident) (count : ℕ) (planned : Planned) (now : Session) (let_
       → IsTried tries (steps_of (holding_of work)) now.value became → Acts ident count (stands_with work) (order.Resume tries) now (reply.Resumed became) let_go
   work_resumed tries (Repeat ready) asked makes through tried = absurd asked
   work_resumed tries (Post admitted given) asked makes through tried = absurd asked
+  work_resumed tries (PostInside admitted given) asked makes through tried = absurd asked
+  work_resumed tries (GoInside climb given) asked makes through tried = absurd asked
+  work_resumed tries (Stay held) asked makes through tried = absurd asked
   work_resumed tries (GoIn climb given) asked makes through tried =
       let so = goes_shown climb now.value became makes in resumed_so ident count (stands_with (GoIn climb given)) now became let_go tries so.0 refl so.1 so.2 so.3 through tried
   work_resumed tries (GoOn held) asked makes through tried =

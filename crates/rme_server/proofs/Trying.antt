@@ -11,7 +11,7 @@ use Rattle.rme_seats.specs.declared.record.Part.{Part}
 use Rattle.rme_seats.specs.Parts.{draft_script, onward}
 use Rattle.rme_seats.specs.Stands.{Ident, Stand}
 use Rattle.rme_texts.specs.declared.session.Outcome.{Outcome}
-use Rattle.rme_texts.specs.declared.session.Outcome.TheVariants.{Receipt, Withdrawn, Waiting, Fell}
+use Rattle.rme_texts.specs.declared.session.Outcome.TheVariants.{Receipt, Withdrawn, Waiting, Fell, Inside}
 use Rattle.rme_texts.specs.declared.session.SessionReply.{SessionReply}
 use Rattle.rme_texts.specs.declared.session.SessionReply.TheVariants.{Submitted, Resumed, Refused}
 use Rattle.rme_wire.specs.declared.order.Order.{Order}
@@ -73,6 +73,7 @@ enters_both before script second mid now (Receipt receipt) waits same enters =
 enters_both before script second mid now Withdrawn waits same enters = absurd enters
 enters_both before script second mid now Waiting waits same enters = enters ∙ waits
 enters_both before script second mid now Fell waits same enters = tt
+enters_both before script second mid now (Inside number) waits same enters = absurd enters
 
 hands_both : (shape : Shape) (again : Bool) (ready : Stand) (job : Job) (mid now : Holding) (became : Outcome) → HandsOver shape again ready job mid Waiting → draft_in (held_by mid) ≡ Some job
     → ResumeEnters mid now became → HandsOver shape again ready job now became
@@ -95,6 +96,7 @@ walked_both : (shape : Shape) (lead : Part → Part) (one two : ℕ) (old mid no
 walked_both shape lead one two old mid now (Receipt receipt) let_go some first (went, none) = (went_on shape lead (held_by old.value) (held_by mid.value) (held_by now.value) one two some first went, none)
 walked_both shape lead one two old mid now Withdrawn let_go some first (went, none) = (went_on shape lead (held_by old.value) (held_by mid.value) (held_by now.value) one two some first went, none)
 walked_both shape lead one two old mid now Waiting let_go some first (went, none) = (went_on shape lead (held_by old.value) (held_by mid.value) (held_by now.value) one two some first went, none)
+walked_both shape lead one two old mid now (Inside number) let_go some first (went, none) = (went_on shape lead (held_by old.value) (held_by mid.value) (held_by now.value) one two some first went, none)
 walked_both shape lead one two old mid now Fell let_go some first went = went_on shape lead (held_by old.value) (held_by mid.value) let_go one two some first went
 
 -- What a worker that waits shows does not depend on its last receipt.

@@ -1,6 +1,6 @@
 -- A worker that went on with its job.
 use Rattle.std.proofs.Common.{◌≡◌, ℕ, [], ◌-◌, ◌≤◌, Result, Ok, Err, sym, subst, ◌∙◌, refl, arith}
-use Rattle.std.specs.Prelude.{false, Option, Some, None}
+use Rattle.std.specs.Prelude.{false, true, Option, Some, None}
 use Rattle.rme_words.specs.declared.shape.Shape.{Shape}
 use Rattle.rme_script.specs.declared.job.Job.{Job}
 use Rattle.rme_program.specs.declared.note.Receipt.{Receipt}
@@ -8,7 +8,7 @@ use Rattle.rme_seats.specs.declared.record.Part.{Part}
 use Rattle.rme_seats.specs.Parts.{onward}
 use Rattle.rme_seats.specs.Parts.{submitted as handed}
 use Rattle.rme_seats.specs.Stands.{Ident, Stand}
-use Rattle.rme_table.specs.Driving.{DoesNotWait, Drives, Exhausts, Goes, HasFinished as FinishedJob, Passes}
+use Rattle.rme_table.specs.Driving.{DoesNotWait, Drives, Exhausts, Goes, HasFinished as FinishedJob, Passes, StopsInside, Watches}
 use Rattle.rme_table.specs.declared.driving.Driven.{Driven}
 use Rattle.rme_table.specs.declared.driving.Driven.TheVariants as driven
 use Rattle.rme_table.specs.declared.driving.Tries.{Tries}
@@ -19,8 +19,8 @@ use Rattle.rme_orders.specs.Plans.{left_of}
 use Rattle.rme_orders.proofs.Counting.{leaves_none}
 use Rattle.rme_server.specs.Plans.{tally_by}
 use Rattle.rme_server.specs.Stands.{HasSlot, MayWork, held_by}
-use Rattle.rme_server.specs.Tasks.{IsResumed, IsSubmitted, IsThrough, Makes, Settles, Spares, Spends, holding_of, lead_by, worked_of}
-use Rattle.rme_server.specs.Works.{AreTried, Ends, GoesOn, IsSpared, IsTried, IsUp, Repeats, WentOn, lead_of}
+use Rattle.rme_server.specs.Tasks.{HasTries, IsResumed, IsSubmitted, IsThrough, Makes, Settles, Spares, Spends, arrived_of, holding_of, lead_by, stopped_inside, worked_of}
+use Rattle.rme_server.specs.Works.{AreTried, Ends, GoesInside, GoesOn, IsSpared, IsTried, IsUp, Repeats, WentOn, lead_of}
 use Rattle.rme_orders.specs.declared.planned.Countdown.{Countdown}
 use Rattle.rme_orders.specs.declared.planned.Countdown.TheVariants.{Runs, Fallen}
 use Rattle.rme_orders.specs.declared.planned.Planned.{Planned}
@@ -28,7 +28,7 @@ use Rattle.rme_server.specs.declared.stand.Holding.{Holding}
 use Rattle.rme_server.specs.declared.stand.Holding.TheVariants.{Ready}
 use Rattle.rme_server.specs.declared.stand.Stand.{Stand as Session}
 use Rattle.rme_server.specs.declared.work.Work.{Work}
-use Rattle.rme_server.specs.declared.work.Work.TheVariants.{Repeat, Post, GoIn, GoOn}
+use Rattle.rme_server.specs.declared.work.Work.TheVariants.{Repeat, Post, GoIn, GoOn, PostInside, GoInside, Stay}
 use Rattle.rme_server.proofs.Planning.{fallen, spared, stayed}
 
 -- What a drive leaves the session with, which a gate that lets all pass never stops.
@@ -72,6 +72,46 @@ module _ (shape : Shape) (start : Stand) (old now : Countdown) where
   driven_plan (driven.Stopped held) drives passes = absurd passes
   driven_plan (driven.Fell down) goes passes = fallen shape onward start down old now goes.walks goes.ident goes.own
 
+-- A gate that lets none begin leaves none finished.
+abbrev pub IsBarred : Driven → Type 0
+IsBarred (driven.Done ready receipt) = ⊥
+IsBarred drive = Unit {0}
+
+pub barred : (told : ℕ → ℕ → ℕ → Type 0) (shape : Shape) (worker : ℕ) (drive : Driven) → Watches (λ _ _ answer. answer ≡ false) told shape false worker drive → IsBarred drive
+barred told shape worker (driven.Done ready receipt) (asked, told_so) = let bad : true ≡ false = (asked refl).asked in cc
+barred told shape worker (driven.Waits climb) watches = tt
+barred told shape worker (driven.Stopped held) watches = tt
+barred told shape worker (driven.Fell down) watches = tt
+
+-- What a drive up to the moment in which the worker is inside leaves the session with.
+module _ (shape : Shape) (start : Stand) (old now : Countdown) where
+  pub arrived_did : (drive : Driven) → Drives shape false start (tally_by old) (tally_by now) drive → IsBarred drive → StopsInside drive → Ends (arrived_of drive) (GoesInside start)
+  arrived_did (driven.Done ready receipt) drives bars stops = absurd bars
+  arrived_did (driven.Waits climb) (goes, still) bars stops = (record { draft = still.draft; entries = still.entries; own = goes.own; number = still.number }, tt)
+  arrived_did (driven.Stopped held) (goes, still) bars (entered, pending) =
+      ((record { draft = still.draft; entries = still.entries; own = goes.own; number = still.number }, entered, still.number), tt)
+  arrived_did (driven.Fell down) drives bars stops = tt
+
+  pub arrived_ours : (ident : Ident) (drive : Driven) → Drives shape false start (tally_by old) (tally_by now) drive → IsBarred drive → StopsInside drive
+      → (count : ℕ) → HasSlot ident count start → MayWork ident count (arrived_of drive)
+  arrived_ours ident (driven.Done ready receipt) drives bars stops count slot = absurd bars
+  arrived_ours ident (driven.Waits climb) (goes, still) bars stops count slot = has_slot shape start old now ident count 0 climb goes slot
+  arrived_ours ident (driven.Stopped held) (goes, still) bars (entered, pending) count slot = (has_slot shape start old now ident count 0 held goes slot, pending)
+  arrived_ours ident (driven.Fell down) goes bars stops count slot = has_slot shape start old now ident count 1 down goes slot
+
+  pub arrived_plan : (drive : Driven) → Drives shape false start (tally_by old) (tally_by now) drive → IsBarred drive → Spends shape onward old (Some start) now (arrived_of drive)
+  arrived_plan (driven.Done ready receipt) drives bars = absurd bars
+  arrived_plan (driven.Waits climb) (goes, still) bars = spared shape onward start climb old now goes.walks goes.ident goes.own
+  arrived_plan (driven.Stopped held) (goes, still) bars = spared shape onward start held old now goes.walks goes.ident goes.own
+  arrived_plan (driven.Fell down) goes bars = fallen shape onward start down old now goes.walks goes.ident goes.own
+
+pub arrived_tried : (start : Stand) (before after : Tries) (drive : Driven) → Exhausts start before after drive → IsBarred drive
+    → AreTried (before.most - before.blocked) start.part.steps (arrived_of drive)
+arrived_tried start before after (driven.Done ready receipt) exhausts bars = absurd bars
+arrived_tried start before after (driven.Waits climb) exhausts bars = exhausts.steps
+arrived_tried start before after (driven.Stopped held) exhausts bars = tt
+arrived_tried start before after (driven.Fell down) exhausts bars = tt
+
 -- What the session is left with: a worker that did not fall was spared.
 module _ (shape : Shape) (lead : Part → Part) where
   left_up : (old now : Session) (its : Outcome) (let_go : Option Stand) → IsUp its → let_go ≡ None → IsSpared shape lead old.planned (held_by old.value) now.planned (held_by now.value)
@@ -79,6 +119,7 @@ module _ (shape : Shape) (lead : Part → Part) where
   left_up old now (outcome.Receipt receipt) let_go up none spares = (spares, none)
   left_up old now outcome.Withdrawn let_go up none spares = (spares, none)
   left_up old now outcome.Waiting let_go up none spares = (spares, none)
+  left_up old now (outcome.Inside number) let_go up none spares = (spares, none)
   left_up old now outcome.Fell let_go up none spares = absurd up
 
   pub spared_by : (old : Planned) (start : Option Stand) (now : Countdown) (end : Option Stand) → Spares shape lead (Runs old) start now end → IsSpared shape lead old start (left_of now) end
@@ -96,7 +137,7 @@ module _ (shape : Shape) (lead : Part → Part) where
   left_so old Has countdown (Err down) now its let_go has falls (now_is, its_is, go_is) = rw (now_is, its_is, go_is) (has, (falls, refl))
 
 -- A worker that answers its last number again makes no step.
-spares_none : (shape : Shape) (ready : Stand) (plan : Countdown) → Spares shape onward plan (Some ready) plan (Some ready)
+pub spares_none : (shape : Shape) (ready : Stand) (plan : Countdown) → Spares shape onward plan (Some ready) plan (Some ready)
 spares_none shape ready (Runs planned) =
     (0, record { ident = refl; own = refl; values = []; walk = refl; found = tt; count = refl; steps = omega arith }, leaves_none planned)
 spares_none shape ready Fallen = tt
@@ -107,6 +148,7 @@ repeats_spares shape ready plan value (outcome.Receipt receipt) (same, last, is_
 repeats_spares shape ready plan value outcome.Withdrawn (same, last) = rw same (spares_none shape ready plan)
 repeats_spares shape ready plan value outcome.Waiting repeats = absurd repeats
 repeats_spares shape ready plan value outcome.Fell repeats = absurd repeats
+repeats_spares shape ready plan value (outcome.Inside number) repeats = absurd repeats
 
 -- What stands before the first step of the work stands there for the order; to answer the last number again takes no step.
 repeated : (shape : Shape) (ready : Stand) (planned : Planned) (job : Job) (now : Session) (became : Outcome) (let_go : Option Stand) → Repeats shape ready now.value became
@@ -121,6 +163,7 @@ repeated shape ready planned job now outcome.Withdrawn let_go (same, last) ((mad
     ((made, subst Q (sym same) (stayed shape onward (handed job) ready made (subst P same went)), left), none)
 repeated shape ready planned job now outcome.Waiting let_go repeats left = absurd repeats
 repeated shape ready planned job now outcome.Fell let_go repeats left = absurd repeats
+repeated shape ready planned job now (outcome.Inside number) let_go repeats left = absurd repeats
 
 pub led_so : (shape : Shape) (its : Submission) (work : Work) (planned : Planned) (now : Session) (became : Outcome) (let_go : Option Stand) → IsSubmitted shape its work
     → Makes shape work now.value became → IsThrough shape (lead_by work) (record { value = holding_of work; planned = planned }) now became let_go
@@ -130,6 +173,41 @@ led_so shape its (Post admitted tries) planned now became let_go (next, same, no
     let P : Job → Type 0 = λ job. IsThrough shape (handed job) (record { value = Ready admitted.ready; planned = planned }) now became let_go in subst P same left
 led_so shape its (GoIn climb tries) planned now became let_go asked makes left = left
 led_so shape its (GoOn held) planned now became let_go asked makes left = left
+led_so shape its (PostInside admitted tries) planned now became let_go asked makes left = absurd asked
+led_so shape its (GoInside climb tries) planned now became let_go asked makes left = absurd asked
+led_so shape its (Stay held) planned now became let_go asked makes left = absurd asked
+
+-- The same of the work up to the moment in which the worker is inside.
+pub led_inside : (shape : Shape) (its : Submission) (work : Work) (planned : Planned) (now : Session) (became : Outcome) (let_go : Option Stand) → IsSubmitted shape its work
+    → Makes shape (stopped_inside work) now.value became → IsThrough shape (lead_by (stopped_inside work)) (record { value = holding_of (stopped_inside work); planned = planned }) now became let_go
+    → IsThrough shape (lead_of (holding_of work) its.job) (record { value = holding_of work; planned = planned }) now became let_go
+led_inside shape its (Repeat ready) planned now became let_go asked makes left = repeated shape ready planned its.job now became let_go makes left
+led_inside shape its (Post admitted tries) planned now became let_go (next, same, none) makes left =
+    let P : Job → Type 0 = λ job. IsThrough shape (handed job) (record { value = Ready admitted.ready; planned = planned }) now became let_go in subst P same left
+led_inside shape its (GoIn climb tries) planned now became let_go asked makes left = left
+led_inside shape its (GoOn held) planned now became let_go asked makes left = left
+led_inside shape its (PostInside admitted tries) planned now became let_go asked makes left = absurd asked
+led_inside shape its (GoInside climb tries) planned now became let_go asked makes left = absurd asked
+led_inside shape its (Stay held) planned now became let_go asked makes left = absurd asked
+
+-- It starts from the same worker, and has as many tries.
+pub same_start : (work : Work) → holding_of (stopped_inside work) ≡ holding_of work
+same_start (Repeat ready) = refl
+same_start (Post admitted tries) = refl
+same_start (GoIn climb tries) = refl
+same_start (GoOn held) = refl
+same_start (PostInside admitted tries) = refl
+same_start (GoInside climb tries) = refl
+same_start (Stay held) = refl
+
+pub same_tries : (tries : ℕ) (work : Work) → HasTries tries work → HasTries tries (stopped_inside work)
+same_tries tries (Repeat ready) has = has
+same_tries tries (Post admitted given) has = has
+same_tries tries (GoIn climb given) has = has
+same_tries tries (GoOn held) has = tt
+same_tries tries (PostInside admitted given) has = has
+same_tries tries (GoInside climb given) has = has
+same_tries tries (Stay held) has = has
 
 -- The work of an order that goes on.
 pub led_onward : (shape : Shape) (work : Work) (old now : Session) (became : Outcome) (let_go : Option Stand) → IsResumed work → IsThrough shape (lead_by work) old now became let_go
@@ -138,6 +216,9 @@ led_onward shape (Repeat ready) old now became let_go asked left = absurd asked
 led_onward shape (Post admitted tries) old now became let_go asked left = absurd asked
 led_onward shape (GoIn climb tries) old now became let_go asked left = left
 led_onward shape (GoOn held) old now became let_go asked left = left
+led_onward shape (PostInside admitted tries) old now became let_go asked left = absurd asked
+led_onward shape (GoInside climb tries) old now became let_go asked left = absurd asked
+led_onward shape (Stay held) old now became let_go asked left = absurd asked
 
 -- The tries that were made before a job waits.
 pub driven_tried : (start : Stand) (before after : Tries) (drive : Driven) → Exhausts start before after drive → Passes drive → AreTried (before.most - before.blocked) start.part.steps (worked_of drive)
@@ -157,6 +238,7 @@ tried_before most first later value (outcome.Receipt receipt) more tried = tt
 tried_before most first later value outcome.Withdrawn more tried = tt
 tried_before most first later value outcome.Waiting more tried = omega (arith, more, tried)
 tried_before most first later value outcome.Fell more tried = tt
+tried_before most first later value (outcome.Inside number) more tried = tt
 
 pub tried_since : (most first later : ℕ) (worked : Result (Holding × Outcome) Stand) → first ≤ later → AreTried most later worked → AreTried most first worked
 tried_since most first later (Ok (value, became)) more tried = tried_before most first later value became more tried
@@ -167,6 +249,7 @@ repeats_tried shape ready most steps value (outcome.Receipt receipt) repeats = t
 repeats_tried shape ready most steps value outcome.Withdrawn repeats = tt
 repeats_tried shape ready most steps value outcome.Waiting repeats = absurd repeats
 repeats_tried shape ready most steps value outcome.Fell repeats = tt
+repeats_tried shape ready most steps value (outcome.Inside number) repeats = tt
 
 pub settled_tried : (most steps : ℕ) (planned : Planned) (worked : Result (Holding × Outcome) Stand) (now : Session) (became : Outcome) (let_go : Option Stand) → Settles worked planned now became let_go
     → AreTried most steps worked → IsTried most steps now.value became

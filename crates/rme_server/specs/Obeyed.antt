@@ -21,10 +21,10 @@ use Rattle.rme_wire.specs.declared.order.Submission.{Submission}
 use Rattle.rme_orders.specs.Obeyed.{ObeysBy}
 use Rattle.rme_server.specs.Rises.{TakesOut}
 use Rattle.rme_server.specs.Stands.{Tells, draft_in, entries_in, held_by, view_of}
-use Rattle.rme_server.specs.Works.{Repeats, WentOn, lead_of}
+use Rattle.rme_server.specs.Works.{HasJustEntered, Repeats, WentOn, lead_of}
 use Rattle.rme_server.specs.declared.stand.Stand.{Stand}
 use Rattle.rme_server.specs.declared.stand.Holding.{Holding}
-use Rattle.rme_server.specs.declared.stand.Holding.TheVariants.{Ready}
+use Rattle.rme_server.specs.declared.stand.Holding.TheVariants.{Ready, Climb, Held}
 
 -- What only the running service can say of an order: of its slots, of the entries of its workers, and of their own steps in
 -- the worlds of the core.
@@ -42,6 +42,7 @@ Enters before script value (outcome.Receipt receipt) = entries_in (held_by value
 Enters before script value outcome.Waiting = entries_in (held_by value) ≡ before
 Enters before script value outcome.Fell = Unit {0}
 Enters before script value outcome.Withdrawn = ⊥
+Enters before script value (outcome.Inside number) = ⊥
 
 -- SUBMIT: a last number that is answered again leaves the worker as it was.
 abbrev pub HandsOver : Shape → Bool → seat.Stand → Job → Holding → Outcome → Type 0
@@ -52,7 +53,25 @@ abbrev pub SubmitEnters : Shape → Holding → Submission → Holding → Outco
 SubmitEnters shape (Ready ready) its value became = HandsOver shape (its.number == ready.part.private.begun) ready its.job value became
 SubmitEnters shape start its value became = Enters (entries_in (held_by start)) its.job.script value became
 
--- RESUME: the job is the one that was pending.
+-- ENTER: the entries are as they were, and a worker that is inside has made no step of its section; one that was inside already,
+-- and a last number that is answered again, leave the worker as it was.
+abbrev pub IsInside : List Entry → Holding → Outcome → Type 0
+IsInside before (Held held) (outcome.Inside number) = (held.part.entries ≡ before) × HasJustEntered held
+IsInside before value outcome.Waiting = entries_in (held_by value) ≡ before
+IsInside before value outcome.Fell = Unit {0}
+IsInside before value its = ⊥
+
+abbrev pub HandsInside : Shape → Bool → seat.Stand → Holding → Outcome → Type 0
+HandsInside shape true ready value became = Repeats shape ready value became
+HandsInside shape false ready value became = IsInside ready.part.entries value became
+
+abbrev pub EntersInside : Shape → Holding → Submission → Holding → Outcome → Type 0
+EntersInside shape (Ready ready) its value became = HandsInside shape (its.number == ready.part.private.begun) ready value became
+EntersInside shape (Climb climb) its value became = IsInside climb.part.entries value became
+EntersInside shape (Held held) its value became = value ≡ Held held
+EntersInside shape start its value became = ⊥
+
+-- RESUME, COMMIT: the job is the one that was pending.
 abbrev pub ResumeEnters : Holding → Holding → Outcome → Type 0
 ResumeEnters start value became = Enters (entries_in (held_by start)) (draft_script (draft_in (held_by start))) value became
 
@@ -73,6 +92,10 @@ Adds ident count made old (order.Attach worker) now answer let_go = TakesOut ide
 Adds ident count made old (order.Submit its) now (reply.Submitted became) let_go =
     SubmitEnters ident.shape old.value its now.value became × IsWalked ident.shape (lead_of old.value its.job) made old now became let_go
 Adds ident count made old (order.Resume tries) now (reply.Resumed became) let_go =
+    ResumeEnters old.value now.value became × IsWalked ident.shape onward made old now became let_go
+Adds ident count made old (order.Enter its) now (reply.Entered became) let_go =
+    EntersInside ident.shape old.value its now.value became × IsWalked ident.shape (lead_of old.value its.job) made old now became let_go
+Adds ident count made old order.Commit now (reply.Committed became) let_go =
     ResumeEnters old.value now.value became × IsWalked ident.shape onward made old now became let_go
 Adds ident count made old order.Withdraw now (reply.Withdrew number) let_go =
     (entries_in (held_by now.value) ≡ entries_in (held_by old.value)) × WentOn ident.shape withdrawing (held_by old.value) (held_by now.value) made × (let_go ≡ None)

@@ -14,12 +14,12 @@ use Rattle.rme_orders.specs.declared.planned.Countdown.{Countdown}
 use Rattle.rme_orders.specs.declared.planned.Countdown.TheVariants.{Runs, Fallen}
 use Rattle.rme_orders.specs.declared.planned.Planned.{Planned}
 use Rattle.rme_server.specs.Stands.{held_by, nobody}
-use Rattle.rme_server.specs.Works.{Falls, GoesOn, IsSpared, Repeats, Works, next_task}
+use Rattle.rme_server.specs.Works.{Arrives, Falls, GoesInside, GoesOn, IsSpared, Repeats, Works, next_task}
 use Rattle.rme_server.specs.declared.stand.Holding.{Holding}
 use Rattle.rme_server.specs.declared.stand.Holding.TheVariants as holds
 use Rattle.rme_server.specs.declared.stand.Stand.{Stand as Standing}
 use Rattle.rme_server.specs.declared.work.Work.{Work}
-use Rattle.rme_server.specs.declared.work.Work.TheVariants.{Repeat, Post, GoIn, GoOn}
+use Rattle.rme_server.specs.declared.work.Work.TheVariants.{Repeat, Post, GoIn, GoOn, PostInside, GoInside, Stay}
 
 -- What the session holds whose worker is to do the work.
 abbrev pub holding_of : Work → Holding
@@ -27,6 +27,9 @@ holding_of (Repeat ready) = holds.Ready ready
 holding_of (Post admitted tries) = holds.Ready admitted.ready
 holding_of (GoIn climb tries) = holds.Climb climb
 holding_of (GoOn held) = holds.Held held
+holding_of (PostInside admitted tries) = holds.Ready admitted.ready
+holding_of (GoInside climb tries) = holds.Climb climb
+holding_of (Stay held) = holds.Held held
 
 -- The work that a submission asks, which is not refused: the last number again; or the next one, whose job may be posted; or
 -- the job that is pending.
@@ -36,6 +39,14 @@ IsSubmitted shape its (Post admitted tries) =
     (its.number ≡ admitted.ready.part.private.begun + 1) × (admitted.job ≡ its.job) × (job_refusal shape admitted.ready.part.private.begun its.job ≡ None)
 IsSubmitted shape its (GoIn climb tries) = PendingRefuses climb.part.private.begun climb.part.draft its None
 IsSubmitted shape its (GoOn held) = PendingRefuses held.part.private.begun held.part.draft its None
+IsSubmitted shape its work = ⊥
+
+-- The same work, up to the moment in which the worker is inside.
+abbrev pub stopped_inside : Work → Work
+stopped_inside (Post admitted tries) = PostInside admitted tries
+stopped_inside (GoIn climb tries) = GoInside climb tries
+stopped_inside (GoOn held) = Stay held
+stopped_inside work = work
 
 -- The work that going on asks.
 abbrev pub IsResumed : Work → Type 0
@@ -43,11 +54,14 @@ IsResumed (Repeat ready) = ⊥
 IsResumed (Post admitted tries) = ⊥
 IsResumed (GoIn climb tries) = Unit {0}
 IsResumed (GoOn held) = Unit {0}
+IsResumed work = ⊥
 
 -- The job may wait after so many tries, and a worker that owns its lock, or that has no job to do, does not wait.
 abbrev pub HasTries : ℕ → Work → Type 0
 HasTries tries (Post admitted given) = given ≡ tries
 HasTries tries (GoIn climb given) = given ≡ tries
+HasTries tries (PostInside admitted given) = given ≡ tries
+HasTries tries (GoInside climb given) = given ≡ tries
 HasTries tries work = Unit {0}
 
 -- What the work leaves the session with, and what became of the job.
@@ -56,6 +70,9 @@ Makes shape (Repeat ready) value its = Repeats shape ready value its
 Makes shape (Post admitted tries) value its = Works (next_task admitted.ready admitted.job) admitted.ready.part.entries value its
 Makes shape (GoIn climb tries) value its = GoesOn climb value its
 Makes shape (GoOn held) value its = GoesOn held value its
+Makes shape (PostInside admitted tries) value its = Arrives (next_task admitted.ready admitted.job) admitted.ready.part.entries value its
+Makes shape (GoInside climb tries) value its = GoesInside climb value its
+Makes shape (Stay held) value its = (value ≡ holds.Held held) × (its ≡ outcome.Inside held.part.private.begun)
 
 -- What the session holds of a worker that went on.
 abbrev pub worked_of : Driven → Result (Holding × Outcome) Stand
@@ -64,9 +81,17 @@ worked_of (driven.Waits climb) = Ok (holds.Climb climb, outcome.Waiting)
 worked_of (driven.Stopped held) = Ok (holds.Held held, outcome.Waiting)
 worked_of (driven.Fell down) = Err down
 
+-- What the session holds of a worker that goes on until it is inside.
+abbrev pub arrived_of : Driven → Result (Holding × Outcome) Stand
+arrived_of (driven.Done ready receipt) = Ok (holds.Ready ready, outcome.Receipt receipt)
+arrived_of (driven.Waits climb) = Ok (holds.Climb climb, outcome.Waiting)
+arrived_of (driven.Stopped held) = Ok (holds.Held held, outcome.Inside held.part.private.begun)
+arrived_of (driven.Fell down) = Err down
+
 -- What stands before the first step of the work.
 abbrev pub lead_by : Work → Part → Part
 lead_by (Post admitted tries) = submitted admitted.job
+lead_by (PostInside admitted tries) = submitted admitted.job
 lead_by work = onward
 
 -- What work does to the plan that the worker works by: the worker was spared, or it fell, as was planned. No work begins

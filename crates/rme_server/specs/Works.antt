@@ -3,6 +3,7 @@ use Rattle.std.specs.Prelude.{◌≡◌, ℕ, ◌+◌, ◌≤◌, length, List, 
 use Rattle.rme_words.specs.declared.shape.Shape.{Shape}
 use Rattle.rme_script.specs.declared.job.Job.{Job}
 use Rattle.rme_program.specs.declared.note.Entry.{Entry}
+use Rattle.rme_program.specs.declared.note.Note.TheVariants.{Entered}
 use Rattle.rme_seats.specs.declared.record.Part.{Part}
 use Rattle.rme_seats.specs.Doing.{AllFound}
 use Rattle.rme_seats.specs.Parts.{led, onward, submitted}
@@ -16,7 +17,7 @@ use Rattle.rme_orders.specs.Sights.{Task}
 use Rattle.rme_orders.specs.declared.planned.Planned.{Planned}
 use Rattle.rme_server.specs.Stands.{held_by, shown_pending, shown_ready}
 use Rattle.rme_server.specs.declared.stand.Holding.{Holding}
-use Rattle.rme_server.specs.declared.stand.Holding.TheVariants.{Empty, Ready, Climb}
+use Rattle.rme_server.specs.declared.stand.Holding.TheVariants.{Empty, Ready, Climb, Held}
 
 -- The entry is that of this job.
 pub record IsEntryOf (task : Task) (entry : Entry) : Type 0 where
@@ -68,6 +69,24 @@ GoesOn start (Ready ready) (outcome.Receipt receipt) =
 GoesOn start (Climb climb) outcome.Waiting = StillAwaits start climb
 GoesOn start Empty outcome.Fell = Unit {0}
 GoesOn start value its = ⊥
+
+-- Its last step was the one by which it entered: it made none of its section.
+abbrev pub HasJustEntered : Stand → Type 0
+HasJustEntered held = (lock : ℕ) × (held.part.note ≡ Entered lock)
+
+-- The worker with these entries went on with the job until it was inside; or it waits still; or it fell.
+abbrev pub Arrives : Task → List Entry → Holding → Outcome → Type 0
+Arrives task before (Held held) (outcome.Inside number) = Awaits task before held × HasJustEntered held × (number ≡ task.number)
+Arrives task before (Climb climb) outcome.Waiting = Awaits task before climb
+Arrives task before Empty outcome.Fell = Unit {0}
+Arrives task before value its = ⊥
+
+-- It went on with the job that it had, until it was inside.
+abbrev pub GoesInside : Stand → Holding → Outcome → Type 0
+GoesInside start (Held held) (outcome.Inside number) = StillAwaits start held × HasJustEntered held × (number ≡ start.part.private.begun)
+GoesInside start (Climb climb) outcome.Waiting = StillAwaits start climb
+GoesInside start Empty outcome.Fell = Unit {0}
+GoesInside start value its = ⊥
 
 -- The last number is answered again, by its receipt or that it was withdrawn, and the worker is as it was.
 abbrev pub Repeats : Shape → Stand → Holding → Outcome → Type 0

@@ -17,7 +17,9 @@ ghost use Rattle.rme_server.specs.Works.{IsTried, steps_of};
 ghost use Rattle.rme_server.specs.Obeyed.{Acts, Obeys};
 
 use crate::planned::Counting;
-use crate::refusal::{Refused, to_attach, to_hold, to_resume, to_submit, to_tell, to_withdraw};
+use crate::refusal::{
+    Refused, to_attach, to_commit, to_hold, to_resume, to_submit, to_tell, to_withdraw,
+};
 use crate::slots::Slots;
 use crate::stand::{Holding, Stand};
 use crate::work::{Work, Worked, carry_out};
@@ -66,6 +68,8 @@ fn act<K: Tag, R: Wait>(
         Order::Attach(worker) => attach(rt, stand, worker, service, slots),
         Order::Submit(submission) => submit(stand, &submission, service, slots),
         Order::Resume(tries) => resume(stand, tries, service, slots),
+        Order::Enter(submission) => enter(stand, &submission, service, slots),
+        Order::Commit => commit(stand, service, slots),
         Order::Withdraw => withdraw(stand, service, slots),
         Order::Last => last(stand, service, slots),
         Order::CrashAfter(steps) => crash_after(stand, steps, slots),
@@ -133,6 +137,47 @@ fn resume<K: Tag>(stand: Stand, tries: u32, service: &Service, slots: &Slots<K>)
         Ok(work) => {
             let (stand, outcome, gone) = make(work, planned, service, slots);
             (stand, SessionReply::Resumed(outcome), gone)
+        }
+        Err(refused) => refuse(refused, planned),
+    }
+}
+
+/// Hands the worker a job, or goes on with the one that it has, until the worker is inside.
+fn enter<K: Tag>(
+    stand: Stand,
+    submission: &Submission,
+    service: &Service,
+    slots: &Slots<K>,
+) -> Acted
+    requires service { service.now ≡ K.ident }
+    requires ours { MayHold K.ident slots.now stand.value }
+    ensures ours { MayHold K.ident slots.now result.0.value }
+    ensures slot { IfSome result.2 (HasSlot K.ident slots.now) }
+    ensures acts { Acts K.ident slots.now stand (order.Enter submission.now) result.0 result.1 result.2 }
+{
+    let Stand { value, planned } = stand;
+    match to_submit(value, submission, service) {
+        Ok(work) => {
+            let (stand, outcome, gone) = make(work.until_inside(), planned, service, slots);
+            (stand, SessionReply::Entered(outcome), gone)
+        }
+        Err(refused) => refuse(refused, planned),
+    }
+}
+
+/// Makes the section of the job that the worker is inside with, and the way out.
+fn commit<K: Tag>(stand: Stand, service: &Service, slots: &Slots<K>) -> Acted
+    requires service { service.now ≡ K.ident }
+    requires ours { MayHold K.ident slots.now stand.value }
+    ensures ours { MayHold K.ident slots.now result.0.value }
+    ensures slot { IfSome result.2 (HasSlot K.ident slots.now) }
+    ensures acts { Acts K.ident slots.now stand order.Commit result.0 result.1 result.2 }
+{
+    let Stand { value, planned } = stand;
+    match to_commit(value) {
+        Ok(held) => {
+            let (stand, outcome, gone) = make(Work::GoOn(held), planned, service, slots);
+            (stand, SessionReply::Committed(outcome), gone)
         }
         Err(refused) => refuse(refused, planned),
     }

@@ -112,6 +112,19 @@ pub(crate) fn to_resume(value: Holding, tries: u32) -> Result<Work, Refused>
     }
 }
 
+/// The worker that is inside, to finish its job.
+pub(crate) fn to_commit(value: Holding) -> Result<Held, Refused>
+    ensures inside { IfOk result (λ held. value ≡ holds.Held held) }
+    ensures refused { IfErr result (λ refused. (refused.0 ≡ value) × (spec.commit_refusal (session_of None value) ≡ Some refused.1)) }
+{
+    match value {
+        Holding::Held(held) => Ok(held),
+        Holding::Empty => Err((Holding::Empty, Refusal::NotAttached)),
+        Holding::Ready(ready) => Err((Holding::Ready(ready), Refusal::Idle)),
+        Holding::Climb(climb) => Err((Holding::Climb(climb), Refusal::NotInside)),
+    }
+}
+
 /// The worker that waits, to withdraw its job.
 pub(crate) fn to_withdraw(value: Holding) -> Result<Climb, Refused>
     ensures waits { IfOk result (λ climb. value ≡ holds.Climb climb) }

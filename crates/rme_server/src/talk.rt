@@ -198,7 +198,7 @@ fn order_in(line: &[u8], alloc: Global, names: &Names) -> Result<Result<Order, R
     }
 }
 
-/// Obeys an order. Where answers are kept back it makes one try alone; if the job waits then, they are written
+/// Obeys an order. Where answers are kept back it makes one try alone, but for an `enter`, before which they are written; if the job waits then, they are written
 /// before the others are made, so that no client waits for an answer that is there.
 fn obey_in_time<K: Tag, R: Wait, O: Sink>(
     rt: &R,
@@ -218,6 +218,14 @@ fn obey_in_time<K: Tag, R: Wait, O: Sink>(
     ensures write_broke { IfErr result.1 (λ fault. fault ≡ EngineFault.WriteFailed → LastWriteFails (O.took writer.old) (O.took writer.new)) }
 {
     if !buffers.exchange.keeps_back() {
+        let (stand, reply) = obey(rt, stand, order, shared.service, shared.slots);
+        return (stand, Ok(reply));
+    }
+    if let Order::Enter(_) = order {
+        // Whoever waits to be inside has the answers to what came before.
+        if let Err(fault) = buffers.exchange.write(writer) {
+            return (stand, Err(fault));
+        }
         let (stand, reply) = obey(rt, stand, order, shared.service, shared.slots);
         return (stand, Ok(reply));
     }

@@ -2,6 +2,7 @@
 use Rattle.std.proofs.Common.{◌≡◌, ℕ, ◌∙◌, [], ◌∷◌, ◌++◌, refl, sym, ap, subst, arith}
 use Rattle.std.specs.Prelude.{Bool, true, false, Option, Some, None}
 use Rattle.rme_words.specs.declared.shape.Shape.{Shape}
+use Rattle.rme_program.specs.declared.note.Note.TheVariants.{Entered}
 use Rattle.rme_program.specs.declared.note.Receipt.{Receipt}
 use Rattle.rme_program.specs.declared.private.Private.{Private}
 use Rattle.rme_seats.specs.Chances.{IsCounted, Tally}
@@ -10,8 +11,8 @@ use Rattle.rme_seats.specs.Parts.{draft_script, onward}
 use Rattle.rme_seats.specs.declared.record.Part.{Part}
 use Rattle.rme_seats.specs.Stands.{Ident, Stand}
 use Rattle.rme_seats.proofs.Chains.{walks_then}
-use Rattle.rme_table.specs.Calls.{Made, OwnsLock, Performed}
-use Rattle.rme_table.specs.Driving.{DoesNotWait, Drives, Exhausts, Finishes, Goes, HasFinished, IsAsked, StillHas}
+use Rattle.rme_table.specs.Calls.{Made, OwnsLock, Performed, is_over}
+use Rattle.rme_table.specs.Driving.{DoesNotWait, Drives, Exhausts, Finishes, Goes, HasFinished, IsAsked, StillHas, StopsAt, StopsInside}
 use Rattle.rme_table.specs.declared.driving.Driven.{Driven}
 use Rattle.rme_table.specs.declared.driving.Tries.{Tries}
 use Rattle.rme_table.specs.declared.driving.Driven.TheVariants.{Done, Waits, Stopped, Fell}
@@ -104,6 +105,14 @@ exhausts_owning start old new (Done ready receipt) owns = tt
 exhausts_owning start old new (Waits climb) owns = absurd owns
 exhausts_owning start old new (Stopped held) owns = tt
 exhausts_owning start old new (Fell down) owns = tt
+
+-- A worker that had just entered is stopped there.
+pub stops_inside : (start : Stand) (driven : Driven) → ((lock : ℕ) × (start.part.note ≡ Entered lock)) → StopsAt start driven → StopsInside driven
+stops_inside start (Done ready receipt) entered stops = tt
+stops_inside start (Waits climb) entered stops = tt
+stops_inside start (Stopped held) entered (same, pending) =
+    let P : Stand → Type 0 = λ x. ((lock : ℕ) × (x.part.note ≡ Entered lock)) × (is_over x.part.private.stage ≡ false) in subst P (sym same) (entered, pending)
+stops_inside start (Fell down) entered stops = tt
 
 -- The gate was asked of the worker and the lock that its value names.
 pub asked_so : (answered : ℕ → ℕ → Bool → Type 0) (ident now : Ident) (part : Part) (worker lock : ℕ) (answer : Bool) → ident ≡ now → worker ≡ part.worker → OwnsLock ident.shape part lock

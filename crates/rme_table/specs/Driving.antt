@@ -9,7 +9,8 @@ use Rattle.rme_seats.specs.Chances.{Tally}
 use Rattle.rme_seats.specs.Doing.{Walks}
 use Rattle.rme_seats.specs.Parts.{onward}
 use Rattle.rme_seats.specs.Stands.{Stand}
-use Rattle.rme_table.specs.Calls.{OwnsLock, levels_held}
+use Rattle.rme_program.specs.declared.note.Note.TheVariants.{Entered}
+use Rattle.rme_table.specs.Calls.{OwnsLock, is_over, levels_held}
 use Rattle.rme_table.specs.declared.driving.Driven.{Driven}
 use Rattle.rme_table.specs.declared.driving.Tries.{Tries}
 use Rattle.rme_table.specs.declared.driving.Driven.TheVariants.{Done, Waits, Stopped, Fell}
@@ -77,6 +78,16 @@ Watches answered told shape over worker (Done ready receipt) = (over ≡ false �
 Watches answered told shape over worker (Waits climb) = Unit {0}
 Watches answered told shape over worker (Stopped held) = IsAsked answered shape worker false
 Watches answered told shape over worker (Fell down) = Unit {0}
+
+-- One that the gate stopped made no step of its section: it is where it was when it owned the lock, its job not finished; and
+-- where it waited before, its last step was the one by which it entered.
+abbrev pub StopsAt : Stand → Driven → Type 0
+StopsAt start (Stopped held) = (held ≡ start) × (is_over start.part.private.stage ≡ false)
+StopsAt start driven = Unit {0}
+
+abbrev pub StopsInside : Driven → Type 0
+StopsInside (Stopped held) = ((lock : ℕ) × (held.part.note ≡ Entered lock)) × (is_over held.part.private.stage ≡ false)
+StopsInside driven = Unit {0}
 
 -- A worker that owned the lock does not wait for it.
 abbrev pub DoesNotWait : Driven → Type 0

@@ -46,6 +46,24 @@ impl Gate for Free {
     fn over(&self, _worker: u32, _lock: u32, _number: u32) {}
 }
 
+/// Lets none begin its section: who goes on stops once it is inside.
+#[derive(Clone, Copy, Drop)]
+pub struct Shut;
+
+impl Gate for Shut {
+    ghost use Rattle.std.specs.Prelude.{◌≡◌, ⊤, false};
+
+    ghost answered = { λ _ _ _ answer. answer ≡ false };
+
+    ghost told = { λ _ _ _ _. ⊤ };
+
+    fn inside(&self, _worker: u32, _lock: u32) -> bool {
+        false
+    }
+
+    fn over(&self, _worker: u32, _lock: u32, _number: u32) {}
+}
+
 /// The blocked sweeps on one job: how many were made, and the most that may be.
 #[derive(Clone, Copy, PartialEq, Eq)]
 pub struct Tries {
@@ -67,7 +85,7 @@ pub enum Driven {
 
 impl Climb {
     ghost use Rattle.std.specs.Prelude.{◌≡◌, true, false};
-    ghost use Rattle.rme_table.specs.Driving.{Counts, Drives, Exhausts, Passes, Watches, stand_after};
+    ghost use Rattle.rme_table.specs.Driving.{Counts, Drives, Exhausts, Passes, StopsInside, Watches, stand_after};
 
     /// Goes on to readiness: sweep after sweep as long as there are tries, with a pause after each blocked one, and
     /// then as `Held::go_on`. A job that waits still had all the sweeps that might be.
@@ -84,6 +102,7 @@ impl Climb {
         ensures drives { Drives service.now.shape false self (C.tally chance.old) (C.tally chance.new) result }
         ensures passes { G.lets_all ≡ true → Passes result }
         ensures watches { Watches (G.answered gate.now) (G.told gate.now) service.now.shape false self.part.worker result }
+        ensures stops { StopsInside result }
         ensures tries { Exhausts self tries.old tries.new result }
         ensures counts { Counts self (stand_after result) tries.old tries.new }
         ensures most { tries.new.most ≡ tries.old.most }
@@ -105,7 +124,7 @@ impl Climb {
 impl Held {
     ghost use Rattle.std.specs.Prelude.{◌≡◌, true};
     ghost use Rattle.rme_table.specs.Calls.{is_over};
-    ghost use Rattle.rme_table.specs.Driving.{DoesNotWait, Drives, Passes, Watches};
+    ghost use Rattle.rme_table.specs.Driving.{DoesNotWait, Drives, Passes, StopsAt, Watches};
 
     /// Goes on to readiness: the section, where the gate lets the worker begin it, and the exit. A section that is
     /// finished already is not begun, and the gate is told alone that it is over.
@@ -115,6 +134,7 @@ impl Held {
         ensures passes { G.lets_all ≡ true → Passes result }
         ensures watches { Watches (G.answered gate.now) (G.told gate.now) service.now.shape (is_over self.part.private.stage) self.part.worker result }
         ensures owns { DoesNotWait result }
+        ensures stops { StopsAt self result }
     {
         if !self.finished() && !gate.inside(self.worker(), self.lock()) {
             return Driven::Stopped(self);

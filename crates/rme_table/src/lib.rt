@@ -31,7 +31,7 @@ mod way;
 pub use admitted::Admitted;
 pub use closed::{Closed, ClosedLock, Unclosed};
 pub use down::Down;
-pub use driving::{Driven, Free, Gate, Tries};
+pub use driving::{Driven, Free, Gate, Shut, Tries};
 pub use kept::{Kept, Tag, fill};
 pub use kinds::{Climb, Held, Leave, Posted, Ready, Stance, Sweep};
 pub use rme_seats::{Chance, Never};

@@ -4,7 +4,7 @@ use Rattle.rme_program.specs.declared.note.Receipt.{Receipt}
 use Rattle.rme_texts.specs.declared.session.Outcome.{Outcome}
 use Rattle.rme_texts.specs.declared.session.Outcome.TheVariants as outcome
 use Rattle.rme_texts.specs.declared.session.SessionReply.{SessionReply}
-use Rattle.rme_texts.specs.declared.session.SessionReply.TheVariants.{Attached, Submitted, Resumed, Withdrew, WithdrawFell, Last, CrashPlanned, Detached, Refused}
+use Rattle.rme_texts.specs.declared.session.SessionReply.TheVariants.{Attached, Submitted, Resumed, Entered, Committed, Withdrew, WithdrawFell, Last, CrashPlanned, Detached, Refused}
 use Rattle.rme_texts.specs.declared.session.Standing.{Standing}
 use Rattle.rme_texts.specs.declared.session.Standing.TheVariants.{Ready, Climb, Held}
 use Rattle.rme_texts.specs.Texts.{receipt_text}
@@ -15,9 +15,10 @@ standing_word Ready = codes "ready"
 standing_word Climb = codes "climb"
 standing_word Held = codes "held"
 
--- `{"number":..,"ok":"attach","stance":..}`
-abbrev pub attached_text : ℕ → List ℕ → List ℕ
-attached_text number standing = codes "{\"number\":" ++ (decimal number ++ (codes ",\"ok\":\"attach\",\"stance\":\"" ++ (standing ++ codes "\"}")))
+-- `{"number":..,"ok":WORD,"stance":..}`
+abbrev pub standing_text : ℕ → List ℕ → List ℕ → List ℕ
+standing_text number word standing =
+    codes "{\"number\":" ++ (decimal number ++ (codes ",\"ok\":\"" ++ (word ++ (codes "\",\"stance\":\"" ++ (standing ++ codes "\"}")))))
 
 -- `{"fell":true,"ok":WORD}`
 abbrev pub fell_text : List ℕ → List ℕ
@@ -36,11 +37,14 @@ outcome_text names word (outcome.Receipt receipt) = receipt_outcome_text names w
 outcome_text names word outcome.Withdrawn = codes "{\"ok\":\"" ++ (word ++ codes "\",\"withdrawn\":true}")
 outcome_text names word outcome.Waiting = codes "{\"ok\":\"" ++ (word ++ codes "\",\"waiting\":true}")
 outcome_text names word outcome.Fell = fell_text word
+outcome_text names word (outcome.Inside number) = standing_text number word (standing_word Held)
 
 abbrev pub session_text : List (List ℕ) → SessionReply → List ℕ
-session_text names (Attached number standing) = attached_text number (standing_word standing)
+session_text names (Attached number standing) = standing_text number (codes "attach") (standing_word standing)
 session_text names (Submitted became) = outcome_text names (codes "submit") became
 session_text names (Resumed became) = outcome_text names (codes "resume") became
+session_text names (Entered became) = outcome_text names (codes "enter") became
+session_text names (Committed became) = outcome_text names (codes "commit") became
 session_text names (Withdrew number) = codes "{\"number\":" ++ (decimal number ++ codes ",\"ok\":\"withdraw\"}")
 session_text names WithdrawFell = fell_text (codes "withdraw")
 session_text names (Last last) = last_text names last

@@ -44,6 +44,8 @@ pub enum Outcome {
     Waiting,
     /// The planned crash came, and the session has no worker any more.
     Fell,
+    /// The worker is inside its lock, with the job of this number, and has begun no section.
+    Inside(u32),
 }
 
 /// The answer to a line of a session.
@@ -53,6 +55,8 @@ pub enum SessionReply {
     Attached(u32, Standing),
     Submitted(Outcome),
     Resumed(Outcome),
+    Entered(Outcome),
+    Committed(Outcome),
     /// The number that was given up.
     Withdrew(u32),
     /// The planned crash came while the job was given up.
@@ -74,9 +78,13 @@ pub fn push_session_reply(
     ensures { OnOk result (string_bytes out.new ≡ string_bytes out.old ++ spec.session_text names.now reply) }
 {
     match reply {
-        SessionReply::Attached(number, standing) => push_attached(out, number, standing.word()),
+        SessionReply::Attached(number, standing) => {
+            push_standing(out, number, "attach", standing.word())
+        }
         SessionReply::Submitted(outcome) => push_outcome(out, names, "submit", outcome),
         SessionReply::Resumed(outcome) => push_outcome(out, names, "resume", outcome),
+        SessionReply::Entered(outcome) => push_outcome(out, names, "enter", outcome),
+        SessionReply::Committed(outcome) => push_outcome(out, names, "commit", outcome),
         SessionReply::Withdrew(number) => write!(
             out,
             "{{\"number\":{number},\"ok\":\"withdraw\"}}"
@@ -89,12 +97,18 @@ pub fn push_session_reply(
     }
 }
 
-fn push_attached(out: &mut String, number: u32, standing: &str) -> Result<(), AllocError>
-    ensures { OnOk result (string_bytes out.new ≡ string_bytes out.old ++ spec.attached_text number standing.now) }
+/// Appends what a worker is at, with the word of the line that asked.
+fn push_standing(
+    out: &mut String,
+    number: u32,
+    word: &str,
+    standing: &str,
+) -> Result<(), AllocError>
+    ensures { OnOk result (string_bytes out.new ≡ string_bytes out.old ++ spec.standing_text number word.now standing.now) }
 {
     write!(
         out,
-        "{{\"number\":{number},\"ok\":\"attach\",\"stance\":\"{standing}\"}}"
+        "{{\"number\":{number},\"ok\":\"{word}\",\"stance\":\"{standing}\"}}"
     )
 }
 
@@ -112,6 +126,7 @@ fn push_outcome(
         Outcome::Withdrawn => write!(out, "{{\"ok\":\"{word}\",\"withdrawn\":true}}"),
         Outcome::Waiting => write!(out, "{{\"ok\":\"{word}\",\"waiting\":true}}"),
         Outcome::Fell => push_fell(out, word),
+        Outcome::Inside(number) => push_standing(out, number, word, Standing::Held.word()),
     }
 }
 

@@ -4,7 +4,8 @@ use Rattle.serde_json.specs.Data.{Data}
 use Rattle.serde_json.specs.Events.{members_len}
 use Rattle.serde_json.specs.Find.{as_object, get}
 use Rattle.rme_wire.specs.declared.order.Order.{Order}
-use Rattle.rme_wire.specs.declared.order.Order.TheVariants.{Attach, Submit, Resume, Withdraw, Last, CrashAfter, Detach}
+use Rattle.rme_wire.specs.declared.order.Order.TheVariants.{Attach, Submit, Resume, Enter, Commit, Withdraw, Last, CrashAfter, Detach}
+use Rattle.rme_wire.specs.declared.order.Submission.{Submission}
 use Rattle.rme_wire.specs.Commands.{counted, lock_of, worker_of}
 use Rattle.rme_wire.specs.Operations.{script_of}
 use Rattle.rme_wire.specs.Values.{small, value_of, word_of}
@@ -22,11 +23,11 @@ abbrev pub tries_or_usual : Option Data → Option ℕ
 tries_or_usual None = Some 1000
 tries_or_usual (Some d) = tries_of d
 
--- `{"do":"submit","lock":..,"number":..,"script":..,"tries":..}`, of which the last may be absent
-unfoldable pub submit_of : List (List ℕ) → ℕ → Data → Option Order
-submit_of names count d =
+-- `{"do":WORD,"lock":..,"number":..,"script":..,"tries":..}`, of which the last may be absent
+unfoldable pub submission_of : List (List ℕ) → ℕ → Data → Option Submission
+submission_of names count d =
     option_and_then (λ number. option_and_then (λ lock. option_and_then (λ script. option_and_then (λ tries.
-    if count == 4 + counted (get (codes "tries") d) then Some (Submit record { number = number; job = record { lock = lock; script = script }; tries = tries }) else None)
+    if count == 4 + counted (get (codes "tries") d) then Some (record { number = number; job = record { lock = lock; script = script }; tries = tries }) else None)
     (tries_or_usual (get (codes "tries") d))) (option_and_then script_of (get (codes "script") d))) (lock_of names d)) (option_and_then small (get (codes "number") d))
 
 -- `{"do":"resume","tries":..}`, of which the last may be absent
@@ -46,9 +47,10 @@ crash_after_of count d = if count == 2 then option_map CrashAfter (option_and_th
 abbrev pub order_by : List ℕ → Option Order
 order_by word =
     if bytes_eq word (codes "withdraw") then Some Withdraw
+    else (if bytes_eq word (codes "commit") then Some Commit
     else (if bytes_eq word (codes "last") then Some Last
     else (if bytes_eq word (codes "detach") then Some Detach
-    else None))
+    else None)))
 
 unfoldable pub bare_order : List ℕ → ℕ → Option Order
 bare_order word count = if count == 1 then order_by word else None
@@ -57,10 +59,11 @@ bare_order word count = if count == 1 then order_by word else None
 unfoldable pub order_named : List (List ℕ) → List ℕ → ℕ → Data → Option Order
 order_named names word count d =
     if bytes_eq word (codes "attach") then attach_of count d
-    else (if bytes_eq word (codes "submit") then submit_of names count d
+    else (if bytes_eq word (codes "submit") then option_map Submit (submission_of names count d)
+    else (if bytes_eq word (codes "enter") then option_map Enter (submission_of names count d)
     else (if bytes_eq word (codes "resume") then resume_of count d
     else (if bytes_eq word (codes "crash_after") then crash_after_of count d
-    else bare_order word count)))
+    else bare_order word count))))
 
 -- the order of a value, an object with a member `do`
 unfoldable pub order_of : List (List ℕ) → Data → Option Order

@@ -43,6 +43,11 @@ pub enum Order {
     Submit(Submission),
     /// To go on with the pending job, with so many tries, 1 to 1,000,000.
     Resume(u32),
+    /// To hand over a job, or to go on with it, up to the moment in which the worker is inside its lock; or to answer
+    /// its receipt again.
+    Enter(Submission),
+    /// To make the section of the job that the worker is inside with, and to leave its lock.
+    Commit,
     /// To give up the pending job.
     Withdraw,
     /// To answer the last receipt.
@@ -81,7 +86,8 @@ fn order_named(names: &Names, word: &str, count: usize, value: &Value) -> Option
 {
     match word {
         "attach" => attach_of(count, value),
-        "submit" => submit_of(names, count, value),
+        "submit" => submission_of(names, count, value).map(Order::Submit),
+        "enter" => submission_of(names, count, value).map(Order::Enter),
         "resume" => resume_of(count, value),
         "crash_after" => crash_after_of(count, value),
         _ => bare_order(word, count),
@@ -111,9 +117,9 @@ fn tries_of(value: &Value) -> Option<u32>
 }
 
 /// A submission whose optional member is there or not.
-#[tactic(auto, unfolding(crate::specs::Orders::submit_of))]
-fn submit_of(names: &Names, count: usize, value: &Value) -> Option<Order>
-    ensures { result ≡ spec.submit_of names.now count (view value.now) }
+#[tactic(auto, unfolding(crate::specs::Orders::submission_of))]
+fn submission_of(names: &Names, count: usize, value: &Value) -> Option<Submission>
+    ensures { result ≡ spec.submission_of names.now count (view value.now) }
 {
     let number = small(value.get("number")?)?;
     let lock = lock_of(names, value)?;
@@ -127,11 +133,11 @@ fn submit_of(names: &Names, count: usize, value: &Value) -> Option<Order>
     if count != expected {
         return None;
     }
-    Some(Order::Submit(Submission {
+    Some(Submission {
         number,
         job: Job { lock, script },
         tries,
-    }))
+    })
 }
 
 #[tactic(auto, unfolding(crate::specs::Orders::resume_of))]
@@ -182,6 +188,9 @@ fn bare_order(word: &str, count: usize) -> Option<Order>
     }
     if word == "withdraw" {
         return Some(Order::Withdraw);
+    }
+    if word == "commit" {
+        return Some(Order::Commit);
     }
     if word == "last" {
         return Some(Order::Last);

@@ -1,7 +1,7 @@
 -- The numbers and the names of the refusals.
 use Rattle.std.specs.Prelude.{ℕ, List, codes}
 use Rattle.rme_words.specs.declared.refusal.Refusal.{Refusal}
-use Rattle.rme_words.specs.declared.refusal.Refusal.TheVariants.{BadLine, LineTooLong, NotOpen, AlreadyOpen, BadShape, NoWorker, Down, Up, Busy, Idle, NoLock, BadScript, NoCell, TooManyJobs, BadImage, WrongNumber, Differs, Taken, NotAttached, NoMemory, NotWaiting}
+use Rattle.rme_words.specs.declared.refusal.Refusal.TheVariants.{BadLine, LineTooLong, NotOpen, AlreadyOpen, BadShape, NoWorker, Down, Up, Busy, Idle, NoLock, BadScript, NoCell, TooManyJobs, BadImage, WrongNumber, Differs, Taken, NotAttached, NoMemory, NotWaiting, NotInside}
 
 abbrev pub code_of : Refusal → ℕ
 code_of BadLine = 1
@@ -25,6 +25,7 @@ code_of Taken = 18
 code_of NotAttached = 19
 code_of NoMemory = 20
 code_of NotWaiting = 21
+code_of NotInside = 22
 
 abbrev pub name_of : Refusal → List ℕ
 name_of BadLine = codes "BadLine"
@@ -48,3 +49,4 @@ name_of Taken = codes "Taken"
 name_of NotAttached = codes "NotAttached"
 name_of NoMemory = codes "NoMemory"
 name_of NotWaiting = codes "NotWaiting"
+name_of NotInside = codes "NotInside"

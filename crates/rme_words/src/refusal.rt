@@ -48,6 +48,8 @@ pub enum Refusal {
     NoMemory,
     /// The worker is not waiting for a lock.
     NotWaiting,
+    /// The session's worker has a job and is not inside its lock.
+    NotInside,
 }
 
 /// A growth of memory was refused, and nothing changed.
@@ -66,7 +68,7 @@ impl From<NoMemory> for Refusal {
 }
 
 impl Refusal {
-    /// The number of the refusal, 1 to 21, as it stands in answers.
+    /// The number of the refusal, 1 to 22, as it stands in answers.
     pub fn code(&self) -> u32
         ensures { result ≡ code_of self.now }
     {
@@ -92,6 +94,7 @@ impl Refusal {
             Refusal::NotAttached => 19,
             Refusal::NoMemory => 20,
             Refusal::NotWaiting => 21,
+            Refusal::NotInside => 22,
         }
     }
 
@@ -121,6 +124,7 @@ impl Refusal {
             Refusal::NotAttached => "NotAttached",
             Refusal::NoMemory => "NoMemory",
             Refusal::NotWaiting => "NotWaiting",
+            Refusal::NotInside => "NotInside",
         }
     }
 }

@@ -56,6 +56,7 @@ fn orders(rt: HostRuntime) -> Result<(), Fail> {
             r#"{"do":"resume","tries":1000000}"#,
             Order::Resume(1_000_000),
         ),
+        (r#"{"do":"commit"}"#, Order::Commit),
         (r#"{"do":"withdraw"}"#, Order::Withdraw),
         (r#"{"do":"last"}"#, Order::Last),
         (r#"{"do":"crash_after","steps":0}"#, Order::CrashAfter(0)),
@@ -66,6 +67,41 @@ fn orders(rt: HostRuntime) -> Result<(), Fail> {
         (r#"{"do":"detach"}"#, Order::Detach),
     ] {
         check_order(&rt, rt.alloc(), &names, line, wanted)?;
+    }
+    Ok(())
+}
+
+/// A line to enter has the form of one to submit.
+#[test]
+fn entering(rt: HostRuntime) -> Result<(), Fail> {
+    let names = lock_names(&rt, rt.alloc());
+    let line = r#"{"do":"enter","lock":"a","number":1,"script":[["add",0,5]],"tries":3}"#;
+    let submission = Submission {
+        number: 1,
+        job: Job {
+            lock: 0,
+            script: Script::of(&[Op::Add(0, 5)]),
+        },
+        tries: 3,
+    };
+    check_order(&rt, rt.alloc(), &names, line, Order::Enter(submission))
+}
+
+/// Lines that lack a key, or have one more, or one of another kind, order nothing.
+#[test]
+fn no_orders(rt: HostRuntime) -> Result<(), Fail> {
+    let names = lock_names(&rt, rt.alloc());
+    for line in [
+        r#"{"do":"commit","number":1}"#,
+        r#"{"do":"commit","tries":1}"#,
+        r#"{"do":"enter","lock":"a","number":1}"#,
+        r#"{"do":"enter","lock":"a","script":[]}"#,
+        r#"{"do":"enter","number":1,"script":[]}"#,
+        r#"{"do":"enter","lock":0,"number":1,"script":[]}"#,
+        r#"{"do":"enter","lock":"a","number":1,"script":[],"tries":0}"#,
+        r#"{"do":"enter","lock":"a","number":1,"script":[],"worker":0}"#,
+    ] {
+        assert!(rt; order_of(rt.alloc(), &names, line.as_bytes())?.is_none());
     }
     Ok(())
 }

@@ -1,7 +1,7 @@
 use Rattle.std.proofs.Common.{ℕ, ◌∙◌, arith, refl, subst}
 use Rattle.std.specs.Prelude.{Bool, false}
 use Rattle.rme_table.specs.Driving.{Drives, Watches}
-use Rattle.rme_table.proofs.GoingOn.{drives_on, exhausts_owning, goes_fell, goes_made, goes_on, still_made, still_on}
+use Rattle.rme_table.proofs.GoingOn.{drives_on, exhausts_owning, goes_fell, goes_made, goes_on, still_made, still_on, stops_inside}
 use Rattle.rme_table.proofs.kinds.Climb.go_in.Goals as goal
 
 pub returns-in-Got-clause-drives : goal.returns-in-Got-clause-drives
@@ -72,3 +72,6 @@ returns-clause-tries g c =
       exact = omega (arith, so.2, so.3, so.4, so.6, c.loop-blocked.auto.blocked, c.loop-blocked-test.false);
       steps = omega (arith, so.2, so.3, so.4, so.7, c.loop-blocked.auto.blocked, c.loop-blocked-test.false);
     }
+
+pub returns-in-Got-clause-stops : goal.returns-in-Got-clause-stops
+returns-in-Got-clause-stops g c = stops_inside c.in-Got.held c.go_on.result c.in-Got.ensures.0 c.go_on.ensures.stops
