@@ -4,6 +4,6 @@
 pub use Rattle.rme_seats.specs.Stands
 pub use Rattle.rme_seats.specs.Closing
 pub use Rattle.rme_supervisor.specs.Supervised
-pub use Rattle.rme_server.specs.Slots
-pub use Rattle.rme_server.specs.Stands as Holdings
+pub use Rattle.rme_slots.specs.Slots
+pub use Rattle.rme_sessions.specs.Stands as Holdings
 pub use Rattle.rme_table.specs.Calls

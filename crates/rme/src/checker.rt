@@ -4,4 +4,4 @@
 //! step. `check_lines` does so with the lines of a transcript.
 
 pub use rme_checker::Machine;
-pub use rme_engine::{Verdict, check_lines};
+pub use rme_verdicts::{Verdict, check_lines};

@@ -5,7 +5,5 @@
 //! bytes into lines, and `Names` are the names of locks.
 
 pub use rme_engine::{Engine, answer_lines, run_lines, transcript_lines};
-pub use rme_wire::{
-    Command, Cut, Done, EngineFault, GivenNames, Image, LineReader, Loading, Names, Opening, Reply,
-    Request, Sink, Source, is_name, push_reply, put_all, request_of,
-};
+pub use rme_texts::{Done, Reply, push_reply};
+pub use rme_wire::{Command, Cut, EngineFault, GivenNames, Image, LineReader, Loading, Names, Opening, Request, Sink, Source, is_name, put_all, request_of};

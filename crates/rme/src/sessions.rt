@@ -6,6 +6,4 @@
 pub use rme_server::{
     Door, Holding, Planned, ServeFault, Slots, Stand, Trouble, obey, serve, session,
 };
-pub use rme_wire::{
-    Order, Outcome, SessionReply, Standing, Submission, order_of, push_session_reply,
-};
+pub use rme_session_lines::{Order, Outcome, SessionReply, Standing, Submission, order_of, push_session_reply};

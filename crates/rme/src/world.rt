@@ -7,5 +7,6 @@
 pub use rme_engine::TalliedWorld;
 pub use rme_history::{ReplayFault, Tally, by_place, replay};
 pub use rme_program::{Answer, Event, Note};
-pub use rme_wire::{Until, Walk, WalkEnd, WalkNotes, Walked};
+pub use rme_texts::{WalkEnd, WalkNotes, Walked};
+pub use rme_wire::{Until, Walk};
 pub use rme_world::World;

@@ -2,9 +2,9 @@
 use Rattle.std.specs.Prelude.{◌≡◌, ◌≢◌, ℕ, List, [], Option}
 use Rattle.rme_lines.specs.Puts.{AppendsFront}
 use Rattle.rme_picture.specs.Pictures.{IsSvg}
-use Rattle.rme_engine.specs.declared.check.Verdict.{Verdict}
-use Rattle.rme_engine.specs.declared.check.Verdict.TheVariants.{Yes, No, Bad}
-use Rattle.rme_engine.specs.Verdicts.{Finds}
+use Rattle.rme_verdicts.specs.declared.check.Verdict.{Verdict}
+use Rattle.rme_verdicts.specs.declared.check.Verdict.TheVariants.{Yes, No, Bad}
+use Rattle.rme_verdicts.specs.Verdicts.{Finds}
 use Rattle.rme_draw.specs.Following.{Draws}
 use Rattle.rme_line_commands.specs.Statuses.{status_of_verdict, text_of_verdict}
 

@@ -2,7 +2,7 @@
 
 ghost use Rattle.std.specs.Prelude.{◌≡◌, IfOk};
 ghost use Rattle.rme_seats.specs.Closing.{AreOf};
-ghost use Rattle.rme_server.specs.Slots.{AreInPlace};
+ghost use Rattle.rme_slots.specs.Slots.{AreInPlace};
 
 use crate::closing::{closing_of_service, end_with};
 use log::sink::Console;

@@ -2,10 +2,10 @@
 use Rattle.std.proofs.Common.{◌≡◌, ℕ, List, [], ◌∷◌, Option, Result, Ok, Err, IfOk, sym, ap, subst, ◌∙◌}
 use Rattle.std.specs.Io.KnownBytes.{Appends}
 use Rattle.rme_lines.specs.declared.fault.EngineFault.{EngineFault}
-use Rattle.rme_engine.specs.declared.check.Verdict.{Verdict}
-use Rattle.rme_engine.specs.declared.check.Verdict.TheVariants.{Yes}
-use Rattle.rme_engine.specs.Sights.{Sight}
-use Rattle.rme_engine.specs.Watching.{TakesIn, Watches}
+use Rattle.rme_verdicts.specs.declared.check.Verdict.{Verdict}
+use Rattle.rme_verdicts.specs.declared.check.Verdict.TheVariants.{Yes}
+use Rattle.rme_verdicts.specs.Sights.{Sight}
+use Rattle.rme_verdicts.specs.Watching.{TakesIn, Watches}
 use Rattle.rme_picture.specs.Pictures.{Picture}
 use Rattle.rme_draw.specs.declared.follower.Follower.{Follower}
 use Rattle.rme_draw.specs.Following.{Draws, Following, ended, following, following_all, following_of, nothing_seen}

@@ -11,8 +11,8 @@ use Rattle.rme_texts.specs.declared.event.EventLine.TheVariants as line
 use Rattle.rme_lines.specs.Pieces.{InputLine}
 use Rattle.rme_lines.specs.Runs.{AreLines}
 use Rattle.rme_checker.specs.Views.{MachineView}
-use Rattle.rme_engine.specs.Sights.{Sight, begins, takes}
-use Rattle.rme_engine.specs.Watching.{Shows}
+use Rattle.rme_verdicts.specs.Sights.{Sight, begins, takes}
+use Rattle.rme_verdicts.specs.Watching.{Shows}
 use Rattle.rme_picture.specs.declared.drawing.Finish.{Finish}
 use Rattle.rme_picture.specs.declared.drawing.Hold.{Hold}
 use Rattle.rme_picture.specs.Pictures.{Picture, empty_picture, shown_in}

@@ -3,13 +3,13 @@
 ghost use Rattle.std.specs.Prelude.{◌≡◌, ◌≢◌, List, ℕ, IfOk, IfErr};
 ghost use Rattle.rme_lines.specs.Readers.{FailsToRead, HasEnded, LastReadFails, MakesReads, ReadsNoMore, bytes_left};
 ghost use Rattle.rme_lines.specs.Traffic.{LastWriteFails};
-ghost use Rattle.rme_engine.specs.Verdicts.{Finds};
+ghost use Rattle.rme_verdicts.specs.Verdicts.{Finds};
 ghost use Rattle.std.specs.Io.KnownBytes.{Appends};
 ghost use Rattle.rme_picture.specs.Pictures.{IsSvg};
 ghost use Rattle.rme_draw.specs.Following.{Draws, ended, following_of};
 
 use crate::follower::Follower;
-use rme_engine::{Verdict, watch_lines};
+use rme_verdicts::{Verdict, watch_lines};
 use rme_picture::{Paint, Svg};
 use rme_wire::{EngineFault, LineReader, Sink, Source, put_all};
 use std::alloc::Global;

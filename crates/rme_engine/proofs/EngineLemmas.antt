@@ -12,7 +12,8 @@ use Rattle.rme_engine.specs.declared.tallied.TalliedWorld.{TalliedWorld}
 use Rattle.rme_engine.specs.States.{State}
 use Rattle.rme_engine.specs.Tallies.{tallied_opening}
 use Rattle.rme_engine.specs.Commands.{Does}
-use Rattle.rme_engine.specs.Lines.{DoesIn, IsAsGiven, IsGood, MayRefuse, OpensIn}
+use Rattle.rme_engine.specs.Lines.{DoesIn, OpensIn}
+use Rattle.rme_wire.specs.Openings.{IsAsGiven, IsGood, MayRefuse}
 
 -- no world is open
 pub not_open : (world : Option TalliedWorld) (old : State) (command : Command) → world ≡ None → DoesIn world old command (Refused NotOpen) old

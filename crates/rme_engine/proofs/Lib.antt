@@ -5,5 +5,3 @@ pub mod NoteLemmas
 pub mod WalkLemmas
 pub mod EngineLemmas
 pub mod ToldLemmas
-pub mod JudgeLemmas
-pub mod WatchLemmas

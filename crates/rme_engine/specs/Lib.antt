@@ -10,8 +10,4 @@ pub mod Lines
 pub mod Laws
 pub mod Transcripts
 pub mod Outputs
-pub mod Verdicts
-pub mod Judging
-pub mod Sights
-pub mod Watching
 pub mod Engines

@@ -3,7 +3,6 @@ use Rattle.std.specs.Prelude.{◌≡◌, ℕ, List, [], ◌∷◌, ◌++◌, len
 use Rattle.rme_words.specs.declared.refusal.Refusal.{Refusal}
 use Rattle.rme_words.specs.declared.refusal.Refusal.TheVariants.{BadImage, BadLine, LineTooLong, NotOpen, AlreadyOpen, BadShape, NoMemory}
 use Rattle.rme_words.specs.declared.shape.Shape.{Shape}
-use Rattle.rme_words.specs.Shapes.{IsWithinLimits}
 use Rattle.rme_texts.specs.declared.answer.Done.TheVariants as word
 use Rattle.rme_texts.specs.declared.reply.Reply.{Reply}
 use Rattle.rme_texts.specs.declared.reply.Reply.TheVariants.{Done, Refused}
@@ -12,7 +11,7 @@ use Rattle.rme_wire.specs.declared.request.Request.{Request}
 use Rattle.rme_wire.specs.declared.loading.Loading.{Loading}
 use Rattle.rme_wire.specs.declared.request.Request.TheVariants.{Load, Open, World}
 use Rattle.rme_wire.specs.declared.opening.Opening.{Opening}
-use Rattle.rme_wire.specs.Openings.{are_names}
+use Rattle.rme_wire.specs.Openings.{IsAsGiven, IsGood, MayRefuse, are_names}
 use Rattle.rme_wire.specs.Requests.{request_of_line}
 use Rattle.rme_lines.specs.Pieces.{InputLine, text, too_long}
 use Rattle.rme_world.specs.Images.{Loaded}
@@ -21,20 +20,6 @@ use Rattle.rme_engine.specs.declared.tallied.TalliedWorld.{TalliedWorld}
 use Rattle.rme_engine.specs.States.{State, text_of}
 use Rattle.rme_engine.specs.Tallies.{tallied_opening, unseen}
 use Rattle.rme_engine.specs.Commands.{Does}
-
--- names and numbers within the limits, as many locks as names
-abbrev pub IsGood : Opening → Type 0
-IsGood given = (are_names given.locks ≡ true) × IsWithinLimits given.workers (length given.locks) given.cells given.jobs
-
--- the shape has the numbers of the line
-abbrev pub IsAsGiven : Opening → Shape → Type 0
-IsAsGiven given shape = (shape.workers ≡ given.workers) × (shape.locks ≡ length given.locks) × (shape.cells ≡ given.cells) × (shape.jobs ≡ given.jobs)
-
--- what opening is refused with: the names and the numbers first, want of memory last
-abbrev pub MayRefuse : Opening → Refusal → Type 0
-MayRefuse given BadShape = IsGood given → ⊥
-MayRefuse given NoMemory = IsGood given
-MayRefuse given other = ⊥
 
 -- a world is opened, or its opening is refused
 abbrev pub OpensBy : State → Opening → Result Shape Refusal → Reply → State → Type 0

@@ -56,11 +56,6 @@ request_text new (Some (Load given)) reply = []
 request_text new (Some (Open given)) reply = opening_told new.names new.world reply
 request_text new (Some (World command)) reply = events_text new.names (events_of command reply)
 
--- the request of a line, where it has one
-abbrev pub request_read : List (List ℕ) → InputLine → Option Request
-request_read names too_long = None
-request_read names (text bytes) = request_of_line names bytes
-
 -- the bytes that tell of a line: its request, which is no loading, is obeyed and replied to as ever, and its events are told;
 -- nothing is told of an over-long line
 abbrev pub IsTold : State → InputLine → List ℕ → State → Type 0

@@ -8,9 +8,8 @@ use crate::opened::open_world;
 use crate::tallied::TalliedWorld;
 use crate::told::{push_events, push_opened};
 use rme_program::Entry;
-use rme_wire::{
-    Cut, Done, EngineFault, Image, Loading, Names, Opening, Reply, Request, push_reply, request_of,
-};
+use rme_texts::{Done, Reply, push_reply};
+use rme_wire::{Cut, EngineFault, Image, Loading, Names, Opening, Request, request_of};
 use rme_words::{NoMemory, Refusal};
 use std::alloc::{AllocError, Global};
 

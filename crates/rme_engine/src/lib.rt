@@ -11,9 +11,7 @@
 //! says what each command does; for the check with `check.rt`.
 #![tactic(auto)]
 
-mod check;
 mod engine;
-mod judge;
 pub mod laws;
 mod loaded;
 mod obey;
@@ -22,10 +20,7 @@ mod run;
 mod tallied;
 mod told;
 mod walk;
-mod watch;
 
-pub use check::{Verdict, check_lines, watch_lines};
 pub use engine::Engine;
 pub use run::{answer_lines, run_lines, transcript_lines};
 pub use tallied::TalliedWorld;
-pub use watch::Watch;

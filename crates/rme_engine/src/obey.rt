@@ -6,7 +6,8 @@ ghost use Rattle.rme_engine.specs.States as spec;
 
 use crate::tallied::TalliedWorld;
 use rme_history::Tally;
-use rme_wire::{Command, Done, Image, Reply, Report};
+use rme_texts::{Done, Reply, Report};
+use rme_wire::{Command, Image};
 use rme_words::{NoMemory, Refusal};
 
 impl TalliedWorld {

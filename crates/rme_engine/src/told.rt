@@ -7,7 +7,8 @@ ghost use Rattle.rme_engine.specs.Transcripts as spec;
 
 use crate::tallied::TalliedWorld;
 use rme_program::Note;
-use rme_wire::{Command, EventLine, Handed, Names, Reply, push_event, push_opening};
+use rme_texts::{EventLine, Handed, Reply, push_event, push_opening};
+use rme_wire::{Command, Names};
 use rme_words::Shape;
 use std::alloc::AllocError;
 

@@ -8,7 +8,8 @@ ghost use Rattle.rme_engine.specs.Walks as spec;
 
 use crate::tallied::TalliedWorld;
 use rme_program::Note;
-use rme_wire::{Until, Walk, WalkEnd, WalkNotes, Walked};
+use rme_texts::{WalkEnd, WalkNotes, Walked};
+use rme_wire::{Until, Walk};
 use rme_words::Refusal;
 use rme_world::World;
 

@@ -1,4 +1,3 @@
--- In reading order: the statuses and the faults that others become; what a fault prints; and what is explained of refusals and statuses.
+-- In reading order: the statuses and the faults that others become; what a fault prints.
 pub mod Statuses
 pub mod Faults
-pub mod Explanations

@@ -11,8 +11,6 @@ use Rattle.rme_lines.specs.declared.fault.EngineFault.{EngineFault}
 use Rattle.rme_lines.specs.declared.fault.EngineFault.TheVariants as engine
 use Rattle.rme_lines.specs.declared.fault.ServeFault.{ServeFault}
 use Rattle.rme_lines.specs.declared.fault.ServeFault.TheVariants as serving
-use Rattle.rme_faults.specs.declared.ending.Ending.{Ending}
-use Rattle.rme_faults.specs.declared.ending.Ending.TheVariants as ending
 use Rattle.rme_faults.specs.declared.fault.Fault.{Fault}
 use Rattle.rme_faults.specs.declared.fault.Fault.TheVariants.{BadArguments, ReadFailed, WriteFailed, NoMemory, BadNames, ImageUnread, BadImage, OtherLocks, Unsavable, ImageUnwritten, FolderUnsynced, ListenFailed, AcceptFailed, NoThread, Unexplained, NothingAsked}
 use Rattle.rme_faults.specs.declared.argument.BadArgument.TheVariants.{NoText}
@@ -34,17 +32,6 @@ status_of (AcceptFailed port) = 6
 status_of NoThread = 7
 status_of (Unexplained asked) = 2
 status_of NothingAsked = 2
-
--- the status that an ending explains
-abbrev pub status_of_ending : Ending → ℕ
-status_of_ending ending.Done = 0
-status_of_ending ending.AnswerIsNo = 1
-status_of_ending ending.BadArguments = 2
-status_of_ending ending.ReadFailed = 3
-status_of_ending ending.WriteFailed = 4
-status_of_ending ending.NoMemory = 5
-status_of_ending ending.SocketFailed = 6
-status_of_ending ending.NoThread = 7
 
 -- the fault of the program that a fault of the engine is
 abbrev pub fault_of : EngineFault → Fault

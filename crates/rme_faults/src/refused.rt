@@ -1,7 +1,7 @@
 //! What is wrong with the words that ask for a service.
 
 use crate::argument::{BadArgument, shown};
-use rme_texts::is_name;
+use rme_names::is_name;
 use rme_words::{MOST_CELLS, MOST_JOBS, MOST_LOCKS, MOST_WORKERS};
 use std::alloc::{AllocError, Global};
 

@@ -1,9 +1,9 @@
 -- The status with which the program ends after a verdict, and the line that tells of it; and after any task.
 use Rattle.std.specs.Prelude.{◌≡◌, ℕ, List, ◌++◌, Option, Result, Ok, Err, codes, decimal}
 use Rattle.std.specs.Io.KnownBytes.{Appends}
-use Rattle.rme_engine.specs.declared.check.Verdict.{Verdict}
-use Rattle.rme_engine.specs.declared.check.Verdict.TheVariants.{Yes, No, Bad}
-use Rattle.rme_engine.specs.Verdicts.{Finds}
+use Rattle.rme_verdicts.specs.declared.check.Verdict.{Verdict}
+use Rattle.rme_verdicts.specs.declared.check.Verdict.TheVariants.{Yes, No, Bad}
+use Rattle.rme_verdicts.specs.Verdicts.{Finds}
 use Rattle.rme_faults.specs.Statuses.{status_of}
 use Rattle.rme_faults.specs.declared.fault.Fault.{Fault}
 

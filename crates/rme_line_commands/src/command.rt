@@ -3,7 +3,8 @@
 use crate::check::check;
 use crate::image::run_images;
 use rme_engine::{run_lines, transcript_lines};
-use rme_faults::{Fault, explanations};
+use rme_explanations::explanations;
+use rme_faults::Fault;
 use rme_options::LineTask;
 use rme_wire::LineReader;
 use std::io;

@@ -6,13 +6,13 @@ use Rattle.rme_words.specs.declared.shape.Shape.{Shape}
 use Rattle.rme_words.specs.declared.refusal.Refusal.{Refusal}
 use Rattle.rme_words.specs.declared.refusal.Refusal.TheVariants.{Differs}
 use Rattle.rme_script.specs.declared.job.Job.{Job}
-use Rattle.rme_texts.specs.declared.session.Outcome.{Outcome}
-use Rattle.rme_texts.specs.declared.session.Outcome.TheVariants.{Receipt, Withdrawn, Waiting, Fell, Inside}
-use Rattle.rme_texts.specs.declared.session.SessionReply.{SessionReply}
-use Rattle.rme_texts.specs.declared.session.SessionReply.TheVariants.{Submitted, Resumed, Refused}
-use Rattle.rme_wire.specs.declared.order.Order.{Order}
-use Rattle.rme_wire.specs.declared.order.Order.TheVariants.{Attach, Submit, Resume}
-use Rattle.rme_wire.specs.declared.order.Submission.{Submission}
+use Rattle.rme_session_lines.specs.declared.session.Outcome.{Outcome}
+use Rattle.rme_session_lines.specs.declared.session.Outcome.TheVariants.{Receipt, Withdrawn, Waiting, Fell, Inside}
+use Rattle.rme_session_lines.specs.declared.session.SessionReply.{SessionReply}
+use Rattle.rme_session_lines.specs.declared.session.SessionReply.TheVariants.{Submitted, Resumed, Refused}
+use Rattle.rme_session_lines.specs.declared.order.Order.{Order}
+use Rattle.rme_session_lines.specs.declared.order.Order.TheVariants.{Attach, Submit, Resume}
+use Rattle.rme_session_lines.specs.declared.order.Submission.{Submission}
 use Rattle.rme_orders.specs.Obeyed.{GoesOn, Hands, IsLeft, IsTried, Obeys, ObeysBy, Resumes, Submits, Works, told}
 use Rattle.rme_orders.specs.Plans.{Leaves}
 use Rattle.rme_orders.specs.Refusals.{PendingRefuses, SubmitRefuses, resume_refusal}

@@ -3,15 +3,15 @@ use Rattle.std.specs.Prelude.{◌≡◌, ◌⊎◌, ℕ, ◌≤◌, ◌==◌, Bo
 use Rattle.rme_words.specs.declared.shape.Shape.{Shape}
 use Rattle.rme_script.specs.declared.job.Job.{Job}
 use Rattle.rme_program.specs.declared.note.Receipt.{Receipt}
-use Rattle.rme_texts.specs.declared.session.Outcome.{Outcome}
-use Rattle.rme_texts.specs.declared.session.Outcome.TheVariants as outcome
-use Rattle.rme_texts.specs.declared.session.Standing.{Standing}
-use Rattle.rme_texts.specs.declared.session.Standing.TheVariants as standing
-use Rattle.rme_texts.specs.declared.session.SessionReply.{SessionReply}
-use Rattle.rme_texts.specs.declared.session.SessionReply.TheVariants as reply
-use Rattle.rme_wire.specs.declared.order.Order.{Order}
-use Rattle.rme_wire.specs.declared.order.Order.TheVariants as order
-use Rattle.rme_wire.specs.declared.order.Submission.{Submission}
+use Rattle.rme_session_lines.specs.declared.session.Outcome.{Outcome}
+use Rattle.rme_session_lines.specs.declared.session.Outcome.TheVariants as outcome
+use Rattle.rme_session_lines.specs.declared.session.Standing.{Standing}
+use Rattle.rme_session_lines.specs.declared.session.Standing.TheVariants as standing
+use Rattle.rme_session_lines.specs.declared.session.SessionReply.{SessionReply}
+use Rattle.rme_session_lines.specs.declared.session.SessionReply.TheVariants as reply
+use Rattle.rme_session_lines.specs.declared.order.Order.{Order}
+use Rattle.rme_session_lines.specs.declared.order.Order.TheVariants as order
+use Rattle.rme_session_lines.specs.declared.order.Submission.{Submission}
 use Rattle.rme_orders.specs.Plans.{IsDue, Leaves}
 use Rattle.rme_orders.specs.Refusals.{IsMissed, Refuses}
 use Rattle.rme_orders.specs.Sights.{IsReceiptOf, Task, finished_with, given_up, its_task, next_task, nobody, waiting_with}

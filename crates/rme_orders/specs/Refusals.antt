@@ -5,9 +5,9 @@ use Rattle.rme_words.specs.declared.refusal.Refusal.{Refusal}
 use Rattle.rme_words.specs.declared.refusal.Refusal.TheVariants.{NoWorker, Busy, Idle, NoLock, TooManyJobs, WrongNumber, Differs, NotAttached, NotWaiting, NotInside, Taken}
 use Rattle.rme_script.specs.declared.job.Job.{Job}
 use Rattle.rme_script.specs.Scripts.{check_of}
-use Rattle.rme_wire.specs.declared.order.Order.{Order}
-use Rattle.rme_wire.specs.declared.order.Order.TheVariants.{Attach, Submit, Resume, Enter, Commit, Withdraw, Last, CrashAfter, Detach}
-use Rattle.rme_wire.specs.declared.order.Submission.{Submission}
+use Rattle.rme_session_lines.specs.declared.order.Order.{Order}
+use Rattle.rme_session_lines.specs.declared.order.Order.TheVariants.{Attach, Submit, Resume, Enter, Commit, Withdraw, Last, CrashAfter, Detach}
+use Rattle.rme_session_lines.specs.declared.order.Submission.{Submission}
 use Rattle.rme_orders.specs.declared.refusal.Asked.{Asked}
 use Rattle.rme_orders.specs.declared.refusal.Asked.TheVariants.{Post, Repeat}
 use Rattle.rme_orders.specs.declared.view.Session.{Session}

@@ -1,14 +1,14 @@
 -- What the lines of a session are answered.
 use Rattle.std.specs.Prelude.{◌≡◌, ℕ, ◌-◌, Bool, true, false, List, [], ◌∷◌, ◌++◌, Option, Some, None}
 use Rattle.rme_words.specs.declared.refusal.Refusal.TheVariants.{BadLine, LineTooLong}
-use Rattle.rme_texts.specs.declared.session.Outcome.TheVariants.{Waiting}
-use Rattle.rme_texts.specs.declared.session.SessionReply.{SessionReply}
-use Rattle.rme_texts.specs.declared.session.SessionReply.TheVariants.{Submitted, Resumed, Refused}
-use Rattle.rme_texts.specs.Sessions.{session_text}
+use Rattle.rme_session_lines.specs.declared.session.Outcome.TheVariants.{Waiting}
+use Rattle.rme_session_lines.specs.declared.session.SessionReply.{SessionReply}
+use Rattle.rme_session_lines.specs.declared.session.SessionReply.TheVariants.{Submitted, Resumed, Refused}
+use Rattle.rme_session_lines.specs.Sessions.{session_text}
 use Rattle.rme_lines.specs.Pieces.{InputLine, text, too_long}
-use Rattle.rme_wire.specs.declared.order.Order.{Order}
-use Rattle.rme_wire.specs.declared.order.Order.TheVariants.{Submit, Resume}
-use Rattle.rme_wire.specs.Orders.{order_of_line}
+use Rattle.rme_session_lines.specs.declared.order.Order.{Order}
+use Rattle.rme_session_lines.specs.declared.order.Order.TheVariants.{Submit, Resume}
+use Rattle.rme_session_lines.specs.Orders.{order_of_line}
 
 -- An answer and its newline.
 abbrev pub session_line : List (List ℕ) → SessionReply → List ℕ

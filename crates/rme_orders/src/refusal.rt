@@ -7,7 +7,7 @@ ghost use Rattle.std.specs.Prelude.{◌≡◌, ◌≤◌, ◌+◌, IfOk, IfErr, 
 ghost use Rattle.rme_orders.specs.Refusals as spec;
 
 use rme_script::Job;
-use rme_wire::Submission;
+use rme_session_lines::Submission;
 use rme_words::{Refusal, Shape};
 
 /// What a submission asks of a worker that is ready.

@@ -1,7 +1,2 @@
-pub mod Ordering
-pub mod Planning
-pub mod Rising
-pub mod Showing
-pub mod Working
 mod Trying
 mod Talking

@@ -10,13 +10,13 @@ use Rattle.rme_program.specs.declared.note.Receipt as program
 use Rattle.rme_seats.specs.declared.record.Part.{Part}
 use Rattle.rme_seats.specs.Parts.{draft_script, onward}
 use Rattle.rme_seats.specs.Stands.{Ident, Stand}
-use Rattle.rme_texts.specs.declared.session.Outcome.{Outcome}
-use Rattle.rme_texts.specs.declared.session.Outcome.TheVariants.{Receipt, Withdrawn, Waiting, Fell, Inside}
-use Rattle.rme_texts.specs.declared.session.SessionReply.{SessionReply}
-use Rattle.rme_texts.specs.declared.session.SessionReply.TheVariants.{Submitted, Resumed, Refused}
-use Rattle.rme_wire.specs.declared.order.Order.{Order}
-use Rattle.rme_wire.specs.declared.order.Order.TheVariants.{Attach, Submit, Resume}
-use Rattle.rme_wire.specs.declared.order.Submission.{Submission}
+use Rattle.rme_session_lines.specs.declared.session.Outcome.{Outcome}
+use Rattle.rme_session_lines.specs.declared.session.Outcome.TheVariants.{Receipt, Withdrawn, Waiting, Fell, Inside}
+use Rattle.rme_session_lines.specs.declared.session.SessionReply.{SessionReply}
+use Rattle.rme_session_lines.specs.declared.session.SessionReply.TheVariants.{Submitted, Resumed, Refused}
+use Rattle.rme_session_lines.specs.declared.order.Order.{Order}
+use Rattle.rme_session_lines.specs.declared.order.Order.TheVariants.{Attach, Submit, Resume}
+use Rattle.rme_session_lines.specs.declared.order.Submission.{Submission}
 use Rattle.rme_orders.specs.Obeyed.{ObeysBy, Resumes}
 use Rattle.rme_orders.specs.Refusals.{resume_refusal}
 use Rattle.rme_orders.specs.Sessions.{answer_as, first_of, rest_of, still_waits}
@@ -25,13 +25,13 @@ use Rattle.rme_orders.specs.declared.view.Session as shown
 use Rattle.rme_orders.specs.declared.view.View.{View}
 use Rattle.rme_orders.proofs.Trying as sight
 use Rattle.rme_orders.proofs.Trying.{IsAll, IsClimb, climb_not_refused, false_true, once}
-use Rattle.rme_server.specs.Obeyed.{Adds, Enters, HandsOver, IsWalked, Obeys, ResumeEnters, SubmitEnters}
-use Rattle.rme_server.specs.Stands.{draft_in, entries_in, held_by, session_of, view_of}
-use Rattle.rme_server.specs.Works.{WentOn, lead_of}
-use Rattle.rme_server.specs.declared.stand.Holding.{Holding}
-use Rattle.rme_server.specs.declared.stand.Holding.TheVariants.{Empty, Ready, Climb, Held}
-use Rattle.rme_server.specs.declared.stand.Stand.{Stand as Session}
-use Rattle.rme_server.proofs.Planning.{went_on}
+use Rattle.rme_sessions.specs.Obeyed.{Adds, Enters, HandsOver, IsWalked, Obeys, ResumeEnters, SubmitEnters}
+use Rattle.rme_sessions.specs.Stands.{draft_in, entries_in, held_by, session_of, view_of}
+use Rattle.rme_sessions.specs.Works.{WentOn, lead_of}
+use Rattle.rme_sessions.specs.declared.stand.Holding.{Holding}
+use Rattle.rme_sessions.specs.declared.stand.Holding.TheVariants.{Empty, Ready, Climb, Held}
+use Rattle.rme_sessions.specs.declared.stand.Stand.{Stand as Session}
+use Rattle.rme_sessions.proofs.Planning.{went_on}
 
 -- One part alone.
 enters_once : (shape : Shape) (start : Holding) (its : Submission) (now : Holding) (became : Outcome) → SubmitEnters shape start (once its) now became → SubmitEnters shape start its now became

@@ -1,11 +1,1 @@
--- In reading order: the slots, in which workers wait; the crash that a client plans, as a Chance; what a session holds, and
--- what it shows of that; what becomes of a job; what becomes of a worker that is attached; the work that an order asks; what
--- each order does; and what is left where a line has no reply. Views, refusals and answers are those of rme_orders.
-pub mod Slots
-pub mod Plans
-pub mod Stands
-pub mod Works
-pub mod Rises
-pub mod Tasks
-pub mod Obeyed
 pub mod Sessions

@@ -3,7 +3,8 @@
 ghost use Rattle.std.specs.Prelude.{◌≡◌, ◌++◌, OnOk, string_bytes};
 ghost use Rattle.rme_orders.specs.Sessions.{session_line};
 
-use rme_wire::{EngineFault, Exchange, Names, SessionReply, Sink, push_session_reply};
+use rme_session_lines::{SessionReply, push_session_reply};
+use rme_wire::{EngineFault, Exchange, Names, Sink};
 use std::alloc::{AllocError, Global};
 
 /// Room for the answer of most orders.

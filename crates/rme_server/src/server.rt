@@ -3,11 +3,12 @@
 ghost use Rattle.std.specs.Prelude.{◌≡◌};
 
 use crate::buffers::Buffers;
-use crate::slots::Slots;
 use crate::talk::session;
 use rme_lines::ServeFault;
 use rme_table::{Service, Tag};
-use rme_wire::{LineReader, Names, SessionReply};
+use rme_session_lines::SessionReply;
+use rme_slots::Slots;
+use rme_wire::{LineReader, Names};
 use rme_words::Refusal;
 use std::alloc::Global;
 use std::io::{Error, ErrorKind};

@@ -8,21 +8,18 @@ ghost use Rattle.rme_lines.specs.Readers.{FailsToRead, HasEnded, IsAllPut, LastR
 ghost use Rattle.rme_lines.specs.Runs.{GivesUp, IsPrompt, TurnFails, Turns, WritesAll, WritesFirst, WritesTo};
 ghost use Rattle.rme_lines.specs.Traffic.{LastWriteFails, MakesWrites};
 ghost use Rattle.rme_orders.specs.Sessions.{IsAnswered, Replies, answer_as, first_of, rest_of, still_waits};
-ghost use Rattle.rme_server.specs.Obeyed.{Obeys};
+ghost use Rattle.rme_sessions.specs.Obeyed.{Obeys};
 ghost use Rattle.rme_server.specs.Sessions.{Breaks};
-ghost use Rattle.rme_server.specs.Stands.{MayHold, nobody};
-ghost use Rattle.rme_wire.specs.Orders.{order_of_line};
+ghost use Rattle.rme_sessions.specs.Stands.{MayHold, nobody};
+ghost use Rattle.rme_session_lines.specs.Orders.{order_of_line};
 ghost use Rattle.rme_words.specs.declared.refusal.Refusal.TheVariants.{BadLine};
 
 use crate::buffers::Buffers;
-use crate::orders::{let_go, obey};
-use crate::slots::Slots;
-use crate::stand::Stand;
 use rme_table::{Service, Tag};
-use rme_wire::{
-    Cut, EngineFault, LineReader, Names, Order, Outcome, SessionReply, Sink, Source, Submission,
-    order_of,
-};
+use rme_session_lines::{Order, Outcome, SessionReply, Submission, order_of};
+use rme_sessions::{Stand, let_go, obey};
+use rme_slots::Slots;
+use rme_wire::{Cut, EngineFault, LineReader, Names, Sink, Source};
 use rme_words::{NoMemory, Refusal};
 use std::alloc::Global;
 use std::sync::Wait;

@@ -3,7 +3,7 @@
 use crate::desk::{Desk, Trial, at_desk, take};
 use rme_server::{Stand, obey};
 use rme_table::Tag;
-use rme_wire::{Order, SessionReply, Standing};
+use rme_session_lines::{Order, SessionReply, Standing};
 use rme_words::Refusal;
 use std::process::Abort;
 use std::sync::Wait;

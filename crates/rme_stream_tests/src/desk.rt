@@ -1,7 +1,7 @@
 //! A service with its slots and its lock's name, opened for a test and closed after it.
 
 ghost use Rattle.std.specs.Prelude.{◌≡◌, ◌<◌};
-ghost use Rattle.rme_server.specs.Slots.{AreInPlace};
+ghost use Rattle.rme_slots.specs.Slots.{AreInPlace};
 
 use crate::calls::{attach_and_crash, take_twice};
 use crate::flaky::Limits;

@@ -2,7 +2,8 @@
 
 use crate::flaky::{Flaky, Limits, first_lines, lines_given};
 use crate::memory::{ANSWERS, COMMANDS, LINES, TRANSCRIPT};
-use rme_engine::{Verdict, check_lines, run_lines, transcript_lines};
+use rme_engine::{run_lines, transcript_lines};
+use rme_verdicts::{Verdict, check_lines};
 use rme_wire::{EngineFault, LineReader};
 use std::alloc::Global;
 use std::io::{Read, Write};

@@ -2,11 +2,12 @@
 
 ghost use Rattle.std.specs.Prelude.{IfOk};
 ghost use Rattle.rme_lines.specs.Pieces.{lines_of};
-ghost use Rattle.rme_engine.specs.Verdicts.{IsVerdict};
+ghost use Rattle.rme_verdicts.specs.Verdicts.{IsVerdict};
 ghost use Rattle.rme_stream_tests.specs.Answered.{AreAnswers};
 ghost use Rattle.rme_stream_tests.specs.Told.{IsTranscript};
 
-use rme_engine::{Verdict, check_lines, run_lines, transcript_lines};
+use rme_engine::{run_lines, transcript_lines};
+use rme_verdicts::{Verdict, check_lines};
 use rme_wire::LineReader;
 use std::alloc::Global;
 use std::test::Fail;

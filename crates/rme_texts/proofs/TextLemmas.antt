@@ -1,6 +1,5 @@
 -- Texts of lists, written one item after another.
-use Rattle.std.proofs.Common.{◌≡◌, ℕ, ◌+◌, drop, List, [], ◌∷◌, ◌++◌, Bool, true, false, ap, ◌∙◌, sym, ◌∙◌, append_assoc, append-nil, get_or, length, ◌<◌}
-use Rattle.std.proofs.lemmas.List.{drop_more}
+use Rattle.std.proofs.Common.{◌≡◌, ℕ, List, [], ◌∷◌, ◌++◌, Bool, true, false, ap, ◌∙◌, sym, append_assoc, append-nil}
 use Rattle.rme_texts.specs.Texts.{comma, separated}
 
 -- what was written, and the text of the rest, is the text of all
@@ -24,6 +23,3 @@ separates_all text start all out later so_far = sym (append-nil out) ∙ so_far
 pub append_three : (out first second third : List ℕ) (a b c : List ℕ) → first ≡ out ++ a → second ≡ first ++ b → third ≡ second ++ c → third ≡ out ++ (a ++ (b ++ c))
 append_three out first second third a b c e f g =
     g ∙ ap (λ l. l ++ c) (f ∙ ap (λ l. l ++ b) e) ∙ append_assoc (out ++ a) b c ∙ append_assoc out a (b ++ c)
-
-pub drop_read : {A : Type 0} (xs : List A) (i : ℕ) (x : A) → i < length xs → x ≡ get_or xs i x → drop i xs ≡ x ∷ drop (i + 1) xs
-drop_read {A = A} xs i x within e = drop_more xs i x within ∙ ap (λ (y : A). y ∷ drop (i + 1) xs) (sym e)

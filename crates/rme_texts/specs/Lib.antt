@@ -1,6 +1,5 @@
--- In reading order: the names of locks, the texts of things, of whole answers, of a transcript's lines, of a session's answers.
-pub mod Names
+-- In reading order, after the names of locks: the texts of things, of whole answers, of a transcript's lines.
+pub use Rattle.rme_names.specs.Names
 pub mod Texts
 pub mod Replies
 pub mod Events
-pub mod Sessions

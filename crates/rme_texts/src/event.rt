@@ -3,7 +3,7 @@
 ghost use Rattle.std.specs.Prelude.{◌≡◌, ◌++◌, OnOk, string_bytes};
 ghost use Rattle.rme_texts.specs.Events as spec;
 
-use crate::names::Names;
+use rme_names::Names;
 use crate::texts::{name_of, push_names, push_note, push_ops, push_script_end};
 use rme_program::{Answer, Event, Note};
 use rme_script::Job;

@@ -1,25 +1,20 @@
-//! What is written: the names of locks, and the texts of notes, receipts, entries and whole answers.
+//! What is written: the texts of notes, receipts, entries and whole answers.
 //!
 //! Each text is compact JSON with sorted keys. The crate stands on rme_program and rme_script, whose notes,
-//! entries and scripts it shows, on rme_words for the refusals, on indexmap, which keeps the names in order, and
+//! entries and scripts it shows, on rme_words for the refusals, on rme_names, whose public names it passes on, and
 //! on hex, which spells bytes; it reads nothing. The one contract that the crates above use is that of each `push_` function: the
-//! text that it appends is the one of `specs/Replies.antt`. Begin with `names.rt`, then `reply.rt`.
+//! text that it appends is the one of `specs/Replies.antt`. Begin with `reply.rt`.
 #![tactic(auto)]
 
 mod answer;
 mod event;
-mod image;
-mod names;
 mod reply;
-mod session;
 mod texts;
 mod walked;
 
-pub use answer::{Done, Report};
+pub use answer::{Done, Report, push_last, push_refusal};
 pub use event::{EventLine, Handed, push_event, push_opening};
-pub use image::Image;
-pub use names::{Names, is_name};
 pub use reply::{Reply, push_reply};
-pub use session::{Outcome, SessionReply, Standing, push_session_reply};
-pub use texts::push_note;
+pub use rme_names::{Image, Names, is_name};
+pub use texts::{push_note, push_receipt};
 pub use walked::{WalkEnd, WalkNotes, Walked};

@@ -3,7 +3,7 @@
 ghost use Rattle.std.specs.Prelude.{◌≡◌, ◌++◌, OnOk, codes, decimal, string_bytes};
 ghost use Rattle.rme_texts.specs.Texts as spec;
 
-use crate::names::Names;
+use rme_names::Names;
 use rme_program::{Entry, Note, Receipt};
 use rme_script::{Op, Row, Script};
 use std::alloc::AllocError;

@@ -4,12 +4,12 @@ use Rattle.std.proofs.lemmas.Bool.{and_left, and_parts, and_right, le-leb, leb-t
 use Rattle.std.proofs.lemmas.List.{length-map, map-append, length-take-le}
 use Rattle.std.proofs.Math.Seq.{take-suc}
 use Rattle.std.specs.List.{list_any}
-use Rattle.rme_texts.specs.Names.{is_name, may_add}
+use Rattle.rme_names.specs.Names.{is_name, may_add}
 use Rattle.serde_json.specs.Data.{Data, Items, no_items, item}
 use Rattle.serde_json.specs.Find.{as_str}
 use Rattle.rme_wire.specs.Openings.{are_names, are_new_names, texts_of}
-use Rattle.rme_texts.proofs.NameLemmas.{list_any_map}
-use Rattle.rme_texts.proofs.TextLemmas.{drop_read}
+use Rattle.rme_names.proofs.NameLemmas.{list_any_map}
+use Rattle.rme_names.proofs.ListLemmas.{drop_read}
 
 abbrev pub texts : List (String Global) → List (List ℕ)
 texts xs = map string_bytes xs

@@ -6,7 +6,7 @@ use Rattle.rme_wire.specs.declared.command.Command.{Command}
 use Rattle.rme_wire.specs.declared.command.Command.TheVariants.{Submit, Step, Walk, Crash, Restart, Withdraw, Owner, Cells, Last, History, Report, Save}
 use Rattle.rme_wire.specs.declared.command.Until.{Until}
 use Rattle.rme_wire.specs.declared.command.Until.TheVariants.{Asked, Entered, Reentered, Finished, Left, Ready, Withdrew}
-use Rattle.rme_texts.specs.Names.{number_of}
+use Rattle.rme_names.specs.Names.{number_of}
 use Rattle.rme_wire.specs.Operations.{script_of}
 use Rattle.rme_wire.specs.Values.{small}
 

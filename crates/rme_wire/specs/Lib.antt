@@ -4,16 +4,10 @@ pub use Rattle.rme_lines.specs.Cuts
 pub use Rattle.rme_lines.specs.Puts
 pub use Rattle.rme_lines.specs.Readers
 pub use Rattle.rme_lines.specs.Runs
-pub use Rattle.rme_texts.specs.Names
-pub use Rattle.rme_texts.specs.Texts
-pub use Rattle.rme_texts.specs.Replies
-pub use Rattle.rme_texts.specs.Events
-pub use Rattle.rme_texts.specs.Sessions
+pub use Rattle.rme_names.specs.Names
 pub mod Values
 pub mod Operations
 pub mod Openings
 pub mod Loadings
 pub mod Commands
 pub mod Requests
-pub mod EventLines
-pub mod Orders

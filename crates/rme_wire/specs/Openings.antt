@@ -1,11 +1,15 @@
 -- The line that opens a world.
-use Rattle.std.specs.Prelude.{ℕ, ◌&&◌, ◌==◌, List, [], ◌∷◌, ◌++◌, Bool, true, not, nat_le, length, bytes_eq, codes, if◌then◌else◌, Option, Some, None, option_map, option_and_then}
+use Rattle.std.specs.Prelude.{◌≡◌, ℕ, ◌&&◌, ◌==◌, List, [], ◌∷◌, ◌++◌, Bool, true, not, nat_le, length, bytes_eq, codes, if◌then◌else◌, Option, Some, None, option_map, option_and_then}
 use Rattle.std.specs.List.{list_any}
 use Rattle.serde_json.specs.Data.{Data, Items, no_items, item}
 use Rattle.serde_json.specs.Find.{get, as_array, as_str}
+use Rattle.rme_words.specs.declared.refusal.Refusal.{Refusal}
+use Rattle.rme_words.specs.declared.refusal.Refusal.TheVariants.{BadShape, NoMemory}
+use Rattle.rme_words.specs.declared.shape.Shape.{Shape}
+use Rattle.rme_words.specs.Shapes.{IsWithinLimits}
 use Rattle.rme_wire.specs.declared.opening.Opening.{Opening}
 use Rattle.rme_wire.specs.declared.opening.Sizes.{Sizes}
-use Rattle.rme_texts.specs.Names.{is_name}
+use Rattle.rme_names.specs.Names.{is_name}
 use Rattle.rme_wire.specs.Values.{small}
 
 -- whether each text is a name that isn't among the earlier ones
@@ -37,3 +41,17 @@ unfoldable pub opening_of : ℕ → Data → Option Opening
 opening_of count d =
     if count == 5 then option_and_then (λ sizes. option_map (λ locks. record { workers = sizes.workers; locks = locks; cells = sizes.cells; jobs = sizes.jobs }) (locks_of d)) (sizes_of d)
     else None
+
+-- names and numbers within the limits, as many locks as names
+abbrev pub IsGood : Opening → Type 0
+IsGood given = (are_names given.locks ≡ true) × IsWithinLimits given.workers (length given.locks) given.cells given.jobs
+
+-- the shape has the numbers of the line
+abbrev pub IsAsGiven : Opening → Shape → Type 0
+IsAsGiven given shape = (shape.workers ≡ given.workers) × (shape.locks ≡ length given.locks) × (shape.cells ≡ given.cells) × (shape.jobs ≡ given.jobs)
+
+-- what opening is refused with: the names and the numbers first, want of memory last
+abbrev pub MayRefuse : Opening → Refusal → Type 0
+MayRefuse given BadShape = IsGood given → ⊥
+MayRefuse given NoMemory = IsGood given
+MayRefuse given other = ⊥

@@ -1,5 +1,6 @@
 -- What a command line asks for.
-use Rattle.std.specs.Prelude.{ℕ, List, bytes_eq, codes, if◌then◌else◌, Option, option_map, option_and_then}
+use Rattle.std.specs.Prelude.{ℕ, List, bytes_eq, codes, if◌then◌else◌, Option, None, option_map, option_and_then}
+use Rattle.rme_lines.specs.Pieces.{InputLine, text, too_long}
 use Rattle.serde_json.specs.Data.{Data}
 use Rattle.serde_json.specs.Events.{members_len}
 use Rattle.serde_json.specs.Find.{as_object}
@@ -33,3 +34,8 @@ request_of names d =
 
 abbrev pub request_of_line : List (List ℕ) → List ℕ → Option Request
 request_of_line names bytes = option_and_then (request_of names) (value_of bytes)
+
+-- the request of a line, where it has one
+abbrev pub request_read : List (List ℕ) → InputLine → Option Request
+request_read names too_long = None
+request_read names (text bytes) = request_of_line names bytes

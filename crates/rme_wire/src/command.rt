@@ -7,7 +7,7 @@ ghost use Rattle.rme_wire.specs.Commands as spec;
 use crate::operation::script_of;
 use crate::value::small;
 use rme_script::Job;
-use rme_texts::Names;
+use rme_names::Names;
 use serde_json::Value;
 
 /// The most steps of a walk whose line doesn't say.

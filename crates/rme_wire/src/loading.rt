@@ -7,7 +7,7 @@ ghost use Rattle.rme_wire.specs.Loadings as spec;
 
 use crate::opening::{GivenNames, locks_of};
 use hex::FromHexError;
-use rme_texts::Image;
+use rme_names::Image;
 use serde_json::Value;
 use std::alloc::{AllocError, Global};
 

@@ -6,7 +6,7 @@ ghost use Rattle.serde_json.specs.View.{items_view, view};
 ghost use Rattle.rme_wire.specs.Openings as spec;
 
 use crate::value::small;
-use rme_texts::{Names, is_name};
+use rme_names::{Names, is_name};
 use rme_words::{MOST_LOCKS, NoMemory};
 use serde_json::Value;
 use std::alloc::{AllocError, Global};

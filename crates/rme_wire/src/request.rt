@@ -8,7 +8,7 @@ use crate::command::{Command, command_named};
 use crate::loading::{Loading, loading_of};
 use crate::opening::{Opening, opening_of};
 use crate::value::{key_count, read_value, word_of};
-use rme_texts::Names;
+use rme_names::Names;
 use rme_words::NoMemory;
 use serde_json::Value;
 use std::alloc::{AllocError, Global};

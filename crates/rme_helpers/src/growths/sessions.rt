@@ -1,7 +1,7 @@
 //! The calls on slots and sessions.
 
 ghost use Rattle.std.specs.Prelude.{◌≡◌};
-ghost use Rattle.rme_server.specs.Slots.{AreInPlace};
+ghost use Rattle.rme_slots.specs.Slots.{AreInPlace};
 
 use crate::growths::TRIES;
 use rme_server::{LineReader, Slots, session};

@@ -1,7 +1,9 @@
 //! Event lines are written back as they stood.
 
 use crate::desk::lock_names;
-use rme_wire::{Names, event_of, push_event};
+use rme_texts::push_event;
+use rme_verdicts::event_of;
+use rme_wire::Names;
 use std::alloc::Global;
 use std::test::Fail;
 

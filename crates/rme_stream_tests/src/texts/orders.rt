@@ -2,7 +2,8 @@
 
 use crate::desk::lock_names;
 use rme_script::{Job, Op, Script};
-use rme_wire::{Names, Order, Submission, order_of};
+use rme_session_lines::{Order, Submission, order_of};
+use rme_wire::Names;
 use std::alloc::Global;
 use std::process::Abort;
 use std::test::Fail;

@@ -8,8 +8,8 @@ use Rattle.rme_lines.proofs.MomentLemmas.{prompt_turn, read_none}
 use Rattle.rme_lines.proofs.ReaderLemmas.{came_first, came_no_more, ended_at_end}
 use Rattle.rme_lines.proofs.RunLemmas.{came_turn, failed, fails_to_read, finished, so_far_first, so_far_more}
 use Rattle.rme_orders.specs.Sessions.{IsAnswered}
-use Rattle.rme_server.specs.Obeyed.{Obeys}
-use Rattle.rme_server.specs.Stands.{nobody}
+use Rattle.rme_sessions.specs.Obeyed.{Obeys}
+use Rattle.rme_sessions.specs.Stands.{nobody}
 use Rattle.rme_lines.specs.Traffic.{LastWriteFails}
 use Rattle.rme_lines.proofs.TrafficLemmas.{fails_after, fails_more, makes_more, makes_none, writes_more, writes_none}
 use Rattle.rme_server.proofs.talk.converse.Goals as goal

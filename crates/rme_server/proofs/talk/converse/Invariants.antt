@@ -7,8 +7,8 @@ use Rattle.std.proofs.Common.{[]}
 use Rattle.rme_lines.proofs.ReaderLemmas.{CameOn}
 use Rattle.rme_lines.proofs.RunLemmas.{SoFar}
 use Rattle.rme_orders.specs.Sessions.{IsAnswered}
-use Rattle.rme_server.specs.Obeyed.{Obeys}
-use Rattle.rme_server.specs.Stands.{MayHold, nobody}
+use Rattle.rme_sessions.specs.Obeyed.{Obeys}
+use Rattle.rme_sessions.specs.Stands.{MayHold, nobody}
 use Rattle.rme_server.proofs.talk.converse.Given as goal
 
 abbrev pub invariant-loop : goal.invariant-loop

@@ -1,7 +1,7 @@
 use Rattle.std.proofs.Common.{ℕ, ◌∙◌, subst, sym}
-use Rattle.rme_wire.specs.declared.order.Order.{Order}
-use Rattle.rme_wire.specs.declared.order.Order.TheVariants.{Resume}
-use Rattle.rme_server.specs.Obeyed.{Obeys}
+use Rattle.rme_session_lines.specs.declared.order.Order.{Order}
+use Rattle.rme_session_lines.specs.declared.order.Order.TheVariants.{Resume}
+use Rattle.rme_sessions.specs.Obeyed.{Obeys}
 use Rattle.rme_orders.proofs.Trying.{false_true}
 use Rattle.rme_server.proofs.Trying.{both_parts, only_first}
 use Rattle.rme_server.proofs.talk.obey_in_time.Goals as goal

@@ -9,8 +9,8 @@ use Rattle.rme_lines.proofs.MomentLemmas.{read_none}
 use Rattle.rme_lines.proofs.RunLemmas.{failed_first}
 use Rattle.rme_lines.proofs.TrafficLemmas.{gave_up_writing, makes_none}
 use Rattle.rme_orders.specs.Sessions.{IsAnswered}
-use Rattle.rme_server.specs.Obeyed.{Obeys}
-use Rattle.rme_server.specs.Stands.{nobody}
+use Rattle.rme_sessions.specs.Obeyed.{Obeys}
+use Rattle.rme_sessions.specs.Stands.{nobody}
 use Rattle.rme_server.proofs.talk.session.Goals as goal
 
 pub returns-in_default-clause-err : goal.returns-in_default-clause-err

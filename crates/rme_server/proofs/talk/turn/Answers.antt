@@ -8,9 +8,9 @@ use Rattle.rme_lines.specs.Readers.{bytes_left, has_ended}
 use Rattle.rme_lines.proofs.PutLemmas.{gathers_more}
 use Rattle.rme_lines.proofs.ReaderLemmas.{ended_at_end}
 use Rattle.rme_lines.proofs.RunLemmas.{cut_off, spilt}
-use Rattle.rme_texts.specs.declared.session.SessionReply.{SessionReply}
+use Rattle.rme_session_lines.specs.declared.session.SessionReply.{SessionReply}
 use Rattle.rme_orders.specs.Sessions.{IsAnswered, Replies, session_line}
-use Rattle.rme_server.specs.Obeyed.{Obeys}
+use Rattle.rme_sessions.specs.Obeyed.{Obeys}
 use Rattle.rme_server.specs.Sessions.{Breaks}
 use Rattle.rme_server.proofs.Talking.{broken, unanswered}
 use Rattle.rme_lines.specs.Traffic.{LastWriteFails}

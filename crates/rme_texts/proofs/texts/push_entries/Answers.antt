@@ -1,6 +1,7 @@
 use Rattle.std.proofs.Common.{string_bytes, arith}
 use Rattle.rme_texts.specs.Texts.{entry_text}
-use Rattle.rme_texts.proofs.TextLemmas.{drop_read, separates_next}
+use Rattle.rme_names.proofs.ListLemmas.{drop_read}
+use Rattle.rme_texts.proofs.TextLemmas.{separates_next}
 use Rattle.rme_texts.proofs.texts.push_entries.Goals as goal
 
 pub loop-entry-preserved : goal.loop-entry-preserved

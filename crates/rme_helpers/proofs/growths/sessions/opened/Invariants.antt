@@ -1,5 +1,5 @@
 -- The Downs are those of all workers, in order.
-use Rattle.rme_server.specs.Slots.{AreInPlace}
+use Rattle.rme_slots.specs.Slots.{AreInPlace}
 use Rattle.rme_helpers.proofs.growths.sessions.opened.Given as goal
 
 abbrev pub invariant-loop : goal.invariant-loop

@@ -1,0 +1,100 @@
+-- What is printed of a refusal and of a status: its name, the sentence that says when it comes, and the remedy.
+use Rattle.std.specs.Prelude.{List, codes, ℕ}
+use Rattle.rme_words.specs.declared.refusal.Refusal.{Refusal}
+use Rattle.rme_words.specs.declared.refusal.Refusal.TheVariants.{BadLine, LineTooLong, NotOpen, AlreadyOpen, BadShape, NoWorker, Down, Up, Busy, Idle, NoLock, BadScript, NoCell, TooManyJobs, BadImage, WrongNumber, Differs, Taken, NotAttached, NoMemory, NotWaiting, NotInside}
+use Rattle.rme_explanations.specs.declared.ending.Ending.{Ending}
+use Rattle.rme_explanations.specs.declared.ending.Ending.TheVariants as ending
+
+-- the status that an ending explains
+abbrev pub status_of_ending : Ending → ℕ
+status_of_ending ending.Done = 0
+status_of_ending ending.AnswerIsNo = 1
+status_of_ending ending.BadArguments = 2
+status_of_ending ending.ReadFailed = 3
+status_of_ending ending.WriteFailed = 4
+status_of_ending ending.NoMemory = 5
+status_of_ending ending.SocketFailed = 6
+status_of_ending ending.NoThread = 7
+
+-- when a line is refused so
+abbrev pub when_of : Refusal → List ℕ
+when_of BadLine = codes "the line is no command"
+when_of LineTooLong = codes "the line has more than 65,536 bytes"
+when_of NotOpen = codes "no world is open"
+when_of AlreadyOpen = codes "open where a world is open"
+when_of BadShape = codes "open with a number or a name outside the limits; load with a name outside them, or with more or fewer names than the image has locks"
+when_of NoWorker = codes "there is no such worker"
+when_of Down = codes "the worker is down"
+when_of Up = codes "restart of a worker that is up"
+when_of Busy = codes "submit to a worker that is not ready"
+when_of Idle = codes "a step of a worker that is ready"
+when_of NoLock = codes "there is no lock of that name, whatever the name is"
+when_of BadScript = codes "the script has more than 8 operations"
+when_of NoCell = codes "an operation names a cell that the lock does not have"
+when_of TooManyJobs = codes "the worker has begun all its jobs"
+when_of BadImage = codes "load of what is no image, or no good one"
+when_of (WrongNumber expected) = codes "submit of a session with a number that is neither the next nor the last"
+when_of Differs = codes "submit of a session with another lock or script than the pending job of its number"
+when_of Taken = codes "attach of a worker that another session has"
+when_of NotAttached = codes "an order of a session that has no worker"
+when_of NoMemory = codes "memory was refused"
+when_of NotWaiting = codes "withdraw of a worker that is up and does not wait in phase Enter"
+when_of NotInside = codes "commit of a worker whose job waits for its lock"
+
+-- what a refusal means, and what the caller does about it
+abbrev pub advice_of : Refusal → List ℕ
+advice_of BadLine = codes "The line is not one JSON object with the keys of a command and no others, or a value has the wrong type or is too large. Nothing was done. Compare the line with the forms of `rme run --help`, or of `rme serve --help` in a session, and mend the program that wrote it."
+advice_of LineTooLong = codes "The line was read to its newline and thrown away; the next one is read as usual. Send shorter lines. An image that fits no line is loaded with `rme run --image`."
+advice_of NotOpen = codes "There is no world yet to obey the line. Send `open` first, or `load` with the image of a saved world."
+advice_of AlreadyOpen = codes "A run has one world, and it stays open to the end of the input. Go on with it; to begin anew start another run, or `load` an image in its place."
+advice_of BadShape = codes "The limits are 1 to 256 workers, 1 to 16 locks, 1 to 16 cells and 1 to 1000000 jobs; a name has 1 to 32 of a-z 0-9 _ and -, and stands once. For `load` give one name for each lock of the image. What was open stays open."
+advice_of NoWorker = codes "Workers are numbered from 0, so the last is one less than their number. Mend the number in the line."
+advice_of Down = codes "The worker crashed and has not come up, so it can't do this. Send `restart` for it, then let it recover by `walk`."
+advice_of Up = codes "Only a worker that is down can be restarted, and this one runs. Nothing is lost: go on with it."
+advice_of Busy = codes "The worker has a job still, or is on its way out of its lock. Let it go on by `walk` until it is ready, then submit again. A session that has a worker sends `detach` or `resume` first."
+advice_of Idle = codes "The worker is ready and has nothing to do. Hand it a job by `submit`. In a session it means that the job is done: its number, sent again, answers the receipt."
+advice_of NoLock = codes "The locks are those that `open`, `load` or `rme serve` named. Mend the name. A number that was sent with it was not used."
+advice_of BadScript = codes "A script has at most 8 operations. Split the job in two, where it need not be done in one section. The number was not used."
+advice_of NoCell = codes "Cells are numbered from 0, and each lock has as many as `cells` says. Mend the operation. The number was not used."
+advice_of TooManyJobs = codes "The world was opened with so many jobs for each worker, and a withdrawn one counts too. Use another worker, or open the next world with more `jobs`."
+advice_of BadImage = codes "The bytes were cut, changed or never the image of a world, and no part of them was taken. Load the image as `save` wrote it, in lower-case hexadecimal. What was open stays open."
+advice_of (WrongNumber expected) = codes "A session's jobs are numbered in turn; `expected` in the answer is the number that would be taken. Look first whether a receipt was missed, or whether another client used the worker: the job may have counted already."
+advice_of Differs = codes "Another job is pending under this number, so this one was not taken. Send `resume` to finish that one, and then this job under the next number. If nobody here began it, find out who else uses the worker."
+advice_of Taken = codes "One session has a worker at a time. Attach another worker, or wait a little and try again: after a broken connection the old session may not have seen its end yet."
+advice_of NotAttached = codes "The session has taken no worker, or it let it go or lost it by a planned crash. Send `attach` first."
+advice_of NoMemory = codes "The line changed nothing, so it can be sent again when there is memory. If it comes again and again, give the program more memory or open a smaller world."
+advice_of NotWaiting = codes "Only a worker that waits for its lock can give its job up. One that is inside finishes by `walk`, or `resume` in a session; one that is ready or leaves has nothing to give up."
+advice_of NotInside = codes "The worker's job waits for its lock. Send `enter` again until its answer says held, do what is to be done inside, and then commit; or let `resume` make the job whole."
+
+-- the name of a status
+abbrev pub name_of_ending : Ending → List ℕ
+name_of_ending ending.Done = codes "Done"
+name_of_ending ending.AnswerIsNo = codes "AnswerIsNo"
+name_of_ending ending.BadArguments = codes "BadArguments"
+name_of_ending ending.ReadFailed = codes "ReadFailed"
+name_of_ending ending.WriteFailed = codes "WriteFailed"
+name_of_ending ending.NoMemory = codes "NoMemory"
+name_of_ending ending.SocketFailed = codes "SocketFailed"
+name_of_ending ending.NoThread = codes "NoThread"
+
+-- when a program ends so
+abbrev pub when_of_ending : Ending → List ℕ
+when_of_ending ending.Done = codes "what was asked for was done"
+when_of_ending ending.AnswerIsNo = codes "rme check and rme draw: the verdict is no or bad; rme threads: a worker was not done; rme serve: a worker was not given back"
+when_of_ending ending.BadArguments = codes "words of the command line, or a file that they name, are refused"
+when_of_ending ending.ReadFailed = codes "reading failed"
+when_of_ending ending.WriteFailed = codes "writing failed"
+when_of_ending ending.NoMemory = codes "memory ran out"
+when_of_ending ending.SocketFailed = codes "rme serve can't listen or accept a connection"
+when_of_ending ending.NoThread = codes "a connection can't have a thread"
+
+-- what a status means, and what the caller does about it
+abbrev pub advice_of_ending : Ending → List ℕ
+advice_of_ending ending.Done = codes "All input was read and all output written. A line that was refused changes nothing in it: its answer alone says so."
+advice_of_ending ending.AnswerIsNo = codes "Nothing went wrong with the program: this is its answer. After rme check and rme draw the verdict names the first line that the abstract machine does not have, or that is no event line; mend what wrote the transcript, or find out what it did there."
+advice_of_ending ending.BadArguments = codes "Nothing was read and nothing done. The standard error says what is wrong; `rme --help` and the --help of each command say what is right."
+advice_of_ending ending.ReadFailed = codes "The standard input, or the file of --image, can't be read. What came before was obeyed and answered whole. Mend the input and run again; a world that --save would have saved is not saved."
+advice_of_ending ending.WriteFailed = codes "The standard output, or the file of --save, took no more; a front of the output was written. Look for a full disk or a reader that went away, and run again."
+advice_of_ending ending.NoMemory = codes "There was no room for a line, an answer or the world itself. All answers to the lines before were written whole. Give the program more memory, or give it less to hold."
+advice_of_ending ending.SocketFailed = codes "Another program may have the port: choose another --port, or 0 for a free one, and start again. Or the system allowed no more open sockets for a while: serve fewer --at-once, or raise the limit of open files."
+advice_of_ending ending.NoThread = codes "The system allowed no more threads, and the connection was closed. The other sessions went on to their ends. Serve fewer --at-once, or raise the limit of threads."

@@ -1,0 +1,108 @@
+//! What the statuses of a program that ended mean.
+
+/// How a program ended, by its status.
+#[derive(Clone, Copy, PartialEq, Eq)]
+pub enum Ending {
+    Done,
+    AnswerIsNo,
+    BadArguments,
+    ReadFailed,
+    WriteFailed,
+    NoMemory,
+    SocketFailed,
+    NoThread,
+}
+
+/// The last status of a program.
+pub const LAST_STATUS: u8 = 7;
+
+impl Ending {
+    ghost use Rattle.std.specs.Prelude.{◌≡◌, ◌≤◌, IfSome, IsSome};
+    ghost use Rattle.rme_explanations.specs.Explanations.{status_of_ending};
+    ghost use Rattle.rme_explanations.specs.Explanations.{name_of_ending, when_of_ending, advice_of_ending};
+
+    /// The ending of a status, and none of a status that is not in the list: 0 to `LAST_STATUS`.
+    pub fn of_status(status: u8) -> Option<Ending>
+        ensures some { IfSome result (λ ending. status_of_ending ending ≡ status) }
+        ensures listed { status ≤ 7 → IsSome result }
+    {
+        match status {
+            0 => Some(Ending::Done),
+            1 => Some(Ending::AnswerIsNo),
+            2 => Some(Ending::BadArguments),
+            3 => Some(Ending::ReadFailed),
+            4 => Some(Ending::WriteFailed),
+            5 => Some(Ending::NoMemory),
+            6 => Some(Ending::SocketFailed),
+            7 => Some(Ending::NoThread),
+            _ => None,
+        }
+    }
+
+    /// Its name, for those who look it up.
+    pub fn name(&self) -> &'static str
+        ensures { result.now ≡ name_of_ending self.now }
+    {
+        match self {
+            Ending::Done => "Done",
+            Ending::AnswerIsNo => "AnswerIsNo",
+            Ending::BadArguments => "BadArguments",
+            Ending::ReadFailed => "ReadFailed",
+            Ending::WriteFailed => "WriteFailed",
+            Ending::NoMemory => "NoMemory",
+            Ending::SocketFailed => "SocketFailed",
+            Ending::NoThread => "NoThread",
+        }
+    }
+
+    /// When a program ends so.
+    pub fn when(&self) -> &'static str
+        ensures { result.now ≡ when_of_ending self.now }
+    {
+        match self {
+            Ending::Done => "what was asked for was done",
+            Ending::AnswerIsNo => {
+                "rme check and rme draw: the verdict is no or bad; rme threads: a worker was not done; rme serve: a worker was not given back"
+            }
+            Ending::BadArguments =>
+                "words of the command line, or a file that they name, are refused",
+            Ending::ReadFailed => "reading failed",
+            Ending::WriteFailed => "writing failed",
+            Ending::NoMemory => "memory ran out",
+            Ending::SocketFailed => "rme serve can't listen or accept a connection",
+            Ending::NoThread => "a connection can't have a thread",
+        }
+    }
+
+    /// What it means and what the caller does about it, in two or three sentences.
+    pub fn advice(&self) -> &'static str
+        ensures { result.now ≡ advice_of_ending self.now }
+    {
+        match self {
+            Ending::Done => {
+                "All input was read and all output written. A line that was refused changes nothing in it: its answer alone says so."
+            }
+            Ending::AnswerIsNo => {
+                "Nothing went wrong with the program: this is its answer. After rme check and rme draw the verdict names the first line that the abstract machine does not have, or that is no event line; mend what wrote the transcript, or find out what it did there."
+            }
+            Ending::BadArguments => {
+                "Nothing was read and nothing done. The standard error says what is wrong; `rme --help` and the --help of each command say what is right."
+            }
+            Ending::ReadFailed => {
+                "The standard input, or the file of --image, can't be read. What came before was obeyed and answered whole. Mend the input and run again; a world that --save would have saved is not saved."
+            }
+            Ending::WriteFailed => {
+                "The standard output, or the file of --save, took no more; a front of the output was written. Look for a full disk or a reader that went away, and run again."
+            }
+            Ending::NoMemory => {
+                "There was no room for a line, an answer or the world itself. All answers to the lines before were written whole. Give the program more memory, or give it less to hold."
+            }
+            Ending::SocketFailed => {
+                "Another program may have the port: choose another --port, or 0 for a free one, and start again. Or the system allowed no more open sockets for a while: serve fewer --at-once, or raise the limit of open files."
+            }
+            Ending::NoThread => {
+                "The system allowed no more threads, and the connection was closed. The other sessions went on to their ends. Serve fewer --at-once, or raise the limit of threads."
+            }
+        }
+    }
+}

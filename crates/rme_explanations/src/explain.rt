@@ -1,0 +1,111 @@
+//! What a refusal means, and what the caller does about it.
+
+ghost use Rattle.std.specs.Prelude.{◌≡◌, ◌≤◌, IfSome, IsSome};
+ghost use Rattle.rme_words.specs.Refusals.{code_of};
+ghost use Rattle.rme_explanations.specs.Explanations.{when_of, advice_of};
+
+use crate::texts;
+use rme_words::Refusal;
+
+/// The greatest number of a refusal.
+pub const LAST_CODE: u32 = 22;
+
+/// The refusal of a number, and none of a number that is not in the list: 1 to `LAST_CODE`.
+///
+/// Of `WrongNumber` it is the one that expects 1: what is expected has no part in the number.
+pub fn refusal_of(code: u32) -> Option<Refusal>
+    ensures some { IfSome result (λ refusal. code_of refusal ≡ code) }
+    ensures listed { 1 ≤ code → code ≤ 22 → IsSome result }
+{
+    match code {
+        1 => Some(Refusal::BadLine),
+        2 => Some(Refusal::LineTooLong),
+        3 => Some(Refusal::NotOpen),
+        4 => Some(Refusal::AlreadyOpen),
+        5 => Some(Refusal::BadShape),
+        6 => Some(Refusal::NoWorker),
+        7 => Some(Refusal::Down),
+        8 => Some(Refusal::Up),
+        9 => Some(Refusal::Busy),
+        10 => Some(Refusal::Idle),
+        11 => Some(Refusal::NoLock),
+        12 => Some(Refusal::BadScript),
+        13 => Some(Refusal::NoCell),
+        14 => Some(Refusal::TooManyJobs),
+        15 => Some(Refusal::BadImage),
+        16 => Some(Refusal::WrongNumber(1)),
+        17 => Some(Refusal::Differs),
+        18 => Some(Refusal::Taken),
+        19 => Some(Refusal::NotAttached),
+        20 => Some(Refusal::NoMemory),
+        21 => Some(Refusal::NotWaiting),
+        22 => Some(Refusal::NotInside),
+        _ => None,
+    }
+}
+
+/// When a line is refused so, in the words of the table of refusals. Each refusal has a number of the list.
+pub fn when(refusal: &Refusal) -> &'static str
+    ensures first { 1 ≤ code_of refusal.now }
+    ensures last { code_of refusal.now ≤ 22 }
+    ensures text { result.now ≡ when_of refusal.now }
+{
+    match refusal {
+        Refusal::BadLine => "the line is no command",
+        Refusal::LineTooLong => "the line has more than 65,536 bytes",
+        Refusal::NotOpen => "no world is open",
+        Refusal::AlreadyOpen => "open where a world is open",
+        Refusal::BadShape => {
+            "open with a number or a name outside the limits; load with a name outside them, or with more or fewer names than the image has locks"
+        }
+        Refusal::NoWorker => "there is no such worker",
+        Refusal::Down => "the worker is down",
+        Refusal::Up => "restart of a worker that is up",
+        Refusal::Busy => "submit to a worker that is not ready",
+        Refusal::Idle => "a step of a worker that is ready",
+        Refusal::NoLock => "there is no lock of that name, whatever the name is",
+        Refusal::BadScript => "the script has more than 8 operations",
+        Refusal::NoCell => "an operation names a cell that the lock does not have",
+        Refusal::TooManyJobs => "the worker has begun all its jobs",
+        Refusal::BadImage => "load of what is no image, or no good one",
+        Refusal::WrongNumber(_) =>
+            "submit of a session with a number that is neither the next nor the last",
+        Refusal::Differs =>
+            "submit of a session with another lock or script than the pending job of its number",
+        Refusal::Taken => "attach of a worker that another session has",
+        Refusal::NotAttached => "an order of a session that has no worker",
+        Refusal::NoMemory => "memory was refused",
+        Refusal::NotWaiting => "withdraw of a worker that is up and does not wait in phase Enter",
+        Refusal::NotInside => "commit of a worker whose job waits for its lock",
+    }
+}
+
+/// What a refusal means and what the caller does about it, in two or three sentences.
+pub fn advice(refusal: &Refusal) -> &'static str
+    ensures { result.now ≡ advice_of refusal.now }
+{
+    match refusal {
+        Refusal::BadLine => texts::bad_line(),
+        Refusal::LineTooLong => texts::line_too_long(),
+        Refusal::NotOpen => texts::not_open(),
+        Refusal::AlreadyOpen => texts::already_open(),
+        Refusal::BadShape => texts::bad_shape(),
+        Refusal::NoWorker => texts::no_worker(),
+        Refusal::Down => texts::down(),
+        Refusal::Up => texts::up(),
+        Refusal::Busy => texts::busy(),
+        Refusal::Idle => texts::idle(),
+        Refusal::NoLock => texts::no_lock(),
+        Refusal::BadScript => texts::bad_script(),
+        Refusal::NoCell => texts::no_cell(),
+        Refusal::TooManyJobs => texts::too_many_jobs(),
+        Refusal::BadImage => texts::bad_image(),
+        Refusal::WrongNumber(_) => texts::wrong_number(),
+        Refusal::Differs => texts::differs(),
+        Refusal::Taken => texts::taken(),
+        Refusal::NotAttached => texts::not_attached(),
+        Refusal::NoMemory => texts::no_memory(),
+        Refusal::NotWaiting => texts::not_waiting(),
+        Refusal::NotInside => texts::not_inside(),
+    }
+}

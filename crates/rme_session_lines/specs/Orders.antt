@@ -1,0 +1,73 @@
+-- The order of a session's line. The names are those of the service's locks.
+use Rattle.std.specs.Prelude.{ℕ, ◌+◌, ◌==◌, ◌&&◌, nat_le, List, bytes_eq, codes, if◌then◌else◌, Option, Some, None, option_map, option_and_then}
+use Rattle.serde_json.specs.Data.{Data}
+use Rattle.serde_json.specs.Events.{members_len}
+use Rattle.serde_json.specs.Find.{as_object, get}
+use Rattle.rme_session_lines.specs.declared.order.Order.{Order}
+use Rattle.rme_session_lines.specs.declared.order.Order.TheVariants.{Attach, Submit, Resume, Enter, Commit, Withdraw, Last, CrashAfter, Detach}
+use Rattle.rme_session_lines.specs.declared.order.Submission.{Submission}
+use Rattle.rme_wire.specs.Commands.{counted, lock_of, worker_of}
+use Rattle.rme_wire.specs.Operations.{script_of}
+use Rattle.rme_wire.specs.Values.{small, value_of, word_of}
+
+-- `{"do":"attach","worker":..}`
+unfoldable pub attach_of : ℕ → Data → Option Order
+attach_of count d = if count == 2 then option_map Attach (worker_of d) else None
+
+-- 1 to 1,000,000
+unfoldable pub tries_of : Data → Option ℕ
+tries_of d = option_and_then (λ n. if nat_le 1 n && nat_le n 1000000 then Some n else None) (small d)
+
+-- the member `tries`, 1,000 where it is absent
+abbrev pub tries_or_usual : Option Data → Option ℕ
+tries_or_usual None = Some 1000
+tries_or_usual (Some d) = tries_of d
+
+-- `{"do":WORD,"lock":..,"number":..,"script":..,"tries":..}`, of which the last may be absent
+unfoldable pub submission_of : List (List ℕ) → ℕ → Data → Option Submission
+submission_of names count d =
+    option_and_then (λ number. option_and_then (λ lock. option_and_then (λ script. option_and_then (λ tries.
+    if count == 4 + counted (get (codes "tries") d) then Some (record { number = number; job = record { lock = lock; script = script }; tries = tries }) else None)
+    (tries_or_usual (get (codes "tries") d))) (option_and_then script_of (get (codes "script") d))) (lock_of names d)) (option_and_then small (get (codes "number") d))
+
+-- `{"do":"resume","tries":..}`, of which the last may be absent
+unfoldable pub resume_of : ℕ → Data → Option Order
+resume_of count d =
+    option_and_then (λ tries. if count == 1 + counted (get (codes "tries") d) then Some (Resume tries) else None) (tries_or_usual (get (codes "tries") d))
+
+-- 0 to 1,000,000
+unfoldable pub steps_of : Data → Option ℕ
+steps_of d = option_and_then (λ n. if nat_le n 1000000 then Some n else None) (small d)
+
+-- `{"do":"crash_after","steps":..}`
+unfoldable pub crash_after_of : ℕ → Data → Option Order
+crash_after_of count d = if count == 2 then option_map CrashAfter (option_and_then steps_of (get (codes "steps") d)) else None
+
+-- `{"do":WORD}`
+abbrev pub order_by : List ℕ → Option Order
+order_by word =
+    if bytes_eq word (codes "withdraw") then Some Withdraw
+    else (if bytes_eq word (codes "commit") then Some Commit
+    else (if bytes_eq word (codes "last") then Some Last
+    else (if bytes_eq word (codes "detach") then Some Detach
+    else None)))
+
+unfoldable pub bare_order : List ℕ → ℕ → Option Order
+bare_order word count = if count == 1 then order_by word else None
+
+-- the order of an object with so many keys, whose `do` is this word
+unfoldable pub order_named : List (List ℕ) → List ℕ → ℕ → Data → Option Order
+order_named names word count d =
+    if bytes_eq word (codes "attach") then attach_of count d
+    else (if bytes_eq word (codes "submit") then option_map Submit (submission_of names count d)
+    else (if bytes_eq word (codes "enter") then option_map Enter (submission_of names count d)
+    else (if bytes_eq word (codes "resume") then resume_of count d
+    else (if bytes_eq word (codes "crash_after") then crash_after_of count d
+    else bare_order word count))))
+
+-- the order of a value, an object with a member `do`
+unfoldable pub order_of : List (List ℕ) → Data → Option Order
+order_of names d = option_and_then (λ members. option_and_then (λ word. order_named names word (members_len members) d) (word_of d)) (as_object d)
+
+abbrev pub order_of_line : List (List ℕ) → List ℕ → Option Order
+order_of_line names bytes = option_and_then (order_of names) (value_of bytes)

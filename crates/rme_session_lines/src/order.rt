@@ -1,0 +1,199 @@
+//! The lines of a session.
+
+ghost use Rattle.std.specs.Prelude.{◌≡◌, IfOk, option_map, option_and_then};
+ghost use Rattle.serde_json.specs.View.{view};
+ghost use Rattle.rme_session_lines.specs.Orders as spec;
+
+use rme_script::Job;
+use rme_wire::{Names, key_count, lock_of, read_value, script_of, small, word_of, worker_of};
+use rme_words::NoMemory;
+use serde_json::Value;
+use std::alloc::Global;
+
+/// How often a session tries to enter where its line doesn't say.
+const USUAL_TRIES: u32 = 1_000;
+
+/// The most tries that a line may ask for.
+const MOST_TRIES: u32 = 1_000_000;
+
+/// The most own steps after which a line may plan a crash.
+const MOST_STEPS: u32 = 1_000_000;
+
+/// A job with the number that its client gave it.
+#[derive(Clone, Copy, PartialEq, Eq)]
+pub struct Submission {
+    pub number: u32,
+    pub job: Job,
+    /// 1 to 1,000,000.
+    pub tries: u32,
+}
+
+/// An order of a session's line.
+///
+/// Locks are numbers. The number of a lock that the service doesn't have is the number of names, which is no
+/// lock.
+#[derive(Clone, Copy, PartialEq, Eq)]
+pub enum Order {
+    /// To take this worker.
+    Attach(u32),
+    /// To hand over a job, to go on with it, or to answer its receipt again.
+    Submit(Submission),
+    /// To go on with the pending job, with so many tries, 1 to 1,000,000.
+    Resume(u32),
+    /// To hand over a job, or to go on with it, up to the moment in which the worker is inside its lock; or to answer
+    /// its receipt again.
+    Enter(Submission),
+    /// To make the section of the job that the worker is inside with, and to leave its lock.
+    Commit,
+    /// To give up the pending job.
+    Withdraw,
+    /// To answer the last receipt.
+    Last,
+    /// To crash the worker after so many further own steps, 0 to 1,000,000.
+    CrashAfter(u32),
+    /// To let the worker go.
+    Detach,
+}
+
+/// The order of a session's line, or `None` where the line is none.
+///
+/// The names are those of the service's locks. `NoMemory` says that there was no room for the line's value.
+pub fn order_of(alloc: Global, names: &Names, line: &[u8]) -> Result<Option<Order>, NoMemory>
+    ensures { IfOk result (λ order. order ≡ spec.order_of_line names.now line.now) }
+{
+    match read_value(alloc, line)? {
+        None => Ok(None),
+        Some(value) => Ok(order_of_value(names, &value)),
+    }
+}
+
+#[tactic(auto, unfolding(crate::specs::Orders::order_of))]
+fn order_of_value(names: &Names, value: &Value) -> Option<Order>
+    ensures { result ≡ spec.order_of names.now (view value.now) }
+{
+    let count = key_count(value)?;
+    let word = word_of(value)?;
+    order_named(names, word, count, value)
+}
+
+/// The order that a value is, where its member `do` is a word and it has so many members.
+#[tactic(auto, unfolding(crate::specs::Orders::order_named))]
+fn order_named(names: &Names, word: &str, count: usize, value: &Value) -> Option<Order>
+    ensures { result ≡ spec.order_named names.now word.now count (view value.now) }
+{
+    match word {
+        "attach" => attach_of(count, value),
+        "submit" => submission_of(names, count, value).map(Order::Submit),
+        "enter" => submission_of(names, count, value).map(Order::Enter),
+        "resume" => resume_of(count, value),
+        "crash_after" => crash_after_of(count, value),
+        _ => bare_order(word, count),
+    }
+}
+
+#[tactic(auto, unfolding(crate::specs::Orders::attach_of))]
+fn attach_of(count: usize, value: &Value) -> Option<Order>
+    ensures { result ≡ spec.attach_of count (view value.now) }
+{
+    if count != 2 {
+        return None;
+    }
+    Some(Order::Attach(worker_of(value)?))
+}
+
+/// How often to try: 1 to 1,000,000.
+#[tactic(auto, unfolding(crate::specs::Orders::tries_of))]
+fn tries_of(value: &Value) -> Option<u32>
+    ensures { result ≡ spec.tries_of (view value.now) }
+{
+    let tries = small(value)?;
+    if tries == 0 || tries > MOST_TRIES {
+        return None;
+    }
+    Some(tries)
+}
+
+/// A submission whose optional member is there or not.
+#[tactic(auto, unfolding(crate::specs::Orders::submission_of))]
+fn submission_of(names: &Names, count: usize, value: &Value) -> Option<Submission>
+    ensures { result ≡ spec.submission_of names.now count (view value.now) }
+{
+    let number = small(value.get("number")?)?;
+    let lock = lock_of(names, value)?;
+    let script = script_of(value.get("script")?)?;
+    let mut expected = 4;
+    let mut tries = USUAL_TRIES;
+    if let Some(given) = value.get("tries") {
+        tries = tries_of(given)?;
+        expected += 1;
+    }
+    if count != expected {
+        return None;
+    }
+    Some(Submission {
+        number,
+        job: Job { lock, script },
+        tries,
+    })
+}
+
+#[tactic(auto, unfolding(crate::specs::Orders::resume_of))]
+fn resume_of(count: usize, value: &Value) -> Option<Order>
+    ensures { result ≡ spec.resume_of count (view value.now) }
+{
+    let mut expected = 1;
+    let mut tries = USUAL_TRIES;
+    if let Some(given) = value.get("tries") {
+        tries = tries_of(given)?;
+        expected += 1;
+    }
+    if count != expected {
+        return None;
+    }
+    Some(Order::Resume(tries))
+}
+
+/// After how many own steps to crash: 0 to 1,000,000.
+#[tactic(auto, unfolding(crate::specs::Orders::steps_of))]
+fn steps_of(value: &Value) -> Option<u32>
+    ensures { result ≡ spec.steps_of (view value.now) }
+{
+    let steps = small(value)?;
+    if steps > MOST_STEPS {
+        return None;
+    }
+    Some(steps)
+}
+
+#[tactic(auto, unfolding(crate::specs::Orders::crash_after_of))]
+fn crash_after_of(count: usize, value: &Value) -> Option<Order>
+    ensures { result ≡ spec.crash_after_of count (view value.now) }
+{
+    if count != 2 {
+        return None;
+    }
+    Some(Order::CrashAfter(steps_of(value.get("steps")?)?))
+}
+
+/// An order of a word alone.
+#[tactic(auto, unfolding(crate::specs::Orders::bare_order))]
+fn bare_order(word: &str, count: usize) -> Option<Order>
+    ensures { result ≡ spec.bare_order word.now count }
+{
+    if count != 1 {
+        return None;
+    }
+    if word == "withdraw" {
+        return Some(Order::Withdraw);
+    }
+    if word == "commit" {
+        return Some(Order::Commit);
+    }
+    if word == "last" {
+        return Some(Order::Last);
+    }
+    if word == "detach" {
+        return Some(Order::Detach);
+    }
+    None
+}

@@ -1,0 +1,4 @@
+pub mod Planning
+pub mod Rising
+pub mod Showing
+pub mod Working

@@ -1,0 +1,464 @@
+-- What a session shows after an order obeyed.
+use Rattle.std.proofs.Common.{◌≡◌, ℕ, ◌+◌, ◌-◌, List, [], ◌∷◌, ◌++◌, length, arith, inl, inr, refl, sym, ap, ◌∙◌, subst}
+use Rattle.std.specs.Prelude.{◌==◌, Bool, false, nat_lt, slice_get, if◌then◌else◌, Option, Some, None, Result, Ok, Err}
+use Rattle.std.proofs.lemmas.Bool.{cases_Bool, eq-eqb, ne_eqb}
+use Rattle.std.proofs.lemmas.Option.{none-some}
+use Rattle.std.proofs.lemmas.List.{length-append}
+use Rattle.rme_words.specs.declared.shape.Shape.{Shape}
+use Rattle.rme_words.specs.declared.refusal.Refusal.{Refusal}
+use Rattle.rme_words.specs.declared.refusal.Refusal.TheVariants.{NoLock, TooManyJobs}
+use Rattle.rme_script.specs.Programs.{Program}
+use Rattle.rme_script.specs.Scripts.{check_of}
+use Rattle.rme_script.specs.declared.job.Job.{Job}
+use Rattle.rme_program.specs.declared.note.Entry.{Entry}
+use Rattle.rme_program.specs.declared.note.Receipt.{Receipt}
+use Rattle.rme_program.specs.Steps.{withdrawn_place}
+use Rattle.rme_seats.specs.declared.record.Part.{Part}
+use Rattle.rme_seats.specs.Parts.{draft_script, onward, withdrawing}
+use Rattle.rme_seats.specs.Stands.{Ident, Stand}
+use Rattle.rme_table.specs.Calls as table
+use Rattle.rme_table.specs.Calls.{last_receipt, post_refusal}
+use Rattle.rme_session_lines.specs.declared.session.Outcome.{Outcome}
+use Rattle.rme_session_lines.specs.declared.session.Outcome.TheVariants as outcome
+use Rattle.rme_session_lines.specs.declared.session.SessionReply.TheVariants as reply
+use Rattle.rme_session_lines.specs.declared.order.Order.{Order}
+use Rattle.rme_session_lines.specs.declared.order.Order.TheVariants as order
+use Rattle.rme_session_lines.specs.declared.order.Submission.{Submission}
+use Rattle.rme_orders.specs.Obeyed as sight
+use Rattle.rme_orders.specs.Refusals as refusal
+use Rattle.rme_orders.specs.Refusals.{PendingRefuses, Refuses, SubmitRefuses, job_refusal, last_refusal, posting_refusal, resume_refusal}
+use Rattle.rme_orders.specs.Sights.{IsReceiptOf, Task, waiting_with}
+use Rattle.rme_orders.specs.declared.planned.Planned.{Planned}
+use Rattle.rme_orders.specs.declared.view.PendingWorker.{PendingWorker}
+use Rattle.rme_orders.specs.declared.view.ReadyWorker.{ReadyWorker}
+use Rattle.rme_orders.specs.declared.view.Session as shown
+use Rattle.rme_orders.specs.declared.view.Session.TheVariants as at
+use Rattle.rme_orders.proofs.Refusing.{last_repeated, next_posted}
+use Rattle.rme_sessions.specs.Obeyed.{Acts, Enters, EntersInside, IsInside, IsOfSlot, IsWalked, ResumeEnters, SubmitEnters}
+use Rattle.rme_sessions.specs.Stands.{Tells, held_by, session_of, shown_pending, view_of}
+use Rattle.rme_sessions.specs.Tasks.{IsResumed, IsSubmitted, IsThrough, Makes, holding_of, lead_by, stopped_inside}
+use Rattle.rme_sessions.specs.Works.{Arrives, GoesInside, GoesOn, IsSpared, IsTried, Repeats, WentOn, Works, its_task, lead_of, next_task, steps_in, steps_of}
+use Rattle.rme_sessions.specs.declared.stand.Holding.{Holding}
+use Rattle.rme_sessions.specs.declared.stand.Holding.TheVariants.{Empty, Ready, Climb, Held}
+use Rattle.rme_sessions.specs.declared.stand.Stand.{Stand as Session}
+use Rattle.rme_sessions.specs.declared.work.Work.{Work}
+use Rattle.rme_sessions.specs.declared.work.Work.TheVariants.{Repeat, Post, GoIn, GoOn, PostInside, GoInside, Stay}
+use Rattle.rme_sessions.proofs.Working.{led_inside, led_onward, led_so}
+
+-- The running service refuses a job as every server does.
+same_unless : (checked : Result (Unit {0}) Refusal) (rest : Option Refusal) → table.unless_checked checked rest ≡ refusal.unless_checked checked rest
+same_unless (Ok tt) rest = refl
+same_unless (Err why) rest = refl
+
+pub same_refusal : (shape : Shape) (last : ℕ) (job : Job) → post_refusal shape last job ≡ job_refusal shape last job
+same_refusal shape last job =
+    ap (λ (rest : Option Refusal). if nat_lt job.lock shape.locks then rest else Some NoLock)
+    (same_unless (check_of shape.cells job.script) (if nat_lt last shape.jobs then None else Some TooManyJobs))
+
+-- The last of entries.
+last_at : (before : List Entry) (entry : Entry) → slice_get (before ++ entry ∷ []) (length before) ≡ Some entry
+last_at [] entry = refl
+last_at (first ∷ before) entry = last_at before entry
+
+last_of_all : (before : List Entry) (entry : Entry) → last_receipt (before ++ entry ∷ []) ≡ Some entry.receipt
+last_of_all before entry =
+    let long = length-append before (entry ∷ []) in
+    let at : length (before ++ entry ∷ []) - 1 ≡ length before = omega (arith, long) in
+    ap (λ (k : ℕ). table.receipt_in (slice_get (before ++ entry ∷ []) k)) at ∙ ap (λ (found : Option Entry). table.receipt_in found) (last_at before entry)
+
+abbrev ready_so : ℕ → ℕ → Option Receipt → ReadyWorker
+ready_so worker number last = record { worker = worker; number = number; last = last }
+
+same_ready : (worker other number second : ℕ) (last : Option Receipt) → worker ≡ other → number ≡ second → ready_so worker number last ≡ ready_so other second last
+same_ready worker other number second last own same = rw (own, same) refl
+
+abbrev pending_so : ℕ → ℕ → Option Job → PendingWorker
+pending_so worker number draft = record { worker = worker; number = number; draft = draft }
+
+same_pending : (worker other number second : ℕ) (draft given : Option Job) → worker ≡ other → number ≡ second → draft ≡ given → pending_so worker number draft ≡ pending_so other second given
+same_pending worker other number second draft given own same has = rw (own, same, has) refl
+
+abbrev entry_so : Receipt → Program → Entry
+entry_so receipt script = record { receipt = receipt; script = script }
+
+same_entry : (one other : Receipt) (script second : Program) → one ≡ other → script ≡ second → entry_so one script ≡ entry_so other second
+same_entry one other script second told same = rw (told, same) refl
+
+-- What work at a job leaves to be shown, and of entries.
+pub works_shown : (task : Task) (before : List Entry) (value : Holding) (became : Outcome) → Works task before value became
+    → (after : Option Receipt) × sight.Works task (session_of after value) became × Tells value after × Enters before task.job.script value became
+works_shown task before (Ready ready) (outcome.Receipt receipt) (entry, done, same) =
+    let is : entry ≡ record { receipt = receipt; script = task.job.script } = same_entry entry.receipt receipt entry.script task.job.script same done.is_of.script in
+    let receipt_is : IsReceiptOf task entry.receipt = record { by = done.is_of.by; number = done.is_of.number; lock = done.is_of.lock } in (
+      Some receipt,
+      (
+        subst (λ (r : Receipt). IsReceiptOf task r) same receipt_is,
+        same_ready ready.part.worker task.worker ready.part.private.begun task.number (Some receipt) done.own done.number,
+      ),
+      ap (λ (es : List Entry). last_receipt es) done.entries ∙ last_of_all before entry ∙ ap (λ (r : Receipt). Some r) same,
+      done.entries ∙ ap (λ (e : Entry). before ++ e ∷ []) is,
+    )
+works_shown task before (Climb climb) outcome.Waiting waits = (
+  None,
+  same_pending climb.part.worker task.worker climb.part.private.begun task.number climb.part.draft (Some task.job) waits.own waits.number waits.draft,
+  tt,
+  waits.entries,
+)
+works_shown task before Empty outcome.Fell fell = (None, tt, tt, tt)
+works_shown task before value became works = absurd works
+
+pub goes_shown : (start : Stand) (value : Holding) (became : Outcome) → GoesOn start value became
+    → (after : Option Receipt) × sight.GoesOn (shown_pending start) (session_of after value) became × Tells value after × Enters start.part.entries (draft_script start.part.draft) value became
+goes_shown start (Ready ready) (outcome.Receipt receipt) (job, draft, works) =
+    let so = works_shown (its_task start job) start.part.entries (Ready ready) (outcome.Receipt receipt) works in
+    let P : Option Job → Type 0 = λ its. Enters start.part.entries (draft_script its) (Ready ready) (outcome.Receipt receipt) in
+    (so.0, (job, draft, so.1), so.2, subst P (sym draft) so.3)
+goes_shown start (Climb climb) outcome.Waiting still = (
+  None,
+  same_pending climb.part.worker start.part.worker climb.part.private.begun start.part.private.begun climb.part.draft start.part.draft still.own still.number still.draft,
+  tt,
+  still.entries,
+)
+goes_shown start Empty outcome.Fell fell = (None, tt, tt, tt)
+goes_shown start value became goes = absurd goes
+
+-- The own steps that were made, and what they leave of the plan.
+pub through_shown : (shape : Shape) (lead : Part → Part) (old now : Session) (became : Outcome) (let_go : Option Stand) (before after : Option Receipt)
+    → IsThrough shape lead old now became let_go → (made : ℕ) × sight.IsLeft made (view_of before old) (view_of after now) became × IsWalked shape lead made old now became let_go
+through_shown shape lead old now (outcome.Receipt receipt) let_go before after ((made, went, leaves), none) = (made, leaves, (went, none))
+through_shown shape lead old now outcome.Withdrawn let_go before after ((made, went, leaves), none) = (made, leaves, (went, none))
+through_shown shape lead old now outcome.Waiting let_go before after ((made, went, leaves), none) = (made, leaves, (went, none))
+through_shown shape lead old now (outcome.Inside number) let_go before after ((made, went, leaves), none) = (made, leaves, (went, none))
+through_shown shape lead old now outcome.Fell let_go before after ((made, went, due), same) = (made, (due, ap (λ (s : Session). view_of after s) same), went)
+
+steps_made : (shape : Shape) (lead : Part → Part) (start end : Option Stand) (made : ℕ) → WentOn shape lead start end made → steps_in end ≡ steps_in start + made
+steps_made shape lead (Some start) (Some end) made went = went.steps
+steps_made shape lead (Some start) None made went = absurd went
+steps_made shape lead None end made went = absurd went
+
+pub tried_shown : (shape : Shape) (lead : Part → Part) (tries made : ℕ) (old now : Session) (became : Outcome) (let_go : Option Stand) → IsWalked shape lead made old now became let_go
+    → IsTried tries (steps_of old.value) now.value became → sight.IsTried tries made became
+tried_shown shape lead tries made old now (outcome.Receipt receipt) let_go walked tried = tt
+tried_shown shape lead tries made old now outcome.Withdrawn let_go walked tried = tt
+tried_shown shape lead tries made old now outcome.Waiting let_go walked tried =
+    let steps = steps_made shape lead (held_by old.value) (held_by now.value) made walked.0 in omega (arith, steps, tried)
+tried_shown shape lead tries made old now outcome.Fell let_go walked tried = tt
+tried_shown shape lead tries made old now (outcome.Inside number) let_go walked tried = tt
+
+-- A refused order.
+pub refused_so : (ident : Ident) (count : ℕ) (old : Session) (its : Order) (why : Refusal) → Refuses ident.shape (session_of None old.value) its (Some why) → IsOfSlot count ident.shape its why
+    → Acts ident count old its old (reply.Refused why) None
+refused_so ident count old its why refuses slot =
+    record { made = 0; before = None; after = None; obeys = (refl, inl refuses); told_before = tt; told_after = tt; adds = (refl, slot, refl) }
+
+module _ (ident : Ident) (count : ℕ) (old now : Session) (became : Outcome) (let_go : Option Stand) where
+  submitted_so : (its : Submission) (before after : Option Receipt) → SubmitRefuses ident.shape (session_of before old.value) its None
+      → sight.Submits (session_of before old.value) its (session_of after now.value) became → Tells old.value before → Tells now.value after
+      → SubmitEnters ident.shape old.value its now.value became → IsThrough ident.shape (lead_of old.value its.job) old now became let_go
+      → IsTried its.tries (steps_of old.value) now.value became → Acts ident count old (order.Submit its) now (reply.Submitted became) let_go
+  submitted_so its before after refuses submits told_before told_after enters through tried =
+      let so = through_shown ident.shape (lead_of old.value its.job) old now became let_go before after through in record {
+        made = so.0;
+        before = before;
+        after = after;
+        obeys = (refuses, (submits, so.1, tried_shown ident.shape (lead_of old.value its.job) its.tries so.0 old now became let_go so.2 tried));
+        told_before = told_before;
+        told_after = told_after;
+        adds = (enters, so.2);
+      }
+
+  resumed_so : (tries : ℕ) (after : Option Receipt) → None ≡ resume_refusal (session_of None old.value) → sight.Resumes (session_of None old.value) (session_of after now.value) became
+      → Tells now.value after → ResumeEnters old.value now.value became → IsThrough ident.shape onward old now became let_go → IsTried tries (steps_of old.value) now.value became
+      → Acts ident count old (order.Resume tries) now (reply.Resumed became) let_go
+  resumed_so tries after refuses resumes told_after enters through tried =
+      let so = through_shown ident.shape onward old now became let_go None after through in record {
+        made = so.0;
+        before = None;
+        after = after;
+        obeys = (refuses, (resumes, so.1, tried_shown ident.shape onward tries so.0 old now became let_go so.2 tried));
+        told_before = tt;
+        told_after = told_after;
+        adds = (enters, so.2);
+      }
+
+-- The work that a submission asks.
+module _ (ident : Ident) (count : ℕ) (its : Submission) (planned : Planned) (now : Session) (let_go : Option Stand) where
+  abbrev begun_by : Work → Session
+  begun_by work = record { value = holding_of work; planned = planned }
+
+  repeated_so : (ready : Stand) (became : Outcome) → IsSubmitted ident.shape its (Repeat ready) → Repeats ident.shape ready now.value became
+      → IsThrough ident.shape (lead_of (Ready ready) its.job) (begun_by (Repeat ready)) now became let_go → Acts ident count (begun_by (Repeat ready)) (order.Submit its) now (reply.Submitted became) let_go
+  repeated_so ready (outcome.Receipt receipt) (some, number) (same, last, is_last) through =
+      submitted_so ident count (begun_by (Repeat ready)) now (outcome.Receipt receipt) let_go its (Some receipt) (Some receipt)
+      (sym (last_repeated ident.shape ready.part.private.begun its some number))
+      (rw (eq-eqb its.number ready.part.private.begun number) (ap (λ (value : Holding). session_of (Some receipt) value) same, refl)) last
+      (let P : Holding → Type 0 = λ value. Tells value (Some receipt) in subst P (sym same) last)
+      (rw (eq-eqb its.number ready.part.private.begun number) (same, last, is_last)) through tt
+  repeated_so ready outcome.Withdrawn (some, number) (same, last) through =
+      submitted_so ident count (begun_by (Repeat ready)) now outcome.Withdrawn let_go its None None (sym (last_repeated ident.shape ready.part.private.begun its some number))
+      (rw (eq-eqb its.number ready.part.private.begun number) (ap (λ (value : Holding). session_of None value) same, refl)) tt tt
+      (rw (eq-eqb its.number ready.part.private.begun number) (same, last)) through tt
+  repeated_so ready outcome.Waiting asked repeats through = absurd repeats
+  repeated_so ready outcome.Fell asked repeats through = absurd repeats
+  repeated_so ready (outcome.Inside number) asked repeats through = absurd repeats
+
+  module _ (became : Outcome) where
+    posted_so : (ready : Stand) → its.number ≡ ready.part.private.begun + 1 → job_refusal ident.shape ready.part.private.begun its.job ≡ None
+        → Works (next_task ready its.job) ready.part.entries now.value became → IsThrough ident.shape (lead_of (Ready ready) its.job) (record { value = Ready ready; planned = planned }) now became let_go
+        → IsTried its.tries ready.part.steps now.value became → Acts ident count (record { value = Ready ready; planned = planned }) (order.Submit its) now (reply.Submitted became) let_go
+    posted_so ready next none works through tried =
+        let so = works_shown (next_task ready its.job) ready.part.entries now.value became works in
+        let other : (its.number == ready.part.private.begun) ≡ false = ne_eqb its.number ready.part.private.begun (omega (arith, next)) in
+        submitted_so ident count (record { value = Ready ready; planned = planned }) now became let_go its None so.0
+        (sym (next_posted ident.shape ready.part.private.begun its next ∙ none)) (rw other so.1) tt so.2 (rw other so.3) through tried
+
+    module _ (start : Stand) (pending : PendingRefuses start.part.private.begun start.part.draft its None) (goes : GoesOn start now.value became) where
+      abbrev enters_pending : Option Job → Type 0
+      enters_pending draft = Enters start.part.entries (draft_script draft) now.value became
+
+      waited_so : IsThrough ident.shape onward (record { value = Climb start; planned = planned }) now became let_go → IsTried its.tries start.part.steps now.value became
+          → Acts ident count (record { value = Climb start; planned = planned }) (order.Submit its) now (reply.Submitted became) let_go
+      waited_so through tried =
+          let so = goes_shown start now.value became goes in
+          submitted_so ident count (record { value = Climb start; planned = planned }) now became let_go its None so.0 pending so.1 tt so.2 (subst enters_pending pending.1 so.3) through tried
+
+      inside_so : IsThrough ident.shape onward (record { value = Held start; planned = planned }) now became let_go → IsTried its.tries start.part.steps now.value became
+          → Acts ident count (record { value = Held start; planned = planned }) (order.Submit its) now (reply.Submitted became) let_go
+      inside_so through tried =
+          let so = goes_shown start now.value became goes in
+          submitted_so ident count (record { value = Held start; planned = planned }) now became let_go its None so.0 pending so.1 tt so.2 (subst enters_pending pending.1 so.3) through tried
+
+    work_submitted : (work : Work) → IsSubmitted ident.shape its work → Makes ident.shape work now.value became
+        → IsThrough ident.shape (lead_of (holding_of work) its.job) (begun_by work) now became let_go → IsTried its.tries (steps_of (holding_of work)) now.value became
+        → Acts ident count (begun_by work) (order.Submit its) now (reply.Submitted became) let_go
+    work_submitted (Repeat ready) asked makes through tried = repeated_so ready became asked makes through
+    work_submitted (Post admitted tries) (next, same, none) makes through tried =
+        let P : Job → Type 0 = λ job. Works (next_task admitted.ready job) admitted.ready.part.entries now.value became in
+        posted_so admitted.ready next none (subst P same makes) through tried
+    work_submitted (GoIn climb tries) asked makes through tried = waited_so climb asked makes through tried
+    work_submitted (GoOn held) asked makes through tried = inside_so held asked makes through tried
+    work_submitted (PostInside admitted tries) asked makes through tried = absurd asked
+    work_submitted (GoInside climb tries) asked makes through tried = absurd asked
+    work_submitted (Stay held) asked makes through tried = absurd asked
+
+-- ENTER
+arrives_shown : (task : Task) (before : List Entry) (value : Holding) (became : Outcome) → Arrives task before value became
+    → sight.GoesInside (waiting_with task) (session_of None value) became × IsInside before value became
+arrives_shown task before (Held held) (outcome.Inside number) (awaits, entered, is) = (
+  (same_pending held.part.worker task.worker held.part.private.begun task.number held.part.draft (Some task.job) awaits.own awaits.number awaits.draft, is),
+  (awaits.entries, entered),
+)
+arrives_shown task before (Climb climb) outcome.Waiting awaits = (
+  same_pending climb.part.worker task.worker climb.part.private.begun task.number climb.part.draft (Some task.job) awaits.own awaits.number awaits.draft,
+  awaits.entries,
+)
+arrives_shown task before Empty outcome.Fell fell = (tt, tt)
+arrives_shown task before value became arrives = absurd arrives
+
+inside_shown : (start : Stand) (value : Holding) (became : Outcome) → GoesInside start value became
+    → sight.GoesInside (shown_pending start) (session_of None value) became × IsInside start.part.entries value became
+inside_shown start (Held held) (outcome.Inside number) (still, entered, is) = (
+  (
+    same_pending held.part.worker start.part.worker held.part.private.begun start.part.private.begun held.part.draft start.part.draft still.own still.number still.draft,
+    is,
+  ),
+  (still.entries, entered),
+)
+inside_shown start (Climb climb) outcome.Waiting still = (
+  same_pending climb.part.worker start.part.worker climb.part.private.begun start.part.private.begun climb.part.draft start.part.draft still.own still.number still.draft,
+  still.entries,
+)
+inside_shown start Empty outcome.Fell fell = (tt, tt)
+inside_shown start value became goes = absurd goes
+
+module _ (ident : Ident) (count : ℕ) (its : Submission) (old now : Session) (became : Outcome) (let_go : Option Stand) where
+  entered_so : (before after : Option Receipt) → SubmitRefuses ident.shape (session_of before old.value) its None
+      → ((made : ℕ) → IsWalked ident.shape (lead_of old.value its.job) made old now became let_go → sight.Enters made (session_of before old.value) its (session_of after now.value) became)
+      → Tells old.value before → Tells now.value after → EntersInside ident.shape old.value its now.value became
+      → IsThrough ident.shape (lead_of old.value its.job) old now became let_go → IsTried its.tries (steps_of old.value) now.value became
+      → Acts ident count old (order.Enter its) now (reply.Entered became) let_go
+  entered_so before after refuses enters told_before told_after adds through tried =
+      let so = through_shown ident.shape (lead_of old.value its.job) old now became let_go before after through in record {
+        made = so.0;
+        before = before;
+        after = after;
+        obeys = (refuses, (enters so.0 so.2, so.1, tried_shown ident.shape (lead_of old.value its.job) its.tries so.0 old now became let_go so.2 tried));
+        told_before = told_before;
+        told_after = told_after;
+        adds = (adds, so.2);
+      }
+
+module _ (ident : Ident) (count : ℕ) (its : Submission) (planned : Planned) (now : Session) (let_go : Option Stand) where
+  abbrev starts_by : Holding → Session
+  starts_by value = record { value = value; planned = planned }
+
+  repeated_inside : (ready : Stand) (became : Outcome) → IsSubmitted ident.shape its (Repeat ready) → Repeats ident.shape ready now.value became
+      → IsThrough ident.shape (lead_of (Ready ready) its.job) (starts_by (Ready ready)) now became let_go → Acts ident count (starts_by (Ready ready)) (order.Enter its) now (reply.Entered became) let_go
+  repeated_inside ready (outcome.Receipt receipt) (some, number) (same, last, is_last) through =
+      entered_so ident count its (starts_by (Ready ready)) now (outcome.Receipt receipt) let_go (Some receipt) (Some receipt)
+      (sym (last_repeated ident.shape ready.part.private.begun its some number))
+      (λ made walked. rw (eq-eqb its.number ready.part.private.begun number) (ap (λ (value : Holding). session_of (Some receipt) value) same, refl)) last
+      (let P : Holding → Type 0 = λ value. Tells value (Some receipt) in subst P (sym same) last)
+      (rw (eq-eqb its.number ready.part.private.begun number) (same, last, is_last)) through tt
+  repeated_inside ready outcome.Withdrawn (some, number) (same, last) through =
+      entered_so ident count its (starts_by (Ready ready)) now outcome.Withdrawn let_go None None (sym (last_repeated ident.shape ready.part.private.begun its some number))
+      (λ made walked. rw (eq-eqb its.number ready.part.private.begun number) (ap (λ (value : Holding). session_of None value) same, refl)) tt tt
+      (rw (eq-eqb its.number ready.part.private.begun number) (same, last)) through tt
+  repeated_inside ready outcome.Waiting asked repeats through = absurd repeats
+  repeated_inside ready outcome.Fell asked repeats through = absurd repeats
+  repeated_inside ready (outcome.Inside number) asked repeats through = absurd repeats
+
+  module _ (became : Outcome) where
+    posted_inside : (ready : Stand) → its.number ≡ ready.part.private.begun + 1 → job_refusal ident.shape ready.part.private.begun its.job ≡ None
+        → Arrives (next_task ready its.job) ready.part.entries now.value became → IsThrough ident.shape (lead_of (Ready ready) its.job) (starts_by (Ready ready)) now became let_go
+        → IsTried its.tries ready.part.steps now.value became → Acts ident count (starts_by (Ready ready)) (order.Enter its) now (reply.Entered became) let_go
+    posted_inside ready next none arrives through tried =
+        let so = arrives_shown (next_task ready its.job) ready.part.entries now.value became arrives in
+        let other : (its.number == ready.part.private.begun) ≡ false = ne_eqb its.number ready.part.private.begun (omega (arith, next)) in
+        entered_so ident count its (starts_by (Ready ready)) now became let_go None None (sym (next_posted ident.shape ready.part.private.begun its next ∙ none))
+        (λ made walked. rw other so.0) tt tt (rw other so.1) through tried
+
+    waited_inside : (climb : Stand) → PendingRefuses climb.part.private.begun climb.part.draft its None → GoesInside climb now.value became
+        → IsThrough ident.shape onward (starts_by (Climb climb)) now became let_go → IsTried its.tries climb.part.steps now.value became
+        → Acts ident count (starts_by (Climb climb)) (order.Enter its) now (reply.Entered became) let_go
+    waited_inside climb pending goes through tried =
+        let so = inside_shown climb now.value became goes in
+        entered_so ident count its (starts_by (Climb climb)) now became let_go None None pending (λ made walked. so.0) tt tt so.1 through tried
+
+  no_step : (held : Stand) (number made : ℕ) → now.value ≡ Held held → IsWalked ident.shape onward made (starts_by (Held held)) now (outcome.Inside number) let_go → made ≡ 0
+  no_step held number made same walked =
+      let P : Holding → Type 0 = λ value. WentOn ident.shape onward (Some held) (held_by value) made in
+      let went = subst P same walked.0 in let steps = went.steps in omega (arith, steps)
+
+  stayed_inside : (held : Stand) → PendingRefuses held.part.private.begun held.part.draft its None → now.value ≡ Held held
+      → IsThrough ident.shape onward (starts_by (Held held)) now (outcome.Inside held.part.private.begun) let_go
+      → Acts ident count (starts_by (Held held)) (order.Enter its) now (reply.Entered (outcome.Inside held.part.private.begun)) let_go
+  stayed_inside held pending same through =
+      entered_so ident count its (starts_by (Held held)) now (outcome.Inside held.part.private.begun) let_go None None pending
+      (λ made walked. (no_step held held.part.private.begun made same walked, ap (λ (value : Holding). session_of None value) same, refl)) tt tt same through tt
+
+  work_entered : (became : Outcome) (work : Work) → IsSubmitted ident.shape its work → Makes ident.shape (stopped_inside work) now.value became
+      → IsThrough ident.shape (lead_of (holding_of work) its.job) (starts_by (holding_of work)) now became let_go → IsTried its.tries (steps_of (holding_of work)) now.value became
+      → Acts ident count (starts_by (holding_of work)) (order.Enter its) now (reply.Entered became) let_go
+  work_entered became (Repeat ready) asked makes through tried = repeated_inside ready became asked makes through
+  work_entered became (Post admitted tries) (next, same, none) makes through tried =
+      let P : Job → Type 0 = λ job. Arrives (next_task admitted.ready job) admitted.ready.part.entries now.value became in
+      posted_inside became admitted.ready next none (subst P same makes) through tried
+  work_entered became (GoIn climb tries) asked makes through tried = waited_inside became climb asked makes through tried
+  work_entered became (GoOn held) asked (same, is) through tried =
+      let P : Outcome → Type 0 = λ o. IsThrough ident.shape onward (starts_by (Held held)) now o let_go in
+      let Q : Outcome → Type 0 = λ o. Acts ident count (starts_by (Held held)) (order.Enter its) now (reply.Entered o) let_go in
+      subst Q (sym is) (stayed_inside held asked same (subst P is through))
+  work_entered became (PostInside admitted tries) asked makes through tried = absurd asked
+  work_entered became (GoInside climb tries) asked makes through tried = absurd asked
+  work_entered became (Stay held) asked makes through tried = absurd asked
+
+pub entered : (ident : Ident) (count : ℕ) (work : Work) (old now : Session) (became : Outcome) (let_go : Option Stand) (its : Submission) → holding_of work ≡ old.value → IsSubmitted ident.shape its work
+    → Makes ident.shape (stopped_inside work) now.value became
+    → IsThrough ident.shape (lead_by (stopped_inside work)) (record { value = holding_of (stopped_inside work); planned = old.planned }) now became let_go
+    → IsTried its.tries (steps_of (holding_of work)) now.value became → Acts ident count old (order.Enter its) now (reply.Entered became) let_go
+entered ident count work old now became let_go its same asked makes through tried =
+    let P : Holding → Type 0 = λ value. Acts ident count (record { value = value; planned = old.planned }) (order.Enter its) now (reply.Entered became) let_go in
+    subst P same (work_entered ident count its old.planned now let_go became work asked makes (led_inside ident.shape its work old.planned now became let_go asked makes through) tried)
+
+-- COMMIT: a worker that owned its lock does not wait.
+commits_of : (start : PendingWorker) (session : shown.Session) (became : Outcome) → sight.GoesOn start session became → (became ≡ outcome.Waiting → ⊥) → sight.Commits (at.Held start) session became
+commits_of start (at.Ready ready) (outcome.Receipt receipt) goes never = goes
+commits_of start (at.Climb pending) outcome.Waiting goes never = absurd (never refl)
+commits_of start at.Nobody outcome.Fell goes never = tt
+commits_of start session became goes never = absurd goes
+
+never_waits : (steps : ℕ) (value : Holding) (became : Outcome) → ((most : ℕ) → IsTried most steps value became) → became ≡ outcome.Waiting → ⊥
+never_waits steps value became tried waits =
+    let P : Outcome → Type 0 = λ o. IsTried (steps_of value + 1) steps value o in
+    let some = subst P waits (tried (steps_of value + 1)) in omega (arith, some)
+
+pub committed : (ident : Ident) (count : ℕ) (held : Stand) (planned : Planned) (now : Session) (became : Outcome) (let_go : Option Stand) → GoesOn held now.value became
+    → IsThrough ident.shape onward (record { value = Held held; planned = planned }) now became let_go → ((most : ℕ) → IsTried most held.part.steps now.value became)
+    → Acts ident count (record { value = Held held; planned = planned }) order.Commit now (reply.Committed became) let_go
+committed ident count held planned now became let_go goes through tried =
+    let so = goes_shown held now.value became goes in
+    let walk = through_shown ident.shape onward (record { value = Held held; planned = planned }) now became let_go None so.0 through in record {
+      made = walk.0;
+      before = None;
+      after = so.0;
+      obeys = (refl, (commits_of (shown_pending held) (session_of so.0 now.value) became so.1 (never_waits held.part.steps now.value became tried), walk.1));
+      told_before = tt;
+      told_after = so.2;
+      adds = (so.3, walk.2);
+    }
+
+-- The work of an order that goes on.
+module _ (ident : Ident) (count : ℕ) (planned : Planned) (now : Session) (let_go : Option Stand) (became : Outcome) where
+  abbrev stands_with : Work → Session
+  stands_with work = record { value = holding_of work; planned = planned }
+
+  work_resumed : (tries : ℕ) (work : Work) → IsResumed work → Makes ident.shape work now.value became → IsThrough ident.shape onward (stands_with work) now became let_go
+      → IsTried tries (steps_of (holding_of work)) now.value became → Acts ident count (stands_with work) (order.Resume tries) now (reply.Resumed became) let_go
+  work_resumed tries (Repeat ready) asked makes through tried = absurd asked
+  work_resumed tries (Post admitted given) asked makes through tried = absurd asked
+  work_resumed tries (PostInside admitted given) asked makes through tried = absurd asked
+  work_resumed tries (GoInside climb given) asked makes through tried = absurd asked
+  work_resumed tries (Stay held) asked makes through tried = absurd asked
+  work_resumed tries (GoIn climb given) asked makes through tried =
+      let so = goes_shown climb now.value became makes in resumed_so ident count (stands_with (GoIn climb given)) now became let_go tries so.0 refl so.1 so.2 so.3 through tried
+  work_resumed tries (GoOn held) asked makes through tried =
+      let so = goes_shown held now.value became makes in resumed_so ident count (stands_with (GoOn held)) now became let_go tries so.0 refl so.1 so.2 so.3 through tried
+
+-- An order of work, whatever the session held.
+module _ (ident : Ident) (count : ℕ) (work : Work) (old now : Session) (became : Outcome) (let_go : Option Stand) (same : holding_of work ≡ old.value)
+    (makes : Makes ident.shape work now.value became) (through : IsThrough ident.shape (lead_by work) (record { value = holding_of work; planned = old.planned }) now became let_go) where
+  pub submitted : (its : Submission) → IsSubmitted ident.shape its work → IsTried its.tries (steps_of (holding_of work)) now.value became
+      → Acts ident count old (order.Submit its) now (reply.Submitted became) let_go
+  submitted its asked tried =
+      let P : Holding → Type 0 = λ value. Acts ident count (record { value = value; planned = old.planned }) (order.Submit its) now (reply.Submitted became) let_go in
+      subst P same (work_submitted ident count its old.planned now let_go became work asked makes (led_so ident.shape its work old.planned now became let_go asked makes through) tried)
+
+  pub resumed : (tries : ℕ) → IsResumed work → IsTried tries (steps_of (holding_of work)) now.value became → Acts ident count old (order.Resume tries) now (reply.Resumed became) let_go
+  resumed tries asked tried =
+      let P : Holding → Type 0 = λ value. Acts ident count (record { value = value; planned = old.planned }) (order.Resume tries) now (reply.Resumed became) let_go in
+      subst P same (work_resumed ident count old.planned now let_go became tries work asked makes
+      (led_onward ident.shape work (record { value = holding_of work; planned = old.planned }) now became let_go asked through) tried)
+
+-- WITHDRAW
+pub withdrew_so : (ident : Ident) (count : ℕ) (climb ready : Stand) (planned left : Planned) → ready.part.worker ≡ climb.part.worker → ready.part.private.begun ≡ climb.part.private.begun
+    → ready.part.entries ≡ climb.part.entries → IsSpared ident.shape withdrawing planned (Some climb) left (Some ready)
+    → Acts ident count (record { value = Climb climb; planned = planned }) order.Withdraw (record { value = Ready ready; planned = left }) (reply.Withdrew ready.part.private.begun) None
+withdrew_so ident count climb ready planned left own number entries (made, went, leaves) = record {
+  made = made;
+  before = None;
+  after = None;
+  obeys = (refl, ((same_ready ready.part.worker climb.part.worker ready.part.private.begun climb.part.private.begun None own number, number), leaves));
+  told_before = tt;
+  told_after = tt;
+  adds = (entries, went, refl);
+}
+
+pub withdraw_fell : (ident : Ident) (count : ℕ) (climb : Stand) (planned : Planned) (now : Session) (let_go : Option Stand)
+    → IsThrough ident.shape withdrawing (record { value = Climb climb; planned = planned }) now outcome.Fell let_go
+    → Acts ident count (record { value = Climb climb; planned = planned }) order.Withdraw now reply.WithdrawFell let_go
+withdraw_fell ident count climb planned now let_go through =
+    let so = through_shown ident.shape withdrawing (record { value = Climb climb; planned = planned }) now outcome.Fell let_go None None through in
+    record { made = so.0; before = None; after = None; obeys = (refl, so.1); told_before = tt; told_after = tt; adds = so.2 }
+
+-- LAST
+told_of_last : (shape : Shape) (ready : Stand) (receipt : Option Receipt) → table.IsLast shape ready.part receipt → Tells (Ready ready) receipt
+told_of_last shape ready None is = tt
+told_of_last shape ready (Some receipt) is =
+    let P : Bool → Type 0 = λ given_up. Some receipt ≡ (if given_up then None else last_receipt ready.part.entries) in
+    elim (cases_Bool (is.place == withdrawn_place)) [
+      | inl up ↦ absurd (none-some receipt (sym (subst P up is.receipt_is)))
+      | inr kept ↦ sym (subst P kept is.receipt_is)
+    ]
+
+pub last_so : (ident : Ident) (count : ℕ) (ready : Stand) (planned : Planned) (receipt : Option Receipt) → table.IsLast ident.shape ready.part receipt
+    → Acts ident count (record { value = Ready ready; planned = planned }) order.Last (record { value = Ready ready; planned = planned }) (reply.Last receipt) None
+last_so ident count ready planned receipt is = record {
+  made = 0;
+  before = receipt;
+  after = receipt;
+  obeys = (refl, (refl, refl));
+  told_before = told_of_last ident.shape ready receipt is;
+  told_after = told_of_last ident.shape ready receipt is;
+  adds = (is, refl, refl);
+}

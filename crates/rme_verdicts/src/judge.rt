@@ -1,0 +1,103 @@
+//! The abstract machine, which judges one line of a transcript after another.
+
+ghost use Rattle.std.specs.Prelude.{◌≡◌, IfOk};
+ghost use Rattle.rme_lines.specs.Cuts.{line_read};
+ghost use Rattle.rme_verdicts.specs.Judging.{HasOpened, IsDecided, IsFound, IsJudge};
+ghost use Rattle.rme_verdicts.specs.Verdicts.{event_read};
+ghost use Rattle.rme_verdicts.specs.Watching.{IsShown, IsShownOf};
+
+use crate::event::event_of;
+use crate::watch::Watch;
+use rme_checker::Machine;
+use rme_texts::EventLine;
+use rme_wire::{Cut, Names, Opening, Request, names_and_shape, request_of};
+use rme_words::{NoMemory, Refusal};
+use std::alloc::Global;
+
+/// What one line is found to be.
+#[derive(Clone, Copy, PartialEq, Eq)]
+pub enum Found {
+    /// A step of the machine, which it took.
+    Step,
+    /// An event with an answer that the machine does not have.
+    NoStep,
+    /// No event line.
+    NoEvent,
+}
+
+/// The machine that a transcript has opened, and the names of its locks.
+#[derive(Drop)]
+pub struct Judge {
+    alloc: Global,
+    pub names: Names,
+    pub machine: Machine,
+}
+
+impl Judge {
+    /// The judge that a first line opens, if it opens a good shape.
+    pub fn of_line(alloc: Global, cut: Cut, line: &[u8]) -> Result<Option<Judge>, NoMemory>
+        ensures { IfOk result (HasOpened (line_read cut line.now)) }
+    {
+        if cut == Cut::TooLong {
+            return Ok(None);
+        }
+        let names = Names::new(alloc)?;
+        match request_of(alloc, &names, line)? {
+            Some(Request::Open(opening)) => Judge::of_opening(alloc, &opening),
+            _ => Ok(None),
+        }
+    }
+
+    /// The judge of an opening, if its shape is good.
+    fn of_opening(alloc: Global, opening: &Opening) -> Result<Option<Judge>, NoMemory>
+        ensures { IfOk result (IsJudge opening.now) }
+    {
+        match names_and_shape(alloc, opening) {
+            Ok((names, shape)) => {
+                let machine = Machine::new(alloc, shape)?;
+                Ok(Some(Judge {
+                    alloc,
+                    names,
+                    machine,
+                }))
+            }
+            Err(Refusal::NoMemory) => Err(NoMemory),
+            Err(_) => Ok(None),
+        }
+    }
+
+    /// What a further line is found to be. A step that the machine takes is shown to the watcher, and nothing else is.
+    pub fn finds<V: Watch>(
+        &mut self,
+        cut: Cut,
+        line: &[u8],
+        watcher: &mut V,
+    ) -> Result<Found, NoMemory>
+        ensures found { IfOk result (λ found. IsFound self.old.names self.old.machine (line_read cut line.now) found self.new.machine) }
+        ensures shown { IfOk result (λ found. IsShownOf V.sees (event_read self.old.names (line_read cut line.now)) self.new.machine found watcher.old watcher.new) }
+        ensures names { self.new.names ≡ self.old.names }
+    {
+        if cut == Cut::TooLong {
+            return Ok(Found::NoEvent);
+        }
+        match event_of(self.alloc, &self.names, line)? {
+            None => Ok(Found::NoEvent),
+            Some(told) => self.decides(&told, watcher),
+        }
+    }
+
+    /// Whether the machine has the step of an event line, which it takes then.
+    fn decides<V: Watch>(&mut self, line: &EventLine, watcher: &mut V) -> Result<Found, NoMemory>
+        ensures found { IfOk result (λ found. IsDecided self.old.machine line.now found self.new.machine) }
+        ensures shown { IfOk result (λ found. IsShown V.sees line.now self.new.machine found watcher.old watcher.new) }
+        ensures names { self.new.names ≡ self.old.names }
+    {
+        let event = line.event();
+        let answer = line.answer();
+        if !self.machine.admits(&event, &answer)? {
+            return Ok(Found::NoStep);
+        }
+        watcher.stepped(line, &self.machine)?;
+        Ok(Found::Step)
+    }
+}
