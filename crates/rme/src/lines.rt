@@ -6,4 +6,7 @@
 
 pub use rme_engine::{Engine, answer_lines, run_lines, transcript_lines};
 pub use rme_texts::{Done, Reply, push_reply};
-pub use rme_wire::{Command, Cut, EngineFault, GivenNames, Image, LineReader, Loading, Names, Opening, Request, Sink, Source, is_name, put_all, request_of};
+pub use rme_wire::{
+    Command, Cut, EngineFault, GivenNames, Image, LineReader, Loading, Names, Opening, Request,
+    Sink, Source, is_name, put_all, request_of,
+};

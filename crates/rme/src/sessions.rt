@@ -6,4 +6,6 @@
 pub use rme_server::{
     Door, Holding, Planned, ServeFault, Slots, Stand, Trouble, obey, serve, session,
 };
-pub use rme_session_lines::{Order, Outcome, SessionReply, Standing, Submission, order_of, push_session_reply};
+pub use rme_session_lines::{
+    Order, Outcome, SessionReply, Standing, Submission, order_of, push_session_reply,
+};

@@ -7,9 +7,9 @@ ghost use Rattle.rme_line_commands.specs.Statuses.{text_of_verdict};
 ghost use Rattle.rme_commands.specs.Drawn.{IsDrawn, told_of_verdict};
 
 use rme_draw::draw_lines;
-use rme_verdicts::Verdict;
 use rme_faults::Fault;
 use rme_line_commands::{end_on, status_of};
+use rme_verdicts::Verdict;
 use rme_wire::LineReader;
 use std::alloc::Global;
 use std::io;

@@ -9,8 +9,8 @@ ghost use Rattle.rme_picture.specs.Pictures.{IsSvg};
 ghost use Rattle.rme_draw.specs.Following.{Draws, ended, following_of};
 
 use crate::follower::Follower;
-use rme_verdicts::{Verdict, watch_lines};
 use rme_picture::{Paint, Svg};
+use rme_verdicts::{Verdict, watch_lines};
 use rme_wire::{EngineFault, LineReader, Sink, Source, put_all};
 use std::alloc::Global;
 

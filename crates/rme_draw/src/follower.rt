@@ -8,10 +8,10 @@ use crate::holds::{holding_after, push_holds, push_last_holds};
 use crate::stays::{Staying, first_stays, push_last_stays, push_stay};
 use crate::told::{number_of, push_mark};
 use rme_checker::Machine;
-use rme_verdicts::Watch;
 use rme_picture::{Drawing, Finish, Hold, Paint};
 use rme_program::{Note, Receipt};
 use rme_texts::{EventLine, Names};
+use rme_verdicts::Watch;
 use rme_words::NoMemory;
 use std::alloc::{AllocError, Global};
 

@@ -6,8 +6,8 @@ ghost use Rattle.rme_lines.specs.Puts.{AppendsFront};
 ghost use Rattle.rme_lines.specs.Readers.{bytes_left};
 ghost use Rattle.rme_line_commands.specs.Statuses.{FindsIn, status_of_verdict, text_of_verdict};
 
-use rme_verdicts::{Verdict, check_lines};
 use rme_faults::Fault;
+use rme_verdicts::{Verdict, check_lines};
 use rme_wire::{LineReader, put_all};
 use std::alloc::{AllocError, Global};
 use std::io;

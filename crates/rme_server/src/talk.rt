@@ -15,10 +15,10 @@ ghost use Rattle.rme_session_lines.specs.Orders.{order_of_line};
 ghost use Rattle.rme_words.specs.declared.refusal.Refusal.TheVariants.{BadLine};
 
 use crate::buffers::Buffers;
-use rme_table::{Service, Tag};
 use rme_session_lines::{Order, Outcome, SessionReply, Submission, order_of};
 use rme_sessions::{Stand, let_go, obey};
 use rme_slots::Slots;
+use rme_table::{Service, Tag};
 use rme_wire::{Cut, EngineFault, LineReader, Names, Sink, Source};
 use rme_words::{NoMemory, Refusal};
 use std::alloc::Global;

@@ -23,9 +23,9 @@ use crate::refusal::{
 use crate::stand::{Holding, Stand};
 use crate::work::{Work, Worked, carry_out};
 use rme_orders::{Countdown, Planned};
-use rme_table::{Climb, Down, Held, Leave, Never, Ready, Service, Stance, Tag};
 use rme_session_lines::{Order, Outcome, SessionReply, Standing, Submission};
 use rme_slots::Slots;
+use rme_table::{Climb, Down, Held, Leave, Never, Ready, Service, Stance, Tag};
 use std::sync::Wait;
 
 /// Where the session stands after an order, what the order is answered, and the worker that is let go, if one is.

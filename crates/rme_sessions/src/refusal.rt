@@ -12,8 +12,8 @@ ghost use Rattle.rme_sessions.specs.declared.stand.Holding.TheVariants as holds;
 use crate::stand::Holding;
 use crate::work::Work;
 use rme_orders::{Asked, asked_of_ready, pending_refusal};
-use rme_table::{Climb, Held, Ready, Service};
 use rme_session_lines::Submission;
+use rme_table::{Climb, Held, Ready, Service};
 use rme_words::{Refusal, Shape};
 
 /// An order that is refused: what the session holds still, and why.

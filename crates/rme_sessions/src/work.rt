@@ -12,8 +12,8 @@ ghost use Rattle.rme_session_lines.specs.declared.session.Outcome.TheVariants as
 use crate::planned::Counting;
 use crate::stand::Holding;
 use crossbeam_utils::Backoff;
-use rme_table::{Admitted, Climb, Down, Driven, Free, Held, Ready, Service, Shut, Tries};
 use rme_session_lines::Outcome;
+use rme_table::{Admitted, Climb, Down, Driven, Free, Held, Ready, Service, Shut, Tries};
 
 /// What the session holds afterwards, and what became of the job.
 pub(crate) type Worked = (Holding, Outcome);

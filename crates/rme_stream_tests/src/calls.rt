@@ -2,8 +2,8 @@
 
 use crate::desk::{Desk, Trial, at_desk, take};
 use rme_server::{Stand, obey};
-use rme_table::Tag;
 use rme_session_lines::{Order, SessionReply, Standing};
+use rme_table::Tag;
 use rme_words::Refusal;
 use std::process::Abort;
 use std::sync::Wait;

@@ -4,10 +4,9 @@ ghost use Rattle.std.specs.Prelude.{◌≡◌, ◌++◌, OnOk, string_bytes, sli
 ghost use Rattle.rme_texts.specs.Texts as text;
 ghost use Rattle.rme_texts.specs.Replies as spec;
 
-use rme_names::Image;
-use rme_names::Names;
 use crate::texts::{push_cells, push_entries, push_note, push_notes, push_receipt};
 use crate::walked::Walked;
+use rme_names::{Image, Names};
 use rme_program::{Entry, Note, Receipt};
 use rme_script::Row;
 use rme_words::Refusal;

@@ -3,8 +3,8 @@
 ghost use Rattle.std.specs.Prelude.{◌≡◌, ◌++◌, OnOk, string_bytes};
 ghost use Rattle.rme_texts.specs.Events as spec;
 
-use rme_names::Names;
 use crate::texts::{name_of, push_names, push_note, push_ops, push_script_end};
+use rme_names::Names;
 use rme_program::{Answer, Event, Note};
 use rme_script::Job;
 use rme_words::Shape;

@@ -7,9 +7,8 @@ use crate::answer::{
     Done, Report, push_done, push_history, push_image, push_last, push_number, push_owner,
     push_refusal, push_report, push_row, push_stepped, push_walked,
 };
-use rme_names::Image;
-use rme_names::Names;
 use crate::walked::Walked;
+use rme_names::{Image, Names};
 use rme_program::{Entry, Note, Receipt};
 use rme_script::Row;
 use rme_words::Refusal;

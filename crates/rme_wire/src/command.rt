@@ -6,8 +6,8 @@ ghost use Rattle.rme_wire.specs.Commands as spec;
 
 use crate::operation::script_of;
 use crate::value::small;
-use rme_script::Job;
 use rme_names::Names;
+use rme_script::Job;
 use serde_json::Value;
 
 /// The most steps of a walk whose line doesn't say.
