@@ -14,7 +14,7 @@ use rme_words::{NoMemory, Refusal};
 use std::alloc::{AllocError, Global};
 
 /// What a run writes of each line.
-#[derive(Clone, Copy, PartialEq, Eq)]
+#[derive(Clone, Copy)]
 pub enum Output {
     /// Its answer.
     Answers,

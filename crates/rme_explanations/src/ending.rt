@@ -1,7 +1,7 @@
 //! What the statuses of a program that ended mean.
 
 /// How a program ended, by its status.
-#[derive(Clone, Copy, PartialEq, Eq)]
+#[derive(Clone, Copy)]
 pub enum Ending {
     Done,
     AnswerIsNo,

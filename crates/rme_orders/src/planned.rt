@@ -1,7 +1,7 @@
 //! The crash that a client plans.
 
 /// A planned crash of a session's worker. Once it has let the worker fall nothing is planned.
-#[derive(Clone, Copy, PartialEq, Eq)]
+#[derive(Clone, Copy)]
 pub enum Planned {
     /// No crash is planned.
     Nothing,
@@ -10,7 +10,7 @@ pub enum Planned {
 }
 
 /// A plan that a session's worker works by. It tells, after a fall, that the crash came when it was due.
-#[derive(Clone, Copy, PartialEq, Eq)]
+#[derive(Clone, Copy)]
 pub enum Countdown {
     /// The worker did not fall.
     Runs(Planned),

@@ -11,7 +11,7 @@ use rme_session_lines::Submission;
 use rme_words::{Refusal, Shape};
 
 /// What a submission asks of a worker that is ready.
-#[derive(Clone, Copy, PartialEq, Eq)]
+#[derive(Clone, Copy)]
 pub enum Asked {
     /// To post the job, if the job itself is not refused.
     Post,

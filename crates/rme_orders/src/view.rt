@@ -5,7 +5,7 @@ use rme_program::Receipt;
 use rme_script::Job;
 
 /// A worker that may be handed a job.
-#[derive(Clone, Copy, PartialEq, Eq)]
+#[derive(Clone, Copy)]
 pub struct ReadyWorker {
     pub worker: u32,
     /// Its last number, finished or withdrawn, or 0.
@@ -15,7 +15,7 @@ pub struct ReadyWorker {
 }
 
 /// A worker with a job that is not finished.
-#[derive(Clone, Copy, PartialEq, Eq)]
+#[derive(Clone, Copy)]
 pub struct PendingWorker {
     pub worker: u32,
     /// The job's number.
@@ -25,7 +25,7 @@ pub struct PendingWorker {
 }
 
 /// What a session's worker is at.
-#[derive(Clone, Copy, PartialEq, Eq)]
+#[derive(Clone, Copy)]
 pub enum Session {
     /// The session has no worker.
     Nobody,
@@ -38,7 +38,7 @@ pub enum Session {
 }
 
 /// A session between two orders: what its worker is at, and the crash that is planned.
-#[derive(Clone, Copy, PartialEq, Eq)]
+#[derive(Clone, Copy)]
 pub struct View {
     pub session: Session,
     pub planned: Planned,

@@ -10,7 +10,7 @@ use rme_seats::{Chance, Fell, Onward, Service, WorkerSeat};
 use rme_tree::{node, side};
 
 /// How a sweep ended.
-#[derive(Clone, Copy, PartialEq, Eq)]
+#[derive(Clone, Copy)]
 pub enum Climbed {
     /// The worker owns the lock.
     Entered,

@@ -15,14 +15,14 @@ use rme_tree::{node, side};
 use rme_words::Shape;
 
 /// What Recover finds: how many jobs the worker has begun, and where its last life ended.
-#[derive(Clone, Copy, PartialEq, Eq)]
+#[derive(Clone, Copy)]
 pub struct Recovered {
     pub begun: u32,
     pub found: Found,
 }
 
 /// Where a worker's last life ended, and so where it goes on.
-#[derive(Clone, Copy, PartialEq, Eq)]
+#[derive(Clone, Copy)]
 pub enum Found {
     /// No job is pending, and no node is held.
     Ready,

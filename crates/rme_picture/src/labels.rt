@@ -4,7 +4,7 @@ use std::alloc::AllocError;
 use std::fmt::Write;
 
 /// What a line told of a worker. The numbers are those of its jobs.
-#[derive(Clone, Copy, PartialEq, Eq)]
+#[derive(Clone, Copy)]
 pub enum Told {
     Submit(u32),
     Crash,

@@ -1,7 +1,7 @@
 //! The phases that a worker is drawn in.
 
 /// What a worker is at, as far as the machine and its events tell.
-#[derive(Clone, Copy, PartialEq, Eq)]
+#[derive(Clone, Copy)]
 pub enum Phase {
     /// May be handed a job.
     Ready,

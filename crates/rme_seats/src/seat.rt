@@ -12,7 +12,7 @@ use rme_script::Script;
 use std::marker::Model;
 
 /// The worker fell before its next own step.
-#[derive(Clone, Copy, PartialEq, Eq)]
+#[derive(Clone, Copy)]
 pub struct Fell;
 
 /// What one worker steps with: its seat at the words, and the list of its finished sections, which no step reads.

@@ -4,7 +4,7 @@ use rme_orders::{Countdown, Planned};
 use rme_table::Chance;
 
 /// A planned crash, as a Chance. Once it has let a worker fall nothing is planned.
-#[derive(Clone, Copy, PartialEq, Eq)]
+#[derive(Clone, Copy)]
 pub struct Plan {
     pub planned: Planned,
 }

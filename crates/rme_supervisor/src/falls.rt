@@ -7,7 +7,7 @@ use rme_table::Chance;
 /// Whether a worker falls in a life, and when.
 ///
 /// It is asked before each own step, and counts down.
-#[derive(Clone, Copy, PartialEq, Eq)]
+#[derive(Clone, Copy)]
 pub(crate) enum Falls {
     /// The plan has no further fall.
     Never,

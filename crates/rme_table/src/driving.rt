@@ -65,7 +65,7 @@ impl Gate for Shut {
 }
 
 /// The blocked sweeps on one job: how many were made, and the most that may be.
-#[derive(Clone, Copy, PartialEq, Eq)]
+#[derive(Clone, Copy)]
 pub struct Tries {
     pub blocked: u32,
     pub most: u32,

@@ -13,7 +13,7 @@ use rme_words::Refusal;
 use std::alloc::AllocError;
 
 /// An order that is answered by its own word alone.
-#[derive(Clone, Copy, PartialEq, Eq)]
+#[derive(Clone, Copy)]
 pub enum Done {
     Open,
     Load,
@@ -128,7 +128,7 @@ pub fn push_history(out: &mut String, names: &Names, entries: &[Entry]) -> Resul
 }
 
 /// For each phase that has steps, the most own steps of one stay in it.
-#[derive(Clone, Copy, PartialEq, Eq)]
+#[derive(Clone, Copy)]
 pub struct Report {
     pub recover: u32,
     pub post: u32,

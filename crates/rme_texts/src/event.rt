@@ -11,7 +11,7 @@ use rme_words::Shape;
 use std::alloc::AllocError;
 
 /// A job that a worker was handed, and the number that it will have.
-#[derive(Clone, Copy, PartialEq, Eq)]
+#[derive(Clone, Copy)]
 pub struct Handed {
     pub worker: u32,
     pub job: Job,
@@ -19,7 +19,7 @@ pub struct Handed {
 }
 
 /// What a line of a transcript tells: an event that a world took, and its answer.
-#[derive(Clone, Copy, PartialEq, Eq)]
+#[derive(Clone, Copy)]
 pub enum EventLine {
     /// A worker was handed a job.
     Submit(Handed),

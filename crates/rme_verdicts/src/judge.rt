@@ -15,7 +15,7 @@ use rme_words::{NoMemory, Refusal};
 use std::alloc::Global;
 
 /// What one line is found to be.
-#[derive(Clone, Copy, PartialEq, Eq)]
+#[derive(Clone, Copy)]
 pub enum Found {
     /// A step of the machine, which it took.
     Step,

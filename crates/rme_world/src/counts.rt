@@ -8,7 +8,7 @@ ghost use Rattle.rme_world.specs.Counting.{CountsAfter, count_of, counted, begun
 use rme_program::{Note, Phase};
 
 /// One worker's own steps of its latest stay in each phase, blocked ones aside.
-#[derive(Clone, Copy, PartialEq, Eq)]
+#[derive(Clone, Copy)]
 pub struct Counts {
     pub recover: u32,
     pub post: u32,

@@ -13,7 +13,7 @@ use rme_program::{Entry, Note, Phase, Stage, after, next, phase};
 use rme_words::{Bank, Refusal};
 
 /// An own step that was made.
-#[derive(Clone, Copy, PartialEq, Eq)]
+#[derive(Clone, Copy)]
 pub struct Stride {
     /// What it brought about.
     pub note: Note,
