@@ -1,12 +1,13 @@
-/* load rme|echo|redis PORT CONNECTIONS LOCKS MILLISECONDS [SHA]: a thread a connection, each with one request in flight.
+/* load rme|inside|echo|redis PORT CONNECTIONS LOCKS MILLISECONDS [SHA]: a thread a connection, each with one request in flight.
 
    Connection w is worker w. Its jobs add 1 to cell 0 of lock w modulo LOCKS, and have the numbers 1, 2, 3 and so on. To
-   `rme serve` and to the echo server a job is a session's line; to redis it is the script of that SHA1 with the same
-   numbers. It prints how many requests were answered, the nanoseconds that took, and the bytes of a usual line and answer.
+   `rme serve` and to the echo server a job is a session's line, or with `inside` two of them, which enter and commit; to redis
+   it is the script of that SHA1 with the same numbers. It prints how many jobs were answered, the nanoseconds that took, and
+   the bytes of a usual line and answer.
 */
 #include "bench.h"
 
-enum kind { RME, ECHO, REDIS };
+enum kind { RME, INSIDE, ECHO, REDIS };
 
 static enum kind kind;
 static unsigned port, locks, milliseconds;
@@ -34,8 +35,8 @@ static size_t request(char *line, const struct client *client, uint64_t number) 
             "*8\r\n$7\r\nEVALSHA\r\n$40\r\n%s\r\n$1\r\n2\r\n$%zu\r\n%s\r\n$%zu\r\n%s\r\n$%zu\r\n%s\r\n$1\r\n0\r\n$1\r\n1\r\n", sha,
             strlen(worker), worker, strlen(name), name, strlen(digits), digits);
     } else {
-        size = snprintf(line, ROOM, "{\"do\":\"submit\",\"lock\":\"lock-%u\",\"number\":%llu,\"script\":[[\"add\",0,1]]}\n", lock,
-            (unsigned long long)number);
+        size = snprintf(line, ROOM, "{\"do\":\"%s\",\"lock\":\"lock-%u\",\"number\":%llu,\"script\":[[\"add\",0,1]]}\n",
+            kind == INSIDE ? "enter" : "submit", lock, (unsigned long long)number);
     }
     return (size_t)size;
 }
@@ -75,24 +76,37 @@ static void attach(const struct client *client) {
     }
 }
 
+/* Sends a line until it no longer waits, and answers the bytes of what was answered then, which must have this in it. */
+static size_t ask(const struct client *client, const char *line, size_t size, char *held, const char *wanted) {
+    size_t answered;
+    do {
+        if (!put(client->connection, line, size)) {
+            fail("the server closed a connection");
+        }
+        answered = answer(client->connection, held);
+    } while ((kind == RME || kind == INSIDE) && strstr(held, "\"waiting\":true") != NULL);
+    if (kind != ECHO && strstr(held, wanted) == NULL) {
+        fail("the server answered %s", held);
+    }
+    return answered;
+}
+
 /* Makes job after job until the time is over. A job that waits is sent again, and counts once. */
 static void *work(void *given) {
+    static const char commit[] = "{\"do\":\"commit\"}\n";
     struct client *client = given;
     char line[ROOM], held[ROOM];
-    if (kind == RME) {
+    if (kind == RME || kind == INSIDE) {
         attach(client);
     }
     pthread_barrier_wait(&begin);
     while (!atomic_load_explicit(&is_over, memory_order_relaxed)) {
         client->line_size = request(line, client, client->answered + 1);
-        do {
-            if (!put(client->connection, line, client->line_size)) {
-                fail("the server closed a connection");
-            }
-            client->answer_size = answer(client->connection, held);
-        } while (kind == RME && strstr(held, "\"waiting\":true") != NULL);
-        if (kind != ECHO && strstr(held, "\"place\":") == NULL) {
-            fail("the server answered %s", held);
+        if (kind == INSIDE) {
+            ask(client, line, client->line_size, held, "\"stance\":\"held\"");
+            client->answer_size = ask(client, commit, sizeof commit - 1, held, "\"place\":");
+        } else {
+            client->answer_size = ask(client, line, client->line_size, held, "\"place\":");
         }
         client->answered++;
     }
@@ -119,12 +133,15 @@ static enum kind kind_of(const char *word) {
     if (strcmp(word, "rme") == 0) {
         return RME;
     }
+    if (strcmp(word, "inside") == 0) {
+        return INSIDE;
+    }
     return strcmp(word, "echo") == 0 ? ECHO : REDIS;
 }
 
 int main(int count, char **words) {
     if (count < 6) {
-        fail("usage: %s rme|echo|redis PORT CONNECTIONS LOCKS MILLISECONDS [SHA]", words[0]);
+        fail("usage: %s rme|inside|echo|redis PORT CONNECTIONS LOCKS MILLISECONDS [SHA]", words[0]);
     }
     kind = kind_of(words[1]);
     port = number_of(words[2], 65535);

@@ -91,7 +91,10 @@ class Server:
                 self.program.wait(2)
                 break
             except subprocess.TimeoutExpired:
-                self.connect().close()
+                try:
+                    self.connect().close()
+                except ConnectionRefusedError:  # it has taken its last one, and is at its end
+                    break
         return self.end()
 
 

@@ -14,12 +14,14 @@ Line = namedtuple("Line", "text")
 Cut = namedtuple("Cut", "first last")
 Save = namedtuple("Save", "worker")
 Client = namedtuple("Client", "number")
+Ends = namedtuple("Ends", "number")
 Serve = namedtuple("Serve", "words")
 
 ASKED = (
     (Cut, re.compile(rb"# cut (\d+) to (\d+)\n")),
     (Save, re.compile(rb"# save (\d+)\n")),
     (Client, re.compile(rb"# client (\d+)\n")),
+    (Ends, re.compile(rb"# client (\d+) ends\n")),
 )
 INPUTS = (".jsonl", ".bin")
 OTHERS = (".answers.jsonl", ".expected.jsonl", ".transcript.jsonl")

@@ -2,7 +2,7 @@
 
 from lib.servers import Server
 from rows.program import check, difference
-from rows.reading import Client, Line, Serve, text_of
+from rows.reading import Client, Ends, Line, Serve, text_of
 
 
 def started(words, connections):
@@ -21,15 +21,19 @@ def closing(server, connections):
 
 
 def heard(words, turns):
-    """What the clients are answered, who wait for each answer before the next line, and what the server says at its end."""
+    """What the clients are answered, who wait for each answer before the next line, and what the server says at its end.
+    Without a line a client ends, and the server has seen that before the next turn."""
     count = max(client for client, _ in turns)
     server = started(words, count)
-    clients = [server.session() for _ in range(count)]
+    clients = {number: server.session() for number in range(1, count + 1)}
     answers = []
     for client, line in turns:
-        clients[client - 1].send(line)
-        answers.append(clients[client - 1].hear())
-    answers += [client.hang_up() for client in clients]
+        if line is None:
+            answers.append(clients.pop(client).hang_up())
+        else:
+            clients[client].send(line)
+            answers.append(clients[client].hear())
+    answers += [client.hang_up() for client in clients.values()]
     return b"".join(answers) + closing(server, count)
 
 
@@ -39,11 +43,13 @@ def check_session(name, words, turns, wanted):
 
 
 def turns_of(items):
-    """Each line with the number of the client that says it."""
+    """Each line with the number of the client that says it; none where the client ends."""
     client, turns = 1, []
     for item in items:
         if isinstance(item, Client):
             client = item.number
+        elif isinstance(item, Ends):
+            turns.append((item.number, None))
         elif isinstance(item, Line):
             turns.append((client, item.text))
     return turns

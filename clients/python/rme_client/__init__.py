@@ -4,8 +4,11 @@
 
     with Worker("127.0.0.1", 7000, 0) as worker:
         receipt = worker.submit("bank", [["add", 0, 5]])
+        with worker.inside("bank", [["add", 0, 5]]) as held:
+            ...  # no other worker is inside the lock
+        receipt = held.receipt
 """
 
-from .worker import Receipt, Refused, Script, Worker
+from .worker import Done, Held, Receipt, Refused, Script, Worker
 
-__all__ = ["Receipt", "Refused", "Script", "Worker"]
+__all__ = ["Done", "Held", "Receipt", "Refused", "Script", "Worker"]

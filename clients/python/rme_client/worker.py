@@ -10,8 +10,9 @@ from __future__ import annotations
 import json
 import socket
 import time
+from contextlib import contextmanager
 from types import TracebackType
-from typing import Any, Callable, Optional, Sequence, Type, TypedDict, TypeVar, Union
+from typing import Any, Callable, Iterator, Optional, Sequence, Type, TypedDict, TypeVar, Union
 
 Script = Sequence[Sequence[Union[str, int]]]
 Answer = TypeVar("Answer")
@@ -36,6 +37,22 @@ class Refused(Exception):
         self.code: Optional[int] = answer.get("code")
 
 
+class Done(Exception):
+    """The job of this number counted already, so its block is not run: the client's own work was done before the commit."""
+
+    def __init__(self, receipt: Receipt):
+        super().__init__(receipt)
+        self.receipt = receipt
+
+
+class Held:
+    """A job whose worker is inside its lock."""
+
+    def __init__(self, number: int):
+        self.number = number
+        self.receipt: Optional[Receipt] = None  # there once the block has ended, and the job has counted
+
+
 class Again(Exception):
     """The connection is gone, or the worker on it: connect, attach, and send the same line."""
 
@@ -52,7 +69,9 @@ class Worker:
         """Nothing is connected yet. After `timeout` seconds without an answer the connection is taken for broken."""
         self.address, self.worker, self.timeout = (host, port), worker, timeout
         self._connection: Optional[socket.socket] = None
-        self._done: Optional[int] = None  # the number of the last job, or None while a job is pending
+        self._number, self._is_pending = 0, False  # of the last job, or of the one that is pending
+        self._begun: Optional[int] = None  # the number of the job whose block was begun, until it has counted
+        self._is_inside = False
 
     def __enter__(self) -> Worker:
         return self
@@ -69,16 +88,48 @@ class Worker:
         a number the next one is chosen, and a job that an earlier client left pending is finished first. `Refused` where
         the server refuses the job, or another client gave its number up.
         """
+        self._may_not_be_inside()
 
         def attempt() -> Optional[Receipt]:
             nonlocal number
-            if number is None and self._done is None and self._finish() is None:
-                return None
             if number is None:
-                number = self._done + 1
+                number = self._next()
+            if number is None:
+                return None
             return self._worked({"do": "submit", "lock": lock, "number": number, "script": script})
 
         return self._insist(attempt)
+
+    @contextmanager
+    def inside(self, lock: str, script: Script, number: Optional[int] = None) -> Iterator[Held]:
+        """Enters the lock with this job, runs the block of `with`, and commits the job at its end.
+
+        From the beginning of the block until the job has counted no other worker is inside the lock, also where the
+        connection breaks or this program is killed: its worker is down then, and still the owner. The job counts once. The
+        block is begun again after a crash, so what it does must bear that.
+
+        Where the block raises, nothing is committed: the session ends, and its worker stays inside for the next attempt,
+        which is the next `inside` of this `Worker`, or of any client under the same number. `submit` without a number and
+        `withdraw` finish the job without its block.
+
+        A program that may itself be killed gives the number, so that it can give the same one when it comes back: from its
+        own records, or by `next_number`. `Done`, with the receipt, where the job of that number counted already: the block
+        is not run then. Without a number the next one is chosen, and a job that an earlier client left pending is finished
+        first, without its block. `Refused` where the server refuses the job, or another client gave its number up.
+        """
+        self._may_not_be_inside()
+        entered = self._enter(lock, script, self._begun if number is None else number)
+        if not isinstance(entered, Held):
+            raise Done(entered)
+        held, self._begun, self._is_inside = entered, entered.number, True
+        try:
+            yield held
+        except BaseException:
+            self.close()  # the worker is down, and the lock is still its own
+            raise
+        finally:
+            self._is_inside = False
+        held.receipt = self._insist(lambda: self._commit(held.number))
 
     def withdraw(self) -> Optional[Receipt]:
         """Gives up the job that is pending, so that none is. Its number never counts then, and `None` is answered.
@@ -86,9 +137,10 @@ class Worker:
         A job that is inside its lock cannot be given up: it is finished, and its receipt is answered. So is that of a job
         that was finished before. Where no job ever was, `None`.
         """
+        self._may_not_be_inside()
 
         def attempt() -> Optional[tuple[Optional[Receipt]]]:
-            if self._done is not None:
+            if not self._is_pending:
                 return (self._ask({"do": "last"})["last"],)
             try:
                 answer = self._ask({"do": "withdraw"})
@@ -99,23 +151,29 @@ class Worker:
                 return None if receipt is None else (receipt,)
             if "fell" in answer:
                 raise Again
-            self._done = answer["number"]
+            self._is_pending = False
             return (None,)
 
         return self._insist(attempt)[0]
+
+    def next_number(self) -> int:
+        """The number of the job that is pending, or of the next one where none is: a new job, or one to go on with."""
+        self._may_not_be_inside()
+        return self._insist(lambda: self._number + (not self._is_pending))
 
     def last(self) -> Optional[Receipt]:
         """The receipt of the worker's last job; `None` where it was given up, and where there was none.
 
         `Refused`, 9, while a job is pending.
         """
+        self._may_not_be_inside()
         return self._insist(lambda: (self._ask({"do": "last"})["last"],))[0]
 
     def close(self) -> None:
         """Ends the session: the worker falls, and what it has pending stays so until it is attached again."""
         if self._connection is not None:
             self._connection.close()
-        self._connection = self._done = None
+        self._connection = None
 
     def _insist(self, attempt: Callable[[], Optional[Answer]]) -> Answer:
         """What the attempt answers, made again and again with a worker attached, until it answers something."""
@@ -135,22 +193,64 @@ class Worker:
             time.sleep(pause)
             pause = min(2 * pause, 1)
 
+    def _may_not_be_inside(self) -> None:
+        """Inside a block the worker has its job in hand: another order would commit it too early."""
+        if self._is_inside:
+            raise RuntimeError("a worker that is inside can do nothing else until its block has ended")
+
+    def _next(self) -> Optional[int]:
+        """The next job's number, once none is pending; `None` where one waits still."""
+        if self._is_pending and self._finish() is None:
+            return None
+        return self._number + 1
+
+    def _enter(self, lock: str, script: Script, number: Optional[int]) -> Union[Held, Receipt]:
+        """The job, once the worker is inside with it; or its receipt, where it counted already."""
+
+        def attempt() -> Union[Held, Receipt, None]:
+            nonlocal number
+            if number is None:
+                number = self._next()
+            if number is None:
+                return None
+            order = {"do": "enter", "lock": lock, "number": number, "script": script}
+            answer = self._ask(order)
+            if answer.get("stance") != "held":
+                return self._receipt(order, answer)
+            self._number, self._is_pending = number, True
+            return Held(number)
+
+        return self._insist(attempt)
+
+    def _commit(self, number: int) -> Optional[Receipt]:
+        """The receipt of the job that the worker is inside with, or was when the commit's answer was lost."""
+        try:
+            return self._worked({"do": "commit"})
+        except Refused as refused:
+            last = self._ask({"do": "last"})["last"] if refused.code == 10 else None  # 10, Idle: nothing is pending
+            if last is None or last["number"] != number:
+                raise
+            return self._receipt({}, {"receipt": last})
+
     def _finish(self) -> Optional[Receipt]:
         """Goes on with the pending job: its receipt, or `None` where it waits still."""
         return self._worked({"do": "resume"})
 
     def _worked(self, order: dict[str, Any]) -> Optional[Receipt]:
         """The receipt of the job that the order works at, or `None` where it waits still, and the line goes on with it."""
-        answer = self._ask(order)
+        return self._receipt(order, self._ask(order))
+
+    def _receipt(self, order: dict[str, Any], answer: dict[str, Any]) -> Optional[Receipt]:
+        """The same, where the order has this answer."""
         if "receipt" in answer:
-            self._done = answer["receipt"]["number"]
+            self._number, self._is_pending, self._begun = answer["receipt"]["number"], False, None
             return answer["receipt"]
         if "fell" in answer:  # a planned crash: the session has no worker any more
             raise Again
         if "withdrawn" in answer:  # the number was given up: it will never count
-            self._done = order["number"]
+            self._number, self._is_pending, self._begun = order["number"], False, None
             raise Refused(answer)
-        self._done = None
+        self._number, self._is_pending = order.get("number", self._number), True
         return None
 
     def _attach(self) -> None:
@@ -161,8 +261,7 @@ class Worker:
         # 18, Taken: the server has not seen the end of the worker's last session yet.
         while (answer := self._ask({"do": "attach", "worker": self.worker})).get("code") == 18:
             time.sleep(0.01)
-        # The number is that of the last job where the worker is ready, and else that of the pending one.
-        self._done = answer["number"] if answer["stance"] == "ready" else None
+        self._number, self._is_pending = answer["number"], answer["stance"] != "ready"
 
     def _ask(self, order: dict[str, Any]) -> dict[str, Any]:
         """Sends a line and answers the server's. Where none comes, the order may have been obeyed or not."""
