@@ -1,9 +1,10 @@
-//! Tests of the core: calls of single crates with values worked out by hand, worlds, histories, and the checker's machine.
+//! Tests by calls, in one thread: values worked out by hand, worlds and histories, the checker's machine, and streams.
 //!
-//! The crate has nothing but tests: it shows that the definitions of the crates below say what was meant, and that calls
-//! succeed which no line makes. Whole runs are rows by lines, in the folder `rows/`, and what steps the machine has is told
-//! there by transcripts. It stands on the crates that it tries, so that none of them is proved a second time with its
-//! tests. Begin with `parts/words.rt`.
+//! The crate has nothing but tests: it shows that the definitions of the crates below say what was meant, that calls
+//! succeed which no line makes, and what the engines leave where a stream fails at any of its calls. Whole runs are rows
+//! by lines, in the folder `rows/`, and what steps the machine has is told there by transcripts. It stands
+//! on the crates that it tries, so that none of them is proved a second time with its tests. Begin with `parts/words.rt`,
+//! and for streams with `streams/flaky.rt` and `streams/engines.rt`.
 #![tactic(auto)]
 
 #[cfg(test)]
@@ -12,5 +13,9 @@ mod checker;
 mod images;
 #[cfg(test)]
 mod parts;
+#[cfg(test)]
+mod streams;
+#[cfg(test)]
+mod texts;
 #[cfg(test)]
 mod world;

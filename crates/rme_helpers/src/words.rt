@@ -12,8 +12,6 @@ const MOST_JOBS: u32 = 1_000_000;
 /// What is asked for.
 #[derive(Drop)]
 pub enum Task {
-    /// No word: each call that takes memory.
-    Growths,
     /// `steps WORLDS OPERATIONS`.
     Steps { worlds: u32, operations: u32 },
     /// `jobs THREADS JOBS one|own`.
@@ -22,14 +20,12 @@ pub enum Task {
     All,
 }
 
-/// What the words ask for. Where they can't be had for want of memory there are none.
+/// What the words ask for.
 pub fn read_words(rt: &HostRuntime) -> Result<Task, Fault> {
-    let Ok(mut words) = env::args(rt) else {
-        return Ok(Task::Growths);
-    };
+    let mut words = env::args(rt)?;
     let _program = words.next();
     let Some(part) = words.next() else {
-        return Ok(Task::Growths);
+        return Err(Fault);
     };
     let given = (words.next(), words.next(), words.next());
     match part.as_str() {

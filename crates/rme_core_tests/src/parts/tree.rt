@@ -9,28 +9,18 @@ use std::test::Fail;
 #[test]
 fn three_workers(rt: HostRuntime) -> Result<(), Fail> {
     let shape = Shape::new(3, 1, 1, 1)?;
-    assert!(rt; shape.leaves == 4);
-    assert!(rt; shape.height == 2);
-    assert!(rt; node(shape, 2, 1) == 3);
-    assert!(rt; node(shape, 2, 2) == 1);
-    assert!(rt; side(shape, 2, 1) == 1);
-    assert!(rt; side(shape, 2, 2) == 2);
+    assert!(rt; shape.leaves == 4 && shape.height == 2);
+    assert!(rt; node(shape, 2, 1) == 3 && node(shape, 2, 2) == 1);
+    assert!(rt; side(shape, 2, 1) == 1 && side(shape, 2, 2) == 2);
 
     let mut bank = Bank::new(rt.alloc(), shape)?;
-    assert!(rt; held(&bank, 0, 2) == 0);
-    assert!(rt; owner(&bank, 0) == None);
+    assert!(rt; held(&bank, 0, 2) == 0 && owner(&bank, 0) == None);
     bank.store(Address::Node(0, 3), 1);
-    assert!(rt; held(&bank, 0, 2) == 1);
-    assert!(rt; owner(&bank, 0) == None);
+    assert!(rt; held(&bank, 0, 2) == 1 && owner(&bank, 0) == None);
     bank.store(Address::Node(0, 1), 2);
-    assert!(rt; held(&bank, 0, 2) == 2);
-    assert!(rt; held(&bank, 0, 1) == 0);
-    assert!(rt; owner(&bank, 0) == Some(2));
+    assert!(rt; held(&bank, 0, 2) == 2 && owner(&bank, 0) == Some(2));
     bank.store(Address::Node(0, 3), 2);
-    assert!(rt; held(&bank, 0, 2) == 0);
-    assert!(rt; owner(&bank, 0) == None);
-    bank.store(Address::Node(0, 1), 7);
-    assert!(rt; owner(&bank, 0) == None);
+    assert!(rt; held(&bank, 0, 2) == 0 && owner(&bank, 0) == None);
     Ok(())
 }
 

@@ -29,7 +29,7 @@ fn counts_are(rt: &impl Abort, world: &World, counts: [u32; 5]) {
 fn counts_after_a_crash_and_a_restart(rt: HostRuntime) -> Result<(), Fail> {
     let mut world = World::new(rt.alloc(), Shape::new(2, 1, 1, 10)?)?;
     world.submit(0, job(&[Op::Add(0, 5)]))?;
-    assert!(rt; step_times(&mut world, 0, 10)? == 10);
+    step_times(&mut world, 0, 10)?;
     assert!(rt; world.phase(0) == Some(Phase::Section));
     counts_are(&rt, &world, [0, 6, 1, 3, 0]);
     world.crash(0)?;

@@ -1,57 +1,40 @@
 //! Histories in the hands of an observer: in the order of their places, replayed, and the steps tallied.
 
-use crate::world::walks::{cells_are, job, play};
+use crate::world::walks::cells_are;
 use rme_history::{ReplayFault, Tally, by_place, replay};
-use rme_program::{Entry, Event, Phase};
-use rme_script::Op;
+use rme_program::{Entry, Phase, Receipt};
+use rme_script::{Op, Script};
 use rme_words::{Refusal, Shape};
-use rme_world::World;
-use std::alloc::Global;
-use std::process::Abort;
 use std::test::Fail;
 
-/// The history of row `re-entry` at its end.
-fn re_entry(alloc: Global) -> Result<Vec<Entry>, Fail> {
-    let mut world = World::new(alloc, Shape::new(2, 1, 1, 10)?)?;
-    let turns = [
-        (1, Event::Submit(0, job(&[Op::Add(0, 5)]))),
-        (7, Event::Step(0)),
-        (1, Event::Crash(0)),
-        (1, Event::Submit(1, job(&[Op::Add(0, 1)]))),
-        (7, Event::Step(1)),
-        (1, Event::Restart(0)),
-        (25, Event::Step(0)),
-        (22, Event::Step(1)),
-    ];
-    play(&mut world, &turns)?;
-    Ok(Vec::from_slice(alloc, world.history())?)
+/// The receipt of an entry: worker, lock, number, place and reply.
+type Numbers = (u32, u32, u32, u32, u64);
+
+fn entry((worker, lock, number, place, reply): Numbers, ops: &[Op]) -> Entry {
+    Entry {
+        receipt: Receipt {
+            worker,
+            lock,
+            number,
+            place,
+            reply,
+        },
+        script: Script::of(ops),
+    }
 }
 
-/// The entry must be the one that another list has at this place.
-fn is_same(rt: &impl Abort, entries: &[Entry], others: &[Entry], at: usize) {
-    let (Some(entry), Some(other)) = (entries.get(at), others.get(at)) else {
-        panic!(rt; "an entry is missing");
-    };
-    assert!(rt; entry.receipt == other.receipt && entry.script == other.script);
-}
-
-/// Row `small calls`: the history of `re-entry` the other way round is put in order.
-#[test]
-fn order(rt: HostRuntime) -> Result<(), Fail> {
-    let history = re_entry(rt.alloc())?;
-    let mut turned = Vec::from_slice(rt.alloc(), &history)?;
-    turned.reverse();
-    let sorted = by_place(turned);
-    assert!(rt; history.len() == 2 && sorted.len() == 2);
-    is_same(&rt, &sorted, &history, 0);
-    is_same(&rt, &sorted, &history, 1);
-    Ok(())
+/// The two finished sections of row `re-entry`.
+fn re_entry() -> [Entry; 2] {
+    [
+        entry((0, 0, 1, 0, 5), &[Op::Add(0, 5)]),
+        entry((1, 0, 1, 1, 6), &[Op::Add(0, 1)]),
+    ]
 }
 
 /// Row `small calls`: the replay of the history of `re-entry` gives its row.
 #[test]
 fn replayed(rt: HostRuntime) -> Result<(), Fail> {
-    let entries = re_entry(rt.alloc())?;
+    let entries = re_entry();
     let Ok(rows) = replay(rt.alloc(), Shape::new(2, 1, 1, 10)?, &entries) else {
         return Err(Refusal::NoMemory.into());
     };
@@ -63,13 +46,65 @@ fn replayed(rt: HostRuntime) -> Result<(), Fail> {
 /// Row `small calls`: the replay of the history of `re-entry` with another reply finds it.
 #[test]
 fn replayed_with_another_reply(rt: HostRuntime) -> Result<(), Fail> {
-    let mut entries = re_entry(rt.alloc())?;
-    let Some(last) = entries.last_mut() else {
-        return Err(Fail::from("no entry"));
-    };
-    last.receipt.reply = 7;
+    let mut entries = re_entry();
+    entries[1].receipt.reply = 7;
     let broken = replay(rt.alloc(), Shape::new(2, 1, 1, 10)?, &entries).err();
     assert!(rt; broken == Some(ReplayFault::Broken(1)));
+    Ok(())
+}
+
+/// Entries in the order of their places: by lock, place, worker and number. Those with one lock and one place stand in no
+/// list of a world.
+const IN_ORDER: [Numbers; 5] = [
+    (1, 0, 2, 0, 0),
+    (1, 0, 3, 0, 0),
+    (2, 0, 1, 0, 0),
+    (0, 0, 1, 1, 0),
+    (0, 1, 1, 0, 0),
+];
+
+/// The same entries in another order are put in this one.
+#[test]
+fn ties_of_places(rt: HostRuntime) -> Result<(), Fail> {
+    let mut mixed = Vec::new(rt.alloc());
+    for at in [4, 3, 2, 1, 0usize] {
+        mixed.push(entry(IN_ORDER[at], &[]))?;
+    }
+    let sorted = by_place(mixed);
+    assert!(rt; sorted.len() == 5);
+    for at in 0..5usize {
+        assert!(rt; sorted[at].receipt == entry(IN_ORDER[at], &[]).receipt);
+    }
+    Ok(())
+}
+
+/// The first or the second entry of a lock, each of which adds the lock's number and 1. The workers are none that the shape
+/// has, and the numbers none that they gave.
+fn added(lock: u32, place: u32) -> Entry {
+    let sum = u64::from(lock) + 1;
+    let reply = if place == 0 { sum } else { sum + sum };
+    entry((4_294_967_295, lock, 0, place, reply), &[Op::Add(0, sum)])
+}
+
+/// What the two entries of each lock leave.
+const SUMS: [u64; 16] = [2, 4, 6, 8, 10, 12, 14, 16, 18, 20, 22, 24, 26, 28, 30, 32];
+
+/// A replay over sixteen locks, with two entries of each, keeps their rows apart. It does not look at workers and numbers.
+#[test]
+fn replay_over_sixteen_locks(rt: HostRuntime) -> Result<(), Fail> {
+    let mut entries = Vec::new(rt.alloc());
+    for place in 0..2u32 {
+        for lock in 0..16u32 {
+            entries.push(added(lock, place))?;
+        }
+    }
+    let Ok(rows) = replay(rt.alloc(), Shape::new(1, 16, 1, 32)?, &entries) else {
+        return Err(Refusal::NoMemory.into());
+    };
+    assert!(rt; rows.len() == 16);
+    for lock in 0..16usize {
+        assert!(rt; cells_are(&rows[lock], &[SUMS[lock]]));
+    }
     Ok(())
 }
 

@@ -3,20 +3,14 @@
 ghost use Rattle.std.specs.Prelude.{◌≡◌, MatchResult};
 
 use rme_script::{Job, Op, Script};
-use rme_table::{Chance, Climb, Down, Held, Leave, Posted, Ready, Service, Stance, Sweep};
+use rme_table::{Climb, Down, Held, Never, Posted, Ready, Service, Stance, Sweep};
 use std::{hint, thread};
 
 /// No job waits for so many sweeps.
 const MOST_SWEEPS: u64 = 1 << 62;
 
 /// Comes up, and makes so many jobs on a lock.
-pub fn live<C: Chance>(
-    service: &Service,
-    down: Down,
-    lock: u32,
-    jobs: u32,
-    chance: &mut C,
-) -> Result<Ready, Down>
+pub fn live(service: &Service, down: Down, lock: u32, jobs: u32) -> Result<Ready, Down>
     requires ours { down.ident ≡ service.now }
     ensures ours { MatchResult result (λ ready. ready.ident ≡ service.now) (λ down. down.ident ≡ service.now) }
 {
@@ -24,19 +18,19 @@ pub fn live<C: Chance>(
         lock,
         script: Script::of(&[Op::Add(0, 1)]),
     };
-    let mut ready = come_up(service, down, chance)?;
+    let mut ready = come_up(service, down)?;
     for _ in 0..jobs {
-        ready = make_job(service, ready, &job, chance)?;
+        ready = make_job(service, ready, &job)?;
     }
     Ok(ready)
 }
 
 /// Comes up, and must be ready.
-fn come_up<C: Chance>(service: &Service, down: Down, chance: &mut C) -> Result<Ready, Down>
+fn come_up(service: &Service, down: Down) -> Result<Ready, Down>
     requires ours { down.ident ≡ service.now }
     ensures ours { MatchResult result (λ ready. ready.ident ≡ service.now) (λ down. down.ident ≡ service.now) }
 {
-    match down.recover(service, chance)? {
+    match down.recover(service, &mut Never)? {
         Stance::Ready(ready) => Ok(ready),
         Stance::Climb(climb) => Err(climb.crash()),
         Stance::Held(held) => Err(held.crash()),
@@ -45,33 +39,28 @@ fn come_up<C: Chance>(service: &Service, down: Down, chance: &mut C) -> Result<R
 }
 
 /// Makes a job: posts it, sweeps until the lock is the worker's, performs it and leaves.
-fn make_job<C: Chance>(
-    service: &Service,
-    ready: Ready,
-    job: &Job,
-    chance: &mut C,
-) -> Result<Ready, Down>
+fn make_job(service: &Service, ready: Ready, job: &Job) -> Result<Ready, Down>
     requires ours { ready.ident ≡ service.now }
     ensures ours { MatchResult result (λ ready. ready.ident ≡ service.now) (λ down. down.ident ≡ service.now) }
 {
-    let climb = match ready.post(service, *job, chance) {
+    let climb = match ready.post(service, *job, &mut Never) {
         Posted::Asked(climb) => climb,
         Posted::Fell(down) => return Err(down),
         Posted::Refused(ready, _) => return Err(ready.crash()),
     };
-    let held = enter(service, climb, chance)?;
-    let (leave, _receipt) = held.perform(service, chance)?;
-    leave.exit(service, chance)
+    let held = enter(service, climb)?;
+    let (leave, _receipt) = held.perform(service, &mut Never)?;
+    leave.exit(service, &mut Never)
 }
 
 /// Sweeps until the lock is the worker's. After each blocked sweep it waits, and not for long: a pause, and the
 /// processor is given away once.
-fn enter<C: Chance>(service: &Service, mut climb: Climb, chance: &mut C) -> Result<Held, Down>
+fn enter(service: &Service, mut climb: Climb) -> Result<Held, Down>
     requires ours { climb.ident ≡ service.now }
     ensures ours { MatchResult result (λ held. held.ident ≡ service.now) (λ down. down.ident ≡ service.now) }
 {
     for _ in 0..MOST_SWEEPS {
-        match climb.try_enter(service, chance) {
+        match climb.try_enter(service, &mut Never) {
             Sweep::Got(held) => return Ok(held),
             Sweep::Blocked(blocked) => climb = blocked,
             Sweep::Fell(down) => return Err(down),

@@ -5,7 +5,7 @@ ghost use Rattle.rme_seats.specs.Closing.{AreOf};
 
 use crate::fault::Fault;
 use crate::jobs::life::live;
-use rme_table::{Down, Never, Service};
+use rme_table::{Down, Service};
 use rme_words::Shape;
 use std::alloc::Global;
 use std::sync::atomic::{AtomicU64, Ordering};
@@ -106,7 +106,7 @@ fn work<R: Clock>(rt: &R, service: &Service, down: Down, run: &Run, start: &Star
 {
     let lock = run.lock_of(down.worker());
     start.wait(rt, run.threads);
-    let lived = live(service, down, lock, run.jobs, &mut Never);
+    let lived = live(service, down, lock, run.jobs);
     match lived {
         Ok(ready) => ready.crash(),
         Err(down) => down,

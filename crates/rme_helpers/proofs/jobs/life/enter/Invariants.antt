@@ -2,4 +2,4 @@ use Rattle.std.proofs.Common.{◌≡◌}
 use Rattle.rme_helpers.proofs.jobs.life.enter.Given as goal
 
 abbrev pub invariant-loop : goal.invariant-loop
-invariant-loop g l = l.climb.ident ≡ l.initial.service
+invariant-loop l = l.climb.ident ≡ l.service

@@ -2,4 +2,4 @@ use Rattle.std.proofs.Common.{◌≡◌}
 use Rattle.rme_helpers.proofs.jobs.life.live.Given as goal
 
 abbrev pub invariant-loop : goal.invariant-loop
-invariant-loop g l = l.ready.ident ≡ l.initial.service
+invariant-loop l = l.ready.ident ≡ l.service

@@ -1,0 +1,61 @@
+//! What the values of one worker tell, on its way through one job.
+
+use crate::service::chances::Falls;
+use crate::service::plays::Call::{
+    Ask, Asked, Enter, Exit, Fall, IsClimb, IsHeld, IsReady, Perform,
+};
+use crate::service::plays::{Call, live};
+use crate::service::values::next;
+use crate::told::{Numbers, Told, entries_are, open};
+use rme::Op;
+use rme::service::Down;
+use std::process::Abort;
+use std::test::Fail;
+
+const SEVEN: &[Op] = &[Op::Set(0, 7)];
+
+const FINISHED: Numbers = (1, 1, 1, 0, 7);
+
+/// One job of one operation, whose worker falls when it is ready, while it waits and after it has finished. Row `crash
+/// after finish`: then it is inside with a finished job, and answers its receipt without an own step.
+const WITH_FALLS: &[Call] = &[
+    IsReady(0, None),
+    Fall,
+    Asked(4),
+    Ask(1, SEVEN),
+    IsClimb(1, 1, SEVEN),
+    Fall,
+    IsClimb(1, 1, SEVEN),
+    Asked(10),
+    Enter,
+    IsHeld(1, 1, false),
+    Perform(FINISHED),
+    Asked(19),
+    Fall,
+    Asked(4),
+    IsHeld(1, 1, true),
+    Perform(FINISHED),
+    Asked(0),
+    Exit,
+    Asked(3),
+    IsReady(1, Some(FINISHED)),
+];
+
+/// A Down must have this number, be fresh or not, and have just these entries.
+fn down_is(rt: &impl Abort, down: &Down, worker: u32, fresh: bool, told: &[Told]) {
+    assert!(rt; down.worker() == worker && down.fresh() == fresh);
+    assert!(rt; entries_are(down.entries(), told));
+}
+
+/// What each value of a worker tells.
+#[test]
+fn told_by_values(rt: HostRuntime) -> Result<(), Fail> {
+    let (service, mut downs) = open(rt.alloc(), (2, 2, 1, 10))?;
+    assert!(rt; service.shape().locks() == 2);
+    assert!(rt; downs.len() == 2);
+    let one = next(&rt, &service, &mut downs);
+    down_is(&rt, &one, 1, true, &[]);
+    let one = live(&rt, &service, one, WITH_FALLS, &mut Falls::new(&[]));
+    down_is(&rt, &one, 1, false, &[(FINISHED, SEVEN)]);
+    Ok(())
+}

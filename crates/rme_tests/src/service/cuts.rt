@@ -1,0 +1,54 @@
+//! Crashes before each own step, twice over, in the running service.
+
+use crate::service::chances::Falls;
+use crate::service::lives::live_on;
+use crate::service::values::next;
+use crate::service::watch::Watch;
+use crate::told::{alone, job, lock_is, open};
+use rme::{Op, Refusal};
+use std::alloc::Global;
+use std::process::Abort;
+use std::test::Fail;
+
+/// The job of row `five operations`: each kind of operation but a get, and a sum that wraps.
+const FIVE: &[Op] = &[
+    Op::Set(1, 5),
+    Op::Set(0, 18446744073709551615),
+    Op::Add(0, 1),
+    Op::Swap(0, 0),
+    Op::Copy(1, 1),
+];
+
+/// Makes the job in a new service with a fall at each of these counts of own steps, and looks at what is left.
+fn make_with_falls(rt: &impl Abort, alloc: Global, counts: &[u32]) -> Result<usize, Fail> {
+    let (service, mut downs) = open(alloc, (1, 1, 2, 10))?;
+    let down = next(rt, &service, &mut downs);
+    let mut falls = Falls::new(counts);
+    let watch = Watch::new(alloc, 1)?;
+    let down = live_on(&service, down, &[job(0, FIVE)], 3, &mut falls, &watch);
+    assert!(rt; watch.clashes() == 0);
+    let downs = alone(rt, alloc, &service, down)?;
+    let Ok(closed) = service.close(downs) else {
+        return Err(Refusal::NoMemory.into());
+    };
+    assert!(rt; closed.locks.len() == 1);
+    assert!(rt;
+        lock_is(&closed.locks[0], &[0, 5], true, &[((0, 0, 1, 0, 5), FIVE)]),
+        "falls at {counts:?}"
+    );
+    Ok(falls.fallen())
+}
+
+/// Row `cut everywhere`, in the running service: each of the 58 own steps is cut, the two of the first recovery among
+/// them, and each of up to 60 steps after that cut, too.
+#[test]
+fn cut_everywhere(rt: HostRuntime) -> Result<(), Fail> {
+    for first in 0..=57 {
+        for more in 1..=60 {
+            let fallen = make_with_falls(&rt, rt.alloc(), &[first, first + more])?;
+            assert!(rt; fallen >= 1);
+        }
+    }
+    assert!(rt; make_with_falls(&rt, rt.alloc(), &[58])? == 0);
+    Ok(())
+}

@@ -1,0 +1,13 @@
+//! Calls on the values of the running service.
+
+mod calls;
+pub mod chances;
+mod cuts;
+mod lives;
+mod plans;
+pub mod plays;
+mod services;
+mod stress;
+mod values;
+mod watch;
+mod withdrawal;

@@ -1,0 +1,7 @@
+//! Supervised runs.
+
+mod begun;
+mod faults;
+mod gates;
+mod runs;
+mod values;
