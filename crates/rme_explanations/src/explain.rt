@@ -69,9 +69,9 @@ pub fn when(refusal: &Refusal) -> &'static str
         Refusal::TooManyJobs => "the worker has begun all its jobs",
         Refusal::BadImage => "load of what is no image, or no good one",
         Refusal::WrongNumber(_) =>
-            "submit of a session with a number that is neither the next nor the last",
+            "submit or enter of a session with a number that is neither the next nor the last",
         Refusal::Differs =>
-            "submit of a session with another lock or script than the pending job of its number",
+            "submit or enter of a session with another lock or script than the pending job of its number",
         Refusal::Taken => "attach of a worker that another session has",
         Refusal::NotAttached => "an order of a session that has no worker",
         Refusal::NoMemory => "memory was refused",

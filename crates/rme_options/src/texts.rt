@@ -203,6 +203,9 @@ Each line of a client is one JSON object, which is obeyed and answered by one li
                                  The same line again goes on with the job, or answers its receipt, or
                                  {\"ok\":\"submit\",\"withdrawn\":true}: a job counts once. The operations are
                                  those of `rme run --help`
+  {\"do\":\"enter\",..}              as submit, and stops inside the lock, for work of one's own:
+                                 {\"number\":N,\"ok\":\"enter\",\"stance\":\"held\"}; nobody else enters before
+  {\"do\":\"commit\"}                makes the section and leaves: {\"ok\":\"commit\",\"receipt\":{..}}
   {\"do\":\"resume\"}                goes on with the job that the worker is in, answered as submit is, with
                                  \"ok\":\"resume\"; it takes \"tries\" too
   {\"do\":\"withdraw\"}              gives up a job that waits: {\"number\":N,\"ok\":\"withdraw\"}, or with
