@@ -2,6 +2,7 @@
 
 use rme::world::World;
 use rme::{Job, Op, Script, Shape};
+use std::alloc::Global;
 use std::test::Fail;
 
 /// Worker 1 has made 20 own steps of a job.
@@ -26,18 +27,22 @@ fn come_back(world: &mut World) -> Result<(), Fail> {
     Ok(())
 }
 
+/// The bytes of a world in the middle of a job.
+fn saved(alloc: Global) -> Result<Vec<u8>, Fail> {
+    let mut world = World::new(alloc, Shape::new(2, 1, 1, 10)?)?;
+    begin(&mut world)?;
+    Ok(world.save()?)
+}
+
 /// A world is saved in the middle of a job. In the loaded one all workers are down; the worker comes back and
 /// finishes its job.
 #[test]
 fn saved_and_loaded(rt: HostRuntime) -> Result<(), Fail> {
-    let mut world = World::new(rt.alloc(), Shape::new(2, 1, 1, 10)?)?;
-    begin(&mut world)?;
-    let image = world.save()?;
-
+    let image = saved(rt.alloc())?;
     let mut world = World::load(rt.alloc(), image.as_slice())?;
-    assert!(rt; world.owner(0)? == Some(1));
+    assert!(rt; world.owner(0) == Ok(Some(1)));
     come_back(&mut world)?;
-    assert!(rt; world.owner(0)? == None);
+    assert!(rt; world.owner(0) == Ok(None));
     assert!(rt; world.history().len() == 1);
     Ok(())
 }

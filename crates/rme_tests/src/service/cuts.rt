@@ -24,7 +24,7 @@ fn make_with_falls(rt: &impl Abort, alloc: Global, counts: &[u32]) -> Result<usi
     let (service, mut downs) = open(alloc, (1, 1, 2, 10))?;
     let down = next(rt, &service, &mut downs);
     let mut falls = Falls::new(counts);
-    let watch = Watch::new(alloc, 1)?;
+    let watch = Watch::new();
     let down = live_on(&service, down, &[job(0, FIVE)], 3, &mut falls, &watch);
     assert!(rt; watch.clashes() == 0);
     let downs = alone(rt, alloc, &service, down)?;

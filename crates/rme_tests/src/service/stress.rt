@@ -87,7 +87,7 @@ fn stress(rt: HostRuntime) -> Result<(), Fail> {
     for _ in 0..WORKERS {
         plans.push(draw_plan(rt.alloc(), &mut numbers, (JOBS, FALLS), (LOCKS, CELLS))?)?;
     }
-    let watch = Watch::new(rt.alloc(), LOCKS)?;
+    let watch = Watch::new();
     let (shared, planned, fallen) = (&service, plans.as_slice(), &AtomicU64::new(0));
     let seen = &watch;
     let life = |down: Down| -> Down

@@ -1,31 +1,30 @@
 //! Who is in the section of each lock, seen while threads run.
 
-use std::alloc::Global;
 use std::sync::atomic::{AtomicU64, Ordering};
-use std::test::Fail;
 
-/// A mark for each lock: 0 where nobody is in its section, and w + 1 where worker w is.
+/// A mark for each of four locks: 0 where nobody is in its section, and w + 1 where worker w is.
 ///
 /// A worker that falls in a section leaves its mark there, since it owns the lock still.
 #[derive(Drop)]
 pub struct Watch {
-    marks: Vec<AtomicU64>,
+    marks: [AtomicU64; 4],
     visits: AtomicU64,
     clashes: AtomicU64,
 }
 
 impl Watch {
-    /// Of so many locks, with nobody in any section.
-    pub fn new(alloc: Global, locks: u32) -> Result<Watch, Fail> {
-        let mut marks = Vec::new(alloc);
-        for _ in 0..locks {
-            marks.push(AtomicU64::new(0))?;
-        }
-        Ok(Watch {
-            marks,
+    /// With nobody in any section.
+    pub fn new() -> Watch {
+        Watch {
+            marks: [
+                AtomicU64::new(0),
+                AtomicU64::new(0),
+                AtomicU64::new(0),
+                AtomicU64::new(0),
+            ],
             visits: AtomicU64::new(0),
             clashes: AtomicU64::new(0),
-        })
+        }
     }
 
     /// The worker is in the section from here on. It must find nobody there, or itself after a fall.
