@@ -1,6 +1,6 @@
 //! A picture of a run: a transcript drawn as a timeline in SVG.
 //!
-//! The crate stands on rme_engine, whose check of a transcript it watches, on rme_checker, from whose machine it
+//! The crate stands on rme_verdicts, whose check of a transcript it watches, on rme_checker, from whose machine it
 //! reads what it draws, on rme_picture, which writes the picture's text, and on rme_wire for lines and names; on
 //! rme_texts, rme_lines, rme_machine, rme_program and rme_words for what these speak of. The one contract that the
 //! program uses is that of `draw_lines`: it answers the verdict of the check, after yes it writes the picture of the run,

@@ -1,6 +1,6 @@
 -- In reading order, after what a run of lines writes: what the lines so far have opened, what each call of a world
 -- answers, what a tally sees of a step, what a walk and each command do, what each line is answered and what its tally has
--- seen, what a transcript tells of it, what a transcript is found to be, and what a watcher of that is shown.
+-- seen, and what a transcript tells of it.
 pub use Rattle.rme_lines.specs.Runs
 pub mod States
 pub mod Tallies

@@ -2,7 +2,7 @@
 //! when a planned crash comes, and what an order may do to what is shown, and be answered.
 //!
 //! The crate knows no running service and no world: a server says of what it holds which view it shows. It stands
-//! on rme_wire, whose orders it speaks of, on rme_texts, which has the answers, on rme_lines for the lines of a
+//! on rme_session_lines, whose orders and answers it speaks of, on rme_lines for the lines of a
 //! session, and on rme_program, rme_script and rme_words for receipts, jobs and refusals. The one definition that
 //! the servers cite is `Obeys` of `specs/Obeyed.antt`: by an order one view becomes another, with an answer; by
 //! `IsAnswered` of `specs/Sessions.antt` a whole session's lines are answered so. Begin with `view.rt` and

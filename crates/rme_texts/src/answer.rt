@@ -98,7 +98,7 @@ fn push_settled(out: &mut String, settled: bool) -> Result<(), AllocError>
     out.push_str("],\"ok\":\"cells\",\"settled\":false}")
 }
 
-/// Appends the answer of `last`.
+/// Appends the answer of `last`. An error is want of memory, and leaves a text that is of no use.
 pub fn push_last(out: &mut String, names: &Names, last: Option<Receipt>) -> Result<(), AllocError>
     ensures { OnOk result (string_bytes out.new ≡ string_bytes out.old ++ spec.last_text names.now last) }
 {
@@ -162,7 +162,7 @@ pub fn push_image(out: &mut String, image: &Image) -> Result<(), AllocError>
     write!(out, "{{\"image\":\"{digits}\",\"ok\":\"save\"}}")
 }
 
-/// Appends the answer of a refused line.
+/// Appends the answer of a refused line. An error is want of memory, and leaves a text that is of no use.
 pub fn push_refusal(out: &mut String, refusal: Refusal) -> Result<(), AllocError>
     ensures { OnOk result (string_bytes out.new ≡ string_bytes out.old ++ spec.refusal_text refusal) }
 {

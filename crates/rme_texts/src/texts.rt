@@ -56,7 +56,8 @@ fn push_finished(out: &mut String, names: &Names, receipt: Receipt) -> Result<()
     write!(out, "[\"finished\",\"{name}\",{number},{place},{reply}]")
 }
 
-/// Appends a receipt, as `{"lock":"bank","number":1,"place":0,"reply":5,"worker":0}`.
+/// Appends a receipt, as `{"lock":"bank","number":1,"place":0,"reply":5,"worker":0}`. An error is want of memory, and leaves
+/// a text that is of no use.
 pub fn push_receipt(out: &mut String, names: &Names, receipt: Receipt) -> Result<(), AllocError>
     ensures { OnOk result (string_bytes out.new ≡ string_bytes out.old ++ spec.receipt_text names.now receipt) }
 {

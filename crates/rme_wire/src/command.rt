@@ -64,7 +64,8 @@ fn lock_number(names: &Names, text: &str) -> u32
     }
 }
 
-/// A member that is the name of a lock.
+/// The number of the lock that the member `lock` names; of a lock of another name the number of names, which is no lock.
+/// `None` where there is no such member, or it is no text.
 #[tactic(auto, unfolding(crate::specs::Commands::lock_of))]
 pub fn lock_of(names: &Names, value: &Value) -> Option<u32>
     ensures { result ≡ spec.lock_of names.now (view value.now) }
@@ -73,7 +74,7 @@ pub fn lock_of(names: &Names, value: &Value) -> Option<u32>
     Some(lock_number(names, name))
 }
 
-/// A member that is the number of a worker.
+/// The member `worker`, a whole number below 2^32; `None` where there is none.
 #[tactic(auto, unfolding(crate::specs::Commands::worker_of))]
 pub fn worker_of(value: &Value) -> Option<u32>
     ensures { result ≡ spec.worker_of (view value.now) }

@@ -52,7 +52,7 @@ fn op_of_two(word: &str, first: u32, second: &Value) -> Option<Op>
     }
 }
 
-/// A script: a list of operations.
+/// The script that a list of operations is; `None` where the value is none.
 pub fn script_of(value: &Value) -> Option<Script>
     ensures { result ≡ spec.script_of (view value.now) }
 {

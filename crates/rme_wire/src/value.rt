@@ -25,7 +25,7 @@ pub fn read_value(alloc: Global, line: &[u8]) -> Result<Option<Value>, NoMemory>
     }
 }
 
-/// The member `do`, a word.
+/// The member `do`, a text; `None` where there is none.
 #[tactic(auto, unfolding(crate::specs::Values::word_of))]
 pub fn word_of(value: &Value) -> Option<&str>
     ensures { option_map (λ word. word.now) result ≡ spec.word_of (view value.now) }
@@ -33,7 +33,7 @@ pub fn word_of(value: &Value) -> Option<&str>
     value.get("do")?.as_str()
 }
 
-/// How many keys an object has.
+/// How many keys an object has; `None` where the value is no object.
 pub fn key_count(value: &Value) -> Option<usize>
     ensures { result ≡ option_map members_len (as_object (view value.now)) }
 {
@@ -41,7 +41,7 @@ pub fn key_count(value: &Value) -> Option<usize>
     Some(members.len())
 }
 
-/// How many items a list has.
+/// How many items a list has; `None` where the value is no list.
 pub fn item_count(value: &Value) -> Option<usize>
     ensures { result ≡ option_map items_len (as_array (view value.now)) }
 {
@@ -49,7 +49,7 @@ pub fn item_count(value: &Value) -> Option<usize>
     Some(items.len())
 }
 
-/// A whole number below 2^32.
+/// A whole number below 2^32; `None` where the value is none.
 #[tactic(auto, unfolding(crate::specs::Values::small))]
 pub fn small(value: &Value) -> Option<u32>
     ensures { result ≡ spec.small (view value.now) }
