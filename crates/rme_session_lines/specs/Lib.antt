@@ -1,3 +1,4 @@
--- In reading order: what a session's line orders, and the texts of the answers.
+-- In reading order: how long an order tries, what a session's line orders, and the texts of the answers.
+pub mod Patience
 pub mod Orders
 pub mod Sessions

@@ -1,39 +1,61 @@
 -- The order of a session's line. The names are those of the service's locks.
-use Rattle.std.specs.Prelude.{ℕ, ◌+◌, ◌==◌, ◌&&◌, nat_le, List, bytes_eq, codes, if◌then◌else◌, Option, Some, None, option_map, option_and_then}
+use Rattle.std.specs.Prelude.{ℕ, Bool, false, ◌+◌, ◌==◌, ◌&&◌, nat_le, List, bytes_eq, codes, if◌then◌else◌, Option, Some, None, option_map, option_and_then}
 use Rattle.serde_json.specs.Data.{Data}
 use Rattle.serde_json.specs.Events.{members_len}
-use Rattle.serde_json.specs.Find.{as_object, get}
+use Rattle.serde_json.specs.Find.{as_bool, as_object, get}
+use Rattle.rme_session_lines.specs.declared.order.Attachment.{Attachment}
 use Rattle.rme_session_lines.specs.declared.order.Order.{Order}
 use Rattle.rme_session_lines.specs.declared.order.Order.TheVariants.{Attach, Submit, Resume, Enter, Commit, Withdraw, Last, CrashAfter, Detach}
+use Rattle.rme_session_lines.specs.declared.order.Patience.{Patience}
+use Rattle.rme_session_lines.specs.declared.order.Patience.TheVariants.{Tries, Wait}
 use Rattle.rme_session_lines.specs.declared.order.Submission.{Submission}
 use Rattle.rme_wire.specs.Commands.{counted, lock_of, worker_of}
 use Rattle.rme_wire.specs.Operations.{script_of}
 use Rattle.rme_wire.specs.Values.{small, value_of, word_of}
 
--- `{"do":"attach","worker":..}`
+-- the member `take`, false where it is absent
+abbrev pub take_or_not : Option Data → Option Bool
+take_or_not None = Some false
+take_or_not (Some d) = as_bool d
+
+-- `{"do":"attach","take":..,"worker":..}`, of which `take` may be absent
 unfoldable pub attach_of : ℕ → Data → Option Order
-attach_of count d = if count == 2 then option_map Attach (worker_of d) else None
+attach_of count d =
+    option_and_then (λ worker. option_and_then (λ take.
+    if count == 2 + counted (get (codes "take") d) then Some (Attach record { worker = worker; take = take }) else None) (take_or_not (get (codes "take") d))) (worker_of d)
 
 -- 1 to 1,000,000
 unfoldable pub tries_of : Data → Option ℕ
 tries_of d = option_and_then (λ n. if nat_le 1 n && nat_le n 1000000 then Some n else None) (small d)
 
--- the member `tries`, 1,000 where it is absent
-abbrev pub tries_or_usual : Option Data → Option ℕ
-tries_or_usual None = Some 1000
-tries_or_usual (Some d) = tries_of d
+-- 0 to 3,600,000
+unfoldable pub wait_of : Data → Option ℕ
+wait_of d = option_and_then (λ n. if nat_le n 3600000 then Some n else None) (small d)
 
--- `{"do":WORD,"lock":..,"number":..,"script":..,"tries":..}`, of which the last may be absent
+-- the members `tries` and `wait`, of which one may be there; 1,000 tries where both are absent
+abbrev pub patience_by : Option Data → Option Data → Option Patience
+patience_by None None = Some (Tries 1000)
+patience_by (Some d) None = option_map Tries (tries_of d)
+patience_by None (Some d) = option_map Wait (wait_of d)
+patience_by (Some d) (Some e) = None
+
+unfoldable pub patience_of : Data → Option Patience
+patience_of d = patience_by (get (codes "tries") d) (get (codes "wait") d)
+
+-- how many of them are there
+unfoldable pub patience_keys : Data → ℕ
+patience_keys d = counted (get (codes "tries") d) + counted (get (codes "wait") d)
+
+-- `{"do":WORD,"lock":..,"number":..,"script":..,"tries":..}`, of which the last may be absent, or be `wait`
 unfoldable pub submission_of : List (List ℕ) → ℕ → Data → Option Submission
 submission_of names count d =
-    option_and_then (λ number. option_and_then (λ lock. option_and_then (λ script. option_and_then (λ tries.
-    if count == 4 + counted (get (codes "tries") d) then Some (record { number = number; job = record { lock = lock; script = script }; tries = tries }) else None)
-    (tries_or_usual (get (codes "tries") d))) (option_and_then script_of (get (codes "script") d))) (lock_of names d)) (option_and_then small (get (codes "number") d))
+    option_and_then (λ number. option_and_then (λ lock. option_and_then (λ script. option_and_then (λ patience.
+    if count == 4 + patience_keys d then Some (record { number = number; job = record { lock = lock; script = script }; patience = patience }) else None)
+    (patience_of d)) (option_and_then script_of (get (codes "script") d))) (lock_of names d)) (option_and_then small (get (codes "number") d))
 
--- `{"do":"resume","tries":..}`, of which the last may be absent
+-- `{"do":"resume","tries":..}`, of which the last may be absent, or be `wait`
 unfoldable pub resume_of : ℕ → Data → Option Order
-resume_of count d =
-    option_and_then (λ tries. if count == 1 + counted (get (codes "tries") d) then Some (Resume tries) else None) (tries_or_usual (get (codes "tries") d))
+resume_of count d = option_and_then (λ patience. if count == 1 + patience_keys d then Some (Resume patience) else None) (patience_of d)
 
 -- 0 to 1,000,000
 unfoldable pub steps_of : Data → Option ℕ

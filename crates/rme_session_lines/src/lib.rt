@@ -9,5 +9,5 @@
 mod order;
 mod session;
 
-pub use order::{Order, Submission, order_of};
+pub use order::{Attachment, Order, Patience, Submission, order_of};
 pub use session::{Outcome, SessionReply, Standing, push_session_reply};

@@ -1,6 +1,6 @@
 //! The lines of a session.
 
-ghost use Rattle.std.specs.Prelude.{◌≡◌, IfOk, option_map, option_and_then};
+ghost use Rattle.std.specs.Prelude.{◌≡◌, ◌≤◌, IfOk, option_map, option_and_then};
 ghost use Rattle.serde_json.specs.View.{view};
 ghost use Rattle.rme_session_lines.specs.Orders as spec;
 
@@ -16,16 +16,50 @@ const USUAL_TRIES: u32 = 1_000;
 /// The most tries that a line may ask for.
 const MOST_TRIES: u32 = 1_000_000;
 
+/// The most milliseconds that a line may wait: an hour.
+const MOST_WAIT: u32 = 3_600_000;
+
 /// The most own steps after which a line may plan a crash.
 const MOST_STEPS: u32 = 1_000_000;
+
+/// How long an order goes on to try where its job waits for its lock.
+#[derive(Clone, Copy, PartialEq, Eq)]
+pub enum Patience {
+    /// For so many sweeps, 1 to 1,000,000.
+    Tries(u32),
+    /// For so many milliseconds, 0 to 3,600,000, and for one sweep at least.
+    Wait(u32),
+}
+
+impl Patience {
+    ghost use Rattle.std.specs.Prelude.{◌≡◌};
+    ghost use Rattle.rme_session_lines.specs.Patience.{least_tries};
+
+    /// How many sweeps it makes at least where the job waits then.
+    pub fn least(self) -> u32
+        ensures { result ≡ least_tries self }
+    {
+        match self {
+            Patience::Tries(tries) => tries,
+            Patience::Wait(_) => 1,
+        }
+    }
+}
 
 /// A job with the number that its client gave it.
 #[derive(Clone, Copy, PartialEq, Eq)]
 pub struct Submission {
     pub number: u32,
     pub job: Job,
-    /// 1 to 1,000,000.
-    pub tries: u32,
+    pub patience: Patience,
+}
+
+/// A worker that a session asks for.
+#[derive(Clone, Copy, PartialEq, Eq)]
+pub struct Attachment {
+    pub worker: u32,
+    /// Whether a session that has the worker is to be ended.
+    pub take: bool,
 }
 
 /// An order of a session's line.
@@ -34,12 +68,12 @@ pub struct Submission {
 /// lock.
 #[derive(Clone, Copy, PartialEq, Eq)]
 pub enum Order {
-    /// To take this worker.
-    Attach(u32),
+    /// To take a worker.
+    Attach(Attachment),
     /// To hand over a job, to go on with it, or to answer its receipt again.
     Submit(Submission),
-    /// To go on with the pending job, with so many tries, 1 to 1,000,000.
-    Resume(u32),
+    /// To go on with the pending job.
+    Resume(Patience),
     /// To hand over a job, or to go on with it, up to the moment in which the worker is inside its lock; or to answer
     /// its receipt again.
     Enter(Submission),
@@ -95,10 +129,17 @@ fn order_named(names: &Names, word: &str, count: usize, value: &Value) -> Option
 fn attach_of(count: usize, value: &Value) -> Option<Order>
     ensures { result ≡ spec.attach_of count (view value.now) }
 {
-    if count != 2 {
+    let worker = worker_of(value)?;
+    let mut expected = 2;
+    let mut take = false;
+    if let Some(given) = value.get("take") {
+        take = given.as_bool()?;
+        expected += 1;
+    }
+    if count != expected {
         return None;
     }
-    Some(Order::Attach(worker_of(value)?))
+    Some(Order::Attach(Attachment { worker, take }))
 }
 
 /// How often to try: 1 to 1,000,000.
@@ -113,6 +154,40 @@ fn tries_of(value: &Value) -> Option<u32>
     Some(tries)
 }
 
+/// How many milliseconds to wait: 0 to 3,600,000.
+#[tactic(auto, unfolding(crate::specs::Orders::wait_of))]
+fn wait_of(value: &Value) -> Option<u32>
+    ensures { result ≡ spec.wait_of (view value.now) }
+{
+    let wait = small(value)?;
+    if wait > MOST_WAIT {
+        return None;
+    }
+    Some(wait)
+}
+
+/// How long to try, which one of two members may say, or none.
+#[tactic(auto, unfolding(crate::specs::Orders::patience_of))]
+fn patience_of(value: &Value) -> Option<Patience>
+    ensures { result ≡ spec.patience_of (view value.now) }
+{
+    match (value.get("tries"), value.get("wait")) {
+        (None, None) => Some(Patience::Tries(USUAL_TRIES)),
+        (Some(tries), None) => Some(Patience::Tries(tries_of(tries)?)),
+        (None, Some(wait)) => Some(Patience::Wait(wait_of(wait)?)),
+        (Some(_), Some(_)) => None,
+    }
+}
+
+/// How many members of a value say how long to try.
+#[tactic(auto, unfolding(crate::specs::Orders::patience_keys))]
+fn patience_keys(value: &Value) -> usize
+    ensures keys { result ≡ spec.patience_keys (view value.now) }
+    ensures few { result ≤ 2 }
+{
+    usize::from(value.get("tries").is_some()) + usize::from(value.get("wait").is_some())
+}
+
 /// A submission whose optional member is there or not.
 #[tactic(auto, unfolding(crate::specs::Orders::submission_of))]
 fn submission_of(names: &Names, count: usize, value: &Value) -> Option<Submission>
@@ -121,19 +196,14 @@ fn submission_of(names: &Names, count: usize, value: &Value) -> Option<Submissio
     let number = small(value.get("number")?)?;
     let lock = lock_of(names, value)?;
     let script = script_of(value.get("script")?)?;
-    let mut expected = 4;
-    let mut tries = USUAL_TRIES;
-    if let Some(given) = value.get("tries") {
-        tries = tries_of(given)?;
-        expected += 1;
-    }
-    if count != expected {
+    let patience = patience_of(value)?;
+    if count != 4 + patience_keys(value) {
         return None;
     }
     Some(Submission {
         number,
         job: Job { lock, script },
-        tries,
+        patience,
     })
 }
 
@@ -141,16 +211,11 @@ fn submission_of(names: &Names, count: usize, value: &Value) -> Option<Submissio
 fn resume_of(count: usize, value: &Value) -> Option<Order>
     ensures { result ≡ spec.resume_of count (view value.now) }
 {
-    let mut expected = 1;
-    let mut tries = USUAL_TRIES;
-    if let Some(given) = value.get("tries") {
-        tries = tries_of(given)?;
-        expected += 1;
-    }
-    if count != expected {
+    let patience = patience_of(value)?;
+    if count != 1 + patience_keys(value) {
         return None;
     }
-    Some(Order::Resume(tries))
+    Some(Order::Resume(patience))
 }
 
 /// After how many own steps to crash: 0 to 1,000,000.
