@@ -1,22 +1,25 @@
--- An order that is obeyed in two parts is obeyed.
+-- An order that is obeyed in parts is obeyed.
 use Rattle.std.proofs.Common.{◌≡◌, ℕ, ◌+◌, ◌-◌, ◌<◌, ◌≤◌, arith, inl, inr, refl, sym, ap, ◌∙◌, subst}
-use Rattle.std.specs.Prelude.{◌==◌, Bool, true, false, Option, Some, None}
+use Rattle.std.specs.Prelude.{◌==◌, nat_lt, Bool, true, false, Option, Some, None}
+use Rattle.std.proofs.lemmas.Bool.{cases_Bool, eqb-true}
 use Rattle.std.proofs.lemmas.Option.{none-some, same_Some}
 use Rattle.rme_words.specs.declared.shape.Shape.{Shape}
 use Rattle.rme_words.specs.declared.refusal.Refusal.{Refusal}
-use Rattle.rme_words.specs.declared.refusal.Refusal.TheVariants.{Differs}
+use Rattle.rme_words.specs.declared.refusal.Refusal.TheVariants.{Differs, WrongNumber}
 use Rattle.rme_script.specs.declared.job.Job.{Job}
 use Rattle.rme_session_lines.specs.declared.session.Outcome.{Outcome}
 use Rattle.rme_session_lines.specs.declared.session.Outcome.TheVariants.{Receipt, Withdrawn, Waiting, Fell, Inside}
 use Rattle.rme_session_lines.specs.declared.session.SessionReply.{SessionReply}
-use Rattle.rme_session_lines.specs.declared.session.SessionReply.TheVariants.{Submitted, Resumed, Refused}
+use Rattle.rme_session_lines.specs.declared.session.SessionReply.TheVariants.{Submitted, Resumed, Entered, Refused}
 use Rattle.rme_session_lines.specs.declared.order.Order.{Order}
-use Rattle.rme_session_lines.specs.declared.order.Order.TheVariants.{Attach, Submit, Resume}
+use Rattle.rme_session_lines.specs.declared.order.Order.TheVariants.{Submit, Resume, Enter}
 use Rattle.rme_session_lines.specs.declared.order.Submission.{Submission}
-use Rattle.rme_orders.specs.Obeyed.{GoesOn, Hands, IsLeft, IsTried, Obeys, ObeysBy, Resumes, Submits, Works, told}
+use Rattle.rme_session_lines.specs.declared.order.Patience.TheVariants.{Tries}
+use Rattle.rme_session_lines.specs.Patience.{least_tries}
+use Rattle.rme_orders.specs.Obeyed.{Enters, GoesInside, GoesOn, Hands, HandsInside, IsLeft, IsTried, Obeys, ObeysBy, Resumes, Submits, Works, told}
 use Rattle.rme_orders.specs.Plans.{Leaves}
-use Rattle.rme_orders.specs.Refusals.{PendingRefuses, SubmitRefuses, resume_refusal}
-use Rattle.rme_orders.specs.Sessions.{answer_as, first_of, rest_of, still_waits}
+use Rattle.rme_orders.specs.Refusals.{PendingRefuses, SubmitRefuses, posting_refusal, repeat_refusal, resume_refusal}
+use Rattle.rme_orders.specs.Parts.{answer_as, least_in, once_more, patience_in, still_waits, tried, with_tries}
 use Rattle.rme_orders.specs.Sights.{Task, next_task, waiting_with}
 use Rattle.rme_orders.specs.declared.view.PendingWorker.{PendingWorker}
 use Rattle.rme_orders.specs.declared.view.ReadyWorker.{ReadyWorker}
@@ -26,52 +29,61 @@ use Rattle.rme_orders.specs.declared.view.View.{View}
 use Rattle.rme_orders.proofs.Counting.{due_on, left_on}
 
 -- How many tries an order has changes nothing of what it is refused for, nor of what it may come to.
-abbrev pub once : Submission → Submission
-once its = record { number = its.number; job = its.job; tries = 1 }
+module _ (tries : ℕ) (its : Submission) where
+  pending_tried : (number : ℕ) (draft : Option Job) (why : Option Refusal) → PendingRefuses number draft (tried tries its) why → PendingRefuses number draft its why
+  pending_tried number draft None refuses = refuses
+  pending_tried number draft (Some Differs) refuses = refuses
+  pending_tried number draft (Some why) refuses = refuses
 
-pending_once : (number : ℕ) (draft : Option Job) (its : Submission) (why : Option Refusal) → PendingRefuses number draft (once its) why → PendingRefuses number draft its why
-pending_once number draft its None refuses = refuses
-pending_once number draft its (Some Differs) refuses = refuses
-pending_once number draft its (Some why) refuses = refuses
+  refuses_tried : (shape : Shape) (session : Session) (why : Option Refusal) → SubmitRefuses shape session (tried tries its) why → SubmitRefuses shape session its why
+  refuses_tried shape Nobody why refuses = refuses
+  refuses_tried shape (Ready ready) why refuses = refuses
+  refuses_tried shape (Climb pending) why refuses = pending_tried pending.number pending.draft why refuses
+  refuses_tried shape (Held pending) why refuses = pending_tried pending.number pending.draft why refuses
 
-refuses_once : (shape : Shape) (session : Session) (its : Submission) (why : Option Refusal) → SubmitRefuses shape session (once its) why → SubmitRefuses shape session its why
-refuses_once shape Nobody its why refuses = refuses
-refuses_once shape (Ready ready) its why refuses = refuses
-refuses_once shape (Climb pending) its why refuses = pending_once pending.number pending.draft its why refuses
-refuses_once shape (Held pending) its why refuses = pending_once pending.number pending.draft its why refuses
+  submits_tried : (start now : Session) (became : Outcome) → Submits start (tried tries its) now became → Submits start its now became
+  submits_tried Nobody now became submits = submits
+  submits_tried (Ready ready) now became submits = submits
+  submits_tried (Climb pending) now became submits = submits
+  submits_tried (Held pending) now became submits = submits
 
-submits_once : (start : Session) (its : Submission) (now : Session) (became : Outcome) → Submits start (once its) now became → Submits start its now became
-submits_once Nobody its now became submits = submits
-submits_once (Ready ready) its now became submits = submits
-submits_once (Climb pending) its now became submits = submits
-submits_once (Held pending) its now became submits = submits
+  enters_tried : (made : ℕ) (start now : Session) (became : Outcome) → Enters made start (tried tries its) now became → Enters made start its now became
+  enters_tried made Nobody now became enters = enters
+  enters_tried made (Ready ready) now became enters = enters
+  enters_tried made (Climb pending) now became enters = enters
+  enters_tried made (Held pending) now became enters = enters
 
--- The first part was all: the job does not wait, or no try is left.
-tried_once : (most made : ℕ) (became : Outcome) → ((became ≡ Waiting) → most ≤ 1) → IsTried 1 made became → IsTried most made became
-tried_once most made (Receipt receipt) few tried = tt
-tried_once most made Withdrawn few tried = tt
-tried_once most made Waiting few tried = let at = few refl in omega (arith, at, tried)
-tried_once most made Fell few tried = tt
-tried_once most made (Inside number) few tried = tt
+-- So many tries were all: the job does not wait, or none is left.
+tried_all : (least tries made : ℕ) (became : Outcome) → ((became ≡ Waiting) → least ≤ tries) → IsTried tries made became → IsTried least made became
+tried_all least tries made (Receipt receipt) all some = tt
+tried_all least tries made Withdrawn all some = tt
+tried_all least tries made Waiting all some = let at = all refl in omega (arith, at, some)
+tried_all least tries made Fell all some = tt
+tried_all least tries made (Inside number) all some = tt
 
--- No try is left after the first, or the job does not wait.
-abbrev pub IsAll : Order → SessionReply → Type 0
-IsAll its reply = still_waits reply ≡ true → rest_of its ≡ 0
+abbrev pub HasAll : ℕ → Order → SessionReply → Type 0
+HasAll tries its reply = still_waits reply ≡ true → least_in (patience_in its) ≤ tries
 
-module _ (shape : Shape) (made : ℕ) (old now : View) where
-  pub only_first : (its : Order) (reply : SessionReply) → IsAll its reply → ObeysBy shape made old (first_of its) now reply → ObeysBy shape made old its now reply
-  only_first (Submit its) (Refused why) all (same, inl refuses) = (same, inl (refuses_once shape old.session its (Some why) refuses))
-  only_first (Submit its) (Refused why) all (same, inr misses) = absurd misses
-  only_first (Submit its) (Submitted became) all (none, (submits, left, tried)) =
-      let few : (became ≡ Waiting) → its.tries ≤ 1 = λ waits. (let none_left = all (ap (λ (o : Outcome). still_waits (Submitted o)) waits) in omega (arith, none_left)) in
-      (refuses_once shape old.session its None none, (submits_once old.session its now.session became submits, left, tried_once its.tries made became few tried))
-  only_first (Submit its) reply all (none, does) = absurd does
-  only_first (Resume tries) (Refused why) all obeys = obeys
-  only_first (Resume tries) (Resumed became) all (none, (resumes, left, tried)) =
-      let few : (became ≡ Waiting) → tries ≤ 1 = λ waits. (let none_left = all (ap (λ (o : Outcome). still_waits (Resumed o)) waits) in omega (arith, none_left)) in
-      (none, (resumes, left, tried_once tries made became few tried))
-  only_first (Resume tries) reply all (none, does) = absurd does
-  only_first its reply all obeys = obeys
+module _ (shape : Shape) (made tries : ℕ) (old now : View) where
+  pub all_tries : (its : Order) (reply : SessionReply) → HasAll tries its reply → ObeysBy shape made old (with_tries tries its) now reply → ObeysBy shape made old its now reply
+  all_tries (Submit its) (Refused why) all (same, inl refuses) = (same, inl (refuses_tried tries its shape old.session (Some why) refuses))
+  all_tries (Submit its) (Refused why) all (same, inr misses) = absurd misses
+  all_tries (Submit its) (Submitted became) all (none, (submits, left, some)) =
+      let enough : (became ≡ Waiting) → least_tries its.patience ≤ tries = λ waits. all (ap (λ (o : Outcome). still_waits (Submitted o)) waits) in
+      (refuses_tried tries its shape old.session None none, (submits_tried tries its old.session now.session became submits, left, tried_all (least_tries its.patience) tries made became enough some))
+  all_tries (Submit its) reply all (none, does) = absurd does
+  all_tries (Resume patience) (Refused why) all obeys = obeys
+  all_tries (Resume patience) (Resumed became) all (none, (resumes, left, some)) =
+      let enough : (became ≡ Waiting) → least_tries patience ≤ tries = λ waits. all (ap (λ (o : Outcome). still_waits (Resumed o)) waits) in
+      (none, (resumes, left, tried_all (least_tries patience) tries made became enough some))
+  all_tries (Resume patience) reply all (none, does) = absurd does
+  all_tries (Enter its) (Refused why) all (same, inl refuses) = (same, inl (refuses_tried tries its shape old.session (Some why) refuses))
+  all_tries (Enter its) (Refused why) all (same, inr misses) = absurd misses
+  all_tries (Enter its) (Entered became) all (none, (enters, left, some)) =
+      let enough : (became ≡ Waiting) → least_tries its.patience ≤ tries = λ waits. all (ap (λ (o : Outcome). still_waits (Entered o)) waits) in
+      (refuses_tried tries its shape old.session None none, (enters_tried tries its made old.session now.session became enters, left, tried_all (least_tries its.patience) tries made became enough some))
+  all_tries (Enter its) reply all (none, does) = absurd does
+  all_tries its reply all obeys = obeys
 
 -- A worker waited with a job, and then went on with it.
 works_on : (task : Task) (now : Session) (became : Outcome) → GoesOn (waiting_with task) now became → Works task now became
@@ -107,7 +119,7 @@ hands_waiting : (again : Bool) (ready : ReadyWorker) (job : Job) (mid now : Sess
 hands_waiting true ready job mid now became (same, waits) resumes = absurd (told_waits ready waits)
 hands_waiting false ready job mid now became waits resumes = works_waiting (next_task ready job) mid now became waits resumes
 
-submits_waiting : (start mid now : Session) (its : Submission) (became : Outcome) → Submits start (once its) mid Waiting → Resumes mid now became → Submits start its now became
+submits_waiting : (start mid now : Session) (its : Submission) (became : Outcome) → Submits start its mid Waiting → Resumes mid now became → Submits start its now became
 submits_waiting Nobody mid now its became waits resumes = absurd waits
 submits_waiting (Ready ready) mid now its became waits resumes = hands_waiting (its.number == ready.number) ready its.job mid now became waits resumes
 submits_waiting (Climb pending) mid now its became waits resumes = goes_waiting pending mid now became waits resumes
@@ -118,6 +130,28 @@ resumes_waiting Nobody mid now became waits resumes = absurd waits
 resumes_waiting (Ready ready) mid now became waits resumes = absurd waits
 resumes_waiting (Climb pending) mid now became waits resumes = goes_waiting pending mid now became waits resumes
 resumes_waiting (Held pending) mid now became waits resumes = goes_waiting pending mid now became waits resumes
+
+-- A worker waited to be inside, and then went on until it was.
+inside_waiting : (start : PendingWorker) (mid now : Session) (its : Submission) (made : ℕ) (became : Outcome) → GoesInside start mid Waiting → Enters made mid its now became
+    → GoesInside start now became
+inside_waiting start Nobody now its made became waits enters = absurd waits
+inside_waiting start (Ready ready) now its made became waits enters = absurd waits
+inside_waiting start (Climb pending) now its made became waits enters = let P : PendingWorker → Type 0 = λ p. GoesInside p now became in subst P waits enters
+inside_waiting start (Held pending) now its made became waits enters = absurd waits
+
+hands_inside_waiting : (again : Bool) (ready : ReadyWorker) (mid now : Session) (its : Submission) (made : ℕ) (became : Outcome) → HandsInside again ready its.job mid Waiting
+    → Enters made mid its now became → HandsInside again ready its.job now became
+hands_inside_waiting true ready mid now its made became (same, waits) enters = absurd (told_waits ready waits)
+hands_inside_waiting false ready mid now its made became waits enters = inside_waiting (waiting_with (next_task ready its.job)) mid now its made became waits enters
+
+enters_waiting : (one two both : ℕ) (start mid now : Session) (its : Submission) (became : Outcome) → Enters one start its mid Waiting → Enters two mid its now became → Enters both start its now became
+enters_waiting one two both Nobody mid now its became waits enters = absurd waits
+enters_waiting one two both (Ready ready) mid now its became waits enters = hands_inside_waiting (its.number == ready.number) ready mid now its two became waits enters
+enters_waiting one two both (Climb pending) mid now its became waits enters = inside_waiting pending mid now its two became waits enters
+enters_waiting one two both (Held pending) mid now its became (none, same, waits) enters = absurd (never waits)
+  where
+    never : Waiting ≡ Inside pending.number → ⊥
+    never is = cc
 
 -- What was planned comes sooner by the own steps of both parts.
 left_both : (one two : ℕ) (old mid now : View) (became : Outcome) → Leaves old.planned one mid.planned → IsLeft two mid now became → IsLeft (one + two) old now became
@@ -160,6 +194,25 @@ resumes_climbs (Ready ready) mid waits = absurd waits
 resumes_climbs (Climb pending) mid waits = goes_climbs pending mid waits
 resumes_climbs (Held pending) mid waits = goes_climbs pending mid waits
 
+inside_climbs : (start : PendingWorker) (mid : Session) → GoesInside start mid Waiting → IsClimb mid
+inside_climbs start Nobody waits = waits
+inside_climbs start (Ready ready) waits = waits
+inside_climbs start (Climb pending) waits = tt
+inside_climbs start (Held pending) waits = waits
+
+hands_inside_climbs : (again : Bool) (ready : ReadyWorker) (job : Job) (mid : Session) → HandsInside again ready job mid Waiting → IsClimb mid
+hands_inside_climbs true ready job mid (same, waits) = absurd (told_waits ready waits)
+hands_inside_climbs false ready job mid waits = inside_climbs (waiting_with (next_task ready job)) mid waits
+
+enters_climbs : (made : ℕ) (start mid : Session) (its : Submission) → Enters made start its mid Waiting → IsClimb mid
+enters_climbs made Nobody mid its waits = absurd waits
+enters_climbs made (Ready ready) mid its waits = hands_inside_climbs (its.number == ready.number) ready its.job mid waits
+enters_climbs made (Climb pending) mid its waits = inside_climbs pending mid waits
+enters_climbs made (Held pending) mid its (none, same, waits) = absurd (never waits)
+  where
+    never : Waiting ≡ Inside pending.number → ⊥
+    never is = cc
+
 pub climb_not_refused : (mid : Session) (why : Refusal) → IsClimb mid → Some why ≡ resume_refusal mid → ⊥
 climb_not_refused Nobody why climbs refuses = climbs
 climb_not_refused (Ready ready) why climbs refuses = climbs
@@ -169,75 +222,147 @@ climb_not_refused (Held pending) why climbs refuses = climbs
 pub false_true : false ≡ true → ⊥
 false_true same = cc
 
--- Each part had a step at least for each of its tries.
-tried_both : (most rest one two : ℕ) (became : Outcome) → most ≤ rest + 1 → 1 ≤ one → IsTried rest two became → IsTried most (one + two) became
-tried_both most rest one two (Receipt receipt) enough first tried = tt
-tried_both most rest one two Withdrawn enough first tried = tt
-tried_both most rest one two Waiting enough first tried = omega (arith, enough, first, tried)
-tried_both most rest one two Fell enough first tried = tt
-tried_both most rest one two (Inside number) enough first tried = tt
+-- The job of a worker that waits to be inside is the one of the order.
+abbrev pub IsWith : Submission → Session → Type 0
+IsWith its (Climb pending) = (pending.number ≡ its.number) × (pending.draft ≡ Some its.job)
+IsWith its other = ⊥
 
--- Both parts were needed.
-module _ (shape : Shape) (one two : ℕ) (old mid now : View) where
-  submitted_on : (its : Submission) (last : SessionReply) → ObeysBy shape one old (Submit (once its)) mid (Submitted Waiting) → ObeysBy shape two mid (Resume (its.tries - 1)) now last
-      → ObeysBy shape (one + two) old (Submit its) now (answer_as (Submitted Waiting) last)
-  submitted_on its (Resumed became) (none, (submits, left, first)) (some, (resumes, later, tried)) = (
-    refuses_once shape old.session its None none,
+inside_with : (its : Submission) (start : PendingWorker) (mid : Session) → start.number ≡ its.number → start.draft ≡ Some its.job → GoesInside start mid Waiting → IsWith its mid
+inside_with its start Nobody number draft waits = waits
+inside_with its start (Ready ready) number draft waits = waits
+inside_with its start (Climb pending) number draft waits =
+    (ap (λ (p : PendingWorker). p.number) waits ∙ number, ap (λ (p : PendingWorker). p.draft) waits ∙ draft)
+inside_with its start (Held pending) number draft waits = waits
+
+-- A number that is not refused and is not the last one is the next.
+not_repeated : (last : ℕ) (its : Submission) → (its.number == last) ≡ false → None ≡ repeat_refusal last its.number → ⊥
+not_repeated last its other none = elim (cases_Bool (nat_lt 0 its.number)) [
+  | inl some ↦ (let is : repeat_refusal last its.number ≡ Some (WrongNumber (last + 1)) = rw some (rw other refl) in none-some (WrongNumber (last + 1)) (none ∙ is))
+  | inr zero ↦ (let is : repeat_refusal last its.number ≡ Some (WrongNumber (last + 1)) = rw zero refl in none-some (WrongNumber (last + 1)) (none ∙ is))
+]
+
+is_next : (shape : Shape) (last : ℕ) (its : Submission) → (its.number == last) ≡ false → None ≡ posting_refusal shape last its → its.number ≡ last + 1
+is_next shape last its other none = elim (cases_Bool (its.number == last + 1)) [
+  | inl next ↦ eqb-true its.number (last + 1) next
+  | inr not ↦ (let repeats : posting_refusal shape last its ≡ repeat_refusal last its.number = rw not refl in absurd (not_repeated last its other (none ∙ repeats)))
+]
+
+enters_with : (shape : Shape) (made : ℕ) (start mid : Session) (its : Submission) → SubmitRefuses shape start its None → Enters made start its mid Waiting → IsWith its mid
+enters_with shape made Nobody mid its none waits = absurd waits
+enters_with shape made (Ready ready) mid its none waits = handed (its.number == ready.number) refl waits
+  where
+    handed : (again : Bool) → (its.number == ready.number) ≡ again → HandsInside again ready its.job mid Waiting → IsWith its mid
+    handed true is (same, waits) = absurd (told_waits ready waits)
+    handed false is waits = inside_with its (waiting_with (next_task ready its.job)) mid (sym (is_next shape ready.number its is none)) refl waits
+enters_with shape made (Climb pending) mid its none waits = inside_with its pending mid (sym none.0) none.1 waits
+enters_with shape made (Held pending) mid its none (zero, same, waits) = absurd (never waits)
+  where
+    never : Waiting ≡ Inside pending.number → ⊥
+    never is = cc
+
+pending_not_refused : (number : ℕ) (draft : Option Job) (its : Submission) (why : Refusal) → number ≡ its.number → draft ≡ Some its.job → PendingRefuses number draft its (Some why) → ⊥
+pending_not_refused number draft its Differs same has refuses = refuses.1 has
+pending_not_refused number draft its why same has refuses = refuses.0 (sym same)
+
+with_not_refused : (shape : Shape) (mid : Session) (its : Submission) (why : Refusal) → IsWith its mid → SubmitRefuses shape mid its (Some why) → ⊥
+with_not_refused shape Nobody its why is refuses = is
+with_not_refused shape (Ready ready) its why is refuses = is
+with_not_refused shape (Climb pending) its why is refuses = pending_not_refused pending.number pending.draft its why is.0 is.1 refuses
+with_not_refused shape (Held pending) its why is refuses = is
+
+pub enter_not_refused : (shape : Shape) (tries made : ℕ) (old mid : View) (its : Submission) (why : Refusal) → ObeysBy shape made old (Enter (tried tries its)) mid (Entered Waiting)
+    → SubmitRefuses shape mid.session (tried 1 its) (Some why) → ⊥
+enter_not_refused shape tries made old mid its why (none, (enters, left, first)) refuses =
+    with_not_refused shape mid.session its why
+    (enters_with shape made old.session mid.session its (refuses_tried tries its shape old.session None none) (enters_tried tries its made old.session mid.session Waiting enters))
+    (refuses_tried 1 its shape mid.session (Some why) refuses)
+
+-- Each part had a step at least for each of its tries.
+tried_both : (tries one two : ℕ) (became : Outcome) → tries ≤ one → IsTried 1 two became → IsTried (tries + 1) (one + two) became
+tried_both tries one two (Receipt receipt) first more = tt
+tried_both tries one two Withdrawn first more = tt
+tried_both tries one two Waiting first more = omega (arith, first, more)
+tried_both tries one two Fell first more = tt
+tried_both tries one two (Inside number) first more = tt
+
+-- One try more, after so many.
+module _ (shape : Shape) (tries one two : ℕ) (old mid now : View) where
+  submitted_on : (its : Submission) (last : SessionReply) → ObeysBy shape one old (Submit (tried tries its)) mid (Submitted Waiting) → ObeysBy shape two mid (Resume (Tries 1)) now last
+      → ObeysBy shape (one + two) old (Submit (tried (tries + 1) its)) now (answer_as (Submitted Waiting) last)
+  submitted_on its (Resumed became) (none, (submits, left, first)) (some, (resumes, later, more)) = (
+    refuses_tried tries (tried (tries + 1) its) shape old.session None none,
     (
-      submits_waiting old.session mid.session now.session its became submits resumes,
+      submits_tried tries (tried (tries + 1) its) old.session now.session became (submits_waiting old.session mid.session now.session (tried tries its) became submits resumes),
       left_both one two old mid now became left later,
-      tried_both its.tries (its.tries - 1) one two became (omega arith) first tried,
+      tried_both tries one two became first more,
     ),
   )
   submitted_on its (Refused why) (none, (submits, left, first)) (same, inl refuses) =
-      absurd (climb_not_refused mid.session why (submits_climbs old.session mid.session (once its) submits) refuses)
+      absurd (climb_not_refused mid.session why (submits_climbs old.session mid.session (tried tries its) submits) refuses)
   submitted_on its (Refused why) obeys (same, inr misses) = absurd misses
   submitted_on its last obeys (some, does) = absurd does
 
-  resumed_on : (tries : ℕ) (last : SessionReply) → ObeysBy shape one old (Resume 1) mid (Resumed Waiting) → ObeysBy shape two mid (Resume (tries - 1)) now last
-      → ObeysBy shape (one + two) old (Resume tries) now (answer_as (Resumed Waiting) last)
-  resumed_on tries (Resumed became) (none, (resumes, left, first)) (some, (more, later, tried)) = (
-    none,
+  resumed_on : (last : SessionReply) → ObeysBy shape one old (Resume (Tries tries)) mid (Resumed Waiting) → ObeysBy shape two mid (Resume (Tries 1)) now last
+      → ObeysBy shape (one + two) old (Resume (Tries (tries + 1))) now (answer_as (Resumed Waiting) last)
+  resumed_on (Resumed became) (none, (resumes, left, first)) (some, (more, later, again)) =
+      (none, (resumes_waiting old.session mid.session now.session became resumes more, left_both one two old mid now became left later, tried_both tries one two became first again))
+  resumed_on (Refused why) (none, (resumes, left, first)) (same, inl refuses) =
+      absurd (climb_not_refused mid.session why (resumes_climbs old.session mid.session resumes) refuses)
+  resumed_on (Refused why) obeys (same, inr misses) = absurd misses
+  resumed_on last obeys (some, does) = absurd does
+
+  entered_on : (its : Submission) (last : SessionReply) → ObeysBy shape one old (Enter (tried tries its)) mid (Entered Waiting) → ObeysBy shape two mid (Enter (tried 1 its)) now last
+      → ObeysBy shape (one + two) old (Enter (tried (tries + 1) its)) now (answer_as (Entered Waiting) last)
+  entered_on its (Entered became) (none, (enters, left, first)) (some, (goes, later, more)) = (
+    refuses_tried tries (tried (tries + 1) its) shape old.session None none,
     (
-      resumes_waiting old.session mid.session now.session became resumes more,
+      enters_waiting one two (one + two) old.session mid.session now.session (tried (tries + 1) its) became
+          (enters_tried tries (tried (tries + 1) its) one old.session mid.session Waiting enters) (enters_tried 1 (tried (tries + 1) its) two mid.session now.session became goes),
       left_both one two old mid now became left later,
-      tried_both tries (tries - 1) one two became (omega arith) first tried,
+      tried_both tries one two became first more,
     ),
   )
-  resumed_on tries (Refused why) (none, (resumes, left, first)) (same, inl refuses) =
-      absurd (climb_not_refused mid.session why (resumes_climbs old.session mid.session resumes) refuses)
-  resumed_on tries (Refused why) obeys (same, inr misses) = absurd misses
-  resumed_on tries last obeys (some, does) = absurd does
+  entered_on its (Refused why) obeys (same, inl refuses) = absurd (enter_not_refused shape tries one old mid its why obeys refuses)
+  entered_on its (Refused why) obeys (same, inr misses) = absurd misses
+  entered_on its last obeys (some, does) = absurd does
 
-  pub both_parts : (its : Order) (reply last : SessionReply) → still_waits reply ≡ true → ObeysBy shape one old (first_of its) mid reply → ObeysBy shape two mid (Resume (rest_of its)) now last
-      → ObeysBy shape (one + two) old its now (answer_as reply last)
-  both_parts (Submit its) (Submitted Waiting) last waits obeys resumes = submitted_on its last obeys resumes
-  both_parts (Resume tries) (Resumed Waiting) last waits obeys resumes = resumed_on tries last obeys resumes
-  both_parts (Submit its) (Resumed Waiting) last waits obeys resumes = absurd obeys.1
-  both_parts (Resume tries) (Submitted Waiting) last waits obeys resumes = absurd obeys.1
-  both_parts (Attach worker) (Submitted Waiting) last waits obeys resumes = absurd obeys.1
-  both_parts (Attach worker) (Resumed Waiting) last waits obeys resumes = absurd obeys.1
-  both_parts its (Submitted Waiting) last waits obeys resumes = absurd obeys.1
-  both_parts its (Resumed Waiting) last waits obeys resumes = absurd obeys.1
-  both_parts its reply last waits obeys resumes = absurd (false_true waits)
+  pub both_parts : (its : Order) (reply last : SessionReply) → still_waits reply ≡ true → ObeysBy shape one old (with_tries tries its) mid reply → ObeysBy shape two mid (once_more its) now last
+      → ObeysBy shape (one + two) old (with_tries (tries + 1) its) now (answer_as reply last)
+  both_parts (Submit its) (Submitted Waiting) last waits obeys more = submitted_on its last obeys more
+  both_parts (Resume patience) (Resumed Waiting) last waits obeys more = resumed_on last obeys more
+  both_parts (Enter its) (Entered Waiting) last waits obeys more = entered_on its last obeys more
+  both_parts (Submit its) (Resumed Waiting) last waits obeys more = absurd obeys.1
+  both_parts (Submit its) (Entered Waiting) last waits obeys more = absurd obeys.1
+  both_parts (Resume patience) (Submitted Waiting) last waits obeys more = absurd obeys.1
+  both_parts (Resume patience) (Entered Waiting) last waits obeys more = absurd obeys.1
+  both_parts (Enter its) (Submitted Waiting) last waits obeys more = absurd obeys.1
+  both_parts (Enter its) (Resumed Waiting) last waits obeys more = absurd obeys.1
+  both_parts its (Submitted Waiting) last waits obeys more = absurd obeys.1
+  both_parts its (Resumed Waiting) last waits obeys more = absurd obeys.1
+  both_parts its (Entered Waiting) last waits obeys more = absurd obeys.1
+  both_parts its reply last waits obeys more = absurd (false_true waits)
 
--- After a first try whose job waits the worker climbs, and it made a step.
-module _ (shape : Shape) (made : ℕ) (old mid : View) where
-  pub still_climbs : (its : Order) (reply : SessionReply) → still_waits reply ≡ true → ObeysBy shape made old (first_of its) mid reply → IsClimb mid.session × (0 < made)
-  still_climbs (Submit its) (Submitted Waiting) waits (none, (submits, left, first)) = (submits_climbs old.session mid.session (once its) submits, omega (arith, first))
-  still_climbs (Resume tries) (Resumed Waiting) waits (none, (resumes, left, first)) = (resumes_climbs old.session mid.session resumes, omega (arith, first))
+-- After tries whose job waits the worker climbs, and it made a step.
+module _ (shape : Shape) (tries made : ℕ) (old mid : View) (some : 0 < tries) where
+  pub still_climbs : (its : Order) (reply : SessionReply) → still_waits reply ≡ true → ObeysBy shape made old (with_tries tries its) mid reply → IsClimb mid.session × (0 < made)
+  still_climbs (Submit its) (Submitted Waiting) waits (none, (submits, left, first)) = (submits_climbs old.session mid.session (tried tries its) submits, omega (arith, first, some))
+  still_climbs (Resume patience) (Resumed Waiting) waits (none, (resumes, left, first)) = (resumes_climbs old.session mid.session resumes, omega (arith, first, some))
+  still_climbs (Enter its) (Entered Waiting) waits (none, (enters, left, first)) = (enters_climbs made old.session mid.session (tried tries its) enters, omega (arith, first, some))
   still_climbs (Submit its) (Resumed Waiting) waits obeys = absurd obeys.1
-  still_climbs (Resume tries) (Submitted Waiting) waits obeys = absurd obeys.1
-  still_climbs (Attach worker) (Submitted Waiting) waits obeys = absurd obeys.1
-  still_climbs (Attach worker) (Resumed Waiting) waits obeys = absurd obeys.1
+  still_climbs (Submit its) (Entered Waiting) waits obeys = absurd obeys.1
+  still_climbs (Resume patience) (Submitted Waiting) waits obeys = absurd obeys.1
+  still_climbs (Resume patience) (Entered Waiting) waits obeys = absurd obeys.1
+  still_climbs (Enter its) (Submitted Waiting) waits obeys = absurd obeys.1
+  still_climbs (Enter its) (Resumed Waiting) waits obeys = absurd obeys.1
   still_climbs its (Submitted Waiting) waits obeys = absurd obeys.1
   still_climbs its (Resumed Waiting) waits obeys = absurd obeys.1
+  still_climbs its (Entered Waiting) waits obeys = absurd obeys.1
   still_climbs its reply waits obeys = absurd (false_true waits)
 
--- A first try, and the resumption after it, are one order.
-pub obeyed_in_parts : (shape : Shape) (old mid now : View) (its : Order) (reply last : SessionReply) → still_waits reply ≡ true → Obeys shape old (first_of its) mid reply
-    → Obeys shape mid (Resume (rest_of its)) now last → Obeys shape old its now (answer_as reply last)
-obeyed_in_parts shape old mid now its reply last waits (one, first) (two, more) = (one + two, both_parts shape one two old mid now its reply last waits first more)
+-- So many tries, and one more where the job waits then, are the order with one try more.
+pub obeyed_in_parts : (shape : Shape) (tries : ℕ) (old mid now : View) (its : Order) (reply last : SessionReply) → still_waits reply ≡ true → Obeys shape old (with_tries tries its) mid reply
+    → Obeys shape mid (once_more its) now last → Obeys shape old (with_tries (tries + 1) its) now (answer_as reply last)
+obeyed_in_parts shape tries old mid now its reply last waits (one, first) (two, more) = (one + two, both_parts shape tries one two old mid now its reply last waits first more)
 
 -- The job of a worker that waits is the one that was submitted, or the one that it had.
 pub waits_with : (shape : Shape) (made : ℕ) (old mid : View) (pending : PendingWorker) (its : Submission) → mid.session ≡ Climb pending

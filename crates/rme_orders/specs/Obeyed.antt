@@ -3,6 +3,7 @@ use Rattle.std.specs.Prelude.{◌≡◌, ◌⊎◌, ℕ, ◌≤◌, ◌==◌, Bo
 use Rattle.rme_words.specs.declared.shape.Shape.{Shape}
 use Rattle.rme_script.specs.declared.job.Job.{Job}
 use Rattle.rme_program.specs.declared.note.Receipt.{Receipt}
+use Rattle.rme_session_lines.specs.Patience.{least_tries}
 use Rattle.rme_session_lines.specs.declared.session.Outcome.{Outcome}
 use Rattle.rme_session_lines.specs.declared.session.Outcome.TheVariants as outcome
 use Rattle.rme_session_lines.specs.declared.session.Standing.{Standing}
@@ -118,10 +119,13 @@ IsTried tries made became = Unit {0}
 -- What an order that is not refused does, and its answer, where the worker made so many own steps. Those of a recovery count
 -- for no plan.
 abbrev pub Does : ℕ → View → Order → View → SessionReply → Type 0
-Does made old (order.Attach worker) now (reply.Attached number its) = Attaches worker now.session number its × (now.planned ≡ Nothing)
-Does made old (order.Submit its) now (reply.Submitted became) = Submits old.session its now.session became × IsLeft made old now became × IsTried its.tries made became
-Does made old (order.Resume tries) now (reply.Resumed became) = Resumes old.session now.session became × IsLeft made old now became × IsTried tries made became
-Does made old (order.Enter its) now (reply.Entered became) = Enters made old.session its now.session became × IsLeft made old now became × IsTried its.tries made became
+Does made old (order.Attach its) now (reply.Attached number stance) = Attaches its.worker now.session number stance × (now.planned ≡ Nothing)
+Does made old (order.Submit its) now (reply.Submitted became) =
+    Submits old.session its now.session became × IsLeft made old now became × IsTried (least_tries its.patience) made became
+Does made old (order.Resume patience) now (reply.Resumed became) =
+    Resumes old.session now.session became × IsLeft made old now became × IsTried (least_tries patience) made became
+Does made old (order.Enter its) now (reply.Entered became) =
+    Enters made old.session its now.session became × IsLeft made old now became × IsTried (least_tries its.patience) made became
 Does made old order.Commit now (reply.Committed became) = Commits old.session now.session became × IsLeft made old now became
 Does made old order.Withdraw now (reply.Withdrew number) = Withdraws old.session now.session number × Leaves old.planned made now.planned
 Does made old order.Withdraw now reply.WithdrawFell = IsDue old.planned made × (now ≡ nobody)

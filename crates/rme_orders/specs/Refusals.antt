@@ -90,9 +90,9 @@ bare_refusal session = None
 
 -- A session refuses the order for this reason, or does not refuse it; but for what is said of a worker that it asks for.
 abbrev pub Refuses : Shape → Session → Order → Option Refusal → Type 0
-Refuses shape session (Attach worker) why = why ≡ attach_refusal shape worker session
+Refuses shape session (Attach its) why = why ≡ attach_refusal shape its.worker session
 Refuses shape session (Submit its) why = SubmitRefuses shape session its why
-Refuses shape session (Resume tries) why = why ≡ resume_refusal session
+Refuses shape session (Resume patience) why = why ≡ resume_refusal session
 Refuses shape session (Enter its) why = SubmitRefuses shape session its why
 Refuses shape session Commit why = why ≡ commit_refusal session
 Refuses shape session Withdraw why = why ≡ withdraw_refusal session
@@ -102,6 +102,6 @@ Refuses shape session Detach why = why ≡ bare_refusal session
 
 -- A worker that a session may attach is not to be had: another session has it, or the server has none of that number.
 abbrev pub IsMissed : Shape → Session → Order → Refusal → Type 0
-IsMissed shape session (Attach worker) Taken = attach_refusal shape worker session ≡ None
-IsMissed shape session (Attach worker) NoWorker = attach_refusal shape worker session ≡ None
+IsMissed shape session (Attach its) Taken = attach_refusal shape its.worker session ≡ None
+IsMissed shape session (Attach its) NoWorker = attach_refusal shape its.worker session ≡ None
 IsMissed shape session its why = ⊥

@@ -1,13 +1,11 @@
 -- What the lines of a session are answered.
-use Rattle.std.specs.Prelude.{◌≡◌, ℕ, ◌-◌, Bool, true, false, List, [], ◌∷◌, ◌++◌, Option, Some, None}
+use Rattle.std.specs.Prelude.{◌≡◌, ℕ, List, [], ◌∷◌, ◌++◌, Option, Some, None}
 use Rattle.rme_words.specs.declared.refusal.Refusal.TheVariants.{BadLine, LineTooLong}
-use Rattle.rme_session_lines.specs.declared.session.Outcome.TheVariants.{Waiting}
 use Rattle.rme_session_lines.specs.declared.session.SessionReply.{SessionReply}
-use Rattle.rme_session_lines.specs.declared.session.SessionReply.TheVariants.{Submitted, Resumed, Refused}
+use Rattle.rme_session_lines.specs.declared.session.SessionReply.TheVariants.{Refused}
 use Rattle.rme_session_lines.specs.Sessions.{session_text}
 use Rattle.rme_lines.specs.Pieces.{InputLine, text, too_long}
 use Rattle.rme_session_lines.specs.declared.order.Order.{Order}
-use Rattle.rme_session_lines.specs.declared.order.Order.TheVariants.{Submit, Resume}
 use Rattle.rme_session_lines.specs.Orders.{order_of_line}
 
 -- An answer and its newline.
@@ -32,25 +30,3 @@ module _ {S : Type 0} (obeys : Obedience S) where
   -- A line is answered by the text of its reply and a newline.
   abbrev pub IsAnswered : List (List ℕ) → S → InputLine → List ℕ → S → Type 0
   IsAnswered names old line bytes now = (reply : SessionReply) × Replies names old line reply now × (bytes ≡ session_line names reply)
-
--- An order that is obeyed in two parts: with one of its tries, and by going on with those that are left.
-abbrev pub first_of : Order → Order
-first_of (Submit its) = Submit record { number = its.number; job = its.job; tries = 1 }
-first_of (Resume tries) = Resume 1
-first_of its = its
-
-abbrev pub rest_of : Order → ℕ
-rest_of (Submit its) = its.tries - 1
-rest_of (Resume tries) = tries - 1
-rest_of its = 0
-
--- The job waits for its lock still.
-abbrev pub still_waits : SessionReply → Bool
-still_waits (Submitted Waiting) = true
-still_waits (Resumed Waiting) = true
-still_waits reply = false
-
--- What the second part came to, as an answer to the order.
-abbrev pub answer_as : SessionReply → SessionReply → SessionReply
-answer_as (Submitted first) (Resumed last) = Submitted last
-answer_as first last = last
