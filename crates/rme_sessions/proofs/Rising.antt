@@ -11,6 +11,7 @@ use Rattle.rme_session_lines.specs.declared.session.Standing.{Standing}
 use Rattle.rme_session_lines.specs.declared.session.Standing.TheVariants as at
 use Rattle.rme_session_lines.specs.declared.session.SessionReply.{SessionReply}
 use Rattle.rme_session_lines.specs.declared.session.SessionReply.TheVariants.{Attached}
+use Rattle.rme_session_lines.specs.declared.order.Attachment.{Attachment}
 use Rattle.rme_session_lines.specs.declared.order.Order.TheVariants.{Attach}
 use Rattle.rme_orders.specs.Obeyed as sight
 use Rattle.rme_orders.specs.Refusals.{attach_refusal}
@@ -66,16 +67,16 @@ shown_attached ident worker (Climb climb) number at.Climb (is, same) = (is.own, 
 shown_attached ident worker (Held held) number at.Held (is, same, pending) = (is.own, same)
 shown_attached ident worker value number standing answers = absurd answers
 
-pub attaches : (ident : Ident) (count : ℕ) (old : Session) (worker : ℕ) (down : Stand) (value : Holding) (answer : SessionReply)
-    → attach_refusal ident.shape worker (session_of None old.value) ≡ None → IsOf ident worker down → AnswersOf ident worker value answer → ComesUp ident.shape down value
-    → Acts ident count old (Attach worker) (record { value = value; planned = Nothing }) answer None
-attaches ident count old worker down value (Attached number standing) none is answers up = record {
+pub attaches : (ident : Ident) (count : ℕ) (old : Session) (asked : Attachment) (down : Stand) (value : Holding) (answer : SessionReply)
+    → attach_refusal ident.shape asked.worker (session_of None old.value) ≡ None → IsOf ident asked.worker down → AnswersOf ident asked.worker value answer → ComesUp ident.shape down value
+    → Acts ident count old (Attach asked) (record { value = value; planned = Nothing }) answer None
+attaches ident count old asked down value (Attached number standing) none is answers up = record {
   made = 0;
   before = None;
   after = None;
-  obeys = (sym none, (shown_attached ident worker value number standing answers, refl));
+  obeys = (sym none, (shown_attached ident asked.worker value number standing answers, refl));
   told_before = tt;
   told_after = tt;
   adds = ((down, is, up), refl);
 }
-attaches ident count old worker down value answer none is answers up = absurd answers
+attaches ident count old asked down value answer none is answers up = absurd answers

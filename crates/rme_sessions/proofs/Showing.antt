@@ -34,6 +34,8 @@ use Rattle.rme_orders.specs.declared.view.ReadyWorker.{ReadyWorker}
 use Rattle.rme_orders.specs.declared.view.Session as shown
 use Rattle.rme_orders.specs.declared.view.Session.TheVariants as at
 use Rattle.rme_orders.proofs.Refusing.{last_repeated, next_posted}
+use Rattle.rme_session_lines.specs.Patience.{least_tries}
+use Rattle.rme_session_lines.specs.declared.order.Patience.{Patience}
 use Rattle.rme_sessions.specs.Obeyed.{Acts, Enters, EntersInside, IsInside, IsOfSlot, IsWalked, ResumeEnters, SubmitEnters}
 use Rattle.rme_sessions.specs.Stands.{Tells, held_by, session_of, shown_pending, view_of}
 use Rattle.rme_sessions.specs.Tasks.{IsResumed, IsSubmitted, IsThrough, Makes, holding_of, lead_by, stopped_inside}
@@ -155,27 +157,27 @@ module _ (ident : Ident) (count : ℕ) (old now : Session) (became : Outcome) (l
   submitted_so : (its : Submission) (before after : Option Receipt) → SubmitRefuses ident.shape (session_of before old.value) its None
       → sight.Submits (session_of before old.value) its (session_of after now.value) became → Tells old.value before → Tells now.value after
       → SubmitEnters ident.shape old.value its now.value became → IsThrough ident.shape (lead_of old.value its.job) old now became let_go
-      → IsTried its.tries (steps_of old.value) now.value became → Acts ident count old (order.Submit its) now (reply.Submitted became) let_go
+      → IsTried (least_tries its.patience) (steps_of old.value) now.value became → Acts ident count old (order.Submit its) now (reply.Submitted became) let_go
   submitted_so its before after refuses submits told_before told_after enters through tried =
       let so = through_shown ident.shape (lead_of old.value its.job) old now became let_go before after through in record {
         made = so.0;
         before = before;
         after = after;
-        obeys = (refuses, (submits, so.1, tried_shown ident.shape (lead_of old.value its.job) its.tries so.0 old now became let_go so.2 tried));
+        obeys = (refuses, (submits, so.1, tried_shown ident.shape (lead_of old.value its.job) (least_tries its.patience) so.0 old now became let_go so.2 tried));
         told_before = told_before;
         told_after = told_after;
         adds = (enters, so.2);
       }
 
-  resumed_so : (tries : ℕ) (after : Option Receipt) → None ≡ resume_refusal (session_of None old.value) → sight.Resumes (session_of None old.value) (session_of after now.value) became
-      → Tells now.value after → ResumeEnters old.value now.value became → IsThrough ident.shape onward old now became let_go → IsTried tries (steps_of old.value) now.value became
-      → Acts ident count old (order.Resume tries) now (reply.Resumed became) let_go
-  resumed_so tries after refuses resumes told_after enters through tried =
+  resumed_so : (patience : Patience) (after : Option Receipt) → None ≡ resume_refusal (session_of None old.value) → sight.Resumes (session_of None old.value) (session_of after now.value) became
+      → Tells now.value after → ResumeEnters old.value now.value became → IsThrough ident.shape onward old now became let_go
+      → IsTried (least_tries patience) (steps_of old.value) now.value became → Acts ident count old (order.Resume patience) now (reply.Resumed became) let_go
+  resumed_so patience after refuses resumes told_after enters through tried =
       let so = through_shown ident.shape onward old now became let_go None after through in record {
         made = so.0;
         before = None;
         after = after;
-        obeys = (refuses, (resumes, so.1, tried_shown ident.shape onward tries so.0 old now became let_go so.2 tried));
+        obeys = (refuses, (resumes, so.1, tried_shown ident.shape onward (least_tries patience) so.0 old now became let_go so.2 tried));
         told_before = tt;
         told_after = told_after;
         adds = (enters, so.2);
@@ -205,7 +207,7 @@ module _ (ident : Ident) (count : ℕ) (its : Submission) (planned : Planned) (n
   module _ (became : Outcome) where
     posted_so : (ready : Stand) → its.number ≡ ready.part.private.begun + 1 → job_refusal ident.shape ready.part.private.begun its.job ≡ None
         → Works (next_task ready its.job) ready.part.entries now.value became → IsThrough ident.shape (lead_of (Ready ready) its.job) (record { value = Ready ready; planned = planned }) now became let_go
-        → IsTried its.tries ready.part.steps now.value became → Acts ident count (record { value = Ready ready; planned = planned }) (order.Submit its) now (reply.Submitted became) let_go
+        → IsTried (least_tries its.patience) ready.part.steps now.value became → Acts ident count (record { value = Ready ready; planned = planned }) (order.Submit its) now (reply.Submitted became) let_go
     posted_so ready next none works through tried =
         let so = works_shown (next_task ready its.job) ready.part.entries now.value became works in
         let other : (its.number == ready.part.private.begun) ≡ false = ne_eqb its.number ready.part.private.begun (omega (arith, next)) in
@@ -216,20 +218,20 @@ module _ (ident : Ident) (count : ℕ) (its : Submission) (planned : Planned) (n
       abbrev enters_pending : Option Job → Type 0
       enters_pending draft = Enters start.part.entries (draft_script draft) now.value became
 
-      waited_so : IsThrough ident.shape onward (record { value = Climb start; planned = planned }) now became let_go → IsTried its.tries start.part.steps now.value became
+      waited_so : IsThrough ident.shape onward (record { value = Climb start; planned = planned }) now became let_go → IsTried (least_tries its.patience) start.part.steps now.value became
           → Acts ident count (record { value = Climb start; planned = planned }) (order.Submit its) now (reply.Submitted became) let_go
       waited_so through tried =
           let so = goes_shown start now.value became goes in
           submitted_so ident count (record { value = Climb start; planned = planned }) now became let_go its None so.0 pending so.1 tt so.2 (subst enters_pending pending.1 so.3) through tried
 
-      inside_so : IsThrough ident.shape onward (record { value = Held start; planned = planned }) now became let_go → IsTried its.tries start.part.steps now.value became
+      inside_so : IsThrough ident.shape onward (record { value = Held start; planned = planned }) now became let_go → IsTried (least_tries its.patience) start.part.steps now.value became
           → Acts ident count (record { value = Held start; planned = planned }) (order.Submit its) now (reply.Submitted became) let_go
       inside_so through tried =
           let so = goes_shown start now.value became goes in
           submitted_so ident count (record { value = Held start; planned = planned }) now became let_go its None so.0 pending so.1 tt so.2 (subst enters_pending pending.1 so.3) through tried
 
     work_submitted : (work : Work) → IsSubmitted ident.shape its work → Makes ident.shape work now.value became
-        → IsThrough ident.shape (lead_of (holding_of work) its.job) (begun_by work) now became let_go → IsTried its.tries (steps_of (holding_of work)) now.value became
+        → IsThrough ident.shape (lead_of (holding_of work) its.job) (begun_by work) now became let_go → IsTried (least_tries its.patience) (steps_of (holding_of work)) now.value became
         → Acts ident count (begun_by work) (order.Submit its) now (reply.Submitted became) let_go
     work_submitted (Repeat ready) asked makes through tried = repeated_so ready became asked makes through
     work_submitted (Post admitted tries) (next, same, none) makes through tried =
@@ -275,14 +277,14 @@ module _ (ident : Ident) (count : ℕ) (its : Submission) (old now : Session) (b
   entered_so : (before after : Option Receipt) → SubmitRefuses ident.shape (session_of before old.value) its None
       → ((made : ℕ) → IsWalked ident.shape (lead_of old.value its.job) made old now became let_go → sight.Enters made (session_of before old.value) its (session_of after now.value) became)
       → Tells old.value before → Tells now.value after → EntersInside ident.shape old.value its now.value became
-      → IsThrough ident.shape (lead_of old.value its.job) old now became let_go → IsTried its.tries (steps_of old.value) now.value became
+      → IsThrough ident.shape (lead_of old.value its.job) old now became let_go → IsTried (least_tries its.patience) (steps_of old.value) now.value became
       → Acts ident count old (order.Enter its) now (reply.Entered became) let_go
   entered_so before after refuses enters told_before told_after adds through tried =
       let so = through_shown ident.shape (lead_of old.value its.job) old now became let_go before after through in record {
         made = so.0;
         before = before;
         after = after;
-        obeys = (refuses, (enters so.0 so.2, so.1, tried_shown ident.shape (lead_of old.value its.job) its.tries so.0 old now became let_go so.2 tried));
+        obeys = (refuses, (enters so.0 so.2, so.1, tried_shown ident.shape (lead_of old.value its.job) (least_tries its.patience) so.0 old now became let_go so.2 tried));
         told_before = told_before;
         told_after = told_after;
         adds = (adds, so.2);
@@ -311,7 +313,7 @@ module _ (ident : Ident) (count : ℕ) (its : Submission) (planned : Planned) (n
   module _ (became : Outcome) where
     posted_inside : (ready : Stand) → its.number ≡ ready.part.private.begun + 1 → job_refusal ident.shape ready.part.private.begun its.job ≡ None
         → Arrives (next_task ready its.job) ready.part.entries now.value became → IsThrough ident.shape (lead_of (Ready ready) its.job) (starts_by (Ready ready)) now became let_go
-        → IsTried its.tries ready.part.steps now.value became → Acts ident count (starts_by (Ready ready)) (order.Enter its) now (reply.Entered became) let_go
+        → IsTried (least_tries its.patience) ready.part.steps now.value became → Acts ident count (starts_by (Ready ready)) (order.Enter its) now (reply.Entered became) let_go
     posted_inside ready next none arrives through tried =
         let so = arrives_shown (next_task ready its.job) ready.part.entries now.value became arrives in
         let other : (its.number == ready.part.private.begun) ≡ false = ne_eqb its.number ready.part.private.begun (omega (arith, next)) in
@@ -319,7 +321,7 @@ module _ (ident : Ident) (count : ℕ) (its : Submission) (planned : Planned) (n
         (λ made walked. rw other so.0) tt tt (rw other so.1) through tried
 
     waited_inside : (climb : Stand) → PendingRefuses climb.part.private.begun climb.part.draft its None → GoesInside climb now.value became
-        → IsThrough ident.shape onward (starts_by (Climb climb)) now became let_go → IsTried its.tries climb.part.steps now.value became
+        → IsThrough ident.shape onward (starts_by (Climb climb)) now became let_go → IsTried (least_tries its.patience) climb.part.steps now.value became
         → Acts ident count (starts_by (Climb climb)) (order.Enter its) now (reply.Entered became) let_go
     waited_inside climb pending goes through tried =
         let so = inside_shown climb now.value became goes in
@@ -338,7 +340,7 @@ module _ (ident : Ident) (count : ℕ) (its : Submission) (planned : Planned) (n
       (λ made walked. (no_step held held.part.private.begun made same walked, ap (λ (value : Holding). session_of None value) same, refl)) tt tt same through tt
 
   work_entered : (became : Outcome) (work : Work) → IsSubmitted ident.shape its work → Makes ident.shape (stopped_inside work) now.value became
-      → IsThrough ident.shape (lead_of (holding_of work) its.job) (starts_by (holding_of work)) now became let_go → IsTried its.tries (steps_of (holding_of work)) now.value became
+      → IsThrough ident.shape (lead_of (holding_of work) its.job) (starts_by (holding_of work)) now became let_go → IsTried (least_tries its.patience) (steps_of (holding_of work)) now.value became
       → Acts ident count (starts_by (holding_of work)) (order.Enter its) now (reply.Entered became) let_go
   work_entered became (Repeat ready) asked makes through tried = repeated_inside ready became asked makes through
   work_entered became (Post admitted tries) (next, same, none) makes through tried =
@@ -356,7 +358,7 @@ module _ (ident : Ident) (count : ℕ) (its : Submission) (planned : Planned) (n
 pub entered : (ident : Ident) (count : ℕ) (work : Work) (old now : Session) (became : Outcome) (let_go : Option Stand) (its : Submission) → holding_of work ≡ old.value → IsSubmitted ident.shape its work
     → Makes ident.shape (stopped_inside work) now.value became
     → IsThrough ident.shape (lead_by (stopped_inside work)) (record { value = holding_of (stopped_inside work); planned = old.planned }) now became let_go
-    → IsTried its.tries (steps_of (holding_of work)) now.value became → Acts ident count old (order.Enter its) now (reply.Entered became) let_go
+    → IsTried (least_tries its.patience) (steps_of (holding_of work)) now.value became → Acts ident count old (order.Enter its) now (reply.Entered became) let_go
 entered ident count work old now became let_go its same asked makes through tried =
     let P : Holding → Type 0 = λ value. Acts ident count (record { value = value; planned = old.planned }) (order.Enter its) now (reply.Entered became) let_go in
     subst P same (work_entered ident count its old.planned now let_go became work asked makes (led_inside ident.shape its work old.planned now became let_go asked makes through) tried)
@@ -393,31 +395,31 @@ module _ (ident : Ident) (count : ℕ) (planned : Planned) (now : Session) (let_
   abbrev stands_with : Work → Session
   stands_with work = record { value = holding_of work; planned = planned }
 
-  work_resumed : (tries : ℕ) (work : Work) → IsResumed work → Makes ident.shape work now.value became → IsThrough ident.shape onward (stands_with work) now became let_go
-      → IsTried tries (steps_of (holding_of work)) now.value became → Acts ident count (stands_with work) (order.Resume tries) now (reply.Resumed became) let_go
-  work_resumed tries (Repeat ready) asked makes through tried = absurd asked
-  work_resumed tries (Post admitted given) asked makes through tried = absurd asked
-  work_resumed tries (PostInside admitted given) asked makes through tried = absurd asked
-  work_resumed tries (GoInside climb given) asked makes through tried = absurd asked
-  work_resumed tries (Stay held) asked makes through tried = absurd asked
-  work_resumed tries (GoIn climb given) asked makes through tried =
-      let so = goes_shown climb now.value became makes in resumed_so ident count (stands_with (GoIn climb given)) now became let_go tries so.0 refl so.1 so.2 so.3 through tried
-  work_resumed tries (GoOn held) asked makes through tried =
-      let so = goes_shown held now.value became makes in resumed_so ident count (stands_with (GoOn held)) now became let_go tries so.0 refl so.1 so.2 so.3 through tried
+  work_resumed : (patience : Patience) (work : Work) → IsResumed work → Makes ident.shape work now.value became → IsThrough ident.shape onward (stands_with work) now became let_go
+      → IsTried (least_tries patience) (steps_of (holding_of work)) now.value became → Acts ident count (stands_with work) (order.Resume patience) now (reply.Resumed became) let_go
+  work_resumed patience (Repeat ready) asked makes through tried = absurd asked
+  work_resumed patience (Post admitted given) asked makes through tried = absurd asked
+  work_resumed patience (PostInside admitted given) asked makes through tried = absurd asked
+  work_resumed patience (GoInside climb given) asked makes through tried = absurd asked
+  work_resumed patience (Stay held) asked makes through tried = absurd asked
+  work_resumed patience (GoIn climb given) asked makes through tried =
+      let so = goes_shown climb now.value became makes in resumed_so ident count (stands_with (GoIn climb given)) now became let_go patience so.0 refl so.1 so.2 so.3 through tried
+  work_resumed patience (GoOn held) asked makes through tried =
+      let so = goes_shown held now.value became makes in resumed_so ident count (stands_with (GoOn held)) now became let_go patience so.0 refl so.1 so.2 so.3 through tried
 
 -- An order of work, whatever the session held.
 module _ (ident : Ident) (count : ℕ) (work : Work) (old now : Session) (became : Outcome) (let_go : Option Stand) (same : holding_of work ≡ old.value)
     (makes : Makes ident.shape work now.value became) (through : IsThrough ident.shape (lead_by work) (record { value = holding_of work; planned = old.planned }) now became let_go) where
-  pub submitted : (its : Submission) → IsSubmitted ident.shape its work → IsTried its.tries (steps_of (holding_of work)) now.value became
+  pub submitted : (its : Submission) → IsSubmitted ident.shape its work → IsTried (least_tries its.patience) (steps_of (holding_of work)) now.value became
       → Acts ident count old (order.Submit its) now (reply.Submitted became) let_go
   submitted its asked tried =
       let P : Holding → Type 0 = λ value. Acts ident count (record { value = value; planned = old.planned }) (order.Submit its) now (reply.Submitted became) let_go in
       subst P same (work_submitted ident count its old.planned now let_go became work asked makes (led_so ident.shape its work old.planned now became let_go asked makes through) tried)
 
-  pub resumed : (tries : ℕ) → IsResumed work → IsTried tries (steps_of (holding_of work)) now.value became → Acts ident count old (order.Resume tries) now (reply.Resumed became) let_go
-  resumed tries asked tried =
-      let P : Holding → Type 0 = λ value. Acts ident count (record { value = value; planned = old.planned }) (order.Resume tries) now (reply.Resumed became) let_go in
-      subst P same (work_resumed ident count old.planned now let_go became tries work asked makes
+  pub resumed : (patience : Patience) → IsResumed work → IsTried (least_tries patience) (steps_of (holding_of work)) now.value became → Acts ident count old (order.Resume patience) now (reply.Resumed became) let_go
+  resumed patience asked tried =
+      let P : Holding → Type 0 = λ value. Acts ident count (record { value = value; planned = old.planned }) (order.Resume patience) now (reply.Resumed became) let_go in
+      subst P same (work_resumed ident count old.planned now let_go became patience work asked makes
       (led_onward ident.shape work (record { value = holding_of work; planned = old.planned }) now became let_go asked through) tried)
 
 -- WITHDRAW

@@ -31,8 +31,8 @@ use Rattle.rme_sessions.specs.declared.stand.Holding.TheVariants.{Ready, Climb, 
 
 -- Among so many slots that of the worker to be attached is empty, or there is none.
 abbrev pub IsOfSlot : ℕ → Shape → Order → Refusal → Type 0
-IsOfSlot count shape (order.Attach worker) Taken = worker < count
-IsOfSlot count shape (order.Attach worker) NoWorker = worker < shape.workers → count ≤ worker
+IsOfSlot count shape (order.Attach asked) Taken = asked.worker < count
+IsOfSlot count shape (order.Attach asked) NoWorker = asked.worker < shape.workers → count ≤ asked.worker
 IsOfSlot count shape its why = Unit {0}
 
 -- A job of this script that is finished made the entries longer by its one, whose receipt is answered; one that waits left
@@ -88,10 +88,10 @@ IsWalked shape lead made old now became let_go = WentOn shape lead (held_by old.
 -- So each order, with the Down of the worker that it lets go. A refused one leaves all. DETACH lets the worker go as it was.
 abbrev pub Adds : seat.Ident → ℕ → ℕ → Stand → Order → Stand → SessionReply → Option seat.Stand → Type 0
 Adds ident count made old its now (reply.Refused why) let_go = (now ≡ old) × IsOfSlot count ident.shape its why × (let_go ≡ None)
-Adds ident count made old (order.Attach worker) now answer let_go = TakesOut ident worker now.value × (let_go ≡ None)
+Adds ident count made old (order.Attach asked) now answer let_go = TakesOut ident asked.worker now.value × (let_go ≡ None)
 Adds ident count made old (order.Submit its) now (reply.Submitted became) let_go =
     SubmitEnters ident.shape old.value its now.value became × IsWalked ident.shape (lead_of old.value its.job) made old now became let_go
-Adds ident count made old (order.Resume tries) now (reply.Resumed became) let_go =
+Adds ident count made old (order.Resume patience) now (reply.Resumed became) let_go =
     ResumeEnters old.value now.value became × IsWalked ident.shape onward made old now became let_go
 Adds ident count made old (order.Enter its) now (reply.Entered became) let_go =
     EntersInside ident.shape old.value its now.value became × IsWalked ident.shape (lead_of old.value its.job) made old now became let_go

@@ -28,7 +28,7 @@ MayHold ident count (Ready ready) = HasSlot ident count ready
 MayHold ident count (Climb climb) = HasSlot ident count climb
 MayHold ident count (Held held) = HasSlot ident count held × (is_over held.part.private.stage ≡ false)
 
--- The worker that is held, its entries, and the job that it was handed last.
+-- The worker that is held, its entries, the job that it was handed last, and its number.
 abbrev pub held_by : Holding → Option Stand
 held_by Empty = None
 held_by (Ready ready) = Some ready
@@ -42,6 +42,10 @@ entries_in (Some stand) = stand.part.entries
 abbrev pub draft_in : Option Stand → Option Job
 draft_in None = None
 draft_in (Some stand) = stand.part.draft
+
+abbrev pub worker_in : Option Stand → Option ℕ
+worker_in None = None
+worker_in (Some stand) = Some stand.part.worker
 
 -- After work the session may hold what it does, or the worker fell.
 abbrev pub MayWork : Ident → ℕ → Result (Holding × Outcome) Stand → Type 0

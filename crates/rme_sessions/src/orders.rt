@@ -23,7 +23,7 @@ use crate::refusal::{
 use crate::stand::{Holding, Stand};
 use crate::work::{Work, Worked, carry_out};
 use rme_orders::{Countdown, Planned};
-use rme_session_lines::{Order, Outcome, SessionReply, Standing, Submission};
+use rme_session_lines::{Attachment, Order, Outcome, Patience, SessionReply, Standing, Submission};
 use rme_slots::Slots;
 use rme_table::{Climb, Down, Held, Leave, Never, Ready, Service, Stance, Tag};
 use std::sync::Wait;
@@ -33,6 +33,9 @@ type Acted = (Stand, SessionReply, Option<Down>);
 
 /// Obeys an order, and answers it as plain data. A refused order changes nothing. A worker that is let go is back in
 /// its slot.
+///
+/// An order that waits for a time makes one sweep, and one that would take a worker over is refused where another session
+/// has it: whoever calls this goes on, and ends that session.
 pub fn obey<K: Tag, R: Wait>(
     rt: &R,
     stand: Stand,
@@ -65,9 +68,9 @@ fn act<K: Tag, R: Wait>(
     ensures acts { Acts K.ident slots.now stand order result.0 result.1 result.2 }
 {
     match order {
-        Order::Attach(worker) => attach(rt, stand, worker, service, slots),
+        Order::Attach(asked) => attach(rt, stand, asked, service, slots),
         Order::Submit(submission) => submit(stand, &submission, service, slots),
-        Order::Resume(tries) => resume(stand, tries, service, slots),
+        Order::Resume(patience) => resume(stand, patience, service, slots),
         Order::Enter(submission) => enter(stand, &submission, service, slots),
         Order::Commit => commit(stand, service, slots),
         Order::Withdraw => withdraw(stand, service, slots),
@@ -125,15 +128,15 @@ fn submit<K: Tag>(
 }
 
 /// Goes on with the job that the worker has.
-fn resume<K: Tag>(stand: Stand, tries: u32, service: &Service, slots: &Slots<K>) -> Acted
+fn resume<K: Tag>(stand: Stand, patience: Patience, service: &Service, slots: &Slots<K>) -> Acted
     requires service { service.now ≡ K.ident }
     requires ours { MayHold K.ident slots.now stand.value }
     ensures ours { MayHold K.ident slots.now result.0.value }
     ensures slot { IfSome result.2 (HasSlot K.ident slots.now) }
-    ensures acts { Acts K.ident slots.now stand (order.Resume tries) result.0 result.1 result.2 }
+    ensures acts { Acts K.ident slots.now stand (order.Resume patience) result.0 result.1 result.2 }
 {
     let Stand { value, planned } = stand;
-    match to_resume(value, tries) {
+    match to_resume(value, patience) {
         Ok(work) => {
             let (stand, outcome, gone) = make(work, planned, service, slots);
             (stand, SessionReply::Resumed(outcome), gone)
@@ -225,7 +228,7 @@ fn settle<K: Tag>(
 fn attach<K: Tag, R: Wait>(
     rt: &R,
     stand: Stand,
-    worker: u32,
+    asked: Attachment,
     service: &Service,
     slots: &Slots<K>,
 ) -> Acted
@@ -233,14 +236,14 @@ fn attach<K: Tag, R: Wait>(
     requires ours { MayHold K.ident slots.now stand.value }
     ensures ours { MayHold K.ident slots.now result.0.value }
     ensures slot { IfSome result.2 (HasSlot K.ident slots.now) }
-    ensures acts { Acts K.ident slots.now stand (order.Attach worker) result.0 result.1 result.2 }
+    ensures acts { Acts K.ident slots.now stand (order.Attach asked) result.0 result.1 result.2 }
 {
     let Stand { value, planned } = stand;
-    match to_attach(value, worker, service.shape()) {
+    match to_attach(value, asked.worker, service.shape()) {
         Ok(()) => {}
         Err(refused) => return refuse(refused, planned),
     }
-    let down = match slots.take(rt, worker) {
+    let down = match slots.take(rt, asked.worker) {
         Ok(down) => down,
         Err(why) => return refuse((Holding::Empty, why), planned),
     };

@@ -5,6 +5,7 @@
 
 ghost use Rattle.std.specs.Prelude.{◌≡◌, ℕ, Some, None, IfOk, IfErr, OnOk};
 ghost use Rattle.rme_orders.specs.Refusals as spec;
+ghost use Rattle.rme_session_lines.specs.Patience.{least_tries};
 ghost use Rattle.rme_sessions.specs.Stands.{MayHold, session_of};
 ghost use Rattle.rme_sessions.specs.Tasks.{HasTries, IsResumed, IsSubmitted, holding_of};
 ghost use Rattle.rme_sessions.specs.declared.stand.Holding.TheVariants as holds;
@@ -12,7 +13,7 @@ ghost use Rattle.rme_sessions.specs.declared.stand.Holding.TheVariants as holds;
 use crate::stand::Holding;
 use crate::work::Work;
 use rme_orders::{Asked, asked_of_ready, pending_refusal};
-use rme_session_lines::Submission;
+use rme_session_lines::{Patience, Submission};
 use rme_table::{Climb, Held, Ready, Service};
 use rme_words::{Refusal, Shape};
 
@@ -41,7 +42,7 @@ pub(crate) fn to_submit(
 ) -> Result<Work, Refused>
     requires ours { (count : ℕ) × MayHold service.now count value }
     ensures work { IfOk result (λ work. (holding_of work ≡ value) × IsSubmitted service.now.shape submission.now work) }
-    ensures tries { IfOk result (HasTries submission.now.tries) }
+    ensures tries { IfOk result (HasTries (least_tries submission.now.patience)) }
     ensures refused { IfErr result (λ refused. (refused.0 ≡ value) × spec.SubmitRefuses service.now.shape (session_of None value) submission.now (Some refused.1)) }
 {
     match value {
@@ -57,12 +58,12 @@ pub(crate) fn to_submit(
 fn to_post(ready: Ready, submission: &Submission, service: &Service) -> Result<Work, Refused>
     requires ours { ready.ident ≡ service.now }
     ensures work { IfOk result (λ work. (holding_of work ≡ holds.Ready ready) × IsSubmitted service.now.shape submission.now work) }
-    ensures tries { IfOk result (HasTries submission.now.tries) }
+    ensures tries { IfOk result (HasTries (least_tries submission.now.patience)) }
     ensures refused { IfErr result (λ refused. (refused.0 ≡ holds.Ready ready) × (spec.posting_refusal service.now.shape ready.part.private.begun submission.now ≡ Some refused.1)) }
 {
     match asked_of_ready(ready.number(), submission, service.shape()) {
         Ok(Asked::Post) => match ready.admit(service, submission.job) {
-            Ok(admitted) => Ok(Work::Post(admitted, submission.tries)),
+            Ok(admitted) => Ok(Work::Post(admitted, submission.patience.least())),
             Err((ready, why)) => Err((Holding::Ready(ready), why)),
         },
         Ok(Asked::Repeat) => Ok(Work::Repeat(ready)),
@@ -74,12 +75,12 @@ fn to_post(ready: Ready, submission: &Submission, service: &Service) -> Result<W
 fn to_go_in(mut climb: Climb, submission: &Submission, service: &Service) -> Result<Work, Refused>
     requires ours { climb.ident ≡ service.now }
     ensures work { IfOk result (λ work. (holding_of work ≡ holds.Climb climb) × IsSubmitted service.now.shape submission.now work) }
-    ensures tries { IfOk result (HasTries submission.now.tries) }
+    ensures tries { IfOk result (HasTries (least_tries submission.now.patience)) }
     ensures refused { IfErr result (λ refused. (refused.0 ≡ holds.Climb climb) × spec.PendingRefuses climb.part.private.begun climb.part.draft submission.now (Some refused.1)) }
 {
     let job = climb.job(service);
     match pending_refusal(climb.number(), &job, submission) {
-        None => Ok(Work::GoIn(climb, submission.tries)),
+        None => Ok(Work::GoIn(climb, submission.patience.least())),
         Some(why) => Err((Holding::Climb(climb), why)),
     }
 }
@@ -88,7 +89,7 @@ fn to_go_in(mut climb: Climb, submission: &Submission, service: &Service) -> Res
 fn to_go_on(mut held: Held, submission: &Submission, service: &Service) -> Result<Work, Refused>
     requires ours { (count : ℕ) × MayHold service.now count (holds.Held held) }
     ensures work { IfOk result (λ work. (holding_of work ≡ holds.Held held) × IsSubmitted service.now.shape submission.now work) }
-    ensures tries { IfOk result (HasTries submission.now.tries) }
+    ensures tries { IfOk result (HasTries (least_tries submission.now.patience)) }
     ensures refused { IfErr result (λ refused. (refused.0 ≡ holds.Held held) × spec.PendingRefuses held.part.private.begun held.part.draft submission.now (Some refused.1)) }
 {
     let job = held.job(service);
@@ -99,15 +100,15 @@ fn to_go_on(mut held: Held, submission: &Submission, service: &Service) -> Resul
 }
 
 /// The work that is left of the job that is pending.
-pub(crate) fn to_resume(value: Holding, tries: u32) -> Result<Work, Refused>
+pub(crate) fn to_resume(value: Holding, patience: Patience) -> Result<Work, Refused>
     ensures work { IfOk result (λ work. (holding_of work ≡ value) × IsResumed work) }
-    ensures tries { IfOk result (HasTries tries) }
+    ensures tries { IfOk result (HasTries (least_tries patience)) }
     ensures refused { IfErr result (λ refused. (refused.0 ≡ value) × (spec.resume_refusal (session_of None value) ≡ Some refused.1)) }
 {
     match value {
         Holding::Empty => Err((Holding::Empty, Refusal::NotAttached)),
         Holding::Ready(ready) => Err((Holding::Ready(ready), Refusal::Idle)),
-        Holding::Climb(climb) => Ok(Work::GoIn(climb, tries)),
+        Holding::Climb(climb) => Ok(Work::GoIn(climb, patience.least())),
         Holding::Held(held) => Ok(Work::GoOn(held)),
     }
 }

@@ -23,7 +23,7 @@ pub struct Stand {
 
 impl Stand {
     ghost use Rattle.std.specs.Prelude.{◌≡◌};
-    ghost use Rattle.rme_sessions.specs.Stands.{held_by, nobody};
+    ghost use Rattle.rme_sessions.specs.Stands.{held_by, nobody, worker_in};
 
     /// No worker, and nothing planned.
     pub fn empty() -> Stand
@@ -32,6 +32,18 @@ impl Stand {
         Stand {
             value: Holding::Empty,
             planned: Planned::Nothing,
+        }
+    }
+
+    /// The number of the worker that is held, if one is.
+    pub fn worker(&self) -> Option<u32>
+        ensures { result ≡ worker_in (held_by self.now.value) }
+    {
+        match &self.value {
+            Holding::Empty => None,
+            Holding::Ready(ready) => Some(ready.worker()),
+            Holding::Climb(climb) => Some(climb.worker()),
+            Holding::Held(held) => Some(held.worker()),
         }
     }
 

@@ -31,7 +31,7 @@ impl<K: Tag> Model for Slots<K> {
 }
 
 impl<K: Tag> Slots<K> {
-    ghost use Rattle.std.specs.Prelude.{◌≡◌, ◌<◌, length, IfOk, IfErr};
+    ghost use Rattle.std.specs.Prelude.{◌≡◌, ◌<◌, ◌≤◌, [], length, vec_capacity, IfOk, IfErr};
     ghost use Rattle.rme_slots.specs.Slots.{AreInPlace, AreInOrder, Takes};
 
     /// A slot for each of these workers, with its Down. They are the workers 0, 1 and so on, in order.
@@ -90,11 +90,20 @@ impl<K: Tag> Slots<K> {
         ensures downs { IfOk result (λ downs. AreInOrder K.ident self downs.items) }
         ensures back { IfErr result (λ back. back ≡ self) }
     {
-        let Ok(downs) = Vec::with_capacity(self.alloc, self.slots.len()) else {
+        let Ok(room) = Vec::with_capacity(self.alloc, self.slots.len()) else {
             return Err(self);
         };
-        let Slots { alloc: _, slots } = self;
-        Ok(gather(slots, downs))
+        Ok(gather(self.slots, room))
+    }
+
+    /// The Downs that lie in the slots, in order of worker, in an empty list that has room for one of each slot. It takes
+    /// no memory.
+    pub fn into_downs_in<R: Wait>(self, _rt: &R, room: Vec<Down>) -> Vec<Down>
+        requires none { room.items ≡ [] }
+        requires room { self ≤ vec_capacity room }
+        ensures { AreInOrder K.ident self result.items }
+    {
+        gather(self.slots, room)
     }
 }
 

@@ -15,10 +15,10 @@ returns-clause-acts g c =
     let is = c.in-Ok-take.ensures.1 in
     let value = c.come_up-value.result.0 in
     let reply = c.come_up-value.result.1 in
-    let P : Shape → Type 0 = λ shape. attach_refusal shape c.args.worker (session_of None c.args.stand.value) ≡ None in
+    let P : Shape → Type 0 = λ shape. attach_refusal shape c.args.asked.worker (session_of None c.args.stand.value) ≡ None in
     let Q : Ident → Type 0 = λ its. AnswersOf its down.part.worker value reply in
     let R : ℕ → Type 0 = λ worker. AnswersOf ident worker value reply in
     let S : Ident → Type 0 = λ its. ComesUp its.shape down value in
     let none = subst P (c.shape.ensures ∙ ap (λ (its : Ident). its.shape) c.requires.service) c.in-Ok.ensures.none.1 in
-    attaches ident c.args.slots.now c.args.stand c.args.worker down value reply none is (subst R is.own (subst Q is.ident_is c.come_up-value.ensures.answers))
+    attaches ident c.args.slots.now c.args.stand c.args.asked down value reply none is (subst R is.own (subst Q is.ident_is c.come_up-value.ensures.answers))
     (subst S c.requires.service c.come_up-value.ensures.keeps)
