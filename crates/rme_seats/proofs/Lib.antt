@@ -10,3 +10,4 @@ pub mod Cutting
 pub mod Opened
 pub mod Gathering
 pub mod Running
+pub mod Inside

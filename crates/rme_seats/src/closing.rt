@@ -40,6 +40,39 @@ impl Service {
         (words, history)
     }
 
+    /// Closes the service as `gather` does, and lets the finished sections of all seats go.
+    pub fn gather_words(self, seats: Vec<WorkerSeat>, words: Vec<u64>) -> Vec<u64>
+        requires ours { AreOf self seats.items }
+        requires some_seat { 0 < length seats.items }
+        requires word_room { length words.items + word_count self.shape ≤ vec_capacity words }
+        ensures { Gathers self.shape seats.items words.items [] result.items (entries_given seats.items) }
+    {
+        let seat = self.join_places(seats);
+        let Service { table, shape } = self;
+        let closed = table.close_with(seat);
+        let words = with_bank(words, &closed, shape.words());
+        closed.free();
+        words
+    }
+
+    /// Puts the parts of all seats together in one.
+    fn join_places(&self, mut seats: Vec<WorkerSeat>) -> Place
+        requires ours { AreOf self.now seats.items }
+        requires some_seat { 0 < length seats.items }
+        ensures table { result.table_id ≡ self.now.table }
+        ensures parts { result.me ≡ (record { shape = self.now.shape; parts = parts_given seats.items }, []) }
+    {
+        let Some(last) = seats.pop() else {
+            unreachable!()
+        };
+        let mut all = last.into_place();
+        while let Some(seat) = seats.pop() {
+            let other = seat.into_place();
+            self.table.shared.join_seat::<AllParts>(&mut all, other);
+        }
+        all
+    }
+
     /// Puts the parts of all seats together in one, and their entries to the history.
     fn join_all(&self, mut seats: Vec<WorkerSeat>, history: &mut Vec<Entry>) -> Place
         requires ours { AreOf self.now seats.items }
@@ -64,6 +97,20 @@ impl Service {
 impl WorkerSeat {
     ghost use Rattle.std.specs.Prelude.{◌≡◌, ◌+◌, ◌≤◌, [], ◌++◌, length, vec_capacity};
     ghost use Rattle.rme_seats.specs.Rule.{solo};
+
+    /// The place alone.
+    fn into_place(self) -> Place
+        ensures table { result.table_id ≡ self.ident.table }
+        ensures part { result.me ≡ (solo self.ident.shape self.part, []) }
+    {
+        let WorkerSeat {
+            seat,
+            worker: _,
+            drafted: _,
+            entries: _,
+        } = self;
+        seat
+    }
 
     /// The place alone; the entries are put to the history.
     fn leave(self, history: &mut Vec<Entry>) -> Place

@@ -1,8 +1,9 @@
 //! The law of a step of the running service, and that of any steps in their order.
 //!
-//! Each function does nothing: its contract is the law of `specs/Steps.antt` or `specs/Running.antt`, proved by the
-//! lemma that the docstring names.
+//! Each function does nothing: its contract is the law of `specs/Steps.antt`, `specs/Running.antt` or `specs/Inside.antt`,
+//! proved by the lemma that the docstring names.
 
+ghost use Rattle.rme_seats.specs.Inside.{InsideLaw};
 ghost use Rattle.rme_seats.specs.Running.{RunningLaw};
 ghost use Rattle.rme_seats.specs.Steps.{KeepsLaw};
 
@@ -18,4 +19,10 @@ pub fn keeping()
 /// shows to the one that the last shows (lemma `running`).
 pub fn running()
     ensures { RunningLaw }
+{}
+
+/// As long as a worker that owns a lock makes no step but those of Recover, however often it falls and comes back, no other
+/// worker takes, re-enters, finishes in or leaves that lock, in whatever order all workers' operations come (lemma `inside`).
+pub fn inside()
+    ensures { InsideLaw }
 {}
