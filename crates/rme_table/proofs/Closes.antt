@@ -30,7 +30,7 @@ use Rattle.rme_table.specs.Closing.{IsClose, IsClosedLock, shown_in}
 use Rattle.rme_table.proofs.Mixed.{all_kept, history_mixed, lock_mixed}
 
 -- What the words say of a lock being settled is what the state shows.
-settled_as : (s : Shape) (mem : Address → ℕ) (privs : Privates) (es : List Entry) (lock : ℕ) (owner : Option ℕ) → Fact s mem privs es → lock < s.locks → owner_in s mem lock ≡ owner
+pub settled_as : (s : Shape) (mem : Address → ℕ) (privs : Privates) (es : List Entry) (lock : ℕ) (owner : Option ℕ) → Fact s mem privs es → lock < s.locks → owner_in s mem lock ≡ owner
     → is_done mem owner ≡ is_settled (shown s mem privs es) lock
 settled_as s mem privs es lock None fact below is = sym (tables.free s mem privs es lock fact below is)
 settled_as s mem privs es lock (Some worker) fact below is = sym (tables.owned s mem privs es lock worker fact below is)

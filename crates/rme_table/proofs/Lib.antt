@@ -2,6 +2,7 @@ pub mod Entries
 pub mod Filled
 pub mod Mixed
 pub mod Closes
+pub mod Counts
 pub mod Holding
 pub mod Numbers
 pub mod Lasts

@@ -11,7 +11,7 @@ use Rattle.rme_program.specs.declared.note.Entry.{Entry}
 use Rattle.rme_program.specs.declared.note.Receipt.{Receipt}
 use Rattle.rme_program.specs.declared.private.Private.{Private}
 use Rattle.rme_program.specs.declared.stage.Stage.{Stage}
-use Rattle.rme_program.specs.declared.stage.Stage.TheVariants.{Leaving}
+use Rattle.rme_program.specs.declared.stage.Stage.TheVariants.{Climbing, Leaving}
 use Rattle.rme_program.specs.declared.stage.Departure.TheVariants.{LoadExitTurn}
 use Rattle.rme_program.specs.Steps.{re_entry}
 use Rattle.rme_machine.specs.Histories.{entries_by, last_of}
@@ -28,7 +28,7 @@ use Rattle.rme_seats.specs.Chances.{Tally}
 use Rattle.rme_seats.specs.Stands.{Ident, Stand}
 use Rattle.rme_seats.specs.Doing.{IsAt}
 use Rattle.rme_phases.specs.Sections.{Performs}
-use Rattle.rme_table.specs.Kinds.{IsHeld}
+use Rattle.rme_table.specs.Kinds.{IsClimb, IsHeld}
 use Rattle.rme_table.specs.Calls.{OwnsLock, Performed, is_over}
 use Rattle.rme_table.proofs.Drafts.{draft_is}
 
@@ -100,6 +100,12 @@ told_there seat self b lock false es same at over is none =
     let some = some_entry seat.ident.shape seat.part b lock at in
     let long : length es ≡ length seat.part.entries = ap length is in
     at_end es (length es - 1) (omega (arith, some, long)) none
+
+-- The lock of a Climb is that of its draft.
+pub waits_for : (seat self : Stand) (b lock held : ℕ) → seat ≡ self → IsClimb seat b lock held → (job : Job) × (self.part.draft ≡ Some job) × (job.lock ≡ lock)
+waits_for seat self b lock held same at =
+    let job : Job = record { lock = lock; script = draft_script seat.part.draft } in
+    (job, ap (λ (x : Stand). x.part.draft) (sym same) ∙ draft_is seat.ident.shape seat.part b (Climbing record { lock = lock; held = held }) lock at refl, refl)
 
 -- The job of a Held whose job is pending.
 pub held_draft : (seat self : Stand) (b lock : ℕ) (pending : Bool) (job : Job) → seat ≡ self → IsHeld seat b lock pending → is_over self.part.private.stage ≡ false

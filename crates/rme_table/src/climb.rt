@@ -13,6 +13,7 @@ impl Climb {
     ghost use Rattle.rme_program.specs.declared.kinds.Phase.{Phase};
     ghost use Rattle.rme_program.specs.Phases.{phase_of};
     ghost use Rattle.rme_seats.specs.Doing.{Falling};
+    ghost use Rattle.rme_script.specs.declared.job.Job.{Job};
     ghost use Rattle.std.specs.Prelude.{Some};
     ghost use Rattle.rme_seats.specs.Parts.{withdrawing};
     ghost use Rattle.rme_seats.specs.Running.{IsLed, withdraw_labels};
@@ -31,6 +32,13 @@ impl Climb {
         ensures { result ≡ self.now.part.private.begun }
     {
         self.begun
+    }
+
+    /// The lock that it waits for.
+    pub fn lock(&self) -> u32
+        ensures { (job : Job) × (self.now.part.draft ≡ Some job) × (job.lock ≡ result) }
+    {
+        self.lock
     }
 
     /// The job that it waits with, read from its slate.

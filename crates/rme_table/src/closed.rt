@@ -21,6 +21,21 @@ pub struct ClosedLock {
     pub entries: Vec<Entry>,
 }
 
+/// What the locks of a closed service come to, in order.
+#[derive(Drop)]
+pub struct Counted {
+    pub locks: Vec<CountedLock>,
+}
+
+/// A lock of a closed service as `ClosedLock` has it, but of its finished sections only how many there are.
+#[derive(Drop)]
+pub struct CountedLock {
+    pub cells: Vec<u64>,
+    pub owner: Option<u32>,
+    pub settled: bool,
+    pub entries: u64,
+}
+
 /// The service was not closed; it and all that was given come back unchanged. `why` is `NoWorker` where some
 /// worker's Down was not given, and else `NoMemory`.
 #[derive(Drop)]

@@ -74,7 +74,7 @@ impl Service {
 }
 
 /// The seats of the workers, in order.
-fn all_seats(downs: Vec<Down>, mut seats: Vec<WorkerSeat>) -> Vec<WorkerSeat>
+pub(crate) fn all_seats(downs: Vec<Down>, mut seats: Vec<WorkerSeat>) -> Vec<WorkerSeat>
     requires none { seats.items ≡ [] }
     requires room { length downs.items ≤ vec_capacity seats }
     ensures { result.items ≡ downs.items }
@@ -87,7 +87,7 @@ fn all_seats(downs: Vec<Down>, mut seats: Vec<WorkerSeat>) -> Vec<WorkerSeat>
 }
 
 /// Whether each worker is among those that were given.
-fn all_given(shape: Shape, downs: &[Down]) -> bool
+pub(crate) fn all_given(shape: Shape, downs: &[Down]) -> bool
     ensures { result ≡ all_given shape downs.now }
 {
     for worker in 0..shape.workers {

@@ -69,7 +69,7 @@ fn fill(room: &mut ClosedLock, bank: &Bank, entries: &[Entry], lock: u32)
 }
 
 /// Puts the cells of a lock to an empty list.
-fn put_cells(cells: &mut Vec<u64>, bank: &Bank, lock: u32)
+pub(crate) fn put_cells(cells: &mut Vec<u64>, bank: &Bank, lock: u32)
     requires lock { lock < bank.now.shape.locks }
     requires none { cells.old.items ≡ [] }
     requires room { bank.now.shape.cells ≤ vec_capacity cells.old }
@@ -81,7 +81,7 @@ fn put_cells(cells: &mut Vec<u64>, bank: &Bank, lock: u32)
 }
 
 /// A lock has no owner, or its owner's section is finished.
-fn settled(bank: &Bank, lock: u32) -> bool
+pub(crate) fn settled(bank: &Bank, lock: u32) -> bool
     requires { lock < bank.now.shape.locks }
     ensures { result ≡ is_done (memory_of bank.now) (owner_in bank.now.shape (memory_of bank.now) lock) }
 {

@@ -13,6 +13,7 @@ mod admitted;
 mod climb;
 mod closed;
 mod closing;
+mod counting;
 mod down;
 mod driving;
 mod filling;
@@ -29,7 +30,8 @@ mod service;
 mod way;
 
 pub use admitted::Admitted;
-pub use closed::{Closed, ClosedLock, Unclosed};
+pub use closed::{Closed, ClosedLock, Counted, CountedLock, Unclosed};
+pub use counting::CountRoom;
 pub use down::Down;
 pub use driving::{Driven, Free, Gate, Shut, Tries};
 pub use kept::{Kept, Tag, fill};

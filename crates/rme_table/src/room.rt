@@ -118,7 +118,7 @@ fn room_for_lock(alloc: Global, shape: Shape, count: usize) -> Result<ClosedLock
 }
 
 /// Room for so many words.
-fn room_for_words(alloc: Global, count: usize) -> Result<Vec<u64>, NoMemory>
+pub(crate) fn room_for_words(alloc: Global, count: usize) -> Result<Vec<u64>, NoMemory>
     ensures { IfOk result (λ words. (words.items ≡ []) × (count ≤ vec_capacity words)) }
 {
     match Vec::with_capacity(alloc, count) {
@@ -138,7 +138,7 @@ fn room_for_entries(alloc: Global, count: usize) -> Result<Vec<Entry>, NoMemory>
 }
 
 /// Room for so many seats.
-fn room_for_seats(alloc: Global, count: usize) -> Result<Vec<WorkerSeat>, NoMemory>
+pub(crate) fn room_for_seats(alloc: Global, count: usize) -> Result<Vec<WorkerSeat>, NoMemory>
     ensures { IfOk result (λ seats. (seats.items ≡ []) × (count ≤ vec_capacity seats)) }
 {
     match Vec::with_capacity(alloc, count) {

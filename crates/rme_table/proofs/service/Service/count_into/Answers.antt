@@ -1,0 +1,27 @@
+use Rattle.std.proofs.Common.{◌≡◌, ℕ, List, [], length, ◌∙◌, ap, subst, arith}
+use Rattle.rme_words.specs.declared.shape.Shape.{Shape}
+use Rattle.rme_words.specs.Words.{Memory}
+use Rattle.rme_seats.specs.Stands.{Ident, Stand}
+use Rattle.rme_seats.specs.Closing.{Gathers, entries_given}
+use Rattle.rme_table.proofs.Mixed.{some_given}
+use Rattle.rme_table.proofs.Counts.{counts}
+use Rattle.rme_table.proofs.service.Service.count_into.Goals as goal
+
+pub gather_words-words-requires-clause-some_seat : goal.gather_words-words-requires-clause-some_seat
+gather_words-words-requires-clause-some_seat c =
+    let some = some_given c.args.self.shape c.args.downs.items c.requires.given in
+    let same = ap (λ (xs : List Stand). length xs) c.all_seats.ensures in
+    omega (arith, some, same)
+
+-- What was gathered, by the service and the workers that were given.
+gathered : (one two : Ident) (seats downs : List Stand) (before after : List ℕ) → one ≡ two → seats ≡ downs → Gathers one.shape seats before [] after (entries_given seats)
+    → Gathers two.shape downs before [] after (entries_given downs)
+gathered one two seats downs before after idents same g =
+    let P : Ident → List Stand → Type 0 = λ (x : Ident) (xs : List Stand). Gathers x.shape xs before [] after (entries_given xs) in
+    subst (λ (x : Ident). P x downs) idents (subst (λ (xs : List Stand). P one xs) same g)
+
+pub returns : goal.returns
+returns c =
+    let g = gathered c.self.inside.words c.args.self _ _ _ _ c.self.view_is c.all_seats.ensures c.gather_words-words.ensures in
+    counts c.args.self.shape c.args.downs.items _ _ g c.room.invariant.no_words c.requires.given c.of.result c.count_locks-2.result.items
+    (c.of.ensures ∙ ap {B = Memory} (λ (s : Shape). record { shape = s; words = c.gather_words-words.result.items }) c.shape-shape.ensures) c.count_locks-2.ensures.count c.count_locks-2.ensures.counted
