@@ -6,19 +6,16 @@ use Rattle.std.proofs.lemmas.List.Folds.{list_any_at}
 use Rattle.std.proofs.lemmas.Option.{slice_get_cases}
 use Rattle.rme_words.specs.declared.shape.Shape.{Shape}
 use Rattle.rme_seats.specs.Stands.{Ident, Stand}
-use Rattle.rme_words.specs.declared.refusal.Refusal.{Refusal}
 use Rattle.rme_words.specs.declared.refusal.Refusal.TheVariants.{NoMemory}
-use Rattle.rme_seats.specs.Closing.{AreOf}
-use Rattle.rme_table.specs.declared.closed.Closed.{Closed}
 use Rattle.rme_table.specs.declared.closed.Unclosed.{Unclosed}
-use Rattle.rme_table.specs.Closing.{IsClose, IsUnclosed}
+use Rattle.rme_table.specs.Closing.{IsUnclosed}
 use Rattle.rme_table.specs.Downs.{has_down, all_given}
 use Rattle.rme_table.proofs.Entries.{all_pass}
 use Rattle.rme_supervisor.specs.declared.plan.WorkerPlan.{WorkerPlan}
 use Rattle.rme_supervisor.specs.declared.settling.Settled.{Settled}
 use Rattle.rme_supervisor.specs.Settled.{IsSettled}
 use Rattle.rme_supervisor.specs.declared.end.End.{End}
-use Rattle.rme_supervisor.specs.Supervised.{AreAll, AllFollow, IsLate, IsLateWhy, IsOver, IsWhole}
+use Rattle.rme_supervisor.specs.Supervised.{AreAll, AllFollow, IsOver, IsWhole}
 
 -- Where these are the Downs of all workers, each worker is among them.
 pub given_all : (shape : Shape) (downs : List Stand) → AreAll shape downs → all_given shape downs ≡ true
@@ -47,23 +44,18 @@ module _ (s t : Shape) (plans : List WorkerPlan) (fresh : Bool) (d downs : List 
   not_whole found means denied whole = let both : true ≡ false = sym (means.1 (whole_back whole)) ∙ denied in cc
 
 -- A close that found all workers had no memory.
-pub unclosed_late : (ident : Ident) (turned : ℕ → Type 0) (plans : List WorkerPlan) (given : List Stand) (fresh : Bool) (downs : List Stand) (u : Unclosed) → AreOf ident downs → AreAll ident.shape downs
-    → IsUnclosed ident downs u → IsLate ident turned plans given fresh (record { why = u.why; service = u.service; downs = u.downs })
-unclosed_late ident turned plans given fresh downs u ours all un =
+pub no_memory : (ident : Ident) (downs : List Stand) (u : Unclosed) → AreAll ident.shape downs → IsUnclosed ident downs u → u.why ≡ NoMemory
+no_memory ident downs u all un =
     let found = given_all ident.shape downs all in
-    let why : u.why ≡ NoMemory = rw found at un.why in
-    let P : Refusal → Type 0 = λ w. IsLateWhy w ident turned plans given fresh u.downs.items in
-    record { back = record { service = un.service; ours = rw un.downs_back ours }; why = subst P (sym why) (rw un.downs_back all) }
+    rw found at un.why
 
-module _ (ident : Ident) (turned : ℕ → Type 0) (plans : List WorkerPlan) (given : List Stand) (s : Settled) (fresh : Bool) (closed : Closed) (is : IsSettled ident turned plans given s) (all : AreAll ident.shape s.downs.items)
-    (follow : fresh ≡ true → AllFollow plans s.downs.items s.ends.items) (close : IsClose ident.shape s.downs.items closed.locks.items) where
-  pub over : IsOver ident.shape turned plans given fresh (record { ends = s.ends; lives = s.lives; closed = closed })
+module _ (ident : Ident) (turned : ℕ → Type 0) (plans : List WorkerPlan) (given : List Stand) (s : Settled) (fresh : Bool) (is : IsSettled ident turned plans given s) (all : AreAll ident.shape s.downs.items)
+    (follow : fresh ≡ true → AllFollow plans s.downs.items s.ends.items) where
+  pub over : IsOver ident.shape turned plans given fresh s.downs.items s.ends.items s.lives.items
   over = record {
-    downs = s.downs.items;
     all = all;
-    closed = close;
-    ends = is.ends ∙ all.count;
-    lives = is.lives ∙ all.count;
+    ended = is.ends ∙ all.count;
+    counted = is.lives ∙ all.count;
     each = λ worker down plan end at planned ended. record {
       earned = is.earned worker down end plan at ended (rw (all.order worker down at) planned);
       follows = λ f. follow f worker plan down end planned at ended;

@@ -13,8 +13,10 @@ use Rattle.rme_table.specs.Closing.{IsClose}
 use Rattle.rme_supervisor.specs.declared.end.End.{End}
 use Rattle.rme_supervisor.specs.declared.end.End.TheVariants.{AllDone}
 use Rattle.rme_supervisor.specs.declared.plan.WorkerPlan.{WorkerPlan}
-use Rattle.rme_supervisor.specs.declared.report.Report.{Report}
+use Rattle.rme_supervisor.specs.declared.report.Attended.{Attended}
 use Rattle.rme_supervisor.specs.declared.report.Fault.{Fault}
+use Rattle.rme_supervisor.specs.declared.report.Report.{Report}
+use Rattle.rme_supervisor.specs.declared.report.Unattended.{Unattended}
 use Rattle.rme_supervisor.specs.Ends.{AreSettled, HasLived, IsEarned}
 use Rattle.rme_supervisor.specs.Plans.{ArePlans, planned}
 
@@ -49,24 +51,29 @@ pub record IsEnded (shape : Shape) (fresh : Bool) (plan : WorkerPlan) (down : St
   pub earned : IsEarned shape plan down.part.private.begun end
   pub follows : fresh ≡ true → Follows plan down.part.entries end
 
--- The service was closed with the Downs of all workers at the end; and each worker ended as it says, after so many lives, having had
--- its Down at the call.
-pub record IsOver (shape : Shape) (turned : ℕ → Type 0) (plans : List WorkerPlan) (given : List Stand) (fresh : Bool) (report : Report) : Type 0 where
-  pub downs : List Stand
+-- These are the Downs of all workers at the end; and each worker ended as it says, after so many lives, having had its Down at the
+-- call.
+pub record IsOver (shape : Shape) (turned : ℕ → Type 0) (plans : List WorkerPlan) (given : List Stand) (fresh : Bool) (downs : List Stand) (ends : List End) (lives : List ℕ) : Type 0 where
   pub all : AreAll shape downs
-  pub closed : IsClose shape downs report.closed.locks.items
-  pub ends : length report.ends.items ≡ shape.workers
-  pub lives : length report.lives.items ≡ shape.workers
+  pub ended : length ends ≡ shape.workers
+  pub counted : length lives ≡ shape.workers
   pub each : (worker : ℕ) (down : Stand) (plan : WorkerPlan) (end : End) → slice_get downs worker ≡ Some down → slice_get plans worker ≡ Some plan
-      → slice_get report.ends.items worker ≡ Some end → IsEnded shape fresh plan down end
-  pub lived : (worker : ℕ) (plan : WorkerPlan) (first down : Stand) (end : End) (lives : ℕ) → slice_get plans worker ≡ Some plan → slice_get given worker ≡ Some first
-      → slice_get downs worker ≡ Some down → slice_get report.ends.items worker ≡ Some end → slice_get report.lives.items worker ≡ Some lives
-      → HasLived turned plan first down end lives
+      → slice_get ends worker ≡ Some end → IsEnded shape fresh plan down end
+  pub lived : (worker : ℕ) (plan : WorkerPlan) (first down : Stand) (end : End) (count : ℕ) → slice_get plans worker ≡ Some plan → slice_get given worker ≡ Some first
+      → slice_get downs worker ≡ Some down → slice_get ends worker ≡ Some end → slice_get lives worker ≡ Some count → HasLived turned plan first down end count
 
--- The plans were good, and the run is over.
+-- The plans were good, and the run is over: the Downs at the end are those of the service's workers.
+pub record IsAttended (ident : Ident) (turned : ℕ → Type 0) (plans : List WorkerPlan) (given : List Stand) (attended : Attended) : Type 0 where
+  pub good : ArePlans plans (length given)
+  pub ours : AreOf ident attended.downs.items
+  pub over : IsOver ident.shape turned plans given (all_fresh given) attended.downs.items attended.ends.items attended.lives.items
+
+-- The plans were good, the run is over, and the service was closed with the Downs at the end.
 pub record IsReport (shape : Shape) (turned : ℕ → Type 0) (plans : List WorkerPlan) (given : List Stand) (report : Report) : Type 0 where
   pub good : ArePlans plans (length given)
-  pub over : IsOver shape turned plans given (all_fresh given) report
+  pub downs : List Stand
+  pub over : IsOver shape turned plans given (all_fresh given) downs report.ends.items report.lives.items
+  pub closed : IsClose shape downs report.closed.locks.items
 
 -- These are the Downs of all workers, in order, and their entries follow the plans if all workers were fresh.
 pub record IsWhole (shape : Shape) (plans : List WorkerPlan) (fresh : Bool) (downs : List Stand) (ends : List End) : Type 0 where
@@ -91,14 +98,19 @@ abbrev pub IsWhy : Refusal → Ident → (ℕ → Type 0) → List WorkerPlan �
 IsWhy BadShape ident turned plans given back = (ArePlans plans (length given) → ⊥) × (back ≡ given)
 IsWhy why ident turned plans given back = ArePlans plans (length given) × IsLateWhy why ident turned plans given (all_fresh given) back
 
--- The service comes back, and Downs of its workers.
+-- Downs of the service's workers come back.
+pub record IsLate (ident : Ident) (turned : ℕ → Type 0) (plans : List WorkerPlan) (given : List Stand) (fresh : Bool) (unattended : Unattended) : Type 0 where
+  pub ours : AreOf ident unattended.downs.items
+  pub why : IsLateWhy unattended.why ident turned plans given fresh unattended.downs.items
+
+pub record IsUnattended (ident : Ident) (turned : ℕ → Type 0) (plans : List WorkerPlan) (given : List Stand) (unattended : Unattended) : Type 0 where
+  pub ours : AreOf ident unattended.downs.items
+  pub why : IsWhy unattended.why ident turned plans given unattended.downs.items
+
+-- And the service.
 pub record IsBack (ident : Ident) (fault : Fault) : Type 0 where
   pub service : fault.service ≡ ident
   pub ours : AreOf ident fault.downs.items
-
-pub record IsLate (ident : Ident) (turned : ℕ → Type 0) (plans : List WorkerPlan) (given : List Stand) (fresh : Bool) (fault : Fault) : Type 0 where
-  pub back : IsBack ident fault
-  pub why : IsLateWhy fault.why ident turned plans given fresh fault.downs.items
 
 pub record IsFault (ident : Ident) (turned : ℕ → Type 0) (plans : List WorkerPlan) (given : List Stand) (fault : Fault) : Type 0 where
   pub back : IsBack ident fault

@@ -3,8 +3,8 @@
 //! A plan says which jobs a worker has, where it falls, and how many lives and blocked sweeps it is given. A life
 //! recovers, goes on with the pending job, and posts the plan's jobs from the next one on, until the worker falls
 //! or ends. Between two lives its Down waits in a locked slot, whose type names the service. The crate stands on
-//! rme_table, whose values the lives hold. What those above use is the contract of `supervise`
-//! (`specs/Supervised.antt`): the service is closed as `Service::close` says, each end came as it says, each fall
+//! rme_table, whose values the lives hold. What those above use is the contract of `attend`, and of
+//! `supervise` (`specs/Supervised.antt`): this closes the service as `Service::close` says. Each end came as it says, each fall
 //! where its plan says, and the entries of workers that began with none are the first jobs of their plans. Begin
 //! with `plan.rt` and `run.rt`.
 #![tactic(auto)]
@@ -25,6 +25,6 @@ mod stop;
 
 pub use end::End;
 pub use plan::WorkerPlan;
-pub use report::{Fault, Report};
+pub use report::{Attended, Fault, Report, Unattended};
 pub use rme_table::{Free, Gate};
-pub use run::supervise;
+pub use run::{attend, supervise};

@@ -4,6 +4,21 @@ use crate::end::End;
 use rme_table::{Closed, Down, Service};
 use rme_words::Refusal;
 
+/// How each worker's lives ended and how many were started, and the Downs of all workers at the end, in order.
+#[derive(Drop)]
+pub struct Attended {
+    pub ends: Vec<End>,
+    pub lives: Vec<u32>,
+    pub downs: Vec<Down>,
+}
+
+/// The run was not made, or not all workers came back from it as their plans say: `why` is that of a `Fault`.
+#[derive(Drop)]
+pub struct Unattended {
+    pub why: Refusal,
+    pub downs: Vec<Down>,
+}
+
 /// How each worker's lives ended, how many were started, and what the closed service shows.
 #[derive(Drop)]
 pub struct Report {

@@ -5,13 +5,14 @@ ghost use Rattle.rme_seats.specs.Closing.{AreOf};
 ghost use Rattle.rme_supervisor.specs.Plans.{ArePlans};
 ghost use Rattle.rme_supervisor.specs.Settled.{IsSettled, IsEmpty};
 ghost use Rattle.rme_supervisor.specs.Stops.{IsTurnedAway};
-ghost use Rattle.rme_supervisor.specs.Supervised.{AreAll, IsReport, IsFault, IsOver, IsLate};
+ghost use Rattle.rme_table.specs.Closing.{IsClose};
+ghost use Rattle.rme_supervisor.specs.Supervised.{AreAll, IsAttended, IsFault, IsLate, IsOver, IsReport, IsUnattended};
 
 use crate::checking::{are_fresh, are_plans, is_whole};
 use crate::course::Course;
 use crate::keeping::keep_all;
 use crate::plan::WorkerPlan;
-use crate::report::{Fault, Report};
+use crate::report::{Attended, Fault, Report, Unattended};
 use crate::settling::{Settled, settle};
 use crate::slots::{Slot, fill};
 use rme_table::{Down, Gate, Service, Unclosed};
@@ -44,43 +45,72 @@ pub fn supervise<G: Gate + Sync, R: Threads + Wait + Sync>(
     ensures report { IfOk result (λ report. IsReport service.shape (IsTurnedAway (G.answered gate.now) G.lets_all service.shape) plans.items downs.items report) }
     ensures fault { IfErr result (λ fault. IsFault service (IsTurnedAway (G.answered gate.now) G.lets_all service.shape) plans.items downs.items fault) }
 {
-    if !are_plans(&plans, downs.len()) {
-        return Err(Fault {
+    match attend(rt, alloc, &service, downs, &plans, gate) {
+        Ok(attended) => close(service, attended),
+        Err(unattended) => {
+            let Unattended { why, downs } = unattended;
+            Err(Fault {
+                why,
+                service,
+                downs,
+            })
+        }
+    }
+}
+
+/// Keeps each worker alive by its plan, as `supervise` does, and gives the Downs back when all lives have ended. The
+/// service stays open.
+///
+/// An `Unattended` with `BadShape`, `NoMemory` or `NoWorker` where `supervise` would have a `Fault` so; all memory is
+/// taken before the run. It may wait for as long as the gate does, and its contract holds if it returns.
+pub fn attend<G: Gate + Sync, R: Threads + Wait + Sync>(
+    rt: &R,
+    alloc: Global,
+    service: &Service,
+    downs: Vec<Down>,
+    plans: &[WorkerPlan],
+    gate: &G,
+) -> Result<Attended, Unattended>
+    requires ours { AreOf service.now downs.items }
+    requires all { AreAll service.now.shape downs.items }
+    ensures attended { IfOk result (λ attended. IsAttended service.now (IsTurnedAway (G.answered gate.now) G.lets_all service.now.shape) plans.now downs.items attended) }
+    ensures unattended { IfErr result (λ unattended. IsUnattended service.now (IsTurnedAway (G.answered gate.now) G.lets_all service.now.shape) plans.now downs.items unattended) }
+{
+    if !are_plans(plans, downs.len()) {
+        return Err(Unattended {
             why: Refusal::BadShape,
-            service,
             downs,
         });
     }
-    run::<Brand, G, R>(rt, alloc, service, downs, &plans, gate)
+    run::<Brand, G, R>(rt, alloc, service, downs, plans, gate)
 }
 
 /// A run with plans that may be supervised.
 fn run<K: Course + Send + Sync, G: Gate + Sync, R: Threads + Wait + Sync>(
     rt: &R,
     alloc: Global,
-    service: Service,
+    service: &Service,
     downs: Vec<Down>,
     plans: &[WorkerPlan],
     gate: &G,
-) -> Result<Report, Fault>
-    requires named { (service ≡ K.Tag.ident) × (plans.now ≡ K.plans) × (downs.items ≡ K.given) }
-    requires away { (worker : ℕ) → IsTurnedAway (G.answered gate.now) G.lets_all service.shape worker → K.turned worker }
-    requires ours { AreOf service downs.items }
-    requires all { AreAll service.shape downs.items }
+) -> Result<Attended, Unattended>
+    requires named { (service.now ≡ K.Tag.ident) × (plans.now ≡ K.plans) × (downs.items ≡ K.given) }
+    requires away { (worker : ℕ) → IsTurnedAway (G.answered gate.now) G.lets_all service.now.shape worker → K.turned worker }
+    requires ours { AreOf service.now downs.items }
+    requires all { AreAll service.now.shape downs.items }
     requires good { ArePlans plans.now (length downs.items) }
-    ensures report { IfOk result (λ report. IsReport service.shape K.turned plans.now downs.items report) }
-    ensures fault { IfErr result (λ fault. IsFault service K.turned plans.now downs.items fault) }
+    ensures attended { IfOk result (λ attended. IsAttended service.now K.turned plans.now downs.items attended) }
+    ensures unattended { IfErr result (λ unattended. IsUnattended service.now K.turned plans.now downs.items unattended) }
 {
     let Ok((slots, settled)) = room_for::<K>(alloc, downs.len()) else {
-        return Err(Fault {
+        return Err(Unattended {
             why: Refusal::NoMemory,
-            service,
             downs,
         });
     };
     let fresh = are_fresh(&downs);
     let slots = fill(downs, slots);
-    keep_all(rt, &slots, &service, plans, gate);
+    keep_all(rt, &slots, service, plans, gate);
     end::<K>(service, plans, settle(slots, settled), fresh)
 }
 
@@ -98,24 +128,35 @@ fn room_for<K: Course>(alloc: Global, count: usize) -> Result<(Vec<Slot<K>>, Set
 
 /// The answer of a run that is over.
 fn end<K: Course>(
-    service: Service,
+    service: &Service,
     plans: &[WorkerPlan],
     settled: Settled,
     fresh: bool,
-) -> Result<Report, Fault>
-    requires settled { IsSettled service K.turned plans.now K.given settled }
-    requires plans { length plans.now ≡ service.shape.workers }
-    ensures report { IfOk result (λ report. IsOver service.shape K.turned plans.now K.given fresh report) }
-    ensures fault { IfErr result (λ fault. IsLate service K.turned plans.now K.given fresh fault) }
+) -> Result<Attended, Unattended>
+    requires settled { IsSettled service.now K.turned plans.now K.given settled }
+    requires plans { length plans.now ≡ service.now.shape.workers }
+    ensures ours { IfOk result (λ attended. AreOf service.now attended.downs.items) }
+    ensures attended { IfOk result (λ attended. IsOver service.now.shape K.turned plans.now K.given fresh attended.downs.items attended.ends.items attended.lives.items) }
+    ensures unattended { IfErr result (λ unattended. IsLate service.now K.turned plans.now K.given fresh unattended) }
 {
     let Settled { downs, ends, lives } = settled;
     if !is_whole(fresh, plans, &downs, &ends, service.shape()) {
-        return Err(Fault {
+        return Err(Unattended {
             why: Refusal::NoWorker,
-            service,
             downs,
         });
     }
+    Ok(Attended { ends, lives, downs })
+}
+
+/// Closes the service of a run.
+fn close(service: Service, attended: Attended) -> Result<Report, Fault>
+    requires ours { AreOf service attended.downs.items }
+    requires all { AreAll service.shape attended.downs.items }
+    ensures report { IfOk result (λ report. (report.ends ≡ attended.ends) × (report.lives ≡ attended.lives) × IsClose service.shape attended.downs.items report.closed.locks.items) }
+    ensures fault { IfErr result (λ fault. (fault.why ≡ Refusal.NoMemory) × (fault.service ≡ service) × (fault.downs.items ≡ attended.downs.items)) }
+{
+    let Attended { ends, lives, downs } = attended;
     match service.close(downs) {
         Ok(closed) => Ok(Report {
             ends,

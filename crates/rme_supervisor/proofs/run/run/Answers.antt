@@ -1,14 +1,11 @@
-use Rattle.std.proofs.Common.{length, refl}
+use Rattle.std.proofs.Common.{length}
 use Rattle.rme_supervisor.proofs.Lives.{ordered}
 use Rattle.rme_supervisor.proofs.run.run.Goals as goal
 
-pub returns-in_default-clause-fault : goal.returns-in_default-clause-fault
-returns-in_default-clause-fault g c = record {
-  back = record { service = refl; ours = c.requires.ours };
-  why = (c.requires.good, c.requires.all);
-}
+pub returns-in_default-clause-unattended : goal.returns-in_default-clause-unattended
+returns-in_default-clause-unattended g c = record { ours = c.requires.ours; why = (c.requires.good, c.requires.all) }
 
 pub keep_all-requires-clause-orders : goal.keep_all-requires-clause-orders
 keep_all-requires-clause-orders g c = λ κs within worker plan at.
-    ordered g.K.Tag.ident g.K.Course.turned g.K.Course.plans (g.G.Gate.answered c.args.gate.now) g.G.Gate.lets_all c.args.service c.args.plans.now (length c.args.downs.items) c.requires.named.0 c.requires.named.1
+    ordered g.K.Tag.ident g.K.Course.turned g.K.Course.plans (g.G.Gate.answered c.args.gate.now) g.G.Gate.lets_all c.args.service.now c.args.plans.now (length c.args.downs.items) c.requires.named.0 c.requires.named.1
     c.requires.good c.requires.away worker plan at
