@@ -1,5 +1,5 @@
--- An order that is obeyed in two parts is obeyed.
-use Rattle.std.proofs.Common.{◌≡◌, ℕ, ◌+◌, ◌-◌, ◌<◌, List, [], inl, inr, refl, sym, ap, ◌∙◌, subst}
+-- An order that is obeyed in parts is obeyed.
+use Rattle.std.proofs.Common.{◌≡◌, ℕ, ◌+◌, ◌<◌, ◌≤◌, List, [], arith, inl, inr, refl, sym, ap, ◌∙◌, subst}
 use Rattle.std.specs.Prelude.{◌==◌, ◌⊎◌, Bool, true, false, Option, Some}
 use Rattle.rme_words.specs.declared.shape.Shape.{Shape}
 use Rattle.rme_words.specs.declared.refusal.Refusal.{Refusal}
@@ -13,54 +13,67 @@ use Rattle.rme_seats.specs.Stands.{Ident, Stand}
 use Rattle.rme_session_lines.specs.declared.session.Outcome.{Outcome}
 use Rattle.rme_session_lines.specs.declared.session.Outcome.TheVariants.{Receipt, Withdrawn, Waiting, Fell, Inside}
 use Rattle.rme_session_lines.specs.declared.session.SessionReply.{SessionReply}
-use Rattle.rme_session_lines.specs.declared.session.SessionReply.TheVariants.{Submitted, Resumed, Refused}
+use Rattle.rme_session_lines.specs.declared.session.SessionReply.TheVariants.{Submitted, Resumed, Entered, Refused}
 use Rattle.rme_session_lines.specs.declared.order.Order.{Order}
-use Rattle.rme_session_lines.specs.declared.order.Order.TheVariants.{Attach, Submit, Resume}
+use Rattle.rme_session_lines.specs.declared.order.Order.TheVariants.{Submit, Resume, Enter}
+use Rattle.rme_session_lines.specs.declared.order.Patience.TheVariants.{Tries}
 use Rattle.rme_session_lines.specs.declared.order.Submission.{Submission}
 use Rattle.rme_orders.specs.Obeyed.{ObeysBy, Resumes}
-use Rattle.rme_orders.specs.Refusals.{resume_refusal}
-use Rattle.rme_orders.specs.Sessions.{answer_as, first_of, rest_of, still_waits}
+use Rattle.rme_orders.specs.Refusals.{SubmitRefuses, resume_refusal}
+use Rattle.rme_orders.specs.Parts.{answer_as, once_more, still_waits, tried, with_tries}
 use Rattle.rme_orders.specs.declared.view.PendingWorker.{PendingWorker}
 use Rattle.rme_orders.specs.declared.view.Session as shown
 use Rattle.rme_orders.specs.declared.view.View.{View}
 use Rattle.rme_orders.proofs.Trying as sight
-use Rattle.rme_orders.proofs.Trying.{IsAll, IsClimb, climb_not_refused, false_true, once}
-use Rattle.rme_sessions.specs.Obeyed.{Adds, Enters, HandsOver, IsWalked, Obeys, ResumeEnters, SubmitEnters}
+use Rattle.rme_orders.proofs.Trying.{IsClimb, climb_not_refused, enter_not_refused, false_true}
+use Rattle.rme_sessions.specs.Obeyed.{Adds, Enters, EntersInside, HandsInside, HandsOver, IsInside, IsWalked, Obeys, ResumeEnters, SubmitEnters}
 use Rattle.rme_sessions.specs.Stands.{draft_in, entries_in, held_by, session_of, view_of}
 use Rattle.rme_sessions.specs.Works.{WentOn, lead_of}
 use Rattle.rme_sessions.specs.declared.stand.Holding.{Holding}
 use Rattle.rme_sessions.specs.declared.stand.Holding.TheVariants.{Empty, Ready, Climb, Held}
 use Rattle.rme_sessions.specs.declared.stand.Stand.{Stand as Session}
 use Rattle.rme_sessions.proofs.Planning.{went_on}
+use Rattle.rme_server.specs.Sessions.{HasAll}
 
--- One part alone.
-enters_once : (shape : Shape) (start : Holding) (its : Submission) (now : Holding) (became : Outcome) → SubmitEnters shape start (once its) now became → SubmitEnters shape start its now became
-enters_once shape Empty its now became enters = enters
-enters_once shape (Ready ready) its now became enters = enters
-enters_once shape (Climb climb) its now became enters = enters
-enters_once shape (Held held) its now became enters = enters
+-- How many tries an order has changes nothing of what it does to the entries.
+module _ (tries : ℕ) (its : Submission) (shape : Shape) where
+  submit_tried : (start now : Holding) (became : Outcome) → SubmitEnters shape start (tried tries its) now became → SubmitEnters shape start its now became
+  submit_tried Empty now became enters = enters
+  submit_tried (Ready ready) now became enters = enters
+  submit_tried (Climb climb) now became enters = enters
+  submit_tried (Held held) now became enters = enters
 
-module _ (ident : Ident) (count made : ℕ) (old now : Session) (let_go : Option Stand) where
-  adds_first : (its : Order) (reply : SessionReply) → Adds ident count made old (first_of its) now reply let_go → Adds ident count made old its now reply let_go
-  adds_first (Submit its) (Refused why) adds = adds
-  adds_first (Submit its) (Submitted became) (enters, walked) = (enters_once ident.shape old.value its now.value became enters, walked)
-  adds_first (Submit its) reply adds = absurd adds
-  adds_first (Resume tries) (Refused why) adds = adds
-  adds_first (Resume tries) (Resumed became) adds = adds
-  adds_first (Resume tries) reply adds = absurd adds
-  adds_first its reply adds = adds
+  inside_tried : (start now : Holding) (became : Outcome) → EntersInside shape start (tried tries its) now became → EntersInside shape start its now became
+  inside_tried Empty now became enters = enters
+  inside_tried (Ready ready) now became enters = enters
+  inside_tried (Climb climb) now became enters = enters
+  inside_tried (Held held) now became enters = enters
 
-pub only_first : (ident : Ident) (count : ℕ) (old now : Session) (its : Order) (reply : SessionReply) → IsAll its reply → Obeys ident count old (first_of its) now reply → Obeys ident count old its now reply
-only_first ident count old now its reply all obeys = let acts = obeys.acts in record {
+module _ (ident : Ident) (count made tries : ℕ) (old now : Session) (let_go : Option Stand) where
+  adds_tried : (its : Order) (reply : SessionReply) → Adds ident count made old (with_tries tries its) now reply let_go → Adds ident count made old its now reply let_go
+  adds_tried (Submit its) (Refused why) adds = adds
+  adds_tried (Submit its) (Submitted became) (enters, walked) = (submit_tried tries its ident.shape old.value now.value became enters, walked)
+  adds_tried (Submit its) reply adds = absurd adds
+  adds_tried (Resume patience) (Refused why) adds = adds
+  adds_tried (Resume patience) (Resumed became) adds = adds
+  adds_tried (Resume patience) reply adds = absurd adds
+  adds_tried (Enter its) (Refused why) adds = adds
+  adds_tried (Enter its) (Entered became) (enters, walked) = (inside_tried tries its ident.shape old.value now.value became enters, walked)
+  adds_tried (Enter its) reply adds = absurd adds
+  adds_tried its reply adds = adds
+
+pub all_tries : (ident : Ident) (count tries : ℕ) (old now : Session) (its : Order) (reply : SessionReply) → HasAll tries its reply → Obeys ident count old (with_tries tries its) now reply
+    → Obeys ident count old its now reply
+all_tries ident count tries old now its reply all obeys = let acts = obeys.acts in record {
   let_go = obeys.let_go;
   acts = record {
     made = acts.made;
     before = acts.before;
     after = acts.after;
-    obeys = sight.only_first ident.shape acts.made (view_of acts.before old) (view_of acts.after now) its reply all acts.obeys;
+    obeys = sight.all_tries ident.shape acts.made tries (view_of acts.before old) (view_of acts.after now) its reply all acts.obeys;
     told_before = acts.told_before;
     told_after = acts.told_after;
-    adds = adds_first ident count acts.made old now obeys.let_go its reply acts.adds;
+    adds = adds_tried ident count acts.made tries old now obeys.let_go its reply acts.adds;
   };
 }
 
@@ -81,7 +94,7 @@ hands_both shape true ready job mid now became waits has enters = absurd waits
 hands_both shape false ready job mid now became waits has enters =
     enters_both ready.part.entries job.script (draft_script (draft_in (held_by mid))) mid now became waits (ap (λ (d : Option Job). draft_script d) has) enters
 
-submit_both : (shape : Shape) (start mid now : Holding) (its : Submission) (became : Outcome) → SubmitEnters shape start (once its) mid Waiting → draft_in (held_by mid) ≡ Some its.job
+submit_both : (shape : Shape) (start mid now : Holding) (its : Submission) (became : Outcome) → SubmitEnters shape start its mid Waiting → draft_in (held_by mid) ≡ Some its.job
     → ResumeEnters mid now became → SubmitEnters shape start its now became
 submit_both shape Empty mid now its became waits has enters =
     enters_both [] its.job.script (draft_script (draft_in (held_by mid))) mid now became waits (ap (λ (d : Option Job). draft_script d) has) enters
@@ -90,6 +103,33 @@ submit_both shape (Climb climb) mid now its became waits has enters =
     enters_both climb.part.entries its.job.script (draft_script (draft_in (held_by mid))) mid now became waits (ap (λ (d : Option Job). draft_script d) has) enters
 submit_both shape (Held held) mid now its became waits has enters =
     enters_both held.part.entries its.job.script (draft_script (draft_in (held_by mid))) mid now became waits (ap (λ (d : Option Job). draft_script d) has) enters
+
+-- A worker that climbs was not inside before, and nothing stands before its next step.
+module _ (shape : Shape) (mid : Holding) (between : Option program.Receipt) (climbs : IsClimb (session_of between mid)) where
+  climb_inside : (value : Holding) → IsClimb (session_of between value) → (before : List Entry) (its : Submission) (now : Holding) (became : Outcome) → IsInside before value Waiting
+      → EntersInside shape value its now became → IsInside before now became
+  climb_inside Empty climbed before its now became waits enters = absurd climbed
+  climb_inside (Ready ready) climbed before its now became waits enters = absurd climbed
+  climb_inside (Climb climb) climbed before its now became waits enters = let P : List Entry → Type 0 = λ es. IsInside es now became in subst P waits enters
+  climb_inside (Held held) climbed before its now became waits enters = absurd climbed
+
+  hands_inside_both : (again : Bool) (ready : Stand) (its : Submission) (now : Holding) (became : Outcome) → HandsInside shape again ready mid Waiting → EntersInside shape mid its now became
+      → HandsInside shape again ready now became
+  hands_inside_both true ready its now became waits enters = absurd waits
+  hands_inside_both false ready its now became waits enters = climb_inside mid climbs ready.part.entries its now became waits enters
+
+  enter_both : (start : Holding) (its : Submission) (now : Holding) (became : Outcome) → EntersInside shape start its mid Waiting → EntersInside shape mid its now became
+      → EntersInside shape start its now became
+  enter_both Empty its now became waits enters = absurd waits
+  enter_both (Ready ready) its now became waits enters = hands_inside_both (its.number == ready.part.private.begun) ready its now became waits enters
+  enter_both (Climb climb) its now became waits enters = climb_inside mid climbs climb.part.entries its now became waits enters
+  enter_both (Held held) its now became waits enters = let P : Holding → Type 0 = λ value. IsClimb (session_of between value) in absurd (subst P waits climbs)
+
+  lead_onward : (value : Holding) → IsClimb (session_of between value) → (job : Job) → lead_of value job ≡ onward
+  lead_onward Empty climbed job = absurd climbed
+  lead_onward (Ready ready) climbed job = absurd climbed
+  lead_onward (Climb climb) climbed job = refl
+  lead_onward (Held held) climbed job = absurd climbed
 
 walked_both : (shape : Shape) (lead : Part → Part) (one two : ℕ) (old mid now : Session) (became : Outcome) (let_go : Option Stand) → 0 < one
     → WentOn shape lead (held_by old.value) (held_by mid.value) one → IsWalked shape onward two mid now became let_go → IsWalked shape lead (one + two) old now became let_go
@@ -129,66 +169,96 @@ draft_of_resumed (Held start) (Ready ready) one two waits = absurd waits
 draft_of_resumed (Held start) (Climb climb) one two waits = ap (λ (p : PendingWorker). p.draft) waits
 draft_of_resumed (Held start) (Held held) one two waits = absurd waits
 
-module _ (ident : Ident) (count one two : ℕ) (old mid now : Session) (before between : Option program.Receipt) (shows : View) (first_go let_go : Option Stand)
+module _ (ident : Ident) (count tries one two : ℕ) (old mid now : Session) (before between : Option program.Receipt) (shows : View) (first_go let_go : Option Stand)
     (climbs : IsClimb (session_of between mid.value)) (some : 0 < one) where
   never_refused : (why : Refusal) → (Some why ≡ resume_refusal (session_of between mid.value)) ⊎ ⊥ → ⊥
   never_refused why (inl refuses) = climb_not_refused (session_of between mid.value) why climbs refuses
   never_refused why (inr misses) = misses
 
-  submit_adds : (its : Submission) (last : SessionReply) → ObeysBy ident.shape one (view_of before old) (Submit (once its)) (view_of between mid) (Submitted Waiting)
-      → Adds ident count one old (Submit (once its)) mid (Submitted Waiting) first_go → ObeysBy ident.shape two (view_of between mid) (Resume (its.tries - 1)) shows last
-      → Adds ident count two mid (Resume (its.tries - 1)) now last let_go → Adds ident count (one + two) old (Submit its) now (answer_as (Submitted Waiting) last) let_go
+  submit_adds : (its : Submission) (last : SessionReply) → ObeysBy ident.shape one (view_of before old) (Submit (tried tries its)) (view_of between mid) (Submitted Waiting)
+      → Adds ident count one old (Submit (tried tries its)) mid (Submitted Waiting) first_go → ObeysBy ident.shape two (view_of between mid) (Resume (Tries 1)) shows last
+      → Adds ident count two mid (Resume (Tries 1)) now last let_go → Adds ident count (one + two) old (Submit (tried (tries + 1) its)) now (answer_as (Submitted Waiting) last) let_go
   submit_adds its (Resumed became) obeys (enters, (went, none)) more (later, walked) = (
-    submit_both ident.shape old.value mid.value now.value its became enters
-        (draft_of_waiting ident.shape one (view_of before old) mid.value (view_of between mid) between (once its) refl climbs obeys) later,
+    submit_tried tries (tried (tries + 1) its) ident.shape old.value now.value became
+        (submit_both ident.shape old.value mid.value now.value (tried tries its) became enters
+        (draft_of_waiting ident.shape one (view_of before old) mid.value (view_of between mid) between (tried tries its) refl climbs obeys) later),
     walked_both ident.shape (lead_of old.value its.job) one two old mid now became let_go some went walked,
   )
   submit_adds its (Refused why) obeys adds more later = absurd (never_refused why more.1)
   submit_adds its last obeys adds more later = absurd later
 
-  resume_adds : (tries : ℕ) (last : SessionReply) → ObeysBy ident.shape one (view_of before old) (Resume 1) (view_of between mid) (Resumed Waiting)
-      → Adds ident count one old (Resume 1) mid (Resumed Waiting) first_go → ObeysBy ident.shape two (view_of between mid) (Resume (tries - 1)) shows last
-      → Adds ident count two mid (Resume (tries - 1)) now last let_go → Adds ident count (one + two) old (Resume tries) now (answer_as (Resumed Waiting) last) let_go
-  resume_adds tries (Resumed became) (refuses, (resumes, left, tried)) (enters, (went, none)) more (later, walked) = (
+  resume_adds : (last : SessionReply) → ObeysBy ident.shape one (view_of before old) (Resume (Tries tries)) (view_of between mid) (Resumed Waiting)
+      → Adds ident count one old (Resume (Tries tries)) mid (Resumed Waiting) first_go → ObeysBy ident.shape two (view_of between mid) (Resume (Tries 1)) shows last
+      → Adds ident count two mid (Resume (Tries 1)) now last let_go → Adds ident count (one + two) old (Resume (Tries (tries + 1))) now (answer_as (Resumed Waiting) last) let_go
+  resume_adds (Resumed became) (refuses, (resumes, left, first)) (enters, (went, none)) more (later, walked) = (
     enters_both (entries_in (held_by old.value)) (draft_script (draft_in (held_by old.value))) (draft_script (draft_in (held_by mid.value))) mid.value now.value became enters
         (ap (λ (d : Option Job). draft_script d) (draft_of_resumed old.value mid.value before between resumes)) later,
     walked_both ident.shape onward one two old mid now became let_go some went walked,
   )
-  resume_adds tries (Refused why) obeys adds more later = absurd (never_refused why more.1)
-  resume_adds tries last obeys adds more later = absurd later
+  resume_adds (Refused why) obeys adds more later = absurd (never_refused why more.1)
+  resume_adds last obeys adds more later = absurd later
 
-  adds_both : (its : Order) (reply last : SessionReply) → still_waits reply ≡ true → ObeysBy ident.shape one (view_of before old) (first_of its) (view_of between mid) reply
-      → Adds ident count one old (first_of its) mid reply first_go → ObeysBy ident.shape two (view_of between mid) (Resume (rest_of its)) shows last
-      → Adds ident count two mid (Resume (rest_of its)) now last let_go → Adds ident count (one + two) old its now (answer_as reply last) let_go
+  enter_adds : (its : Submission) (last : SessionReply) → ObeysBy ident.shape one (view_of before old) (Enter (tried tries its)) (view_of between mid) (Entered Waiting)
+      → Adds ident count one old (Enter (tried tries its)) mid (Entered Waiting) first_go → ObeysBy ident.shape two (view_of between mid) (Enter (tried 1 its)) shows last
+      → Adds ident count two mid (Enter (tried 1 its)) now last let_go → Adds ident count (one + two) old (Enter (tried (tries + 1) its)) now (answer_as (Entered Waiting) last) let_go
+  enter_adds its (Entered became) obeys (enters, (went, none)) more (later, walked) =
+      let P : (Part → Part) → Type 0 = λ lead. IsWalked ident.shape lead two mid now became let_go in (
+        inside_tried tries (tried (tries + 1) its) ident.shape old.value now.value became
+            (enter_both ident.shape mid.value between climbs old.value (tried tries its) now.value became enters (inside_tried 1 (tried tries its) ident.shape mid.value now.value became later)),
+        walked_both ident.shape (lead_of old.value its.job) one two old mid now became let_go some went
+            (subst P (lead_onward ident.shape mid.value between climbs mid.value climbs its.job) walked),
+      )
+  enter_adds its (Refused why) obeys adds (same, inl refuses) later = absurd (enter_not_refused ident.shape tries one (view_of before old) (view_of between mid) its why obeys refuses)
+  enter_adds its (Refused why) obeys adds (same, inr misses) later = absurd misses
+  enter_adds its last obeys adds more later = absurd later
+
+  adds_both : (its : Order) (reply last : SessionReply) → still_waits reply ≡ true → ObeysBy ident.shape one (view_of before old) (with_tries tries its) (view_of between mid) reply
+      → Adds ident count one old (with_tries tries its) mid reply first_go → ObeysBy ident.shape two (view_of between mid) (once_more its) shows last
+      → Adds ident count two mid (once_more its) now last let_go → Adds ident count (one + two) old (with_tries (tries + 1) its) now (answer_as reply last) let_go
   adds_both (Submit its) (Submitted Waiting) last waits obeys adds more later = submit_adds its last obeys adds more later
-  adds_both (Resume tries) (Resumed Waiting) last waits obeys adds more later = resume_adds tries last obeys adds more later
+  adds_both (Resume patience) (Resumed Waiting) last waits obeys adds more later = resume_adds last obeys adds more later
+  adds_both (Enter its) (Entered Waiting) last waits obeys adds more later = enter_adds its last obeys adds more later
   adds_both (Submit its) (Resumed Waiting) last waits obeys adds more later = absurd obeys.1
-  adds_both (Resume tries) (Submitted Waiting) last waits obeys adds more later = absurd obeys.1
-  adds_both (Attach worker) (Submitted Waiting) last waits obeys adds more later = absurd obeys.1
-  adds_both (Attach worker) (Resumed Waiting) last waits obeys adds more later = absurd obeys.1
+  adds_both (Submit its) (Entered Waiting) last waits obeys adds more later = absurd obeys.1
+  adds_both (Resume patience) (Submitted Waiting) last waits obeys adds more later = absurd obeys.1
+  adds_both (Resume patience) (Entered Waiting) last waits obeys adds more later = absurd obeys.1
+  adds_both (Enter its) (Submitted Waiting) last waits obeys adds more later = absurd obeys.1
+  adds_both (Enter its) (Resumed Waiting) last waits obeys adds more later = absurd obeys.1
   adds_both its (Submitted Waiting) last waits obeys adds more later = absurd obeys.1
   adds_both its (Resumed Waiting) last waits obeys adds more later = absurd obeys.1
+  adds_both its (Entered Waiting) last waits obeys adds more later = absurd obeys.1
   adds_both its reply last waits obeys adds more later = absurd (false_true waits)
 
--- A first try, and the resumption after it, are one order.
-pub both_parts : (ident : Ident) (count : ℕ) (old mid now : Session) (its : Order) (reply last : SessionReply) → still_waits reply ≡ true → Obeys ident count old (first_of its) mid reply
-    → Obeys ident count mid (Resume (rest_of its)) now last → Obeys ident count old its now (answer_as reply last)
-both_parts ident count old mid now its reply last waits first then =
+-- So many tries, and one more where the job waits then, are the order with one try more.
+pub both_parts : (ident : Ident) (count tries : ℕ) (old mid now : Session) (its : Order) (reply last : SessionReply) → 0 < tries → still_waits reply ≡ true
+    → Obeys ident count old (with_tries tries its) mid reply → Obeys ident count mid (once_more its) now last → Obeys ident count old (with_tries (tries + 1) its) now (answer_as reply last)
+both_parts ident count tries old mid now its reply last some waits first then =
     let one = first.acts in
     let two = then.acts in
-    let still = sight.still_climbs ident.shape one.made (view_of one.before old) (view_of one.after mid) its reply waits one.obeys in
+    let still = sight.still_climbs ident.shape tries one.made (view_of one.before old) (view_of one.after mid) some its reply waits one.obeys in
     let same = same_view mid one.after two.before still.0 in
-    let P : View → Type 0 = λ view. ObeysBy ident.shape two.made view (Resume (rest_of its)) (view_of two.after now) last in
+    let P : View → Type 0 = λ view. ObeysBy ident.shape two.made view (once_more its) (view_of two.after now) last in
     let more = subst P (sym same) two.obeys in record {
       let_go = then.let_go;
       acts = record {
         made = one.made + two.made;
         before = one.before;
         after = two.after;
-        obeys = sight.both_parts ident.shape one.made two.made (view_of one.before old) (view_of one.after mid) (view_of two.after now) its reply last waits one.obeys more;
+        obeys = sight.both_parts ident.shape tries one.made two.made (view_of one.before old) (view_of one.after mid) (view_of two.after now) its reply last waits one.obeys more;
         told_before = one.told_before;
         told_after = two.told_after;
-        adds = adds_both ident count one.made two.made old mid now one.before one.after (view_of two.after now) first.let_go then.let_go still.0 still.1 its reply last waits one.obeys one.adds more
-            two.adds;
+        adds = adds_both ident count tries one.made two.made old mid now one.before one.after (view_of two.after now) first.let_go then.let_go still.0 still.1 its reply last waits one.obeys
+            one.adds more two.adds;
       };
     }
+
+-- The same, of an order and an answer that are found to be those.
+pub one_more : (ident : Ident) (count tries : ℕ) (old mid now : Session) (its again : Order) (reply last told : SessionReply) → 1 ≤ tries → still_waits reply ≡ true → again ≡ once_more its
+    → told ≡ answer_as reply last → Obeys ident count old (with_tries tries its) mid reply → Obeys ident count mid again now last → Obeys ident count old (with_tries (tries + 1) its) now told
+one_more ident count tries old mid now its again reply last told some waits is so first then =
+    let P : Order → Type 0 = λ its. Obeys ident count mid its now last in
+    rw so (both_parts ident count tries old mid now its reply last (omega (arith, some)) waits first (subst P is then))
+
+-- A job that does not wait was tried as often as its order asks for.
+pub over : (tries : ℕ) (its : Order) (reply : SessionReply) → still_waits reply ≡ false → HasAll tries its reply
+over tries its reply not waits = absurd (false_true (sym not ∙ waits))

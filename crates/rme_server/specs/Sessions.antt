@@ -1,5 +1,14 @@
--- What is left where a line of a session has no reply.
-use Rattle.std.specs.Prelude.{ℕ, List, [], Option}
+-- How the orders of a session's lines are obeyed, and what is left where a line has no reply.
+use Rattle.std.specs.Prelude.{◌≡◌, ◌≤◌, ◌⊎◌, ℕ, List, [], Option, true}
+use Rattle.rme_seats.specs.Stands.{Ident}
+use Rattle.rme_session_lines.specs.declared.order.Order.{Order}
+use Rattle.rme_session_lines.specs.declared.order.Order.TheVariants.{Attach}
+use Rattle.rme_session_lines.specs.declared.session.SessionReply.{SessionReply}
+use Rattle.rme_session_lines.specs.declared.session.SessionReply.TheVariants.{Refused}
+use Rattle.rme_words.specs.declared.refusal.Refusal.TheVariants.{Taken}
+use Rattle.rme_orders.specs.Parts.{least_in, patience_in, still_waits, with_tries}
+use Rattle.rme_sessions.specs.Obeyed.{Obeys}
+use Rattle.rme_sessions.specs.declared.stand.Stand.{Stand}
 use Rattle.rme_lines.specs.declared.fault.EngineFault.{EngineFault}
 use Rattle.rme_lines.specs.declared.fault.EngineFault.TheVariants.{ReadFailed, WriteFailed, NoMemory}
 use Rattle.rme_lines.specs.Puts.{AppendsFront, Gathers}
@@ -10,3 +19,17 @@ abbrev pub Breaks : EngineFault → Option (List ℕ) → List ℕ → Option (L
 Breaks ReadFailed held kept holds keeps = ⊥
 Breaks NoMemory held kept holds keeps = Gathers held kept [] holds keeps
 Breaks WriteFailed held kept holds keeps = AppendsFront held holds kept
+
+-- An order is obeyed; or, once the client was found to be gone, with fewer tries than it asks for, where its job waits still.
+abbrev pub ObeysFor : Type 0 → Ident → ℕ → Stand → Order → Stand → SessionReply → Type 0
+ObeysFor gone ident count old its now answer =
+    Obeys ident count old its now answer ⊎ (gone × (still_waits answer ≡ true) × ((tries : ℕ) × (1 ≤ tries) × Obeys ident count old (with_tries tries its) now answer))
+
+-- After so many tries an order is obeyed with all that it asks for.
+abbrev pub HasAll : ℕ → Order → SessionReply → Type 0
+HasAll tries its answer = still_waits answer ≡ true → least_in (patience_in its) ≤ tries
+
+-- An order that was answered so is gone on with: it would attach a worker whom another session has, or its job waits.
+abbrev pub MayGoOn : Order → SessionReply → Type 0
+MayGoOn (Attach asked) answer = answer ≡ Refused Taken
+MayGoOn its answer = still_waits answer ≡ true

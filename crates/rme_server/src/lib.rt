@@ -7,12 +7,21 @@
 //! is answered as `obey` has it, and nothing else is written. Begin with `talk.rt`, then `server.rt`.
 #![tactic(auto)]
 
+mod bell;
 mod buffers;
+mod client;
+mod connection;
+mod hall;
+mod pauses;
 mod server;
 mod talk;
+mod waiting;
 
+pub use client::{Client, Present, Reach, Unreached};
+pub use connection::{Closer, Connection, Listener};
+pub use hall::Hall;
 pub use rme_lines::{LineReader, ServeFault};
 pub use rme_sessions::{Holding, Plan, Planned, Stand, obey};
 pub use rme_slots::Slots;
 pub use server::{Door, Trouble, serve};
-pub use talk::session;
+pub use talk::{Host, session};

@@ -3,29 +3,26 @@
 ghost use Rattle.std.specs.Prelude.{◌≡◌};
 
 use crate::buffers::Buffers;
-use crate::talk::session;
+use crate::connection::{Closer, Connection, Listener};
+use crate::talk::{Host, session};
 use rme_lines::ServeFault;
+use rme_reasons::{Reason, Teller, Told, Vocabulary};
 use rme_session_lines::SessionReply;
-use rme_slots::Slots;
-use rme_table::{Service, Tag};
+use rme_table::Tag;
 use rme_wire::{LineReader, Names};
 use rme_words::Refusal;
 use std::alloc::Global;
 use std::io::{Error, ErrorKind};
-use std::net::{Shutdown, TcpListener, TcpStream};
 use std::sync::Wait;
 use std::sync::atomic::{AtomicU64, Ordering};
 use std::thread;
 use std::thread::{Builder, Threads};
-use std::time::Duration;
+use std::time::Clock;
 
-/// The stack of a session's thread.
+/// The stack of a session's thread, and of one that accepts connections.
 const STACK: usize = 262_144;
 
-/// How many seconds a client may take none of what it is answered; then its session ends.
-const DEAF: u64 = 10;
-
-/// Which connections a server takes.
+/// Which connections a server takes, over all that it listens on.
 #[derive(Clone, Copy)]
 pub struct Door {
     /// So many connections are taken, those that are turned away among them; with `None` they are taken for good.
@@ -34,60 +31,114 @@ pub struct Door {
     pub at_once: u32,
     /// Where there is one, a session ends whose client has sent nothing for so many seconds. Not 0.
     pub idle: Option<u32>,
+    /// Whether it is told why lines are answered `BadLine`.
+    pub tells_why: bool,
 }
 
-/// Who is told of a connection that could not be had or served, and lets some time go by, in which others may end.
+/// Who is told of a connection that could not be had or served, and lets some time go by, in which others may end; and
+/// why a line is no order.
 pub trait Trouble {
     /// No connection could be accepted, for this reason.
     fn not_accepted(&self, why: Error);
 
     /// There was no thread for a connection, which was closed.
     fn no_thread(&self);
+
+    /// This line of this connection, both counted from 1, is answered `BadLine`, for this reason.
+    fn bad_line(&self, connection: u64, line: u64, why: &Reason);
 }
 
-/// Takes the connections of a door, and makes a session of each in a thread of its own. It answers when all have
-/// ended; the listener is closed as soon as the last connection was taken.
+/// Takes the connections of a door, from one listener or from two, and makes a session of each in a thread of its own. It
+/// answers when all have ended; the listeners are closed as soon as the last connection was taken.
 ///
 /// What ends one session ends no other. A connection that can't be accepted, or have a thread, ends nothing either:
-/// `trouble` is told, and the next one is taken. An error is the first such trouble, and comes when all is over.
-pub fn serve<K: Tag + Send + Sync, R: Threads + Wait + Sync, T: Trouble + Sync>(
+/// `trouble` is told, and the next one is taken. An error is the first such trouble, and comes when all is over; where
+/// two listeners can't be listened on at once, it comes before any connection was taken.
+pub fn serve<K: Tag + Send + Sync, R: Threads + Wait + Clock + Sync, T: Trouble + Sync>(
     rt: &R,
-    alloc: Global,
-    listener: TcpListener,
+    listeners: (Listener, Option<Listener>),
     door: Door,
     trouble: &T,
-    service: &Service,
-    slots: &Slots<K>,
-    names: &Names,
+    host: &Host<'_, K, Closer>,
 ) -> Result<(), ServeFault>
-    requires ours { service.now ≡ K.ident }
+    requires ours { host.now.service.now ≡ K.ident }
 {
-    let running = AtomicU64::new(0);
-    let sessions = &running;
+    let (listener, other) = listeners;
+    let closers = match &other {
+        None => None,
+        Some(other) => Some(closers_of(&listener, other)?),
+    };
+    let entrance = Entrance {
+        door,
+        taken: AtomicU64::new(0),
+        running: AtomicU64::new(0),
+        closers,
+    };
+    let shared = &entrance;
     thread::scope(
         thread::scope_env(),
         rt,
         move |scope| -> Result<(), ServeFault>
-            requires ours { service.now ≡ K.ident }
+            requires ours { host.now.service.now ≡ K.ident }
         {
-            let mut entrance = Entrance::new(listener, door);
+            let Some(other) = other else {
+                return receive(rt, listener, shared, trouble, host);
+            };
+            let beside = move || -> Result<(), ServeFault>
+                requires ours { host.now.service.now ≡ K.ident }
+            { receive(rt, other, shared, trouble, host) };
+            let Ok(beside) = Builder::new().stack_size(STACK).spawn_scoped(scope, beside) else {
+                return Err(ServeFault::NoThread);
+            };
+            let ended = receive(rt, listener, shared, trouble, host);
+            ended.and(beside.join(rt))
+        },
+    )
+}
+
+/// What closes these two listeners.
+fn closers_of(listener: &Listener, other: &Listener) -> Result<(Closer, Closer), ServeFault> {
+    match (listener.closer(), other.closer()) {
+        (Ok(first), Ok(second)) => Ok((first, second)),
+        _ => Err(ServeFault::SocketFailed),
+    }
+}
+
+/// Takes the connections of a listener, until those of the door are taken, and answers when their sessions have ended.
+fn receive<K: Tag + Send + Sync, R: Threads + Wait + Clock + Sync, T: Trouble + Sync>(
+    rt: &R,
+    listener: Listener,
+    entrance: &Entrance,
+    trouble: &T,
+    host: &Host<'_, K, Closer>,
+) -> Result<(), ServeFault>
+    requires ours { host.now.service.now ≡ K.ident }
+{
+    thread::scope(
+        thread::scope_env(),
+        rt,
+        move |scope| -> Result<(), ServeFault>
+            requires ours { host.now.service.now ≡ K.ident }
+        {
+            let listener = listener;
             let mut ended = Ok(());
             for _ in rt.forever() {
-                match entrance.next(sessions) {
+                match entrance.next(&listener) {
                     Arrival::Over => break,
                     Arrival::GivenUp => {}
-                    Arrival::Early(client) => turn_away(alloc, &client, names),
+                    Arrival::Early(client) => turn_away(host.alloc, &client, host.names),
                     Arrival::Failed(why) => ended = ended.and(Err(not_accepted(trouble, why))),
-                    Arrival::Client(client) => {
+                    Arrival::Client(number, client) => {
+                        let teller = entrance.teller(trouble, number);
                         let talk = move ||
-                            requires ours { service.now ≡ K.ident }
+                            requires ours { host.now.service.now ≡ K.ident }
                         {
-                            welcome(rt, alloc, &client, service, slots, names);
-                            sessions.fetch_sub(1, Ordering::SeqCst);
+                            welcome(rt, &client, teller, host);
+                            entrance.running.fetch_sub(1, Ordering::SeqCst);
                         };
                         let thread = Builder::new().stack_size(STACK).spawn_scoped(scope, talk);
                         if thread.is_err() {
-                            ended = ended.and(Err(no_thread(trouble, sessions)));
+                            ended = ended.and(Err(no_thread(trouble, &entrance.running)));
                         }
                     }
                 }
@@ -100,10 +151,10 @@ pub fn serve<K: Tag + Send + Sync, R: Threads + Wait + Sync, T: Trouble + Sync>(
 /// What comes in at a door.
 #[derive(Drop)]
 enum Arrival {
-    /// A connection that is to have a session, which is counted already.
-    Client(TcpStream),
+    /// A connection that is to have a session, which is counted already, and its number.
+    Client(u64, Connection),
     /// A connection while as many sessions run as may.
-    Early(TcpStream),
+    Early(Connection),
     /// None: it was given up before it could be accepted.
     GivenUp,
     /// None: it could not be accepted.
@@ -112,59 +163,85 @@ enum Arrival {
     Over,
 }
 
-/// The connections of a door that are still to come.
+/// What the listeners of a server share: the door, and what was counted at it.
 #[derive(Drop)]
 struct Entrance {
-    listener: TcpListener,
     door: Door,
-    left: Option<u32>,
+    /// How many connections were taken.
+    taken: AtomicU64,
+    /// How many sessions run.
+    running: AtomicU64,
+    /// What closes the listeners, where there are two. One is closed as it is dropped.
+    closers: Option<(Closer, Closer)>,
 }
 
 impl Entrance {
-    fn new(listener: TcpListener, door: Door) -> Entrance {
-        Entrance {
-            listener,
-            door,
-            left: door.connections,
-        }
-    }
-
-    /// Waits for the next connection, beside so many sessions that run.
-    fn next(&mut self, sessions: &AtomicU64) -> Arrival {
-        if self.left == Some(0) {
+    /// Waits for the next connection of a listener.
+    fn next(&self, listener: &Listener) -> Arrival {
+        if self.is_over() {
             return Arrival::Over;
         }
-        let client = match self.listener.accept() {
-            Ok((client, _)) => client,
-            Err(why) => return missed(why),
+        let client = match listener.accept() {
+            Ok(client) => client,
+            Err(why) => return self.missed(why),
         };
-        self.left = self.left.map(|left| left.saturating_sub(1));
-        set_limits(&client, self.door.idle);
-        if sessions.load(Ordering::SeqCst) >= u64::from(self.door.at_once) {
+        let Some(number) = self.number_of_next() else {
+            return Arrival::Over;
+        };
+        client.set_limits(self.door.idle);
+        if self.running.fetch_add(1, Ordering::SeqCst) >= u64::from(self.door.at_once) {
+            self.running.fetch_sub(1, Ordering::SeqCst);
             return Arrival::Early(client);
         }
-        sessions.fetch_add(1, Ordering::SeqCst);
-        Arrival::Client(client)
+        Arrival::Client(number, client)
     }
-}
 
-/// What came in where no connection could be accepted.
-fn missed(why: Error) -> Arrival {
-    match why.kind() {
-        ErrorKind::ConnectionAborted | ErrorKind::Interrupted => Arrival::GivenUp,
-        _ => Arrival::Failed(why),
+    /// Whether all connections were taken.
+    fn is_over(&self) -> bool {
+        match self.door.connections {
+            None => false,
+            Some(most) => self.taken.load(Ordering::SeqCst) >= u64::from(most),
+        }
     }
-}
 
-/// How long a client may be silent, and how long it may take none of its answers.
-fn set_limits(client: &TcpStream, idle: Option<u32>) {
-    // A socket that refuses a limit is served without.
-    let _ = client.set_write_timeout(Some(Duration::from_secs(DEAF)));
-    if let Some(seconds) = idle {
-        let _ = client.set_read_timeout(Some(Duration::from_secs(u64::from(seconds))));
+    /// Counts one more connection, and answers its number, or `None` where all were taken before. With the last of them
+    /// the listeners are closed.
+    fn number_of_next(&self) -> Option<u64> {
+        let number = self.taken.fetch_add(1, Ordering::SeqCst).saturating_add(1);
+        match self.door.connections {
+            Some(most) if number > u64::from(most) => return None,
+            Some(most) if number == u64::from(most) => self.close(),
+            _ => {}
+        }
+        Some(number)
     }
-    // An answer is not held back for further ones.
-    let _ = client.set_nodelay(true);
+
+    /// Closes two listeners, so that the one on which nobody came wakes up.
+    fn close(&self) {
+        if let Some((first, second)) = &self.closers {
+            first.close();
+            second.close();
+        }
+    }
+
+    /// Who is told of the lines of a connection, if that is asked for.
+    fn teller<'a, T: Trouble>(&self, trouble: &'a T, number: u64) -> Option<TellerOf<'a, T>> {
+        if self.door.tells_why {
+            return Some(TellerOf { trouble, number });
+        }
+        None
+    }
+
+    /// What came in where no connection could be accepted.
+    fn missed(&self, why: Error) -> Arrival {
+        if self.is_over() {
+            return Arrival::Over;
+        }
+        match why.kind() {
+            ErrorKind::ConnectionAborted | ErrorKind::Interrupted => Arrival::GivenUp,
+            _ => Arrival::Failed(why),
+        }
+    }
 }
 
 /// Tells that no connection could be accepted, and answers the fault that it is.
@@ -185,7 +262,7 @@ fn no_thread<T: Trouble>(trouble: &T, sessions: &AtomicU64) -> ServeFault {
 }
 
 /// Answers a connection, for which there is no room, that it is `Busy`, before it is closed.
-fn turn_away(alloc: Global, client: &TcpStream, names: &Names) {
+fn turn_away(alloc: Global, client: &Connection, names: &Names) {
     let Ok(mut buffers) = Buffers::new(alloc) else {
         return;
     };
@@ -193,23 +270,35 @@ fn turn_away(alloc: Global, client: &TcpStream, names: &Names) {
     // What can't be told is told to nobody: the client sees that the connection is closed.
     let _ = buffers.answer(names, SessionReply::Refused(Refusal::Busy), &mut writer);
     let _ = buffers.exchange.write(&mut writer);
-    let _ = client.shutdown(Shutdown::Write);
+    client.end_answers();
+}
+
+/// Tells of the lines of a connection.
+#[derive(Drop)]
+struct TellerOf<'a, T> {
+    trouble: &'a T,
+    number: u64,
+}
+
+impl<T: Trouble> Teller for TellerOf<'_, T> {
+    fn tell(&self, line: u64, why: &Reason) {
+        self.trouble.bad_line(self.number, line, why);
+    }
 }
 
 /// A connection's session. What ends it is told to nobody: the client sees that the connection is closed.
-fn welcome<K: Tag, R: Wait>(
+fn welcome<K: Tag, R: Wait + Clock, T: Teller + Drop>(
     rt: &R,
-    alloc: Global,
-    client: &TcpStream,
-    service: &Service,
-    slots: &Slots<K>,
-    names: &Names,
+    client: &Connection,
+    teller: Option<T>,
+    host: &Host<'_, K, Closer>,
 )
-    requires ours { service.now ≡ K.ident }
+    requires ours { host.now.service.now ≡ K.ident }
 {
     let mut writer = client;
-    let Ok(mut lines) = LineReader::new(alloc, client) else {
+    let reader = Told::new(host.alloc, client, Vocabulary::Orders, teller);
+    let Ok(mut lines) = LineReader::new(host.alloc, reader) else {
         return;
     };
-    let _ = session(rt, alloc, &mut lines, &mut writer, service, slots, names);
+    let _ = session(rt, host, client, &mut lines, &mut writer);
 }

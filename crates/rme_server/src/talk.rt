@@ -7,30 +7,34 @@ ghost use Rattle.rme_lines.specs.Puts.{Gathers};
 ghost use Rattle.rme_lines.specs.Readers.{FailsToRead, HasEnded, IsAllPut, LastReadFails, MakesReads, ReadsAt, ReadsNoMore, bytes_left, has_ended, most_lines, reads_left};
 ghost use Rattle.rme_lines.specs.Runs.{GivesUp, IsPrompt, TurnFails, Turns, WritesAll, WritesFirst, WritesTo};
 ghost use Rattle.rme_lines.specs.Traffic.{LastWriteFails, MakesWrites};
-ghost use Rattle.rme_orders.specs.Sessions.{IsAnswered, Replies, answer_as, first_of, rest_of, still_waits};
-ghost use Rattle.rme_sessions.specs.Obeyed.{Obeys};
-ghost use Rattle.rme_server.specs.Sessions.{Breaks};
+ghost use Rattle.rme_orders.specs.Sessions.{IsAnswered, Replies};
+ghost use Rattle.rme_server.specs.Sessions.{Breaks, ObeysFor};
 ghost use Rattle.rme_sessions.specs.Stands.{MayHold, nobody};
 ghost use Rattle.rme_session_lines.specs.Orders.{order_of_line};
 ghost use Rattle.rme_words.specs.declared.refusal.Refusal.TheVariants.{BadLine};
 
 use crate::buffers::Buffers;
-use rme_session_lines::{Order, Outcome, SessionReply, Submission, order_of};
-use rme_sessions::{Stand, let_go, obey};
+use crate::client::{Client, Reach};
+use crate::hall::Hall;
+use crate::waiting::{obey_in_time, send_home};
+use rme_session_lines::{Order, SessionReply, order_of};
+use rme_sessions::Stand;
 use rme_slots::Slots;
 use rme_table::{Service, Tag};
 use rme_wire::{Cut, EngineFault, LineReader, Names, Sink, Source};
 use rme_words::{NoMemory, Refusal};
 use std::alloc::Global;
 use std::sync::Wait;
+use std::time::Clock;
 
-/// What all sessions of a service share.
+/// What all sessions of a service share, whose clients are reached by handles of one type.
 #[derive(Drop)]
-struct Shared<'a, K: Tag> {
-    alloc: Global,
-    service: &'a Service,
-    slots: &'a Slots<K>,
-    names: &'a Names,
+pub struct Host<'a, K: Tag, H: Reach> {
+    pub alloc: Global,
+    pub service: &'a Service,
+    pub slots: &'a Slots<K>,
+    pub names: &'a Names,
+    pub hall: &'a Hall<H>,
 }
 
 /// Obeys each line of the reader as an order, with no worker at first, and answers it by one line of the writer.
@@ -39,38 +43,33 @@ struct Shared<'a, K: Tag> {
 /// order waits for its lock. However the session ends, a worker that it has falls then, and its Down is back in
 /// its slot before the session answers. An error ends it: the answers to earlier lines were written whole, and
 /// after `WriteFailed` a front of them.
-pub fn session<K: Tag, R: Wait, I: Source + Drop, O: Sink>(
+///
+/// A job that waits for its lock takes no processor meanwhile. Where its client is found to be gone while it waits, it is tried
+/// no more, whatever its order says, and is answered as waiting.
+pub fn session<K: Tag, R: Wait + Clock, I: Source + Drop, O: Sink, C: Client>(
     rt: &R,
-    alloc: Global,
+    host: &Host<'_, K, C::Handle>,
+    client: &C,
     lines: &mut LineReader<I>,
     writer: &mut O,
-    service: &Service,
-    slots: &Slots<K>,
-    names: &Names,
 ) -> Result<(), EngineFault>
-    requires ours { service.now ≡ K.ident }
-    ensures ok { OnOk result (WritesAll (IsAnswered (Obeys K.ident slots.now) names.now) nobody (bytes_left I.remaining lines.old) (O.contents writer.old) (O.contents writer.new)) }
-    ensures err { IfErr result (λ fault. WritesFirst (IsAnswered (Obeys K.ident slots.now) names.now) nobody fault (bytes_left I.remaining lines.old) (bytes_left I.remaining lines.new)
+    requires ours { host.now.service.now ≡ K.ident }
+    ensures ok { OnOk result (WritesAll (IsAnswered (ObeysFor (C.gone client.now) K.ident host.now.slots.now) host.now.names.now) nobody (bytes_left I.remaining lines.old) (O.contents writer.old) (O.contents writer.new)) }
+    ensures err { IfErr result (λ fault. WritesFirst (IsAnswered (ObeysFor (C.gone client.now) K.ident host.now.slots.now) host.now.names.now) nobody fault (bytes_left I.remaining lines.old) (bytes_left I.remaining lines.new)
         (O.contents writer.old) (O.contents writer.new)) }
     ensures end { OnOk result (HasEnded lines.new) }
     ensures ended { HasEnded lines.old → ReadsNoMore lines.old lines.new }
     ensures failed { IfErr result (λ fault. fault ≡ EngineFault.ReadFailed → FailsToRead lines.old lines.new) }
     ensures reads { MakesReads I.gave lines.old lines.new }
-    ensures prompt { ReadsAt I.moments lines.old lines.new (IsPrompt (IsAnswered (Obeys K.ident slots.now) names.now) nobody (bytes_left I.remaining lines.old) (O.contents writer.old)) }
+    ensures prompt { ReadsAt I.moments lines.old lines.new (IsPrompt (IsAnswered (ObeysFor (C.gone client.now) K.ident host.now.slots.now) host.now.names.now) nobody (bytes_left I.remaining lines.old) (O.contents writer.old)) }
     ensures read_broke { IfErr result (λ fault. fault ≡ EngineFault.ReadFailed → LastReadFails I.gave lines.old lines.new) }
     ensures write_broke { IfErr result (λ fault. fault ≡ EngineFault.WriteFailed → LastWriteFails (O.took writer.old) (O.took writer.new)) }
 {
-    let Ok(mut buffers) = Buffers::new(alloc) else {
+    let Ok(mut buffers) = Buffers::new(host.alloc) else {
         return Err(EngineFault::NoMemory);
     };
-    let shared = Shared {
-        alloc,
-        service,
-        slots,
-        names,
-    };
-    let (stand, ended) = converse(rt, lines, &mut buffers, writer, &shared);
-    let_go(rt, stand, slots);
+    let (stand, ended) = converse(rt, lines, &mut buffers, writer, client, host);
+    send_home(rt, stand, host);
     match ended {
         Ok(()) => Ok(()),
         Err(fault) => Err(buffers.exchange.give_up(fault, writer)),
@@ -78,31 +77,32 @@ pub fn session<K: Tag, R: Wait, I: Source + Drop, O: Sink>(
 }
 
 /// Takes line after line until none is left, and answers where the session then stands.
-fn converse<K: Tag, R: Wait, I: Source + Drop, O: Sink>(
+fn converse<K: Tag, R: Wait + Clock, I: Source + Drop, O: Sink, C: Client>(
     rt: &R,
     lines: &mut LineReader<I>,
     buffers: &mut Buffers,
     writer: &mut O,
-    shared: &Shared<'_, K>,
+    client: &C,
+    host: &Host<'_, K, C::Handle>,
 ) -> (Stand, Result<(), EngineFault>)
-    requires ours { shared.now.service.now ≡ K.ident }
+    requires ours { host.now.service.now ≡ K.ident }
     requires none_kept { buffers.old.exchange.pending ≡ [] }
-    ensures ours { MayHold K.ident shared.now.slots.now result.0.value }
-    ensures ok { OnOk result.1 (WritesTo (IsAnswered (Obeys K.ident shared.now.slots.now) shared.now.names.now) nobody (bytes_left I.remaining lines.old) (O.contents writer.old) (O.contents writer.new) result.0) }
+    ensures ours { MayHold K.ident host.now.slots.now result.0.value }
+    ensures ok { OnOk result.1 (WritesTo (IsAnswered (ObeysFor (C.gone client.now) K.ident host.now.slots.now) host.now.names.now) nobody (bytes_left I.remaining lines.old) (O.contents writer.old) (O.contents writer.new) result.0) }
     ensures err { IfErr result.1 (λ fault. (holds : Option (List ℕ)) (last : EngineFault) → GivesUp fault (O.contents writer.new) buffers.new.exchange.pending holds last
-        → WritesFirst (IsAnswered (Obeys K.ident shared.now.slots.now) shared.now.names.now) nobody last (bytes_left I.remaining lines.old) (bytes_left I.remaining lines.new) (O.contents writer.old) holds) }
+        → WritesFirst (IsAnswered (ObeysFor (C.gone client.now) K.ident host.now.slots.now) host.now.names.now) nobody last (bytes_left I.remaining lines.old) (bytes_left I.remaining lines.new) (O.contents writer.old) holds) }
     ensures end { OnOk result.1 (HasEnded lines.new) }
     ensures ended { HasEnded lines.old → ReadsNoMore lines.old lines.new }
     ensures failed { IfErr result.1 (λ fault. fault ≡ EngineFault.ReadFailed → FailsToRead lines.old lines.new) }
     ensures reads { MakesReads I.gave lines.old lines.new }
-    ensures prompt { ReadsAt I.moments lines.old lines.new (IsPrompt (IsAnswered (Obeys K.ident shared.now.slots.now) shared.now.names.now) nobody (bytes_left I.remaining lines.old) (O.contents writer.old)) }
+    ensures prompt { ReadsAt I.moments lines.old lines.new (IsPrompt (IsAnswered (ObeysFor (C.gone client.now) K.ident host.now.slots.now) host.now.names.now) nobody (bytes_left I.remaining lines.old) (O.contents writer.old)) }
     ensures read_broke { IfErr result.1 (λ fault. fault ≡ EngineFault.ReadFailed → LastReadFails I.gave lines.old lines.new) }
     ensures writes { MakesWrites (O.took writer.old) (O.took writer.new) }
     ensures write_broke { IfErr result.1 (λ fault. fault ≡ EngineFault.WriteFailed → LastWriteFails (O.took writer.old) (O.took writer.new)) }
 {
     let mut stand = Stand::empty();
     for _ in rt.forever() {
-        let (next, turned) = turn(rt, stand, lines, buffers, writer, shared);
+        let (next, turned) = turn(rt, stand, lines, buffers, writer, client, host);
         match turned {
             Ok(true) => stand = next,
             Ok(false) => return (next, Ok(())),
@@ -113,20 +113,21 @@ fn converse<K: Tag, R: Wait, I: Source + Drop, O: Sink>(
 }
 
 /// Takes the next line, obeys it and answers it, and says whether there was a line.
-fn turn<K: Tag, R: Wait, I: Source + Drop, O: Sink>(
+fn turn<K: Tag, R: Wait + Clock, I: Source + Drop, O: Sink, C: Client>(
     rt: &R,
     stand: Stand,
     lines: &mut LineReader<I>,
     buffers: &mut Buffers,
     writer: &mut O,
-    shared: &Shared<'_, K>,
+    client: &C,
+    host: &Host<'_, K, C::Handle>,
 ) -> (Stand, Result<bool, EngineFault>)
-    requires ours { shared.now.service.now ≡ K.ident }
-    requires stand { MayHold K.ident shared.now.slots.now stand.value }
-    ensures ours { MayHold K.ident shared.now.slots.now result.0.value }
-    ensures ok { IfOk result.1 (Turns (IsAnswered (Obeys K.ident shared.now.slots.now) shared.now.names.now) (bytes_left I.remaining lines.old) (bytes_left I.remaining lines.new) (has_ended lines.new) stand result.0
+    requires ours { host.now.service.now ≡ K.ident }
+    requires stand { MayHold K.ident host.now.slots.now stand.value }
+    ensures ours { MayHold K.ident host.now.slots.now result.0.value }
+    ensures ok { IfOk result.1 (Turns (IsAnswered (ObeysFor (C.gone client.now) K.ident host.now.slots.now) host.now.names.now) (bytes_left I.remaining lines.old) (bytes_left I.remaining lines.new) (has_ended lines.new) stand result.0
         (O.contents writer.old) buffers.old.exchange.pending (O.contents writer.new) buffers.new.exchange.pending) }
-    ensures err { IfErr result.1 (λ fault. TurnFails (IsAnswered (Obeys K.ident shared.now.slots.now) shared.now.names.now) fault (bytes_left I.remaining lines.old) (bytes_left I.remaining lines.new) stand
+    ensures err { IfErr result.1 (λ fault. TurnFails (IsAnswered (ObeysFor (C.gone client.now) K.ident host.now.slots.now) host.now.names.now) fault (bytes_left I.remaining lines.old) (bytes_left I.remaining lines.new) stand
         (O.contents writer.old) buffers.old.exchange.pending (O.contents writer.new) buffers.new.exchange.pending) }
     ensures fewer { IfOk result.1 (λ more. more ≡ true → most_lines lines.new < most_lines lines.old) }
     ensures end { IfOk result.1 (λ more. more ≡ false → HasEnded lines.new) }
@@ -146,30 +147,31 @@ fn turn<K: Tag, R: Wait, I: Source + Drop, O: Sink>(
     if cut == Cut::End {
         return (stand, Ok(false));
     }
-    let (stand, replied) = reply_to(rt, cut, stand, buffers, writer, shared);
+    let (stand, replied) = reply_to(rt, cut, stand, buffers, writer, client, host);
     let reply = match replied {
         Ok(reply) => reply,
         Err(fault) => return (stand, Err(fault)),
     };
-    match buffers.answer(shared.names, reply, writer) {
+    match buffers.answer(host.names, reply, writer) {
         Ok(()) => (stand, Ok(true)),
         Err(fault) => (stand, Err(fault)),
     }
 }
 
 /// The reply to the line that was taken last, and where the session then stands.
-fn reply_to<K: Tag, R: Wait, O: Sink>(
+fn reply_to<K: Tag, R: Wait + Clock, O: Sink, C: Client>(
     rt: &R,
     cut: Cut,
     stand: Stand,
     buffers: &mut Buffers,
     writer: &mut O,
-    shared: &Shared<'_, K>,
+    client: &C,
+    host: &Host<'_, K, C::Handle>,
 ) -> (Stand, Result<SessionReply, EngineFault>)
-    requires ours { shared.now.service.now ≡ K.ident }
-    requires stand { MayHold K.ident shared.now.slots.now stand.value }
-    ensures ours { MayHold K.ident shared.now.slots.now result.0.value }
-    ensures replies { IfOk result.1 (λ reply. Replies (Obeys K.ident shared.now.slots.now) shared.now.names.now stand (line_read cut buffers.old.exchange.line.items) reply result.0) }
+    requires ours { host.now.service.now ≡ K.ident }
+    requires stand { MayHold K.ident host.now.slots.now stand.value }
+    ensures ours { MayHold K.ident host.now.slots.now result.0.value }
+    ensures replies { IfOk result.1 (λ reply. Replies (ObeysFor (C.gone client.now) K.ident host.now.slots.now) host.now.names.now stand (line_read cut buffers.old.exchange.line.items) reply result.0) }
     ensures gathers { OnOk result.1 (Gathers (O.contents writer.old) buffers.old.exchange.pending [] (O.contents writer.new) buffers.new.exchange.pending) }
     ensures err { IfErr result.1 (λ fault. Breaks fault (O.contents writer.old) buffers.old.exchange.pending (O.contents writer.new) buffers.new.exchange.pending) }
     ensures writes { MakesWrites (O.took writer.old) (O.took writer.new) }
@@ -178,8 +180,8 @@ fn reply_to<K: Tag, R: Wait, O: Sink>(
     if cut == Cut::TooLong {
         return (stand, Ok(SessionReply::Refused(Refusal::LineTooLong)));
     }
-    match order_in(buffers.exchange.line(), shared.alloc, shared.names) {
-        Ok(Ok(order)) => obey_in_time(rt, stand, order, buffers, writer, shared),
+    match order_in(buffers.exchange.line(), host.alloc, host.names) {
+        Ok(Ok(order)) => obey_in_time(rt, stand, order, buffers, writer, client, host),
         Ok(Err(why)) => (stand, Ok(SessionReply::Refused(why))),
         Err(_) => (stand, Err(EngineFault::NoMemory)),
     }
@@ -192,93 +194,5 @@ fn order_in(line: &[u8], alloc: Global, names: &Names) -> Result<Result<Order, R
     match order_of(alloc, names, line) {
         Ok(order) => Ok(order.ok_or(Refusal::BadLine)),
         Err(_) => Err(NoMemory),
-    }
-}
-
-/// Obeys an order. Where answers are kept back it makes one try alone, but for an `enter`, before which they are written; if the job waits then, they are written
-/// before the others are made, so that no client waits for an answer that is there.
-fn obey_in_time<K: Tag, R: Wait, O: Sink>(
-    rt: &R,
-    stand: Stand,
-    order: Order,
-    buffers: &mut Buffers,
-    writer: &mut O,
-    shared: &Shared<'_, K>,
-) -> (Stand, Result<SessionReply, EngineFault>)
-    requires ours { shared.now.service.now ≡ K.ident }
-    requires stand { MayHold K.ident shared.now.slots.now stand.value }
-    ensures ours { MayHold K.ident shared.now.slots.now result.0.value }
-    ensures obeys { IfOk result.1 (λ reply. Obeys K.ident shared.now.slots.now stand order result.0 reply) }
-    ensures gathers { OnOk result.1 (Gathers (O.contents writer.old) buffers.old.exchange.pending [] (O.contents writer.new) buffers.new.exchange.pending) }
-    ensures err { IfErr result.1 (λ fault. Breaks fault (O.contents writer.old) buffers.old.exchange.pending (O.contents writer.new) buffers.new.exchange.pending) }
-    ensures writes { MakesWrites (O.took writer.old) (O.took writer.new) }
-    ensures write_broke { IfErr result.1 (λ fault. fault ≡ EngineFault.WriteFailed → LastWriteFails (O.took writer.old) (O.took writer.new)) }
-{
-    if !buffers.exchange.keeps_back() {
-        let (stand, reply) = obey(rt, stand, order, shared.service, shared.slots);
-        return (stand, Ok(reply));
-    }
-    if let Order::Enter(_) = order {
-        // Whoever waits to be inside has the answers to what came before.
-        if let Err(fault) = buffers.exchange.write(writer) {
-            return (stand, Err(fault));
-        }
-        let (stand, reply) = obey(rt, stand, order, shared.service, shared.slots);
-        return (stand, Ok(reply));
-    }
-    let (first, rest) = first_try(order);
-    let (stand, reply) = obey(rt, stand, first, shared.service, shared.slots);
-    if rest == 0 {
-        return (stand, Ok(reply));
-    }
-    if !is_waiting(reply) {
-        return (stand, Ok(reply));
-    }
-    if let Err(fault) = buffers.exchange.write(writer) {
-        return (stand, Err(fault));
-    }
-    let resume = Order::Resume(rest);
-    let (stand, last) = obey(rt, stand, resume, shared.service, shared.slots);
-    (stand, Ok(as_answer_to(reply, last)))
-}
-
-/// The order with one try of its tries, and how many are left.
-fn first_try(order: Order) -> (Order, u32)
-    ensures first { result.0 ≡ first_of order }
-    ensures rest { result.1 ≡ rest_of order }
-{
-    match order {
-        Order::Submit(submission) => (
-            Order::Submit(Submission {
-                tries: 1,
-                ..submission
-            }),
-            submission.tries.saturating_sub(1),
-        ),
-        Order::Resume(tries) => (Order::Resume(1), tries.saturating_sub(1)),
-        other => (other, 0),
-    }
-}
-
-/// Whether the job waits for its lock still.
-fn is_waiting(reply: SessionReply) -> bool
-    ensures { result ≡ still_waits reply }
-{
-    match reply {
-        SessionReply::Submitted(Outcome::Waiting) => true,
-        SessionReply::Resumed(Outcome::Waiting) => true,
-        _ => false,
-    }
-}
-
-/// What became of the job in the end, as an answer to the order that was given.
-fn as_answer_to(first: SessionReply, last: SessionReply) -> SessionReply
-    ensures { result ≡ answer_as first last }
-{
-    match (first, last) {
-        (SessionReply::Submitted(_), SessionReply::Resumed(outcome)) => {
-            SessionReply::Submitted(outcome)
-        }
-        (_, last) => last,
     }
 }

@@ -8,7 +8,7 @@ use Rattle.rme_lines.proofs.MomentLemmas.{prompt_turn, read_none}
 use Rattle.rme_lines.proofs.ReaderLemmas.{came_first, came_no_more, ended_at_end}
 use Rattle.rme_lines.proofs.RunLemmas.{came_turn, failed, fails_to_read, finished, so_far_first, so_far_more}
 use Rattle.rme_orders.specs.Sessions.{IsAnswered}
-use Rattle.rme_sessions.specs.Obeyed.{Obeys}
+use Rattle.rme_server.specs.Sessions.{ObeysFor}
 use Rattle.rme_sessions.specs.Stands.{nobody}
 use Rattle.rme_lines.specs.Traffic.{LastWriteFails}
 use Rattle.rme_lines.proofs.TrafficLemmas.{fails_after, fails_more, makes_more, makes_none, writes_more, writes_none}
@@ -17,18 +17,18 @@ use Rattle.rme_server.proofs.talk.converse.Goals as goal
 pub loop-init : goal.loop-init
 loop-init g c = record {
   ours = rw c.empty-stand.ensures tt;
-  so_far = so_far_first (IsAnswered (Obeys g.K.Tag.ident c.args.shared.now.slots.now) c.args.shared.now.names.now) (bytes_left g.I.Source.remaining c.args.lines.now) (g.O.Sink.contents c.args.writer.now)
+  so_far = so_far_first (IsAnswered (ObeysFor (g.C.Client.gone c.args.client.now) g.K.Tag.ident c.args.host.now.slots.now) c.args.host.now.names.now) (bytes_left g.I.Source.remaining c.args.lines.now) (g.O.Sink.contents c.args.writer.now)
       c.args.lines.now.ended nobody c.empty-stand.result c.args.buffers.now.exchange.pending c.empty-stand.ensures c.requires.none_kept
       (ended_at_end g.I.Source.remaining c.args.lines.now);
   came_on = came_first c.args.lines.now [] refl;
   reads = makes_none g.I.Source.gave c.args.lines.now;
-  prompt = read_none g.I.Source.moments c.args.lines.now (IsPrompt (IsAnswered (Obeys g.K.Tag.ident c.args.shared.now.slots.now) c.args.shared.now.names.now) nobody (bytes_left g.I.Source.remaining c.args.lines.now) (g.O.Sink.contents c.args.writer.now));
+  prompt = read_none g.I.Source.moments c.args.lines.now (IsPrompt (IsAnswered (ObeysFor (g.C.Client.gone c.args.client.now) g.K.Tag.ident c.args.host.now.slots.now) c.args.host.now.names.now) nobody (bytes_left g.I.Source.remaining c.args.lines.now) (g.O.Sink.contents c.args.writer.now));
   writes = writes_none (g.O.Sink.took c.args.writer.now);
 }
 
 pub loop-preserved : goal.loop-preserved
 loop-preserved g c =
-    let has = IsAnswered (Obeys g.K.Tag.ident c.args.shared.now.slots.now) c.args.shared.now.names.now in
+    let has = IsAnswered (ObeysFor (g.C.Client.gone c.args.client.now) g.K.Tag.ident c.args.host.now.slots.now) c.args.host.now.names.now in
     let held = g.O.Sink.contents in
     let left = bytes_left g.I.Source.remaining in
     let now = c.loop in
@@ -51,7 +51,7 @@ loop-preserved g c =
 
 pub returns-in-Ok-false-clause-ok : goal.returns-in-Ok-false-clause-ok
 returns-in-Ok-false-clause-ok g c =
-    let has = IsAnswered (Obeys g.K.Tag.ident c.args.shared.now.slots.now) c.args.shared.now.names.now in
+    let has = IsAnswered (ObeysFor (g.C.Client.gone c.args.client.now) g.K.Tag.ident c.args.host.now.slots.now) c.args.host.now.names.now in
     let held = g.O.Sink.contents in
     let left = bytes_left g.I.Source.remaining in
     let now = c.loop in
@@ -65,7 +65,7 @@ returns-in-Ok-false-clause-ok g c =
 
 pub returns-in-Err-clause-err : goal.returns-in-Err-clause-err
 returns-in-Err-clause-err g c =
-    let has = IsAnswered (Obeys g.K.Tag.ident c.args.shared.now.slots.now) c.args.shared.now.names.now in
+    let has = IsAnswered (ObeysFor (g.C.Client.gone c.args.client.now) g.K.Tag.ident c.args.host.now.slots.now) c.args.host.now.names.now in
     let held = g.O.Sink.contents in
     let left = bytes_left g.I.Source.remaining in
     let now = c.loop in
@@ -101,7 +101,7 @@ returns-in-Ok-false-clause-reads g c =
 
 pub returns-in-Ok-false-clause-prompt : goal.returns-in-Ok-false-clause-prompt
 returns-in-Ok-false-clause-prompt g c =
-    let has = IsAnswered (Obeys g.K.Tag.ident c.args.shared.now.slots.now) c.args.shared.now.names.now in
+    let has = IsAnswered (ObeysFor (g.C.Client.gone c.args.client.now) g.K.Tag.ident c.args.host.now.slots.now) c.args.host.now.names.now in
     let held = g.O.Sink.contents in
     let left = bytes_left g.I.Source.remaining in
     let now = c.loop in
@@ -123,7 +123,7 @@ returns-in-Err-clause-reads g c =
 
 pub returns-in-Err-clause-prompt : goal.returns-in-Err-clause-prompt
 returns-in-Err-clause-prompt g c =
-    let has = IsAnswered (Obeys g.K.Tag.ident c.args.shared.now.slots.now) c.args.shared.now.names.now in
+    let has = IsAnswered (ObeysFor (g.C.Client.gone c.args.client.now) g.K.Tag.ident c.args.host.now.slots.now) c.args.host.now.names.now in
     let held = g.O.Sink.contents in
     let left = bytes_left g.I.Source.remaining in
     let now = c.loop in

@@ -1,0 +1,76 @@
+//! Bells, by which those who wait for something are told that it may be there.
+
+use std::sync::atomic::{AtomicU64, Ordering};
+use std::sync::{Condvar, Mutex, Wait};
+use std::time::{Clock, Duration};
+
+/// A bell. Nobody who listens to it misses a ring that came since it listened; a ring wakes one listener, who passes it on
+/// where it is of no use to it.
+#[derive(Drop)]
+pub(crate) struct Bell {
+    listeners: AtomicU64,
+    rings: Mutex<u64>,
+    rung: Condvar,
+}
+
+impl Bell {
+    pub(crate) fn new() -> Bell {
+        Bell {
+            listeners: AtomicU64::new(0),
+            rings: Mutex::new(0),
+            rung: Condvar::new(),
+        }
+    }
+
+    /// Wakes one listener, if there is any.
+    pub(crate) fn ring<R: Wait>(&self, rt: &R) {
+        if self.listeners.load(Ordering::SeqCst) == 0 {
+            return;
+        }
+        let mut rings = self.rings.lock(rt);
+        *rings = rings.wrapping_add(1);
+        self.rung.notify_one();
+    }
+
+    /// Listens, from now on.
+    pub(crate) fn listen<R: Wait>(&self, rt: &R) -> Listening<'_> {
+        self.listeners.fetch_add(1, Ordering::SeqCst);
+        Listening {
+            bell: self,
+            heard: *self.rings.lock(rt),
+        }
+    }
+}
+
+/// Somebody who listens to a bell.
+pub(crate) struct Listening<'a> {
+    bell: &'a Bell,
+    /// How often it had rung when the listener last heard it.
+    heard: u64,
+}
+
+impl Listening<'_> {
+    /// Waits until the bell has rung since the listener last heard it, for so long at most. Whether it has.
+    pub(crate) fn wait<R: Wait + Clock>(&mut self, rt: &R, most: Duration) -> bool {
+        let heard = self.heard;
+        let rings = self.bell.rings.lock(rt);
+        let (rings, waited) = self
+            .bell
+            .rung
+            .wait_timeout_while(rt, rings, most, |rings| *rings == heard);
+        self.heard = *rings;
+        !waited.timed_out()
+    }
+
+    /// Passes a ring on, which was of no use, to a listener who has not heard it.
+    pub(crate) fn pass_on(&self) {
+        self.bell.rung.notify_one();
+    }
+}
+
+impl Drop for Listening<'_> {
+    fn drop(self) {
+        self.bell.listeners.fetch_sub(1, Ordering::SeqCst);
+        let Listening { bell: _, heard: _ } = self;
+    }
+}

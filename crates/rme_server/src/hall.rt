@@ -1,0 +1,141 @@
+//! Where sessions find each other: who has which worker, and who waits for what.
+
+use crate::bell::{Bell, Listening};
+use crate::client::{Client, Reach};
+use rme_session_lines::{Outcome, SessionReply, Standing};
+use rme_words::{NoMemory, Shape};
+use std::alloc::Global;
+use std::sync::{Mutex, MutexGuard, Wait};
+
+/// The seat of a worker among the sessions: a handle of the client whose session has the worker.
+pub(crate) type Seat<H> = Mutex<Option<H>>;
+
+/// Who has which worker, and the bells of those who wait.
+#[derive(Drop)]
+pub struct Hall<H: Reach> {
+    /// One for each worker.
+    seats: Vec<Seat<H>>,
+    /// One for each lock. It rings when the lock may have been left.
+    left: Vec<Bell>,
+    /// It rings when a worker was given back.
+    returned: Bell,
+}
+
+impl<H: Reach> Hall<H> {
+    /// A hall for the sessions of a service of this shape.
+    pub fn new(alloc: Global, shape: Shape) -> Result<Hall<H>, NoMemory> {
+        Ok(Hall {
+            seats: seats_for(alloc, shape.workers())?,
+            left: bells_for(alloc, shape.locks())?,
+            returned: Bell::new(),
+        })
+    }
+
+    /// The seat of a worker, which nobody else takes or leaves meanwhile; none where there is no such worker.
+    pub(crate) fn seat<R: Wait>(
+        &self,
+        rt: &R,
+        worker: Option<u32>,
+    ) -> Option<MutexGuard<'_, Option<H>>> {
+        let seat = self.seats.get(worker? as usize)?;
+        Some(seat.lock(rt))
+    }
+
+    /// Sends the client away whose session has the worker, if any has.
+    pub(crate) fn send_away<R: Wait>(&self, rt: &R, worker: u32) {
+        if let Some(seat) = self.seat(rt, Some(worker)) {
+            if let Some(handle) = &*seat {
+                handle.send_away();
+            }
+        }
+        self.ring_at_all(rt);
+    }
+
+    /// Listens to the bell of a lock.
+    pub(crate) fn listen_at<R: Wait>(&self, rt: &R, lock: u32) -> Option<Listening<'_>> {
+        Some(self.left.get(lock as usize)?.listen(rt))
+    }
+
+    /// Listens for workers that are given back.
+    pub(crate) fn listen_for_workers<R: Wait>(&self, rt: &R) -> Listening<'_> {
+        self.returned.listen(rt)
+    }
+
+    /// Rings for what an order did that was answered so.
+    pub(crate) fn ring_for<R: Wait>(&self, rt: &R, reply: SessionReply) {
+        match reply {
+            SessionReply::Submitted(outcome)
+            | SessionReply::Resumed(outcome)
+            | SessionReply::Entered(outcome)
+            | SessionReply::Committed(outcome) => self.ring_after(rt, outcome),
+            SessionReply::Attached(_, Standing::Ready) | SessionReply::Withdrew(_) => {
+                self.ring_at_all(rt);
+            }
+            SessionReply::WithdrawFell | SessionReply::Detached => self.ring_for_worker(rt),
+            _ => {}
+        }
+    }
+
+    fn ring_after<R: Wait>(&self, rt: &R, outcome: Outcome) {
+        match outcome {
+            Outcome::Receipt(receipt) => {
+                if let Some(bell) = self.left.get(receipt.lock as usize) {
+                    bell.ring(rt);
+                }
+            }
+            Outcome::Fell => self.ring_for_worker(rt),
+            Outcome::Withdrawn | Outcome::Waiting | Outcome::Inside(_) => {}
+        }
+    }
+
+    /// Rings for a worker that was given back. It may have left its lock just before.
+    pub(crate) fn ring_for_worker<R: Wait>(&self, rt: &R) {
+        self.returned.ring(rt);
+        self.ring_at_all(rt);
+    }
+
+    fn ring_at_all<R: Wait>(&self, rt: &R) {
+        for bell in &self.left {
+            bell.ring(rt);
+        }
+    }
+}
+
+/// Notes in the seat of a worker that the client's session now has it, or has it no more.
+pub(crate) fn note<C: Client>(
+    seat: Option<MutexGuard<'_, Option<C::Handle>>>,
+    client: &C,
+    had: bool,
+    has: bool,
+) {
+    if had == has {
+        return;
+    }
+    if let Some(mut seat) = seat {
+        *seat = if has { client.handle() } else { None };
+    }
+}
+
+fn seats_for<H: Reach>(alloc: Global, count: u32) -> Result<Vec<Seat<H>>, NoMemory> {
+    let Ok(mut seats) = Vec::with_capacity(alloc, count as usize) else {
+        return Err(NoMemory);
+    };
+    for _ in 0..count {
+        if seats.push(Mutex::new(None)).is_err() {
+            return Err(NoMemory);
+        }
+    }
+    Ok(seats)
+}
+
+fn bells_for(alloc: Global, count: u32) -> Result<Vec<Bell>, NoMemory> {
+    let Ok(mut bells) = Vec::with_capacity(alloc, count as usize) else {
+        return Err(NoMemory);
+    };
+    for _ in 0..count {
+        if bells.push(Bell::new()).is_err() {
+            return Err(NoMemory);
+        }
+    }
+    Ok(bells)
+}

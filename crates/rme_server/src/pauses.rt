@@ -1,0 +1,105 @@
+//! The pauses between the tries of an order whose job waits for its lock.
+
+ghost use Rattle.std.specs.Prelude.{◌≤◌, IsTrue};
+ghost use Rattle.rme_orders.specs.Parts as part;
+
+use crate::bell::Listening;
+use crate::client::Reach;
+use crate::hall::Hall;
+use rme_orders::patience_of;
+use rme_session_lines::{Order, Patience};
+use rme_sessions::{Holding, Stand};
+use std::sync::Wait;
+use std::thread;
+use std::time::{Clock, Duration, Instant};
+
+/// The shortest pause and the longest, in milliseconds. Each is twice the one before, and ends when the lock is left.
+const SHORTEST: u64 = 1;
+
+pub(crate) const LONGEST: u64 = 20;
+
+/// The pauses of an order. There is none before its first try here.
+#[derive(Drop)]
+pub(crate) struct Pauses<'a> {
+    /// Whoever listens to the lock that the job waits for.
+    listener: Option<Listening<'a>>,
+    /// When the order began to wait, where the clock tells.
+    began: Option<Instant>,
+    /// How many milliseconds the next pause has; 0 where there was none.
+    next: u64,
+    /// Whether the bell ended the last one.
+    rung: bool,
+}
+
+impl<'a> Pauses<'a> {
+    /// The pauses of a session whose job waits.
+    pub(crate) fn new<R: Wait + Clock, H: Reach>(
+        rt: &R,
+        stand: &Stand,
+        hall: &'a Hall<H>,
+    ) -> Pauses<'a> {
+        Pauses {
+            listener: listener_of(rt, stand, hall),
+            began: Instant::now(rt).ok(),
+            next: 0,
+            rung: false,
+        }
+    }
+
+    /// Pauses, if a try was made since the order began to wait.
+    pub(crate) fn pause<R: Wait + Clock>(&mut self, rt: &R, order: &Order) {
+        if self.next == 0 {
+            self.next = SHORTEST;
+            return;
+        }
+        let most = Duration::from_millis(self.next);
+        let most = self.left(rt, order).map_or(most, |left| most.min(left));
+        match &mut self.listener {
+            Some(listener) => self.rung = listener.wait(rt, most),
+            None => thread::sleep(rt, most),
+        }
+        if self.next < LONGEST {
+            self.next *= 2;
+        }
+    }
+
+    /// Has others hear the ring that ended the last pause, which was of no use.
+    pub(crate) fn pass_on(&self) {
+        if let Some(listener) = &self.listener {
+            if self.rung {
+                listener.pass_on();
+            }
+        }
+    }
+
+    /// How long an order that waits for a time waits still, where the clock tells.
+    fn left<R: Clock>(&self, rt: &R, order: &Order) -> Option<Duration> {
+        let Some(Patience::Wait(milliseconds)) = patience_of(order) else {
+            return None;
+        };
+        let went_by = self.began?.elapsed(rt).ok()?;
+        Duration::from_millis(u64::from(milliseconds)).checked_sub(went_by)
+    }
+
+    /// Whether the time of an order that waits for one is over. Where no clock tells, it is.
+    pub(crate) fn are_over<R: Clock>(&self, rt: &R, order: &Order) -> bool
+        ensures { IsTrue result → part.least_in (part.patience_in order.now) ≤ 1 }
+    {
+        match patience_of(order) {
+            Some(Patience::Tries(_)) => false,
+            _ => self.left(rt, order).is_none(),
+        }
+    }
+}
+
+/// Listens to the lock for which the job of a session waits.
+fn listener_of<'a, R: Wait, H: Reach>(
+    rt: &R,
+    stand: &Stand,
+    hall: &'a Hall<H>,
+) -> Option<Listening<'a>> {
+    match &stand.value {
+        Holding::Climb(climb) => hall.listen_at(rt, climb.lock()),
+        _ => None,
+    }
+}
