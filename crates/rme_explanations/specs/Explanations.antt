@@ -43,7 +43,7 @@ when_of NotInside = codes "commit of a worker whose job waits for its lock"
 
 -- what a refusal means, and what the caller does about it
 abbrev pub advice_of : Refusal → List ℕ
-advice_of BadLine = codes "The line is not one JSON object with the keys of a command and no others, or a value has the wrong type or is too large. Nothing was done. Compare the line with the forms of `rme run --help`, or of `rme serve --help` in a session, and mend the program that wrote it."
+advice_of BadLine = codes "The line is not one JSON object with the keys of a command and no others, or a value has the wrong type or is too large. Nothing was done. With `--why` rme says what is wrong with it. Compare it with the forms of `rme run --help`, or of `rme serve --help` in a session, and mend the program that wrote it."
 advice_of LineTooLong = codes "The line was read to its newline and thrown away; the next one is read as usual. Send shorter lines. An image that fits no line is loaded with `rme run --image`."
 advice_of NotOpen = codes "There is no world yet to obey the line. Send `open` first, or `load` with the image of a saved world."
 advice_of AlreadyOpen = codes "A run has one world, and it stays open to the end of the input. Go on with it; to begin anew start another run, or `load` an image in its place."

@@ -11,8 +11,8 @@ pub fn bad_line() -> &'static str
 {
     "\
 The line is not one JSON object with the keys of a command and no others, or a value has the wrong type or \
-is too large. Nothing was done. Compare the line with the forms of `rme run --help`, or of `rme serve \
---help` in a session, and mend the program that wrote it."
+is too large. Nothing was done. With `--why` rme says what is wrong with it. Compare it with the forms of \
+`rme run --help`, or of `rme serve --help` in a session, and mend the program that wrote it."
 }
 
 pub fn line_too_long() -> &'static str

@@ -1,7 +1,7 @@
 -- What a fault prints.
 use Rattle.std.specs.Prelude.{ℕ, List, ◌++◌, codes, decimal, string_bytes, Option, Some, None}
 use Rattle.rme_faults.specs.declared.argument.BadArgument.{BadArgument}
-use Rattle.rme_faults.specs.declared.argument.BadArgument.TheVariants.{NoText, NoFile, NoName, Twice, ManyLocks, OutOfRange, FallsBack}
+use Rattle.rme_faults.specs.declared.argument.BadArgument.TheVariants.{NoText, NoFile, NoName, Twice, ManyLocks, OutOfRange, FallsBack, NoSocket, ServedAlready}
 use Rattle.rme_faults.specs.declared.fault.Fault.{Fault}
 use Rattle.rme_faults.specs.declared.fault.Fault.TheVariants.{BadArguments, ReadFailed, WriteFailed, NoMemory, BadNames, ImageUnread, BadImage, OtherLocks, Unsavable, ImageUnwritten, FolderUnsynced, ListenFailed, AcceptFailed, NoThread, Unexplained, NothingAsked}
 use Rattle.rme_faults.specs.declared.fault.Hindrance.{Hindrance}
@@ -15,6 +15,8 @@ argument_text (NoName word) = codes "the lock " ++ (string_bytes word ++ codes "
 argument_text (Twice word) = codes "the lock " ++ (string_bytes word ++ codes ": each name stands once")
 argument_text (ManyLocks count most) = decimal count ++ (codes " locks: a service has 1 to " ++ decimal most)
 argument_text (OutOfRange option number most) = option.now ++ (codes " " ++ (decimal number ++ (codes ": it is 1 to " ++ decimal most)))
+argument_text (NoSocket path) = codes "--socket " ++ (string_bytes path ++ codes ": it is there, and is no socket")
+argument_text (ServedAlready path) = codes "--socket " ++ (string_bytes path ++ codes ": a server listens on it")
 argument_text (FallsBack before after) = codes "FALL " ++ (decimal after ++ (codes " after " ++ (decimal before ++ codes ": each is greater than the one before")))
 
 -- what stands in the way of an image that is to be saved; a reason of the system has its own text, which no definition knows
@@ -35,8 +37,8 @@ fault_text (OtherLocks file names) = Some (codes "the world of the image " ++ (s
 fault_text (ImageUnwritten file why) = None
 fault_text (Unsavable file why) = None
 fault_text (FolderUnsynced file why) = None
-fault_text (ListenFailed port why) = None
-fault_text (AcceptFailed port) = Some (codes "socket failed\n  port " ++ (decimal port ++ codes ": a connection could not be accepted"))
+fault_text (ListenFailed place why) = None
+fault_text (AcceptFailed place) = Some (codes "socket failed\n  " ++ (string_bytes place ++ codes ": a connection could not be accepted"))
 fault_text NoThread = Some (codes "no thread")
 fault_text (Unexplained asked) = Some (codes "no refusal and no status is called " ++ (string_bytes asked ++ codes ": rme explain names each"))
 fault_text NothingAsked = Some (codes "an empty word is the name of no refusal and no status: rme explain names each")

@@ -27,8 +27,8 @@ status_of (OtherLocks file names) = 2
 status_of (Unsavable file why) = 2
 status_of (ImageUnwritten file why) = 4
 status_of (FolderUnsynced file why) = 4
-status_of (ListenFailed port why) = 6
-status_of (AcceptFailed port) = 6
+status_of (ListenFailed place why) = 6
+status_of (AcceptFailed place) = 6
 status_of NoThread = 7
 status_of (Unexplained asked) = 2
 status_of NothingAsked = 2
@@ -39,11 +39,11 @@ fault_of engine.ReadFailed = ReadFailed
 fault_of engine.WriteFailed = WriteFailed
 fault_of engine.NoMemory = NoMemory
 
--- the fault of the program that a fault of the server of a port is
-abbrev pub fault_of_serving : ServeFault → ℕ → Fault
-fault_of_serving serving.SocketFailed port = AcceptFailed port
-fault_of_serving serving.NoThread port = NoThread
-fault_of_serving serving.NoMemory port = NoMemory
+-- the fault of the program that a fault of a server is, which listened here
+abbrev pub fault_of_serving : ServeFault → String Global → Fault
+fault_of_serving serving.SocketFailed place = AcceptFailed place
+fault_of_serving serving.NoThread place = NoThread
+fault_of_serving serving.NoMemory place = NoMemory
 
 -- the fault where the words of the command line cannot be had as text, by the kind of the reason
 abbrev pub fault_of_words : ErrorKind → Fault

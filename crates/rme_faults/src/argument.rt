@@ -15,6 +15,8 @@ pub enum BadArgument {
     ManyLocks(usize, u32),
     OutOfRange(&'static str, u32, u32),
     FallsBack(u32, u32),
+    NoSocket(String),
+    ServedAlready(String),
 }
 
 impl fmt::Display for BadArgument {
@@ -43,6 +45,14 @@ impl fmt::Display for BadArgument {
             BadArgument::FallsBack(before, after) => write!(
                 f,
                 "FALL {after} after {before}: each is greater than the one before"
+            ),
+            BadArgument::NoSocket(path) => write!(
+                f,
+                "--socket {path}: it is there, and is no socket"
+            ),
+            BadArgument::ServedAlready(path) => write!(
+                f,
+                "--socket {path}: a server listens on it"
             ),
         }
     }

@@ -56,10 +56,10 @@ pub enum Fault {
     Unsavable(String, Hindrance),
     /// The new image is in the file's place, and its folder could not be synced.
     FolderUnsynced(String, io::Error),
-    /// The server can't listen on the port.
-    ListenFailed(u16, io::Error),
-    /// The server of the port could not accept a connection.
-    AcceptFailed(u16),
+    /// The server can't listen here: `port 4000`, or the path of a socket.
+    ListenFailed(String, io::Error),
+    /// The server could not accept a connection here.
+    AcceptFailed(String),
     /// A connection can't have a thread.
     NoThread,
     /// Nothing that can be explained has this number or name.
@@ -100,10 +100,10 @@ impl fmt::Display for Fault {
                 f,
                 "the image {file} is in its place, but its folder can't be synced: {why}"
             ),
-            Fault::ListenFailed(port, why) => write!(f, "socket failed\n  port {port}: {why}"),
-            Fault::AcceptFailed(port) => write!(
+            Fault::ListenFailed(place, why) => write!(f, "socket failed\n  {place}: {why}"),
+            Fault::AcceptFailed(place) => write!(
                 f,
-                "socket failed\n  port {port}: a connection could not be accepted"
+                "socket failed\n  {place}: a connection could not be accepted"
             ),
             Fault::NoThread => f.write_str("no thread"),
             Fault::Unexplained(asked) => write!(
@@ -166,12 +166,12 @@ impl Fault {
         other
     }
 
-    /// The fault where the server of a port ended early.
-    pub fn of_serving(fault: ServeFault, port: u16) -> Fault
-        ensures { result ≡ fault_of_serving fault port }
+    /// The fault where a server had trouble with a connection, which listened here.
+    pub fn of_serving(fault: ServeFault, place: String) -> Fault
+        ensures { result ≡ fault_of_serving fault place }
     {
         match fault {
-            ServeFault::SocketFailed => Fault::AcceptFailed(port),
+            ServeFault::SocketFailed => Fault::AcceptFailed(place),
             ServeFault::NoThread => Fault::NoThread,
             ServeFault::NoMemory => Fault::NoMemory,
         }

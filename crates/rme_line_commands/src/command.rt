@@ -2,11 +2,12 @@
 
 use crate::check::check;
 use crate::image::run_images;
+use crate::lines::given_lines;
 use rme_engine::{run_lines, transcript_lines};
 use rme_explanations::explanations;
 use rme_faults::Fault;
-use rme_options::LineTask;
-use rme_wire::LineReader;
+use rme_options::{LineTask, Remarks};
+use rme_reasons::Vocabulary;
 use std::io;
 
 /// Does what is asked for over the standard streams of the process, and answers its status.
@@ -14,24 +15,24 @@ use std::io;
 /// An error is what ended it early; what the command says of it in `--help` was done before.
 pub fn perform_lines(rt: &HostRuntime, task: LineTask) -> Result<u8, Fault> {
     match task {
-        LineTask::Run => run(rt),
-        LineTask::Images(images) => run_images(rt, images),
-        LineTask::Transcript => transcribe(rt),
+        LineTask::Run(remarks) => run(rt, remarks),
+        LineTask::Images(images, remarks) => run_images(rt, images, remarks),
+        LineTask::Transcript(remarks) => transcribe(rt, remarks),
         LineTask::Check => check(rt),
         LineTask::Explain(words) => explain(rt, &words),
     }
 }
 
 /// Answers the lines of the standard input, and answers the status.
-fn run(rt: &HostRuntime) -> Result<u8, Fault> {
-    let mut lines = LineReader::new(rt.alloc(), rt.stdin())?;
+fn run(rt: &HostRuntime, remarks: Remarks) -> Result<u8, Fault> {
+    let mut lines = given_lines(rt, Vocabulary::Commands, remarks)?;
     run_lines(rt.alloc(), &mut lines, &mut io::writer(rt))?;
     Ok(0)
 }
 
 /// Obeys the lines of the standard input, writes a transcript, and answers the status.
-fn transcribe(rt: &HostRuntime) -> Result<u8, Fault> {
-    let mut lines = LineReader::new(rt.alloc(), rt.stdin())?;
+fn transcribe(rt: &HostRuntime, remarks: Remarks) -> Result<u8, Fault> {
+    let mut lines = given_lines(rt, Vocabulary::Transcript, remarks)?;
     transcript_lines(rt.alloc(), &mut lines, &mut io::writer(rt))?;
     Ok(0)
 }

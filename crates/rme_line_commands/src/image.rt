@@ -1,10 +1,12 @@
 //! `rme run` with images: the world that a run begins with, and the world that it leaves.
 
+use crate::lines::given_lines;
 use crate::saving::{ask_place, replace};
 use rme_engine::{Engine, answer_lines};
 use rme_faults::{BadArgument, Fault};
-use rme_options::Images;
-use rme_wire::{GivenNames, Image, LineReader, Loading};
+use rme_options::{Images, Remarks};
+use rme_reasons::Vocabulary;
+use rme_wire::{GivenNames, Image, Loading};
 use std::io::ErrorKind;
 use std::{fs, io};
 
@@ -12,7 +14,7 @@ use std::{fs, io};
 /// answers the status.
 ///
 /// A fault before the end of the input saves nothing, and what can't be saved is refused before the first line is read.
-pub fn run_images(rt: &HostRuntime, images: Images) -> Result<u8, Fault> {
+pub fn run_images(rt: &HostRuntime, images: Images, remarks: Remarks) -> Result<u8, Fault> {
     let Images { load, locks, save } = images;
     ask_name("--image", &load)?;
     ask_name("--save", &save)?;
@@ -20,7 +22,7 @@ pub fn run_images(rt: &HostRuntime, images: Images) -> Result<u8, Fault> {
         ask_place(rt, file.as_str())?;
     }
     let mut engine = begin(rt, load, GivenNames::of(locks))?;
-    answer(rt, &mut engine)?;
+    answer(rt, &mut engine, remarks)?;
     match save {
         None => Ok(0),
         Some(file) => save_in(rt, &engine, file),
@@ -45,8 +47,8 @@ fn begin(rt: &HostRuntime, file: Option<String>, locks: GivenNames) -> Result<En
 }
 
 /// Answers the lines of the standard input.
-fn answer(rt: &HostRuntime, engine: &mut Engine) -> Result<(), Fault> {
-    let mut lines = LineReader::new(rt.alloc(), rt.stdin())?;
+fn answer(rt: &HostRuntime, engine: &mut Engine, remarks: Remarks) -> Result<(), Fault> {
+    let mut lines = given_lines(rt, Vocabulary::Commands, remarks)?;
     answer_lines(engine, &mut lines, &mut io::writer(rt))?;
     Ok(())
 }

@@ -10,6 +10,7 @@
 mod check;
 mod command;
 mod image;
+mod lines;
 mod saving;
 mod words;
 

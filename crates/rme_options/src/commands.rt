@@ -14,11 +14,20 @@ struct Word<'a> {
     help: &'a str,
     kind: Kind<'a>,
     value: Value,
-    is_required: bool,
+    presence: Presence<'a>,
     /// The option that it has to stand with, if there is one.
     needs: &'a [&'a str],
     /// The options that it can't stand with.
     conflicts: &'a [&'a str],
+}
+
+/// Whether it has to be given.
+#[derive(Clone, Copy)]
+enum Presence<'a> {
+    Optional,
+    Required,
+    /// It has to be, unless this option is.
+    RequiredWithout(&'a str),
 }
 
 /// How a word is given.
@@ -124,8 +133,14 @@ fn run_command<'a>(alloc: Global) -> Result<Command<'a>, AllocError> {
             ..optional("locks", Kind::List("NAMES"), texts::locks_help())
         },
         optional("save", Kind::Option("FILE"), texts::save_help()),
+        why(),
     ];
     command_of(alloc, "run", texts::run_about(), texts::run_lines(), &words)
+}
+
+/// The option of the commands that answer lines.
+fn why<'a>() -> Word<'a> {
+    optional("why", Kind::Flag('w'), texts::why_help())
 }
 
 fn explain_command<'a>(alloc: Global) -> Result<Command<'a>, AllocError> {
@@ -197,11 +212,15 @@ fn serve_command<'a>(alloc: Global) -> Result<Command<'a>, AllocError> {
             "jobs",
             "How many jobs each worker may make, 1 to 1000000",
         ),
-        required(
-            number,
-            Value::Port,
-            "port",
-            "The port to listen on; 0 takes a free one",
+        Word {
+            value: Value::Port,
+            presence: Presence::RequiredWithout("socket"),
+            ..optional("port", number, "The port to listen on; 0 takes a free one")
+        },
+        optional(
+            "socket",
+            Kind::Option("PATH"),
+            "The Unix socket to listen on, in place of the port or beside it, for this user alone",
         ),
         Word {
             value: Value::Count,
@@ -227,6 +246,7 @@ fn serve_command<'a>(alloc: Global) -> Result<Command<'a>, AllocError> {
                 "How long a client may send nothing, 1 to 1000000; for good without it",
             )
         },
+        why(),
         required(
             Kind::Arguments(1),
             Value::Text,
@@ -250,7 +270,7 @@ fn optional<'a>(name: &'a str, kind: Kind<'a>, help: &'a str) -> Word<'a> {
         help,
         kind,
         value: Value::Text,
-        is_required: false,
+        presence: Presence::Optional,
         needs: &[],
         conflicts: &[],
     }
@@ -260,7 +280,7 @@ fn optional<'a>(name: &'a str, kind: Kind<'a>, help: &'a str) -> Word<'a> {
 fn required<'a>(kind: Kind<'a>, value: Value, name: &'a str, help: &'a str) -> Word<'a> {
     Word {
         value,
-        is_required: true,
+        presence: Presence::Required,
         ..optional(name, kind, help)
     }
 }
@@ -287,12 +307,19 @@ fn with_texts<'a>(command: Command<'a>, about: &'a str, lines: &'a str) -> Comma
 
 /// The word as clap knows it.
 fn arg_of<'a>(alloc: Global, word: &Word<'a>) -> Result<Arg<'a>, AllocError> {
-    let arg = Arg::new(alloc, word.name)
-        .help(word.help)
-        .required(word.is_required);
+    let arg = demanded(Arg::new(alloc, word.name).help(word.help), word.presence)?;
     valued(given(arg, word), word.value)
         .requires_all(word.needs)?
         .conflicts_with_all(word.conflicts)
+}
+
+/// The argument, which has to be given or not.
+fn demanded<'a>(arg: Arg<'a>, presence: Presence<'a>) -> Result<Arg<'a>, AllocError> {
+    match presence {
+        Presence::Optional => Ok(arg),
+        Presence::Required => Ok(arg.required(true)),
+        Presence::RequiredWithout(other) => arg.required_unless_present(other),
+    }
 }
 
 /// The argument as the word is given.

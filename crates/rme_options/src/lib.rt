@@ -10,5 +10,5 @@ mod tasks;
 mod texts;
 mod words;
 
-pub use tasks::{Images, LineTask, ServeTask, Task, ThreadsTask};
+pub use tasks::{Images, LineTask, Places, Remarks, ServeTask, Task, ThreadsTask};
 pub use words::task_of;

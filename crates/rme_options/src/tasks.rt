@@ -17,15 +17,23 @@ pub enum Task {
 #[derive(Drop)]
 pub enum LineTask {
     /// Answer the lines of the standard input.
-    Run,
+    Run(Remarks),
     /// Answer them over a saved world, save the world that they leave, or both.
-    Images(Images),
+    Images(Images, Remarks),
     /// Obey the lines of the standard input, and write a transcript.
-    Transcript,
+    Transcript(Remarks),
     /// Check the transcript on the standard input.
     Check,
     /// Explain what these words name, or, where there are none, name all.
     Explain(Vec<String>),
+}
+
+/// What is said of lines on the standard error.
+#[derive(Clone, Copy, PartialEq, Eq)]
+pub enum Remarks {
+    Nothing,
+    /// Why a line is answered `BadLine`.
+    Why,
 }
 
 /// The images that a run begins and ends with.
@@ -48,19 +56,30 @@ pub struct ThreadsTask {
     pub is_quiet: bool,
 }
 
-/// What `rme serve` is asked for: a service of these sizes with these locks, and which connections on this port.
+/// Where a server listens.
+#[derive(Drop)]
+pub enum Places {
+    /// On this port; on a free one for 0.
+    Port(u16),
+    /// On the Unix socket of this path.
+    Socket(String),
+    Both(u16, String),
+}
+
+/// What `rme serve` is asked for: a service of these sizes with these locks, and which connections from where.
 #[derive(Drop)]
 pub struct ServeTask {
     pub workers: u32,
     pub cells: u32,
     pub jobs: u32,
-    pub port: u16,
+    pub places: Places,
     /// So many connections, and else until it is killed.
     pub connections: Option<u32>,
     /// So many sessions at a time.
     pub at_once: u32,
     /// So many seconds of silence end a session, if any do.
     pub idle: Option<u32>,
+    pub remarks: Remarks,
     /// The words for the names of its locks.
     pub locks: Vec<String>,
 }

@@ -32,6 +32,10 @@ pub fn transcript_help<'a>() -> &'a str {
     "Writes what happened in the place of answers: each event that the world took, for `rme check`"
 }
 
+pub fn why_help<'a>() -> &'a str {
+    "Says on the standard error why a line is answered BadLine"
+}
+
 pub fn image_help<'a>() -> &'a str {
     "Begins with the world that was saved in this file; with nothing, where the file is not there"
 }
@@ -141,7 +145,8 @@ Each line is one JSON object; its keys may come in any order. A world must be op
                                  goes on with the world of an image, in the place of one that is open; its
                                  locks have the given names, and all its workers are down
 
-A line that is refused is answered {\"code\":N,\"error\":NAME} and changes nothing.
+A line that is refused is answered {\"code\":N,\"error\":NAME} and changes nothing. --why says on the standard
+error what is wrong with one that is no command: {\"code\":1,\"error\":\"BadLine\"}.
 
 A run that begins with the world that the last one left, and leaves its own:
 
@@ -179,13 +184,13 @@ not rise, or more than 256 workers or 1000000 jobs), 4 where writing failed, 5 w
 }
 
 pub fn serve_about<'a>() -> &'a str {
-    "Serves a lock service to clients over TCP on 127.0.0.1, a session for each connection"
+    "Serves a lock service to clients over TCP on 127.0.0.1 or a Unix socket, a session for each connection"
 }
 
 pub fn serve_lines<'a>() -> &'a str {
     "\
-It prints `listening PORT` as soon as clients can connect. With --connections it takes no more, and when all of
-these have ended it logs `served n` to the standard error, closes the service, and prints a line for each lock:
+It prints `listening PORT` as soon as clients can connect, and `listening PATH` where there is a socket. With
+--connections it takes no more over both, and when all of these have ended it logs `served n` to the standard error, closes the service, and prints a line for each lock:
 `lock NAME cells V V .. entries E`, with what its cells hold and how many jobs they have seen.
 
 A connection for which there is no room (--at-once) is answered {\"code\":9,\"error\":\"Busy\"} and closed. One that
@@ -215,8 +220,12 @@ Each line of a client is one JSON object, which is obeyed and answered by one li
                                  {\"ok\":\"crash_after\"}
   {\"do\":\"detach\"}                lets the worker go: {\"ok\":\"detach\"}
 
-A line that is refused is answered {\"code\":N,\"error\":NAME} and changes nothing. A worker that a session
-lets go, or whose session ends, falls; whoever attaches it next goes on where it was.
+A line that is refused is answered {\"code\":N,\"error\":NAME} and changes nothing. --why says on the standard
+error what is wrong with one that is no order; where nobody reads what it says there, sessions come to wait. A
+worker that a session lets go, or whose session ends, falls; whoever attaches it next goes on where it was.
+
+The file of a --socket is made with mode 0600. One that no server listens on is replaced; one that is listened on,
+and whatever else is there, is refused. It is removed at the end, but not after a signal.
 
 A server and a client, for bash:
 
@@ -241,6 +250,6 @@ service held is gone.
 
 Status: 0 after the closing lines, 1 with none of them where a worker was not given back, 2 for words that
 are refused (also 0 or more than 256 workers, 16 locks, 16 cells or 1000000 jobs, and a name that is none
-or stands twice), 4 where writing failed, 5 where memory ran out, 6 where it can't listen on the port. After
+or stands twice; a socket that is listened on, and another file in its place), 4 where writing failed, 5 where memory ran out, 6 where it can't listen on the port or the socket. After
 the closing lines it is 5, 6 or 7 where a connection found no memory, could not be accepted or had no thread."
 }

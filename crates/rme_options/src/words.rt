@@ -1,7 +1,7 @@
 //! What the words of the command line ask for.
 
 use crate::commands::command;
-use crate::tasks::{Images, LineTask, ServeTask, Task, ThreadsTask};
+use crate::tasks::{Images, LineTask, Places, Remarks, ServeTask, Task, ThreadsTask};
 use clap::{ArgMatches, Error};
 use std::alloc::{AllocError, Global};
 
@@ -46,16 +46,25 @@ fn line_task(alloc: Global, found: &ArgMatches<'_>) -> Result<LineTask, AllocErr
 
 /// What the words after `run` ask for.
 fn run_task(alloc: Global, found: &ArgMatches<'_>) -> Result<LineTask, AllocError> {
+    let remarks = remarks_of(found);
     if found.get_flag("transcript") {
-        return Ok(LineTask::Transcript);
+        return Ok(LineTask::Transcript(remarks));
     }
     let load = text_of(alloc, found, "image")?;
     let save = text_of(alloc, found, "save")?;
     if load.is_none() && save.is_none() {
-        return Ok(LineTask::Run);
+        return Ok(LineTask::Run(remarks));
     }
     let locks = texts_of(alloc, found, "locks")?;
-    Ok(LineTask::Images(Images { load, locks, save }))
+    Ok(LineTask::Images(Images { load, locks, save }, remarks))
+}
+
+/// What is to be said of lines.
+fn remarks_of(found: &ArgMatches<'_>) -> Remarks {
+    if found.get_flag("why") {
+        return Remarks::Why;
+    }
+    Remarks::Nothing
 }
 
 /// The texts that an argument has, in order.
@@ -99,16 +108,28 @@ fn threads_task(alloc: Global, found: &ArgMatches<'_>) -> Result<ThreadsTask, Er
     })
 }
 
+/// Where the words after `serve` ask to listen. A port was demanded where there is no socket.
+fn places_of(alloc: Global, found: &ArgMatches<'_>) -> Result<Places, AllocError> {
+    let port = found.get_one::<u16>("port");
+    let socket = text_of(alloc, found, "socket")?;
+    Ok(match (port, socket) {
+        (None, Some(path)) => Places::Socket(path),
+        (Some(port), Some(path)) => Places::Both(port, path),
+        (port, None) => Places::Port(port.unwrap_or(0)),
+    })
+}
+
 /// What the words after `serve` ask for. Each number has been read before, as an argument of its type.
 fn serve_task(alloc: Global, found: &ArgMatches<'_>) -> Result<ServeTask, AllocError> {
     Ok(ServeTask {
         workers: found.get_one("workers").unwrap_or(0),
         cells: found.get_one("cells").unwrap_or(0),
         jobs: found.get_one("jobs").unwrap_or(0),
-        port: found.get_one("port").unwrap_or(0),
+        places: places_of(alloc, found)?,
         connections: found.get_one("connections"),
         at_once: found.get_one("at-once").unwrap_or(AT_ONCE),
         idle: found.get_one("idle"),
+        remarks: remarks_of(found),
         locks: texts_of(alloc, found, "LOCK")?,
     })
 }
