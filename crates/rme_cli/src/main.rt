@@ -10,13 +10,14 @@ use rme_line_commands::{Asked, end, read_words};
 use std::process::ExitCode;
 use std::sync::Wait;
 use std::thread::Threads;
+use std::time::Clock;
 
 fn main(rt: HostRuntime) -> ExitCode {
     end(&rt, obey(&rt, &rt))
 }
 
 /// Does what the words of the command line ask for, and answers the status.
-fn obey<R: Threads + Wait + Sync>(rt: &HostRuntime, threads: &R) -> Result<u8, Fault> {
+fn obey<R: Threads + Wait + Clock + Sync>(rt: &HostRuntime, threads: &R) -> Result<u8, Fault> {
     match read_words(rt)? {
         Asked::Task(task) => perform(rt, threads, task),
         Asked::Told(status) => Ok(status),

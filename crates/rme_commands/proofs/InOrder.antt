@@ -5,7 +5,7 @@ use Rattle.std.proofs.lemmas.Option.{slice_get_past, slice_get_read}
 use Rattle.std.specs.Prelude.{slice_get, Option, Some, None}
 use Rattle.std.specs.Option.{option_copied}
 use Rattle.std.specs.Slice.{IsItemAt}
-use Rattle.rme_table.specs.declared.closed.ClosedLock.{ClosedLock}
+use Rattle.rme_table.specs.declared.closed.CountedLock.{CountedLock}
 use Rattle.rme_commands.specs.Closing.{cell_text, cells_text, text_at, in_order}
 
 -- what was written of the cells, and the text of the others, is the text of all
@@ -22,10 +22,10 @@ pub all_cells : (start cells out : List ℕ) (index : ℕ) → length cells ≤ 
 all_cells start cells out index least so_far = sym (append-nil out) ∙ sym (ap (λ (xs : List ℕ). out ++ cells_text xs) (drop_all index cells least)) ∙ so_far
 
 -- what was written of the locks, and the text of the others, is the text of all
-abbrev pub LocksSoFar : (List ℕ → ClosedLock → List ℕ) → List ClosedLock → List ℕ → List (List ℕ) → List ℕ → ℕ → Type 0
+abbrev pub LocksSoFar : (List ℕ → CountedLock → List ℕ) → List CountedLock → List ℕ → List (List ℕ) → List ℕ → ℕ → Type 0
 LocksSoFar text locks start names out number = out ++ in_order text locks number (drop number names) ≡ start ++ in_order text locks 0 names
 
-pub next_lock : (text : List ℕ → ClosedLock → List ℕ) (locks : List ClosedLock) (start : List ℕ) (names : List (List ℕ)) (out after : List ℕ) (number : ℕ) → number < length names
+pub next_lock : (text : List ℕ → CountedLock → List ℕ) (locks : List CountedLock) (start : List ℕ) (names : List (List ℕ)) (out after : List ℕ) (number : ℕ) → number < length names
     → LocksSoFar text locks start names out number → after ≡ out ++ text_at text (get_or names number []) (slice_get locks number) → LocksSoFar text locks start names after (number + 1)
 next_lock text locks start names out after number within so_far grows =
     let line = text_at text (get_or names number []) (slice_get locks number) in
@@ -33,17 +33,17 @@ next_lock text locks start names out after number within so_far grows =
     ap (λ (xs : List ℕ). xs ++ rest) grows ∙ append_assoc out line rest
     ∙ sym (ap (λ (xs : List (List ℕ)). out ++ in_order text locks number xs) (drop_more names number [] within)) ∙ so_far
 
-pub all_locks : (text : List ℕ → ClosedLock → List ℕ) (locks : List ClosedLock) (start : List ℕ) (names : List (List ℕ)) (out : List ℕ) (number : ℕ) → length names ≤ number
+pub all_locks : (text : List ℕ → CountedLock → List ℕ) (locks : List CountedLock) (start : List ℕ) (names : List (List ℕ)) (out : List ℕ) (number : ℕ) → length names ≤ number
     → LocksSoFar text locks start names out number → out ≡ start ++ in_order text locks 0 names
 all_locks text locks start names out number least so_far =
     sym (append-nil out) ∙ sym (ap (λ (xs : List (List ℕ)). out ++ in_order text locks number xs) (drop_all number names least)) ∙ so_far
 
 -- the lock that a look-up by its number lends
-lent_is : (locks : List ClosedLock) (number : ℕ) (lent : Option (Bor ClosedLock)) → IsItemAt locks number lent → option_copied lent ≡ slice_get locks number
+lent_is : (locks : List CountedLock) (number : ℕ) (lent : Option (Bor CountedLock)) → IsItemAt locks number lent → option_copied lent ≡ slice_get locks number
 lent_is locks number None is = sym (slice_get_past locks number is.3)
 lent_is locks number (Some lock) is = sym (slice_get_read locks (length locks) number lock.now refl is.3.0 is.1)
 
-pub text_there : (text : List ℕ → ClosedLock → List ℕ) (locks : List ClosedLock) (names : List (List ℕ)) (out : List ℕ) (number : ℕ) (lent : Option (Bor ClosedLock)) (name : List ℕ)
+pub text_there : (text : List ℕ → CountedLock → List ℕ) (locks : List CountedLock) (names : List (List ℕ)) (out : List ℕ) (number : ℕ) (lent : Option (Bor CountedLock)) (name : List ℕ)
     → name ≡ get_or names number [] → IsItemAt locks number lent → out ++ text_at text name (option_copied lent) ≡ out ++ text_at text (get_or names number []) (slice_get locks number)
 text_there text locks names out number lent name named is =
-    ap (λ (n : List ℕ). out ++ text_at text n (option_copied lent)) named ∙ ap (λ (lock : Option ClosedLock). out ++ text_at text (get_or names number []) lock) (lent_is locks number lent is)
+    ap (λ (n : List ℕ). out ++ text_at text n (option_copied lent)) named ∙ ap (λ (lock : Option CountedLock). out ++ text_at text (get_or names number []) lock) (lent_is locks number lent is)

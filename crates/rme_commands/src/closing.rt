@@ -7,12 +7,18 @@ ghost use Rattle.rme_lines.specs.Puts.{AppendsFront};
 ghost use Rattle.rme_commands.specs.Closing as spec;
 
 use rme_faults::Fault;
-use rme_supervisor::{End, Report};
-use rme_table::{Closed, ClosedLock, Unclosed};
+use rme_supervisor::End;
+use rme_table::{Counted, CountedLock, Unclosed};
 use rme_wire::{Names, put_all};
 use rme_words::Refusal;
 use std::alloc::{AllocError, Global};
 use std::io::Write;
+
+/// More bytes than the lines of sixteen locks have, each with a name of 32 bytes and sixteen cells of 20 digits; and than
+/// the remarks on them.
+const MOST_TEXT: usize = 8192;
+
+const MOST_REMARKS: usize = 2048;
 
 /// What there is to say at the end of a run, and the status that the program ends with.
 #[derive(Drop)]
@@ -22,6 +28,46 @@ pub struct Closing {
     /// The lines for the standard error.
     pub remarks: String,
     pub status: u8,
+}
+
+/// What supervised workers came to: how the lives of each ended, and their lock.
+#[derive(Drop)]
+pub struct Outcome {
+    pub ends: Vec<End>,
+    pub counted: Counted,
+}
+
+impl Closing {
+    ghost use Rattle.std.specs.Prelude.{[], IfOk};
+    ghost use Rattle.rme_commands.specs.Closing as spec;
+
+    /// Nothing is said yet, and there is room for all that may be said, so that the end takes no memory.
+    pub fn with_room(alloc: Global) -> Result<Closing, AllocError>
+        ensures { IfOk result (λ closing. spec.Says closing [] [] 0) }
+    {
+        Ok(Closing {
+            text: String::with_capacity(alloc, MOST_TEXT)?,
+            remarks: String::with_capacity(alloc, MOST_REMARKS)?,
+            status: 0,
+        })
+    }
+
+    /// The same with this status.
+    fn with_status(self, status: u8) -> Closing
+        requires { spec.Says self [] [] 0 }
+        ensures { spec.Says result [] [] status }
+    {
+        let Closing {
+            text,
+            remarks,
+            status: _,
+        } = self;
+        Closing {
+            text,
+            remarks,
+            status,
+        }
+    }
 }
 
 /// Writes what there is to say, and answers the status. What the standard error does not take is left out.
@@ -51,17 +97,18 @@ fn put_some<W: Write>(writer: &mut W, bytes: &[u8])
 /// What `serve` has to say of a service that it closed, or could not close: the line of each lock, a remark on each that
 /// is not settled, and status 0; and of a service of which a worker is missing nothing, and status 1.
 pub fn closing_of_service(
-    alloc: Global,
+    room: Closing,
     names: &Names,
-    closed: &Result<Closed, Unclosed>,
+    closed: &Result<Counted, Unclosed>,
 ) -> Result<Closing, Fault>
+    requires { spec.Says room [] [] 0 }
     ensures closing { IfOk result (spec.ClosesService names.now closed.now) }
     ensures kind { IfErr result (λ fault. fault ≡ Fault.NoMemory) }
 {
     match closed {
-        Ok(closed) => Ok(closing_of_locks(alloc, names, closed.locks.as_slice())?),
+        Ok(counted) => Ok(closing_of_locks(room, names, counted.locks.as_slice())?),
         Err(unclosed) => match unclosed.why {
-            Refusal::NoWorker => Ok(nothing_said(alloc, 1)),
+            Refusal::NoWorker => Ok(room.with_status(1)),
             _ => Err(Fault::NoMemory),
         },
     }
@@ -69,77 +116,60 @@ pub fn closing_of_service(
 
 /// The lines of the locks of a closed service.
 fn closing_of_locks(
-    alloc: Global,
+    room: Closing,
     names: &Names,
-    locks: &[ClosedLock],
+    locks: &[CountedLock],
 ) -> Result<Closing, AllocError>
+    requires { spec.Says room [] [] 0 }
     ensures { IfOk result (λ closing. spec.Says closing (spec.locks_text names.now locks.now) (spec.remarks_text names.now locks.now) 0) }
 {
-    let mut text = String::new(alloc);
-    push_locks(&mut text, names, locks)?;
-    let mut remarks = String::new(alloc);
-    push_remarks(&mut remarks, names, locks)?;
-    Ok(Closing {
-        text,
-        remarks,
-        status: 0,
-    })
+    let mut closing = room;
+    push_locks(&mut closing.text, names, locks)?;
+    push_remarks(&mut closing.remarks, names, locks)?;
+    Ok(closing)
 }
 
-/// An end with this status, of which nothing is said.
-fn nothing_said(alloc: Global, status: u8) -> Closing
-    ensures { spec.Says result [] [] status }
-{
-    Closing {
-        text: String::new(alloc),
-        remarks: String::new(alloc),
-        status,
-    }
-}
-
-/// What `threads` has to say of so many workers with so many jobs each: the report's lines, and status 0 where all
-/// workers were done; and where there is no report, since a worker is missing, nothing, and status 1.
-pub fn closing_of_report(
-    alloc: Global,
+/// What `threads` has to say of so many workers with so many jobs each: what they came to, and status 0 where all
+/// workers were done; and where it is not known, since a worker is missing, nothing, and status 1.
+pub fn closing_of_outcome(
+    room: Closing,
     workers: u32,
     jobs: u32,
-    report: &Option<Report>,
+    outcome: &Option<Outcome>,
 ) -> Result<Closing, AllocError>
-    ensures { IfOk result (spec.ClosesReport workers jobs report.now) }
+    requires { spec.Says room [] [] 0 }
+    ensures { IfOk result (spec.ClosesOutcome workers jobs outcome.now) }
 {
-    match report {
-        Some(report) => closing_of_ends(
-            alloc,
+    match outcome {
+        Some(outcome) => closing_of_ends(
+            room,
             workers,
             jobs,
-            report.ends.as_slice(),
-            report.closed.locks.first(),
+            outcome.ends.as_slice(),
+            outcome.counted.locks.first(),
         ),
-        None => Ok(nothing_said(alloc, 1)),
+        None => Ok(room.with_status(1)),
     }
 }
 
-/// The lines of a report with these ends and this lock.
+/// The lines of workers with these ends and this lock.
 fn closing_of_ends(
-    alloc: Global,
+    room: Closing,
     workers: u32,
     jobs: u32,
     ends: &[End],
-    lock: Option<&ClosedLock>,
+    lock: Option<&CountedLock>,
 ) -> Result<Closing, AllocError>
-    ensures { IfOk result (λ closing. spec.Says closing (spec.report_text workers jobs ends.now (option_copied lock.entry)) [] (spec.status_of_ends ends.now)) }
+    requires { spec.Says room [] [] 0 }
+    ensures { IfOk result (λ closing. spec.Says closing (spec.outcome_text workers jobs ends.now (option_copied lock.entry)) [] (spec.status_of_ends ends.now)) }
 {
     let done = count_done(ends);
-    let mut text = String::new(alloc);
+    let mut closing = room.with_status(status_of(done, ends.len()));
     if let Some(lock) = lock {
-        push_counts(&mut text, workers, jobs, done)?;
-        push_only(&mut text, lock)?;
+        push_counts(&mut closing.text, workers, jobs, done)?;
+        push_only(&mut closing.text, lock)?;
     }
-    Ok(Closing {
-        text,
-        remarks: String::new(alloc),
-        status: status_of(done, ends.len()),
-    })
+    Ok(closing)
 }
 
 /// The status after so many of so many workers were done.
@@ -166,16 +196,16 @@ fn push_counts(out: &mut String, workers: u32, jobs: u32, done: usize) -> Result
 }
 
 /// Appends what the first cell of the only lock holds, and how many sections were finished.
-fn push_only(out: &mut String, lock: &ClosedLock) -> Result<(), AllocError>
+fn push_only(out: &mut String, lock: &CountedLock) -> Result<(), AllocError>
     ensures { OnOk result (string_bytes out.new ≡ string_bytes out.old ++ spec.only_text lock.now) }
 {
     let cell = lock.cells.first().copied().unwrap_or(0);
-    let entries = lock.entries.len();
+    let entries = lock.entries;
     write!(out, "cell {cell}\nentries {entries}\n")
 }
 
 /// Appends a line for each lock, in their order.
-fn push_locks(out: &mut String, names: &Names, locks: &[ClosedLock]) -> Result<(), AllocError>
+fn push_locks(out: &mut String, names: &Names, locks: &[CountedLock]) -> Result<(), AllocError>
     ensures { OnOk result (string_bytes out.new ≡ string_bytes out.old ++ spec.locks_text names.now locks.now) }
 {
     for number in 0..names.len() {
@@ -185,7 +215,7 @@ fn push_locks(out: &mut String, names: &Names, locks: &[ClosedLock]) -> Result<(
 }
 
 /// Appends the line of a lock, if it is there.
-fn push_lock_at(out: &mut String, name: &str, lock: Option<&ClosedLock>) -> Result<(), AllocError>
+fn push_lock_at(out: &mut String, name: &str, lock: Option<&CountedLock>) -> Result<(), AllocError>
     ensures { OnOk result (string_bytes out.new ≡ string_bytes out.old ++ spec.text_at spec.lock_text name.now (option_copied lock.entry)) }
 {
     match lock {
@@ -195,12 +225,12 @@ fn push_lock_at(out: &mut String, name: &str, lock: Option<&ClosedLock>) -> Resu
 }
 
 /// Appends the line of a lock: its name, what its cells hold, and how many sections were finished.
-fn push_lock(out: &mut String, name: &str, lock: &ClosedLock) -> Result<(), AllocError>
+fn push_lock(out: &mut String, name: &str, lock: &CountedLock) -> Result<(), AllocError>
     ensures { OnOk result (string_bytes out.new ≡ string_bytes out.old ++ spec.lock_text name.now lock.now) }
 {
     push_lock_front(out, name)?;
     push_cells(out, lock.cells.as_slice())?;
-    push_lock_end(out, lock.entries.len())?;
+    push_lock_end(out, lock.entries)?;
     Ok(())
 }
 
@@ -210,7 +240,7 @@ fn push_lock_front(out: &mut String, name: &str) -> Result<(), AllocError>
     write!(out, "lock {name} cells")
 }
 
-fn push_lock_end(out: &mut String, entries: usize) -> Result<(), AllocError>
+fn push_lock_end(out: &mut String, entries: u64) -> Result<(), AllocError>
     ensures { OnOk result (string_bytes out.new ≡ string_bytes out.old ++ spec.lock_end entries) }
 {
     write!(out, " entries {entries}\n")
@@ -233,7 +263,7 @@ fn push_cell(out: &mut String, cell: u64) -> Result<(), AllocError>
 }
 
 /// Appends a remark on each lock that is not settled, in their order.
-fn push_remarks(out: &mut String, names: &Names, locks: &[ClosedLock]) -> Result<(), AllocError>
+fn push_remarks(out: &mut String, names: &Names, locks: &[CountedLock]) -> Result<(), AllocError>
     ensures { OnOk result (string_bytes out.new ≡ string_bytes out.old ++ spec.remarks_text names.now locks.now) }
 {
     for number in 0..names.len() {
@@ -243,7 +273,11 @@ fn push_remarks(out: &mut String, names: &Names, locks: &[ClosedLock]) -> Result
 }
 
 /// Appends a remark on a lock, if it is there and is not settled.
-fn push_remark_at(out: &mut String, name: &str, lock: Option<&ClosedLock>) -> Result<(), AllocError>
+fn push_remark_at(
+    out: &mut String,
+    name: &str,
+    lock: Option<&CountedLock>,
+) -> Result<(), AllocError>
     ensures { OnOk result (string_bytes out.new ≡ string_bytes out.old ++ spec.text_at spec.remark_text name.now (option_copied lock.entry)) }
 {
     match lock {

@@ -8,11 +8,12 @@ use rme_line_commands::perform_lines;
 use rme_options::Task;
 use std::sync::Wait;
 use std::thread::Threads;
+use std::time::Clock;
 
 /// Does what is asked for over the standard streams of the process, and answers its status.
 ///
 /// An error is what ended it early; what the command says of it in `--help` was done before.
-pub fn perform<R: Threads + Wait + Sync>(
+pub fn perform<R: Threads + Wait + Clock + Sync>(
     rt: &HostRuntime,
     threads: &R,
     task: Task,

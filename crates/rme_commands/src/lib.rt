@@ -1,7 +1,7 @@
 //! What the commands of the program `rme` do, each over the standard streams.
 //!
 //! Those that go over lines alone are done by rme_line_commands. The others stand on rme_supervisor, by which `threads.rt`
-//! runs workers in threads, on rme_server, by which `serve.rt` serves them to clients, and on rme_draw, by which `draw.rt`
+//! runs workers in threads, on rme_server, by which `serve.rt` serves them to clients of what `hearing.rt` listens on, and on rme_draw, by which `draw.rt`
 //! draws a transcript; what is said at the end of a service is in `closing.rt`. What is asked for comes from rme_options,
 //! and the texts and statuses of what goes wrong are those of rme_faults. Begin with `command.rt`.
 #![tactic(auto)]
@@ -9,8 +9,10 @@
 mod closing;
 mod command;
 mod draw;
+mod hearing;
 mod progress;
 mod serve;
+mod socket;
 mod threads;
 
 pub use command::perform;

@@ -1,28 +1,29 @@
-//! `rme serve`: sessions over TCP, which share the workers and the locks of one service.
+//! `rme serve`: sessions over TCP and over Unix sockets, which share the workers and the locks of one service.
 
-ghost use Rattle.std.specs.Prelude.{◌≡◌, IfOk};
+ghost use Rattle.std.specs.Prelude.{◌≡◌, [], IfOk};
 ghost use Rattle.rme_seats.specs.Closing.{AreOf};
 ghost use Rattle.rme_slots.specs.Slots.{AreInPlace};
+ghost use Rattle.rme_commands.specs.Closing.{Says};
 
-use crate::closing::{closing_of_service, end_with};
+use crate::closing::{Closing, closing_of_service, end_with};
+use crate::hearing::{Hearing, listen};
 use log::sink::Console;
 use log::{Level, Logged, info};
 use rme_faults::{Fault, why_not_locks, why_not_sizes};
-use rme_options::ServeTask;
-use rme_server::{Door, ServeFault, Slots, Trouble, serve};
-use rme_table::{Down, Service, Tag};
+use rme_options::{Remarks, ServeTask};
+use rme_reasons::Reason;
+use rme_server::{Door, Hall, Listener, ServeFault, Slots, Trouble, serve};
+use rme_table::{CountRoom, Down, Service, Tag};
 use rme_wire::{GivenNames, Names};
 use rme_words::Shape;
-use std::io::ErrorKind;
 use std::marker::Brand;
-use std::net::{Ipv4Addr, TcpListener};
 use std::sync::Wait;
 use std::thread::Threads;
-use std::time::Duration;
+use std::time::{Clock, Duration};
 use std::{io, thread};
 
 /// Serves the connections, prints what the locks then hold, and answers the status.
-pub fn run_serve<R: Threads + Wait + Sync>(
+pub fn run_serve<R: Threads + Wait + Clock + Sync>(
     rt: &HostRuntime,
     threads: &R,
     task: ServeTask,
@@ -30,10 +31,11 @@ pub fn run_serve<R: Threads + Wait + Sync>(
     let why = why_not_locks(rt.alloc(), &task.locks)?;
     let shape = shape_of(&task);
     let ServeTask {
-        port,
+        places,
         connections,
         at_once,
         idle,
+        remarks,
         locks,
         ..
     } = task;
@@ -43,17 +45,21 @@ pub fn run_serve<R: Threads + Wait + Sync>(
     }
     let shape = shape?;
     let names = locks.names(rt.alloc())?;
+    let (listeners, hearing) = listen(rt, places)?;
     let host = Host {
         rt,
-        port,
+        hearing,
         door: Door {
             connections,
             at_once,
             idle,
+            tells_why: remarks == Remarks::Why,
         },
         names: &names,
     };
-    serve_workers(threads, &host, listen(rt, port)?, shape)
+    let ended = serve_workers(threads, &host, listeners, shape);
+    host.hearing.clear(rt);
+    ended
 }
 
 /// The shape of the service that is asked for.
@@ -73,8 +79,7 @@ fn shape_of(task: &ServeTask) -> Result<Shape, Fault> {
 #[derive(Drop)]
 struct Host<'a> {
     rt: &'a HostRuntime,
-    /// The port that was asked for; the listener may have another for 0.
-    port: u16,
+    hearing: Hearing,
     door: Door,
     names: &'a Names,
 }
@@ -93,32 +98,29 @@ impl Trouble for Host<'_> {
         let _ = eprintln!(self.rt; "rme: a connection is closed, since it can't have a thread");
         thread::sleep(self.rt, Duration::from_millis(PAUSE));
     }
-}
 
-/// Listens on a port of this machine alone.
-fn listen(rt: &HostRuntime, port: u16) -> Result<TcpListener, Fault> {
-    match TcpListener::bind(rt, (Ipv4Addr::LOCALHOST, port)) {
-        Ok(listener) => Ok(listener),
-        Err(error) if error.kind() == ErrorKind::OutOfMemory => Err(Fault::NoMemory),
-        Err(error) => Err(Fault::ListenFailed(port, error)),
+    fn bad_line(&self, connection: u64, line: u64, why: &Reason) {
+        let _ = eprintln!(self.rt; "rme: connection {connection}, line {line}: {why}");
     }
 }
 
 /// Serves the workers of a new service of this shape, prints what its locks then hold, and answers the status.
-fn serve_workers<R: Threads + Wait + Sync>(
+fn serve_workers<R: Threads + Wait + Clock + Sync>(
     threads: &R,
     host: &Host<'_>,
-    listener: TcpListener,
+    listeners: (Listener, Option<Listener>),
     shape: Shape,
 ) -> Result<u8, Fault> {
     let (service, downs) = Service::new(host.rt.alloc(), shape)?;
-    let port = print_port(host, &listener)?;
-    let (downs, served) = serve_all::<Brand, R>(threads, host, listener, &service, downs)?;
+    let room = service.room_for_counts()?;
+    let closing = Closing::with_room(host.rt.alloc())?;
+    host.hearing.print(host.rt)?;
+    let (downs, served) = serve_all::<Brand, R>(threads, host, listeners, &service, downs)?;
     log_served(host.rt, host.door.connections.unwrap_or(0));
-    let status = close(host, service, downs)?;
+    let status = close(host, service, downs, room, closing)?;
     match served {
         Ok(()) => Ok(status),
-        Err(fault) => Err(Fault::of_serving(fault, port)),
+        Err(fault) => Err(Fault::of_serving(fault, host.hearing.text(host.rt.alloc())?)),
     }
 }
 
@@ -127,21 +129,29 @@ fn log_served(rt: &HostRuntime, connections: u32) {
     info!(Logged::new(rt, Level::Info, Console(rt)); target: "rme", "served {connections}");
 }
 
-/// Closes the service, prints what its locks hold, and answers the status.
-fn close(host: &Host<'_>, service: Service, downs: Vec<Down>) -> Result<u8, Fault>
+/// Closes the service, prints what its locks hold, and answers the status. All room for that was taken before.
+fn close(
+    host: &Host<'_>,
+    service: Service,
+    downs: Vec<Down>,
+    room: CountRoom,
+    closing: Closing,
+) -> Result<u8, Fault>
     requires ours { AreOf service downs.items }
+    requires room { room ≡ service.shape }
+    requires none { Says closing [] [] 0 }
 {
-    let closed = service.close(downs);
-    let closing = closing_of_service(host.rt.alloc(), host.names, &closed)?;
+    let closed = service.close_counted(downs, room);
+    let closing = closing_of_service(closing, host.names, &closed)?;
     end_with(&mut io::writer(host.rt), &mut host.rt.stderr(), &closing)
 }
 
 /// Serves these workers, all of the service, to the sessions of the connections, and gives back those that are
 /// there at the end, with the trouble that there was.
-fn serve_all<K: Tag + Send + Sync, R: Threads + Wait + Sync>(
+fn serve_all<K: Tag + Send + Sync, R: Threads + Wait + Clock + Sync>(
     threads: &R,
     host: &Host<'_>,
-    listener: TcpListener,
+    listeners: (Listener, Option<Listener>),
     service: &Service,
     downs: Vec<Down>,
 ) -> Result<(Vec<Down>, Result<(), ServeFault>), Fault>
@@ -150,26 +160,18 @@ fn serve_all<K: Tag + Send + Sync, R: Threads + Wait + Sync>(
     ensures ours { IfOk result (λ served. AreOf service.now served.0.items) }
 {
     let alloc = host.rt.alloc();
+    let room = Vec::with_capacity(alloc, downs.len())?;
     let Ok(slots) = Slots::<K>::new(threads, alloc, downs) else {
         return Err(Fault::NoMemory);
     };
-    let served = serve(
-        threads, alloc, listener, host.door, host, service, &slots, host.names,
-    );
-    match slots.into_downs(threads) {
-        Ok(downs) => Ok((downs, served)),
-        Err(_) => Err(Fault::NoMemory),
-    }
-}
-
-/// Prints the port that clients connect to, and answers it.
-fn print_port(host: &Host<'_>, listener: &TcpListener) -> Result<u16, Fault> {
-    let port = match listener.local_addr() {
-        Ok(address) => address.port(),
-        Err(error) => return Err(Fault::ListenFailed(host.port, error)),
+    let hall = Hall::new(alloc, service.shape())?;
+    let shared = rme_server::Host {
+        alloc,
+        service,
+        slots: &slots,
+        names: host.names,
+        hall: &hall,
     };
-    match println!(host.rt; "listening {port}") {
-        Ok(()) => Ok(port),
-        Err(_) => Err(Fault::WriteFailed),
-    }
+    let served = serve(threads, listeners, host.door, host, &shared);
+    Ok((slots.into_downs_in(threads, room), served))
 }

@@ -1,12 +1,16 @@
 //! `rme threads`: supervised workers that add to one cell.
 
-use crate::closing::{closing_of_report, end_with};
+ghost use Rattle.std.specs.Prelude.{◌≡◌, IfOk, IfSome};
+ghost use Rattle.rme_seats.specs.Closing.{AreOf};
+ghost use Rattle.rme_table.specs.Counting.{IsCount};
+
+use crate::closing::{Closing, Outcome, closing_of_outcome, end_with};
 use crate::progress::Progress;
 use rme_faults::{Fault, why_not_falls, why_not_sizes};
 use rme_options::ThreadsTask;
 use rme_script::{Job, Op, Script};
-use rme_supervisor::{Free, Gate, Report, WorkerPlan, supervise};
-use rme_table::Service;
+use rme_supervisor::{Attended, Free, Gate, WorkerPlan, attend};
+use rme_table::{CountRoom, Service};
 use rme_words::{Refusal, Shape};
 use std::alloc::{AllocError, Global};
 use std::sync::Wait;
@@ -27,13 +31,14 @@ pub fn run_threads<R: Threads + Wait + Sync>(
     threads: &R,
     task: &ThreadsTask,
 ) -> Result<u8, Fault> {
+    let room = Closing::with_room(rt.alloc())?;
     let ran = if task.is_quiet || !is_watched(rt) {
         run_with(rt, threads, task, &Free)
     } else {
         run_watched(rt, threads, task)
     };
-    let report = ran?;
-    let closing = closing_of_report(rt.alloc(), task.workers, task.jobs, &report)?;
+    let outcome = ran?;
+    let closing = closing_of_outcome(room, task.workers, task.jobs, &outcome)?;
     end_with(&mut io::writer(rt), &mut rt.stderr(), &closing)
 }
 
@@ -42,7 +47,7 @@ fn run_watched<R: Threads + Wait + Sync>(
     rt: &HostRuntime,
     threads: &R,
     task: &ThreadsTask,
-) -> Result<Option<Report>, Fault> {
+) -> Result<Option<Outcome>, Fault> {
     let jobs = u64::from(task.workers).saturating_mul(u64::from(task.jobs));
     let progress = Progress::new(rt, jobs);
     let ran = run_with(rt, threads, task, &progress);
@@ -60,13 +65,14 @@ fn is_watched(rt: &HostRuntime) -> bool {
         .any(|start| path.as_str().starts_with(*start))
 }
 
-/// Runs the workers with this gate. There is no report where a worker was not given back.
+/// Runs the workers with this gate. There is no outcome where a worker was not given back. All memory is taken before the
+/// first job.
 fn run_with<G: Gate + Sync, R: Threads + Wait + Sync>(
     rt: &HostRuntime,
     threads: &R,
     task: &ThreadsTask,
     gate: &G,
-) -> Result<Option<Report>, Fault> {
+) -> Result<Option<Outcome>, Fault> {
     let Ok(shape) = Shape::new(task.workers, 1, 1, task.jobs) else {
         let why = why_not_sizes(("WORKERS", task.workers), ("", 1), ("JOBS", task.jobs));
         return Err(Fault::BadArguments(why));
@@ -75,10 +81,31 @@ fn run_with<G: Gate + Sync, R: Threads + Wait + Sync>(
     let Ok((service, downs)) = Service::new(rt.alloc(), shape) else {
         return Err(Fault::NoMemory);
     };
-    match supervise(threads, rt.alloc(), service, downs, plans, gate) {
-        Ok(report) => Ok(Some(report)),
-        Err(fault) => match fault.why {
+    let room = service.room_for_counts()?;
+    match attend(threads, rt.alloc(), &service, downs, &plans, gate) {
+        Ok(attended) => close(service, attended, room),
+        Err(unattended) => match unattended.why {
             Refusal::BadShape => Err(Fault::BadArguments(why_not_falls(task.falls.as_slice()))),
+            Refusal::NoWorker => Ok(None),
+            _ => Err(Fault::NoMemory),
+        },
+    }
+}
+
+/// Closes the service of a run that is over.
+fn close(service: Service, attended: Attended, room: CountRoom) -> Result<Option<Outcome>, Fault>
+    requires ours { AreOf service attended.downs.items }
+    requires room { room ≡ service.shape }
+    ensures { IfOk result (λ outcome. IfSome outcome (λ outcome. (outcome.ends ≡ attended.ends) × IsCount service.shape attended.downs.items outcome.counted.locks.items)) }
+{
+    let Attended {
+        ends,
+        lives: _,
+        downs,
+    } = attended;
+    match service.close_counted(downs, room) {
+        Ok(counted) => Ok(Some(Outcome { ends, counted })),
+        Err(unclosed) => match unclosed.why {
             Refusal::NoWorker => Ok(None),
             _ => Err(Fault::NoMemory),
         },
