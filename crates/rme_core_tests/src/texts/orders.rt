@@ -2,7 +2,7 @@
 
 use crate::texts::lock_names;
 use rme_script::{Job, Op, Script};
-use rme_session_lines::{Order, Submission, order_of};
+use rme_session_lines::{Attachment, Order, Patience, Submission, order_of};
 use rme_wire::Names;
 use std::alloc::Global;
 use std::process::Abort;
@@ -31,6 +31,10 @@ const SUBMISSIONS: &[(&str, u32, u32, u32)] = &[
     ),
 ];
 
+fn attach(worker: u32, take: bool) -> Order {
+    Order::Attach(Attachment { worker, take })
+}
+
 /// A line must give this order.
 fn check_order(
     rt: &impl Abort,
@@ -49,13 +53,29 @@ fn check_order(
 fn orders(rt: HostRuntime) -> Result<(), Fail> {
     let names = lock_names(&rt, rt.alloc());
     for (line, wanted) in [
-        (r#"{"do":"attach","worker":0}"#, Order::Attach(0)),
-        (r#"{"worker":9,"do":"attach"}"#, Order::Attach(9)),
-        (r#"{"do":"resume"}"#, Order::Resume(1_000)),
-        (r#"{"do":"resume","tries":1}"#, Order::Resume(1)),
+        (r#"{"do":"attach","worker":0}"#, attach(0, false)),
+        (r#"{"worker":9,"do":"attach"}"#, attach(9, false)),
+        (
+            r#"{"do":"attach","take":false,"worker":1}"#,
+            attach(1, false),
+        ),
+        (r#"{"do":"attach","take":true,"worker":1}"#, attach(1, true)),
+        (r#"{"do":"resume"}"#, Order::Resume(Patience::Tries(1_000))),
+        (
+            r#"{"do":"resume","tries":1}"#,
+            Order::Resume(Patience::Tries(1)),
+        ),
         (
             r#"{"do":"resume","tries":1000000}"#,
-            Order::Resume(1_000_000),
+            Order::Resume(Patience::Tries(1_000_000)),
+        ),
+        (
+            r#"{"do":"resume","wait":0}"#,
+            Order::Resume(Patience::Wait(0)),
+        ),
+        (
+            r#"{"do":"resume","wait":3600000}"#,
+            Order::Resume(Patience::Wait(3_600_000)),
         ),
         (r#"{"do":"commit"}"#, Order::Commit),
         (r#"{"do":"withdraw"}"#, Order::Withdraw),
@@ -83,7 +103,7 @@ fn entering(rt: HostRuntime) -> Result<(), Fail> {
             lock: 0,
             script: Script::of(&[Op::Add(0, 5)]),
         },
-        tries: 3,
+        patience: Patience::Tries(3),
     };
     check_order(&rt, rt.alloc(), &names, line, Order::Enter(submission))
 }
@@ -101,6 +121,12 @@ fn no_orders(rt: HostRuntime) -> Result<(), Fail> {
         r#"{"do":"enter","lock":0,"number":1,"script":[]}"#,
         r#"{"do":"enter","lock":"a","number":1,"script":[],"tries":0}"#,
         r#"{"do":"enter","lock":"a","number":1,"script":[],"worker":0}"#,
+        r#"{"do":"enter","lock":"a","number":1,"script":[],"wait":3600001}"#,
+        r#"{"do":"enter","lock":"a","number":1,"script":[],"tries":1,"wait":1}"#,
+        r#"{"do":"resume","tries":1,"wait":1}"#,
+        r#"{"do":"resume","wait":-1}"#,
+        r#"{"do":"attach","take":1,"worker":0}"#,
+        r#"{"do":"attach","take":true}"#,
     ] {
         assert!(rt; order_of(rt.alloc(), &names, line.as_bytes())?.is_none());
     }
@@ -118,7 +144,7 @@ fn submissions(rt: HostRuntime) -> Result<(), Fail> {
                 lock: *lock,
                 script,
             },
-            tries: *tries,
+            patience: Patience::Tries(*tries),
         };
         check_order(&rt, rt.alloc(), &names, line, Order::Submit(submission))?;
     }

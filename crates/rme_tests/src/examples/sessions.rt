@@ -7,12 +7,13 @@ ghost use Rattle.rme.specs.Slots.{AreInPlace};
 use rme::Shape;
 use rme::lines::{LineReader, Names};
 use rme::service::{Down, Service, Tag};
-use rme::sessions::{Slots, session};
+use rme::sessions::{Hall, Host, Present, Slots, session};
 use std::alloc::Global;
 use std::marker::Brand;
 use std::process::Abort;
 use std::sync::Wait;
 use std::test::Fail;
+use std::time::Clock;
 
 /// What a client says: the worker crashes in the middle of its job, and the job is submitted again.
 const SAID: &str = r#"{"do":"attach","worker":0}
@@ -32,7 +33,7 @@ const HEARD: &str = r#"{"number":0,"ok":"attach","stance":"ready"}
 
 /// One session of the service that K names, from a text in memory to bytes in memory. Answers the Downs that lie in
 /// the slots after it.
-fn talk<K: Tag, R: Abort + Wait>(
+fn talk<K: Tag, R: Abort + Wait + Clock>(
     rt: &R,
     alloc: Global,
     service: &Service,
@@ -49,7 +50,14 @@ fn talk<K: Tag, R: Abort + Wait>(
     };
     let mut lines = LineReader::new(alloc, SAID.as_bytes())?;
     let mut heard = Vec::new(alloc);
-    session(rt, alloc, &mut lines, &mut heard, service, &slots, &names)?;
+    let host = Host {
+        alloc,
+        service,
+        slots: &slots,
+        names: &names,
+        hall: &Hall::new(alloc, service.shape())?,
+    };
+    session(rt, &host, &Present, &mut lines, &mut heard)?;
     assert!(rt; str::from_utf8(heard.as_slice()).ok() == Some(HEARD));
     match slots.into_downs(rt) {
         Ok(downs) => Ok(downs),

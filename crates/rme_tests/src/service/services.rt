@@ -57,6 +57,26 @@ fn running_service(rt: HostRuntime) -> Result<(), Fail> {
     Ok(())
 }
 
+/// Row `running service`, closed by counts.
+#[test]
+fn counted_service(rt: HostRuntime) -> Result<(), Fail> {
+    let (service, mut downs) = open(rt.alloc(), (2, 1, 1, 10))?;
+    let room = service.room_for_counts()?;
+    let one = next(&rt, &service, &mut downs);
+    let zero = next(&rt, &service, &mut downs);
+    let zero = make_job(&rt, &service, zero, &[Op::Add(0, 5)], (0, 0, 1, 0, 5));
+    let one = make_job(&rt, &service, one, &[Op::Get(0)], (1, 0, 1, 1, 5));
+    let downs = both(rt.alloc(), &service, zero, one)?;
+    let Ok(counted) = service.close_counted(downs, room) else {
+        panic!(rt; "it is not closed");
+    };
+    assert!(rt; counted.locks.len() == 1);
+    let lock = &counted.locks[0];
+    assert!(rt; lock.cells.as_slice() == [5].as_slice());
+    assert!(rt; lock.owner.is_none() && lock.settled && lock.entries == 2);
+    Ok(())
+}
+
 /// Row `table re-entry`: worker 0 enters, and falls.
 const ENTERED: &[Call] = &[Asked(2), Ask(0, &[]), Asked(3), Enter, Asked(1)];
 
