@@ -41,6 +41,9 @@ class Server:
         self.first = self.program.stdout.readline()
         found = re.fullmatch(rb"listening (\d+)\n", self.first)
         self.port = int(found.group(1)) if found else None
+        self.path = words[words.index("--socket") + 1] if "--socket" in words else None
+        # The line of the port comes first.
+        self.second = self.program.stdout.readline() if self.port and self.path else b""
         # Without a number it serves until it is killed.
         self.connections = self.left = int(words[words.index("--connections") + 1]) if "--connections" in words else 0
         self.counting = threading.Lock()
@@ -60,6 +63,14 @@ class Server:
 
     def session(self):
         return Session(self.connect())
+
+    def session_at_socket(self):
+        with self.counting:
+            self.left -= 1
+        connection = socket.socket(socket.AF_UNIX)
+        connection.settimeout(60)
+        connection.connect(self.path)
+        return Session(connection)
 
     def most_memory(self):
         """The most memory that the server had so far, in KiB."""
