@@ -17,6 +17,9 @@ from typing import Any, Callable, Iterator, Optional, Sequence, Type, TypedDict,
 Script = Sequence[Sequence[Union[str, int]]]
 Answer = TypeVar("Answer")
 
+WAIT = 10_000
+"""How many milliseconds the server goes on to try in one order, where the lock is not to be had."""
+
 
 class Receipt(TypedDict):
     """What is answered of a job that counted: the `place`-th section of its lock, and what its last operation gave."""
@@ -65,9 +68,16 @@ class Worker:
     is not known then, and the next call asks anew where the worker stands.
     """
 
-    def __init__(self, host: str, port: int, worker: int, timeout: float = 30):
-        """Nothing is connected yet. After `timeout` seconds without an answer the connection is taken for broken."""
+    def __init__(self, host: str, port: int, worker: int, timeout: float = 30, take: bool = False, socket_path: str = ""):
+        """Nothing is connected yet. After `timeout` seconds without an answer the connection is taken for broken; it is
+        more than the 10 seconds for which the server waits for a lock before it answers.
+
+        With `take` the worker is first taken over from a client that has it: that one's connection is closed, so it must be
+        known to be gone, or to hang. Otherwise its end is waited for. With `socket_path` the server is reached over that
+        Unix socket, and `host` and `port` say nothing.
+        """
         self.address, self.worker, self.timeout = (host, port), worker, timeout
+        self.take, self.socket_path = take, socket_path
         self._connection: Optional[socket.socket] = None
         self._number, self._is_pending = 0, False  # of the last job, or of the one that is pending
         self._begun: Optional[int] = None  # the number of the job whose block was begun, until it has counted
@@ -96,7 +106,7 @@ class Worker:
                 number = self._next()
             if number is None:
                 return None
-            return self._worked({"do": "submit", "lock": lock, "number": number, "script": script})
+            return self._worked({"do": "submit", "lock": lock, "number": number, "script": script, "wait": WAIT})
 
         return self._insist(attempt)
 
@@ -213,7 +223,7 @@ class Worker:
                 number = self._next()
             if number is None:
                 return None
-            order = {"do": "enter", "lock": lock, "number": number, "script": script}
+            order = {"do": "enter", "lock": lock, "number": number, "script": script, "wait": WAIT}
             answer = self._ask(order)
             if answer.get("stance") != "held":
                 return self._receipt(order, answer)
@@ -234,7 +244,7 @@ class Worker:
 
     def _finish(self) -> Optional[Receipt]:
         """Goes on with the pending job: its receipt, or `None` where it waits still."""
-        return self._worked({"do": "resume"})
+        return self._worked({"do": "resume", "wait": WAIT})
 
     def _worked(self, order: dict[str, Any]) -> Optional[Receipt]:
         """The receipt of the job that the order works at, or `None` where it waits still, and the line goes on with it."""
@@ -255,13 +265,27 @@ class Worker:
 
     def _attach(self) -> None:
         try:
-            self._connection = socket.create_connection(self.address, self.timeout)
+            self._connection = self._connected()
         except OSError as error:  # nobody listens there, as yet or any more
             raise Again from error
-        # 18, Taken: the server has not seen the end of the worker's last session yet.
-        while (answer := self._ask({"do": "attach", "worker": self.worker})).get("code") == 18:
+        order = {"do": "attach", "worker": self.worker, **({"take": True} if self.take else {})}
+        # 18, Taken: another client has the worker, or the server has not seen the end of its last session yet.
+        while (answer := self._ask(order)).get("code") == 18:
             time.sleep(0.01)
+        self.take = False
         self._number, self._is_pending = answer["number"], answer["stance"] != "ready"
+
+    def _connected(self) -> socket.socket:
+        if not self.socket_path:
+            return socket.create_connection(self.address, self.timeout)
+        connection = socket.socket(socket.AF_UNIX)
+        try:
+            connection.settimeout(self.timeout)
+            connection.connect(self.socket_path)
+        except BaseException:
+            connection.close()
+            raise
+        return connection
 
     def _ask(self, order: dict[str, Any]) -> dict[str, Any]:
         """Sends a line and answers the server's. Where none comes, the order may have been obeyed or not."""
