@@ -2,8 +2,8 @@
 
    Connection w is worker w. Its jobs add 1 to cell 0 of lock w modulo LOCKS, and have the numbers 1, 2, 3 and so on. To
    `rme serve` and to the echo server a job is a session's line, or with `inside` two of them, which enter and commit; to redis
-   it is the script of that SHA1 with the same numbers. It prints how many jobs were answered, the nanoseconds that took, and
-   the bytes of a usual line and answer.
+   it is the script of that SHA1 with the same numbers. It prints how many jobs were answered, the nanoseconds that took, the
+   bytes of a usual line and answer, and the microseconds within which half of the jobs were answered, and 99 of 100.
 */
 #include "bench.h"
 
@@ -15,8 +15,11 @@ static const char *sha = "";
 static atomic_bool is_over;
 static pthread_barrier_t begin;
 
+enum { SLOWEST = 65535 }; /* microseconds; what takes longer counts as that */
+
 struct client {
     unsigned worker;
+    uint32_t *took; /* for each number of microseconds how many jobs took so long */
     int connection;
     uint64_t answered;
     size_t line_size, answer_size;
@@ -91,6 +94,12 @@ static size_t ask(const struct client *client, const char *line, size_t size, ch
     return answered;
 }
 
+static uint64_t now(void) {
+    struct timespec time;
+    clock_gettime(CLOCK_MONOTONIC, &time);
+    return (uint64_t)time.tv_sec * 1000000000u + (uint64_t)time.tv_nsec;
+}
+
 /* Makes job after job until the time is over. A job that waits is sent again, and counts once. */
 static void *work(void *given) {
     static const char commit[] = "{\"do\":\"commit\"}\n";
@@ -101,6 +110,7 @@ static void *work(void *given) {
     }
     pthread_barrier_wait(&begin);
     while (!atomic_load_explicit(&is_over, memory_order_relaxed)) {
+        uint64_t began = now();
         client->line_size = request(line, client, client->answered + 1);
         if (kind == INSIDE) {
             ask(client, line, client->line_size, held, "\"stance\":\"held\"");
@@ -108,6 +118,8 @@ static void *work(void *given) {
         } else {
             client->answer_size = ask(client, line, client->line_size, held, "\"place\":");
         }
+        uint64_t took = (now() - began) / 1000;
+        client->took[took < SLOWEST ? took : SLOWEST]++;
         client->answered++;
     }
     return NULL;
@@ -123,10 +135,18 @@ static int connected(void) {
     return connection;
 }
 
-static uint64_t now(void) {
-    struct timespec time;
-    clock_gettime(CLOCK_MONOTONIC, &time);
-    return (uint64_t)time.tv_sec * 1000000000u + (uint64_t)time.tv_nsec;
+/* The microseconds within which so many of 100 jobs were answered. */
+static unsigned within(const struct client *clients, unsigned connections, uint64_t answered, unsigned percent) {
+    uint64_t seen = 0;
+    for (unsigned time = 0; time < SLOWEST; time++) {
+        for (unsigned i = 0; i < connections; i++) {
+            seen += clients[i].took[time];
+        }
+        if (100 * seen >= percent * answered) {
+            return time;
+        }
+    }
+    return SLOWEST;
 }
 
 static enum kind kind_of(const char *word) {
@@ -157,8 +177,8 @@ int main(int count, char **words) {
     pthread_t threads[MOST_CONNECTIONS];
     pthread_barrier_init(&begin, NULL, connections + 1);
     for (unsigned i = 0; i < connections; i++) {
-        clients[i] = (struct client){.worker = i, .connection = connected()};
-        if (pthread_create(&threads[i], NULL, work, &clients[i]) != 0) {
+        clients[i] = (struct client){.worker = i, .connection = connected(), .took = calloc(SLOWEST + 1, sizeof(uint32_t))};
+        if (clients[i].took == NULL || pthread_create(&threads[i], NULL, work, &clients[i]) != 0) {
             fail("no thread");
         }
     }
@@ -170,7 +190,8 @@ int main(int count, char **words) {
         pthread_join(threads[i], NULL);
         answered += clients[i].answered;
     }
-    printf("%llu %llu %zu %zu\n", (unsigned long long)answered, (unsigned long long)(now() - began), clients[0].line_size,
-        clients[0].answer_size);
+    uint64_t took = now() - began;
+    printf("%llu %llu %zu %zu %u %u\n", (unsigned long long)answered, (unsigned long long)took, clients[0].line_size,
+        clients[0].answer_size, within(clients, connections, answered, 50), within(clients, connections, answered, 99));
     return 0;
 }
