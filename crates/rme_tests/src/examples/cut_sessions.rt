@@ -26,7 +26,8 @@ const THEN: &str = r#"{"do":"attach","worker":0}
 "#;
 
 /// What it is answered last.
-const RECEIPT: &str = r#"{"ok":"submit","receipt":{"lock":"bank","number":1,"place":0,"reply":5,"worker":0}}
+const RECEIPT: &str =
+    r#"{"ok":"submit","receipt":{"lock":"bank","number":1,"place":0,"reply":5,"worker":0}}
 "#;
 
 /// What these lines are answered by a session of its own.
@@ -69,9 +70,15 @@ fn cut<K: Tag, R: Abort + Wait + Clock>(
     let front = SAID.as_bytes().get(..bytes).unwrap_or(SAID.as_bytes());
     answered(rt, &host, front)?;
     let heard = answered(rt, &host, THEN.as_bytes())?;
-    assert!(rt; heard.as_slice().ends_with(RECEIPT.as_bytes()), "a cut after {bytes} bytes");
+    assert!(rt;
+        heard.as_slice().ends_with(RECEIPT.as_bytes()),
+        "a cut after {bytes} bytes"
+    );
     let again = answered(rt, &host, THEN.as_bytes())?;
-    assert!(rt; again.as_slice().ends_with(RECEIPT.as_bytes()), "once more after {bytes} bytes");
+    assert!(rt;
+        again.as_slice().ends_with(RECEIPT.as_bytes()),
+        "once more after {bytes} bytes"
+    );
     Ok(())
 }
 
