@@ -11,3 +11,4 @@ pub mod Opened
 pub mod Looking
 pub mod Returns
 pub mod Saving
+pub mod Stopping

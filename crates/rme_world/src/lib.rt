@@ -14,6 +14,7 @@
 mod counts;
 mod events;
 mod images;
+mod known;
 mod looks;
 mod perform;
 mod phases;

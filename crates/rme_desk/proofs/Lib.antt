@@ -1,0 +1,8 @@
+-- How walks add up; the last receipt; the stance that a worker in a phase has.
+pub mod Walking
+pub mod Lasts
+pub mod Stances
+pub mod Planning
+pub mod Ways
+pub mod Sighting
+pub mod Posting

@@ -1,0 +1,39 @@
+-- A plan that is asked before each own step.
+use Rattle.std.proofs.Common.{◌≡◌, ℕ, ◌+◌, ◌<◌, arith, refl}
+use Rattle.std.specs.Prelude.{Bool, true, false}
+use Rattle.rme_orders.specs.Plans.{IsAsked, IsDue, Leaves, left_of}
+use Rattle.rme_orders.specs.declared.planned.Countdown.{Countdown}
+use Rattle.rme_orders.specs.declared.planned.Countdown.TheVariants.{Runs, Fallen}
+use Rattle.rme_orders.specs.declared.planned.Planned.{Planned}
+use Rattle.rme_orders.specs.declared.planned.Planned.TheVariants.{Nothing, After}
+
+-- It was asked before so many steps, and runs.
+abbrev pub RunsOn : Planned → ℕ → Countdown → Type 0
+RunsOn planned steps (Runs left) = Leaves planned steps left
+RunsOn planned steps Fallen = ⊥
+
+pub runs_first : (planned : Planned) → RunsOn planned 0 (Runs planned)
+runs_first Nothing = tt
+runs_first (After left) = λ small. omega arith
+
+pub runs_on : (planned : Planned) (steps more : ℕ) (old now : Countdown) → more ≡ steps + 1 → RunsOn planned steps old → IsAsked old false now → RunsOn planned more now
+runs_on planned steps more Fallen now is on asked = absurd on
+runs_on planned steps more (Runs Nothing) Fallen is on asked = absurd asked
+runs_on planned steps more (Runs (After left)) Fallen is on asked = absurd asked
+runs_on Nothing steps more (Runs Nothing) (Runs Nothing) is on asked = tt
+runs_on Nothing steps more (Runs Nothing) (Runs (After rest)) is on asked = absurd asked
+runs_on (After first) steps more (Runs Nothing) (Runs now) is on asked = absurd on
+runs_on Nothing steps more (Runs (After left)) (Runs now) is on asked = absurd on
+runs_on (After first) steps more (Runs (After left)) (Runs Nothing) is on asked = absurd asked
+runs_on (After first) steps more (Runs (After left)) (Runs (After rest)) is on asked = λ small. (let sum = on small in omega (arith, sum, asked.0, is))
+
+pub leaves_of : (planned : Planned) (steps : ℕ) (now : Countdown) → RunsOn planned steps now → Leaves planned steps (left_of now)
+leaves_of planned steps (Runs left) on = on
+leaves_of planned steps Fallen on = absurd on
+
+pub falls_due : (planned : Planned) (steps : ℕ) (old now : Countdown) → RunsOn planned steps old → IsAsked old true now → IsDue planned steps × (left_of now ≡ Nothing)
+falls_due planned steps Fallen now on asked = absurd on
+falls_due planned steps (Runs Nothing) now on asked = absurd asked
+falls_due planned steps (Runs (After left)) (Runs now) on asked = absurd asked
+falls_due Nothing steps (Runs (After left)) Fallen on asked = absurd on
+falls_due (After first) steps (Runs (After left)) Fallen on asked = ((λ small. (let sum = on small in omega (arith, sum, asked))), refl)

@@ -1,0 +1,6 @@
+-- In reading order: what a session shows; own steps of one worker; what a worker does of its job; what was done of an order.
+pub mod Sights
+pub mod Outcomes
+pub mod Walks
+pub mod Works
+pub mod Deeds

@@ -1,0 +1,67 @@
+//! What a worker that is up knows, what it is asked to do, and whether another worker stops it.
+
+use crate::world::World;
+use rme_good::{is_pending, slate};
+use rme_program::{Action, Private, Stage, next};
+use rme_script::Job;
+use rme_words::Address;
+
+impl World {
+    ghost use Rattle.std.specs.Prelude.{◌≡◌, ◌<◌, ◌↔◌, IsSome, IfSome, IsTrue, IsFalse, true};
+    ghost use Rattle.rme_machine.specs.Views.{is_pending, slate_job};
+    ghost use Rattle.rme_world.specs.Looks.{IsStopped, words_seen};
+    ghost use Rattle.rme_world.specs.Seen.{IsKept, privates_seen};
+
+    /// What a worker knows: nothing while it is down, and where there is no such worker.
+    pub fn known(&self, worker: u32) -> Option<Private>
+        ensures kept { IsKept self.now }
+        ensures known { result ≡ privates_seen self.now worker }
+    {
+        match self.privates.get(worker as usize) {
+            Some(Some(private)) => Some(*private),
+            _ => None,
+        }
+    }
+
+    /// The job that a worker has asked for, until it is finished or withdrawn, whether the worker is up or down.
+    pub fn pending(&self, worker: u32) -> Option<Job>
+        requires { worker < self.now.shape.workers }
+        ensures pending { IsSome result ↔ (is_pending (words_seen self.now worker) ≡ true) }
+        ensures job { IfSome result (λ job. job ≡ slate_job (words_seen self.now worker)) }
+    {
+        if !is_pending(&self.bank, worker) {
+            return None;
+        }
+        Some(Job {
+            lock: self.slate_lock(worker),
+            script: slate(&self.bank, worker),
+        })
+    }
+
+    /// The lock of a pending job.
+    fn slate_lock(&self, worker: u32) -> u32
+        requires within { worker < self.now.shape.workers }
+        requires pending { is_pending (words_seen self.now worker) ≡ true }
+        ensures { result ≡ (words_seen self.now worker).slate_lock }
+    {
+        self.bank.load(Address::SlateLock(worker)) as u32
+    }
+
+    /// Whether a worker's next own step would be blocked: it climbs, and another worker holds the next node of its path, from
+    /// the other side. Such a step changes nothing.
+    pub fn stopped(&self, worker: u32) -> bool
+        ensures stopped { IsTrue result → IsStopped self.now worker }
+        ensures free { IsFalse result → IsStopped self.now worker → ⊥ }
+    {
+        let Some(private) = self.known(worker) else {
+            return false;
+        };
+        let Stage::Climbing(_) = private.stage else {
+            return false;
+        };
+        match next(self.shape(), &private) {
+            Action::Swap(address, free, _) => self.bank.load(address) != free,
+            _ => false,
+        }
+    }
+}
