@@ -6,3 +6,4 @@ pub mod Planning
 pub mod Ways
 pub mod Sighting
 pub mod Posting
+pub mod Working

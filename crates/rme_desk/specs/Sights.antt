@@ -1,5 +1,6 @@
 -- What a session that has a worker of a world shows: what the machine knows of the worker.
-use Rattle.std.specs.Prelude.{◌≡◌, ℕ, ◌==◌, List, Option, Some, None, if◌then◌else◌, slice_get, Bool, true, false}
+use Rattle.std.specs.Prelude.{◌≡◌, ℕ, ◌≤◌, ◌==◌, List, Option, Some, None, if◌then◌else◌, slice_get, Bool, true, false}
+use Rattle.rme_words.specs.declared.shape.Shape.{Shape}
 use Rattle.rme_program.specs.declared.kinds.Phase.{Phase}
 use Rattle.rme_program.specs.declared.kinds.Phase.TheVariants as phase
 use Rattle.rme_program.specs.declared.note.Entry.{Entry}
@@ -48,3 +49,10 @@ is_resting phase.Exit = false
 -- A worker stands where an order may leave it.
 abbrev pub Rests : Seen → ℕ → Type 0
 Rests seen worker = (private : Private) × (slice_get seen.privates worker ≡ Some (Some private)) × (is_resting (phase_of private.stage) ≡ true)
+
+-- A worker that is ready has begun at most all its jobs.
+abbrev pub IsFew : Shape → Session → Type 0
+IsFew shape Nobody = Unit {0}
+IsFew shape (Ready ready) = ready.number ≤ shape.jobs
+IsFew shape (Climb pending) = Unit {0}
+IsFew shape (Held pending) = Unit {0}

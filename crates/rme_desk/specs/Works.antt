@@ -21,6 +21,7 @@ Ends end worker mid worked new = (worked.falls ≡ false) × (worked.outcome ≡
 
 -- It made so many own steps.
 pub record Went (goal : Goal) (worker : ℕ) (planned : Planned) (old : Seen) (worked : Worked) (new : Seen) : Type 0 where
+  pub begun : IsKept old
   pub mid : Seen
   pub walks : Walks goal worker old worked.steps mid
   pub kept : IsKept mid

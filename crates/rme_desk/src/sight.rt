@@ -2,7 +2,7 @@
 
 ghost use Rattle.std.specs.Prelude.{◌≡◌, ◌<◌, Ok};
 ghost use Rattle.rme_world.specs.Calls.{ShowsLast};
-ghost use Rattle.rme_desk.specs.Sights.{Rests, sight_of};
+ghost use Rattle.rme_desk.specs.Sights.{IsFew, Rests, sight_of};
 ghost use Rattle.rme_desk.specs.Outcomes.{outcome_by};
 ghost use Rattle.rme_orders.specs.Obeyed as spec;
 ghost use Rattle.rme_world.specs.Seen.{IsKept};
@@ -17,6 +17,7 @@ pub(crate) fn sight(world: &World, worker: u32) -> Session
     requires rests { Rests world.now worker }
     ensures sight { result ≡ sight_of world.now worker }
     ensures kept { IsKept world.now }
+    ensures few { IsFew world.now.shape result }
 {
     let Some(private) = world.known(worker) else {
         unreachable!();

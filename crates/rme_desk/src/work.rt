@@ -2,6 +2,7 @@
 
 ghost use Rattle.std.specs.Prelude.{◌≡◌, IfOk, Ok, OnErr};
 ghost use Rattle.rme_world.specs.Calls.{Crashed};
+ghost use Rattle.rme_world.specs.Seen.{IsKept};
 ghost use Rattle.rme_desk.specs.Walks.{IsUp};
 ghost use Rattle.rme_desk.specs.Works.{MayPost, Posts, Went};
 
@@ -30,6 +31,7 @@ pub(crate) fn go_on(world: &mut World, worker: u32, goal: Goal, planned: Planned
     requires up { IsUp world.old worker }
     ensures went { Went goal worker planned world.old result world.new }
 {
+    look(world, worker);
     let walk = go(world, worker, goal, planned);
     let (outcome, falls) = match walk.end {
         End::Fallen => (fall(world, worker), true),
@@ -41,6 +43,13 @@ pub(crate) fn go_on(world: &mut World, worker: u32, goal: Goal, planned: Planned
         falls,
         left: walk.left,
     }
+}
+
+/// Each world keeps what it keeps.
+fn look(world: &World, worker: u32)
+    ensures { IsKept world.now }
+{
+    let _ = world.known(worker);
 }
 
 /// The worker falls.

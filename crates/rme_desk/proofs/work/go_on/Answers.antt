@@ -8,6 +8,7 @@ use Rattle.rme_desk.proofs.work.go_on.Goals as goal
 pub returns-in-Fallen : goal.returns-in-Fallen
 returns-in-Fallen c = record {
   went = record {
+    begun = c.look.ensures;
     mid = c.go-walk.new.world;
     walks = c.go-walk.ensures.walks;
     kept = c.go-walk.ensures.kept;
@@ -23,7 +24,8 @@ pub returns-in-There : goal.returns-in-There
 returns-in-There c = elim c.in-There.is [
   | inl there ↦ record {
       went = record {
-        mid = c.go-walk.new.world;
+        begun = c.look.ensures;
+    mid = c.go-walk.new.world;
         walks = c.go-walk.ensures.walks;
         kept = c.go-walk.ensures.kept;
         up = c.go-walk.ensures.up;
@@ -35,7 +37,8 @@ returns-in-There c = elim c.in-There.is [
     }
   | inr stopped ↦ record {
       went = record {
-        mid = c.go-walk.new.world;
+        begun = c.look.ensures;
+    mid = c.go-walk.new.world;
         walks = c.go-walk.ensures.walks;
         kept = c.go-walk.ensures.kept;
         up = c.go-walk.ensures.up;

@@ -1,0 +1,277 @@
+-- What a worker's way comes to at the end of its walk.
+use Rattle.std.proofs.Common.{◌≡◌, ◌≢◌, ℕ, zero, suc, ◌+◌, ◌<◌, ◌≤◌, refl, sym, ◌∙◌, ap, subst, inl, inr, arith}
+use Rattle.std.specs.Prelude.{◌⊎◌, Bool, true, false, Option, Some, None, slice_get}
+use Rattle.std.proofs.lemmas.Option.{same_Some}
+use Rattle.rme_script.specs.declared.job.Job.{Job}
+use Rattle.rme_program.specs.NoteLaws.{follows}
+use Rattle.rme_program.specs.Phases.{phase_of}
+use Rattle.rme_program.specs.Steps.{private_after}
+use Rattle.rme_program.specs.declared.kinds.Phase.{Phase}
+use Rattle.rme_program.specs.declared.kinds.Phase.TheVariants as phase
+use Rattle.rme_program.specs.declared.note.Receipt.{Receipt}
+use Rattle.rme_program.specs.declared.private.Private.{Private}
+use Rattle.rme_machine.specs.declared.stance.Stance.{Stance}
+use Rattle.rme_machine.specs.declared.stance.Stance.TheVariants.{Idle, Handed, Waiting, Inside, Finished}
+use Rattle.rme_machine.specs.Machine.{WorkerState}
+use Rattle.rme_machine.specs.Views.{slate_job}
+use Rattle.rme_orders.specs.Obeyed as obeyed
+use Rattle.rme_orders.specs.Plans.{IsDue, Leaves}
+use Rattle.rme_orders.specs.Sights.{IsReceiptOf, Task, finished_with, nobody, waiting_with}
+use Rattle.rme_orders.specs.declared.planned.Planned.{Planned}
+use Rattle.rme_orders.specs.declared.planned.Planned.TheVariants.{Nothing}
+use Rattle.rme_orders.specs.declared.view.PendingWorker.{PendingWorker}
+use Rattle.rme_orders.specs.declared.view.ReadyWorker.{ReadyWorker}
+use Rattle.rme_orders.specs.declared.view.Session.{Session}
+use Rattle.rme_orders.specs.declared.view.Session.TheVariants.{Nobody, Ready, Climb, Held}
+use Rattle.rme_orders.specs.declared.view.View.{View}
+use Rattle.rme_session_lines.specs.declared.session.Outcome.{Outcome}
+use Rattle.rme_session_lines.specs.declared.session.Outcome.TheVariants as outcome
+use Rattle.rme_world.specs.Seen.{Seen, IsKept}
+use Rattle.rme_world.specs.Looks.{IsStopped, words_seen}
+use Rattle.rme_world.proofs.Telling.{after_step}
+use Rattle.rme_desk.specs.declared.steps.End.{End}
+use Rattle.rme_desk.specs.declared.steps.End.TheVariants.{There, Stopped, Fallen}
+use Rattle.rme_desk.specs.declared.steps.Goal.{Goal}
+use Rattle.rme_desk.specs.declared.steps.Goal.TheVariants as goals
+use Rattle.rme_desk.specs.declared.work.Worked.{Worked}
+use Rattle.rme_desk.specs.Carried.{IsDown, view_with}
+use Rattle.rme_desk.specs.Outcomes.{outcome_by}
+use Rattle.rme_desk.specs.Replies.{seat_after}
+use Rattle.rme_desk.specs.Sights.{Rests, is_resting, last_under, me_in, sight_of}
+use Rattle.rme_desk.specs.Walks.{IsEnd, IsSpent, Moves, Walks, is_at}
+use Rattle.rme_desk.specs.Works.{Ends, Went}
+use Rattle.rme_desk.proofs.Posting.{crashed_found}
+use Rattle.rme_desk.proofs.Sighting.{climb_sight, held_sight, idle, inside_of, ready_sight, waiting_of}
+use Rattle.rme_desk.proofs.Stances.{IsNumbered, Suits, numbered, suits}
+use Rattle.rme_desk.proofs.Walking.{made, then_kept}
+use Rattle.rme_desk.proofs.Ways.{HasEntered, OnWay, Way, phases, way_walks}
+
+-- ---- phases that a walk may lead through
+
+-- On the way in, and inside; from the entry on.
+abbrev pub is_way_in : Phase → Bool
+is_way_in phase.Post = true
+is_way_in phase.Enter = true
+is_way_in phase.Section = true
+is_way_in p = false
+
+abbrev pub is_past_entry : Phase → Bool
+is_past_entry phase.Section = true
+is_past_entry phase.Exit = true
+is_past_entry phase.Ready = true
+is_past_entry p = false
+
+way_in_on : (p q : Phase) → is_way_in p ≡ true → is_at goals.Inside p ≡ false → follows p q ≡ true → is_way_in q ≡ true
+way_in_on phase.Recover q way away goes = absurd (cc)
+way_in_on phase.Exit q way away goes = absurd (cc)
+way_in_on phase.Ready q way away goes = absurd (cc)
+way_in_on phase.Section q way away goes = absurd (cc)
+way_in_on phase.Post phase.Post way away goes = refl
+way_in_on phase.Post phase.Enter way away goes = refl
+way_in_on phase.Post phase.Recover way away goes = absurd (cc)
+way_in_on phase.Post phase.Section way away goes = refl
+way_in_on phase.Post phase.Exit way away goes = absurd (cc)
+way_in_on phase.Post phase.Ready way away goes = absurd (cc)
+way_in_on phase.Enter phase.Post way away goes = refl
+way_in_on phase.Enter phase.Enter way away goes = refl
+way_in_on phase.Enter phase.Section way away goes = refl
+way_in_on phase.Enter phase.Recover way away goes = absurd (cc)
+way_in_on phase.Enter phase.Exit way away goes = absurd (cc)
+way_in_on phase.Enter phase.Ready way away goes = absurd (cc)
+
+past_entry_on : (p q : Phase) → is_past_entry p ≡ true → follows p q ≡ true → is_past_entry q ≡ true
+past_entry_on phase.Recover q past goes = absurd (cc)
+past_entry_on phase.Post q past goes = absurd (cc)
+past_entry_on phase.Enter q past goes = absurd (cc)
+past_entry_on phase.Section phase.Section past goes = refl
+past_entry_on phase.Section phase.Exit past goes = refl
+past_entry_on phase.Section phase.Ready past goes = refl
+past_entry_on phase.Section phase.Recover past goes = absurd (cc)
+past_entry_on phase.Section phase.Post past goes = absurd (cc)
+past_entry_on phase.Section phase.Enter past goes = absurd (cc)
+past_entry_on phase.Exit phase.Section past goes = refl
+past_entry_on phase.Exit phase.Exit past goes = refl
+past_entry_on phase.Exit phase.Ready past goes = refl
+past_entry_on phase.Exit phase.Recover past goes = absurd (cc)
+past_entry_on phase.Exit phase.Post past goes = absurd (cc)
+past_entry_on phase.Exit phase.Enter past goes = absurd (cc)
+past_entry_on phase.Ready phase.Section past goes = refl
+past_entry_on phase.Ready phase.Exit past goes = refl
+past_entry_on phase.Ready phase.Ready past goes = refl
+past_entry_on phase.Ready phase.Recover past goes = absurd (cc)
+past_entry_on phase.Ready phase.Post past goes = absurd (cc)
+past_entry_on phase.Ready phase.Enter past goes = absurd (cc)
+
+-- A worker is up in a phase that passes a test.
+abbrev pub IsUpIn : (Phase → Bool) → Seen → ℕ → Type 0
+IsUpIn test seen worker = (private : Private) × (slice_get seen.privates worker ≡ Some (Some private)) × (test (phase_of private.stage) ≡ true)
+
+-- A test that each step keeps holds after a walk.
+walk_in : (goal : Goal) (test : Phase → Bool) → ((p q : Phase) → test p ≡ true → is_at goal p ≡ false → follows p q ≡ true → test q ≡ true)
+    → (worker steps : ℕ) (old new : Seen) → IsKept old → Walks goal worker old steps new → IsUpIn test old worker → IsUpIn test new worker
+unfolding Walks
+walk_in goal test keeps worker zero old new kept walks up = subst (λ (s : Seen). IsUpIn test s worker) (sym walks) up
+walk_in goal test keeps worker (suc steps) old new kept walks up =
+    let moves = walks.1 in
+    let its = made goal worker old walks.0 kept moves in
+    let same : its.private ≡ moves.private = same_Some _ _ (same_Some _ _ (sym its.found ∙ moves.found)) in
+    let same_up : its.private ≡ up.0 = same_Some _ _ (same_Some _ _ (sym its.found ∙ up.1)) in
+    let T : Private → Type 0 = λ (p : Private). test (phase_of p.stage) ≡ true in
+    let A : Private → Type 0 = λ (p : Private). is_at goal (phase_of p.stage) ≡ false in
+    let next : IsUpIn test walks.0 worker = (
+      private_after old.shape its.private its.value,
+      after_step old walks.0 worker moves.note kept its,
+      keeps (phase_of its.private.stage) (phase_of (private_after old.shape its.private its.value).stage) (subst T (sym same_up) up.2) (subst A (sym same) moves.away) (phases old walks.0 worker moves.note kept its),
+    ) in
+    walk_in goal test keeps worker steps walks.0 new (then_kept goal worker old walks.0 kept moves) walks.2 next
+
+pub comes_in : (worker steps : ℕ) (old new : Seen) → IsKept old → Walks goals.Inside worker old steps new → IsUpIn is_way_in old worker → IsUpIn is_way_in new worker
+comes_in worker steps old new kept walks up = walk_in goals.Inside is_way_in way_in_on worker steps old new kept walks up
+
+pub stays_past : (goal : Goal) (worker steps : ℕ) (old new : Seen) → IsKept old → Walks goal worker old steps new → IsUpIn is_past_entry old worker → IsUpIn is_past_entry new worker
+stays_past goal worker steps old new kept walks up = walk_in goal is_past_entry (λ p q past away goes. past_entry_on p q past goes) worker steps old new kept walks up
+
+-- ---- where a walk ends
+
+rest_phase : (goal : Goal) (p : Phase) → is_at goal p ≡ true → is_resting p ≡ true
+rest_phase goals.Rest phase.Recover at = cc
+rest_phase goals.Rest phase.Post at = cc
+rest_phase goals.Rest phase.Enter at = refl
+rest_phase goals.Rest phase.Section at = refl
+rest_phase goals.Rest phase.Exit at = cc
+rest_phase goals.Rest phase.Ready at = refl
+rest_phase goals.Inside phase.Recover at = cc
+rest_phase goals.Inside phase.Post at = cc
+rest_phase goals.Inside phase.Enter at = cc
+rest_phase goals.Inside phase.Section at = refl
+rest_phase goals.Inside phase.Exit at = cc
+rest_phase goals.Inside phase.Ready at = refl
+rest_phase goals.Ready phase.Recover at = cc
+rest_phase goals.Ready phase.Post at = cc
+rest_phase goals.Ready phase.Enter at = cc
+rest_phase goals.Ready phase.Section at = cc
+rest_phase goals.Ready phase.Exit at = cc
+rest_phase goals.Ready phase.Ready at = refl
+
+pub there_rests : (goal : Goal) (worker : ℕ) (now : Seen) → IsEnd goal worker now There → Rests now worker
+there_rests goal worker now at = (at.0, at.1, rest_phase goal (phase_of at.0.stage) at.2)
+
+stopped_enter : (worker : ℕ) (now : Seen) → (stopped : IsStopped now worker) → phase_of stopped.private.stage ≡ phase.Enter
+stopped_enter worker now stopped = ap phase_of stopped.climbs
+
+pub stopped_rests : (worker : ℕ) (now : Seen) → IsStopped now worker → Rests now worker
+stopped_rests worker now stopped = (stopped.private, stopped.found, ap is_resting (stopped_enter worker now stopped))
+
+ready_only : (p : Phase) → is_at goals.Ready p ≡ true → p ≡ phase.Ready
+ready_only phase.Recover at = cc
+ready_only phase.Post at = cc
+ready_only phase.Enter at = cc
+ready_only phase.Section at = cc
+ready_only phase.Exit at = cc
+ready_only phase.Ready at = refl
+
+inside_only : (p : Phase) → is_at goals.Inside p ≡ true → is_way_in p ≡ true → p ≡ phase.Section
+inside_only phase.Recover at way = cc
+inside_only phase.Post at way = cc
+inside_only phase.Enter at way = cc
+inside_only phase.Section at way = refl
+inside_only phase.Exit at way = cc
+inside_only phase.Ready at way = cc
+
+module _ (task : Task) (seen : Seen) (worker : ℕ) (way : Way task seen worker) where
+  same_private : (private : Private) → slice_get seen.privates worker ≡ Some (Some private) → way.private ≡ private
+  same_private private found = same_Some _ _ (same_Some _ _ (sym way.found ∙ found))
+
+  in_phase : (p : Phase) (private : Private) → slice_get seen.privates worker ≡ Some (Some private) → phase_of private.stage ≡ p → phase_of way.private.stage ≡ p
+  in_phase p private found e = ap (λ (q : Private). phase_of q.stage) (same_private private found) ∙ e
+
+  on_at : (stance : Stance) → (me_in seen worker).stance ≡ stance → OnWay task seen.history (me_in seen worker) stance
+  on_at stance e = subst (λ (s : Stance). OnWay task seen.history (me_in seen worker) s) e way.on
+
+  -- A worker that is ready then has finished its task.
+  pub ends_ready : phase_of way.private.stage ≡ phase.Ready → (receipt : Receipt) × IsReceiptOf task receipt × (sight_of seen worker ≡ Ready (finished_with task receipt))
+  ends_ready e =
+      let on = on_at Idle (idle seen worker way.private way.kept way.found e) in
+      (on.1.0, on.1.1,
+      ready_sight seen worker way.private way.kept way.found e
+      ∙ ap (λ (n : ℕ). Ready record { worker = worker; number = n; last = last_under seen.history worker n }) on.0
+      ∙ ap (λ (w : ℕ). Ready record { worker = w; number = task.number; last = last_under seen.history w task.number }) (sym way.its)
+      ∙ ap (λ (l : Option Receipt). Ready record { worker = task.worker; number = task.number; last = l }) on.1.2)
+
+  as_waiting : (n : ℕ) (job : Job) → n ≡ task.number → job ≡ task.job → record { worker = worker; number = n; draft = Some job } ≡ waiting_with task
+  as_waiting n job number same =
+      ap (λ (w : ℕ). record { worker = w; number = n; draft = Some job }) (sym way.its)
+      ∙ ap (λ (k : ℕ). record { worker = task.worker; number = k; draft = Some job }) number
+      ∙ ap (λ (j : Job). record { worker = task.worker; number = task.number; draft = Some j }) same
+
+  -- One that waits, and one that is inside, has its task still.
+  pub ends_climb : phase_of way.private.stage ≡ phase.Enter → sight_of seen worker ≡ Climb (waiting_with task)
+  ends_climb e =
+      let at = subst (λ (q : Phase). Suits q (me_in seen worker).stance) e (suits seen worker way.private way.kept way.found) in
+      let waits = waiting_of (me_in seen worker).stance at in
+      let on = on_at (Waiting waits.0 waits.1) waits.2 in
+      let its = subst (λ (s : Stance). IsNumbered s (me_in seen worker).asked (slate_job (words_seen seen worker))) waits.2 (numbered seen worker) in
+      climb_sight seen worker way.private way.kept way.found e ∙ ap (λ (p : PendingWorker). Climb p) (as_waiting (me_in seen worker).asked (slate_job (words_seen seen worker)) on.0 (sym its.1 ∙ on.1))
+
+  pub ends_held : phase_of way.private.stage ≡ phase.Section → sight_of seen worker ≡ Held (waiting_with task)
+  ends_held e =
+      let at = subst (λ (q : Phase). Suits q (me_in seen worker).stance) e (suits seen worker way.private way.kept way.found) in
+      let in_it = inside_of (me_in seen worker).stance at in
+      let on = on_at (Inside in_it.0 in_it.1) in_it.2 in
+      let its = subst (λ (s : Stance). IsNumbered s (me_in seen worker).asked (slate_job (words_seen seen worker))) in_it.2 (numbered seen worker) in
+      held_sight seen worker way.private way.kept way.found e ∙ ap (λ (p : PendingWorker). Held p) (as_waiting (me_in seen worker).asked (slate_job (words_seen seen worker)) on.0 (sym its.1 ∙ on.1))
+
+-- ---- what a worker did, by the definitions of orders
+
+-- What the session shows then, and what became of the job.
+abbrev pub seen_after : Seen → ℕ → Worked → View
+seen_after new worker worked = view_with new (seat_after worked.falls worker) worked.left
+
+-- So many own steps were asked for, which leave of the plan what is left.
+pub record IsDone (planned : Planned) (worker : ℕ) (worked : Worked) (new : Seen) (Did : Session → Outcome → Type 0) : Type 0 where
+  pub asked : ℕ
+  pub did : Did (seen_after new worker worked).session worked.outcome
+  pub left : (old : View) → old.planned ≡ planned → obeyed.IsLeft asked old (seen_after new worker worked) worked.outcome
+  pub tried : obeyed.IsTried 1 asked worked.outcome
+
+-- It fell, or stands where the session shows it.
+fell_done : (planned : Planned) (worker : ℕ) (start : Seen) (goal : Goal) (worked : Worked) (mid new : Seen) (Did : Session → Outcome → Type 0) → Did Nobody outcome.Fell
+    → IsSpent planned worked.steps Fallen worked.left → Ends Fallen worker mid worked new → IsDone planned worker worked new Did
+fell_done planned worker start goal worked mid new Did fell spent ends =
+    let nobody_left : seen_after new worker worked ≡ nobody = ap (λ (b : Bool). view_with new (seat_after b worker) worked.left) ends.0 ∙ ap (λ (p : Planned). record { session = Nobody; planned = p }) spent.1 in
+    let D : View → Outcome → Type 0 = λ (v : View) (o : Outcome). Did v.session o in
+    record {
+      asked = worked.steps;
+      did = subst (λ (o : Outcome). D (seen_after new worker worked) o) (sym ends.1) (subst (λ (v : View). D v outcome.Fell) (sym nobody_left) fell);
+      left = λ old is. subst (λ (o : Outcome). obeyed.IsLeft worked.steps old (seen_after new worker worked) o) (sym ends.1)
+          (subst (λ (p : Planned). IsDue p worked.steps) (sym is) spent.0, nobody_left);
+      tried = subst (λ (o : Outcome). obeyed.IsTried 1 worked.steps o) (sym ends.1) tt;
+    }
+
+stands_after : (worker : ℕ) (mid new : Seen) (worked : Worked) (session : Session) → worked.falls ≡ false → new ≡ mid → sight_of mid worker ≡ session
+    → seen_after new worker worked ≡ record { session = session; planned = worked.left }
+stands_after worker mid new worked session falls same sees =
+    ap (λ (b : Bool). view_with new (seat_after b worker) worked.left) falls ∙ ap (λ (s : Seen). record { session = sight_of s worker; planned = worked.left }) same
+    ∙ ap (λ (s : Session). record { session = s; planned = worked.left }) sees
+
+not_fell : (asked : ℕ) (old now : View) (became : Outcome) → became ≢ outcome.Fell → Leaves old.planned asked now.planned → obeyed.IsLeft asked old now became
+not_fell asked old now outcome.Fell some leaves = absurd (some refl)
+not_fell asked old now (outcome.Receipt receipt) some leaves = leaves
+not_fell asked old now outcome.Withdrawn some leaves = leaves
+not_fell asked old now outcome.Waiting some leaves = leaves
+not_fell asked old now (outcome.Inside number) some leaves = leaves
+
+stood_done : (planned : Planned) (worker asked : ℕ) (mid new : Seen) (worked : Worked) (session : Session) (became : Outcome) (Did : Session → Outcome → Type 0)
+    → worked.falls ≡ false → worked.outcome ≡ outcome_by (sight_of mid worker) → new ≡ mid → sight_of mid worker ≡ session → outcome_by session ≡ became → became ≢ outcome.Fell
+    → Leaves planned asked worked.left → obeyed.IsTried 1 asked became → Did session became → IsDone planned worker worked new Did
+stood_done planned worker asked mid new worked session became Did falls is same sees told some leaves tried did =
+    let whole : worked.outcome ≡ became = is ∙ ap outcome_by sees ∙ told in
+    let view : seen_after new worker worked ≡ record { session = session; planned = worked.left } = stands_after worker mid new worked session falls same sees in
+    record {
+      asked = asked;
+      did = subst (λ (o : Outcome). Did (seen_after new worker worked).session o) (sym whole) (subst (λ (v : View). Did v.session became) (sym view) did);
+      left = λ old at. subst (λ (o : Outcome). obeyed.IsLeft asked old (seen_after new worker worked) o) (sym whole)
+          (not_fell asked old (seen_after new worker worked) became some
+          (subst (λ (v : View). Leaves old.planned asked v.planned) (sym view) (subst (λ (p : Planned). Leaves p asked worked.left) (sym at) leaves)));
+      tried = subst (λ (o : Outcome). obeyed.IsTried 1 asked o) (sym whole) tried;
+    }

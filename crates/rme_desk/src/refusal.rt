@@ -1,0 +1,141 @@
+//! Why a session refuses an order.
+
+ghost use Rattle.std.specs.Prelude.{◌≡◌, ◌≤◌};
+ghost use Rattle.rme_desk.specs.Sights.{IsFew};
+ghost use Rattle.rme_orders.specs.Refusals as spec;
+
+use rme_orders::{PendingWorker, ReadyWorker, Session, pending_refusal};
+use rme_session_lines::{Order, Submission};
+use rme_words::{Refusal, Shape};
+
+/// Why a session refuses an order, by what it shows; `None` where it does not.
+pub(crate) fn refusal(shape: Shape, session: &Session, order: &Order) -> Option<Refusal>
+    requires few { IsFew shape session.now }
+    ensures { spec.Refuses shape session.now order.now result }
+{
+    match order {
+        Order::Attach(asked) => attach_refusal(shape, asked.worker, session),
+        Order::Submit(its) | Order::Enter(its) => submit_refusal(shape, session, its),
+        Order::Resume(_) => resume_refusal(session),
+        Order::Commit => commit_refusal(session),
+        Order::Withdraw => withdraw_refusal(session),
+        Order::Last => last_refusal(session),
+        Order::CrashAfter(_) | Order::Detach => bare_refusal(session),
+    }
+}
+
+fn attach_refusal(shape: Shape, worker: u32, session: &Session) -> Option<Refusal>
+    ensures { result ≡ spec.attach_refusal shape worker session.now }
+{
+    if worker >= shape.workers {
+        return Some(Refusal::NoWorker);
+    }
+    match session {
+        Session::Nobody => None,
+        _ => Some(Refusal::Busy),
+    }
+}
+
+fn submit_refusal(shape: Shape, session: &Session, its: &Submission) -> Option<Refusal>
+    requires few { IsFew shape session.now }
+    ensures { spec.SubmitRefuses shape session.now its.now result }
+{
+    match session {
+        Session::Nobody => Some(Refusal::NotAttached),
+        Session::Ready(ready) => posting_refusal(shape, ready, its),
+        Session::Climb(pending) | Session::Held(pending) => differs(pending, its),
+    }
+}
+
+/// Why a worker that is ready is not handed a job, nor answers its last number again.
+fn posting_refusal(shape: Shape, ready: &ReadyWorker, its: &Submission) -> Option<Refusal>
+    requires few { ready.now.number ≤ shape.jobs }
+    ensures { result ≡ spec.posting_refusal shape ready.now.number its.now }
+{
+    let _most = shape.jobs();
+    let next = ready.number + 1;
+    if its.number == next {
+        return job_refusal(shape, ready.number, its);
+    }
+    if its.number > 0 && its.number == ready.number {
+        return None;
+    }
+    Some(Refusal::WrongNumber(next))
+}
+
+/// Why a job is none that a worker with this last number can be handed.
+fn job_refusal(shape: Shape, last: u32, its: &Submission) -> Option<Refusal>
+    ensures { result ≡ spec.job_refusal shape last its.now.job }
+{
+    if its.job.lock >= shape.locks {
+        return Some(Refusal::NoLock);
+    }
+    if let Err(why) = its.job.script.check(shape) {
+        return Some(why);
+    }
+    if last >= shape.jobs {
+        return Some(Refusal::TooManyJobs);
+    }
+    None
+}
+
+/// Why a submission does not go on with the job that is pending.
+fn differs(pending: &PendingWorker, its: &Submission) -> Option<Refusal>
+    ensures { spec.PendingRefuses pending.now.number pending.now.draft its.now result }
+{
+    match &pending.draft {
+        Some(job) => pending_refusal(pending.number, job, its),
+        None if its.number == pending.number => Some(Refusal::Differs),
+        None => Some(Refusal::WrongNumber(pending.number)),
+    }
+}
+
+fn resume_refusal(session: &Session) -> Option<Refusal>
+    ensures { result ≡ spec.resume_refusal session.now }
+{
+    match session {
+        Session::Nobody => Some(Refusal::NotAttached),
+        Session::Ready(_) => Some(Refusal::Idle),
+        Session::Climb(_) | Session::Held(_) => None,
+    }
+}
+
+fn commit_refusal(session: &Session) -> Option<Refusal>
+    ensures { result ≡ spec.commit_refusal session.now }
+{
+    match session {
+        Session::Nobody => Some(Refusal::NotAttached),
+        Session::Ready(_) => Some(Refusal::Idle),
+        Session::Climb(_) => Some(Refusal::NotInside),
+        Session::Held(_) => None,
+    }
+}
+
+fn withdraw_refusal(session: &Session) -> Option<Refusal>
+    ensures { result ≡ spec.withdraw_refusal session.now }
+{
+    match session {
+        Session::Nobody => Some(Refusal::NotAttached),
+        Session::Climb(_) => None,
+        Session::Ready(_) | Session::Held(_) => Some(Refusal::NotWaiting),
+    }
+}
+
+fn last_refusal(session: &Session) -> Option<Refusal>
+    ensures { result ≡ spec.last_refusal session.now }
+{
+    match session {
+        Session::Nobody => Some(Refusal::NotAttached),
+        Session::Ready(_) => None,
+        Session::Climb(_) | Session::Held(_) => Some(Refusal::Busy),
+    }
+}
+
+fn bare_refusal(session: &Session) -> Option<Refusal>
+    ensures { result ≡ spec.bare_refusal session.now }
+{
+    match session {
+        Session::Nobody => Some(Refusal::NotAttached),
+        _ => None,
+    }
+}
