@@ -7,3 +7,7 @@ pub mod Ways
 pub mod Sighting
 pub mod Posting
 pub mod Working
+pub mod Events
+pub mod Frames
+pub mod Carrying
+pub mod Beginning

@@ -125,7 +125,8 @@ module _ (seen : Seen) (worker : ℕ) (private : Private) (kept : IsKept seen) (
       outside_idle : (p : Private) → p.stage ≡ Resting → stance_outside (Some p) ≡ Idle
       outside_idle p at = rw at refl
 
-  post_stance : (slate : Slate) → private.stage ≡ Posting slate → (me_in seen worker).stance ≡ Handed slate.job
+  -- One that writes its job down has been handed that job, and knows how many it has begun.
+  pub post_stance : (slate : Slate) → private.stage ≡ Posting slate → (me_in seen worker).stance ≡ Handed slate.job
   unfolding own
   post_stance slate e =
       let knows = rw e at fits.knows in
@@ -234,3 +235,6 @@ module _ (seen : Seen) (worker : ℕ) (private : Private) (kept : IsKept seen) (
   -- One that waits or is inside has one.
   pub pending_known : (phase_of private.stage ≡ phase.Enter) ⊎ (phase_of private.stage ≡ phase.Section) → is_pending (words_seen seen worker) ≡ true
   pending_known at = pending_at private.stage refl at
+
+  pub post_begun : (slate : Slate) → private.stage ≡ Posting slate → (me_in seen worker).asked ≡ private.begun
+  post_begun slate e = let knows = rw e at fits.knows in knows.0.known

@@ -275,3 +275,60 @@ stood_done planned worker asked mid new worked session became Did falls is same 
           (subst (λ (v : View). Leaves old.planned asked v.planned) (sym view) (subst (λ (p : Planned). Leaves p asked worked.left) (sym at) leaves)));
       tried = subst (λ (o : Outcome). obeyed.IsTried 1 asked o) (sym whole) tried;
     }
+
+module _ (task : Task) (worker : ℕ) (planned : Planned) (start new : Seen) (worked : Worked) (way : Way task start worker) where
+  -- A worker that is to have its receipt.
+  pub ready_done : Went goals.Ready worker planned start worked new → IsDone planned worker worked new (obeyed.Works task)
+  ready_done went =
+      let there : Way task went.mid worker = way_walks task goals.Ready worker worked.steps start went.mid went.walks way in
+      by_end went.mid there went.end went.is_end went.spent went.ends
+    where
+      by_end : (mid : Seen) → Way task mid worker → (end : End) → IsEnd goals.Ready worker mid end → IsSpent planned worked.steps end worked.left → Ends end worker mid worked new
+          → IsDone planned worker worked new (obeyed.Works task)
+      by_end mid there Fallen at spent ends = fell_done planned worker start goals.Ready worked mid new (obeyed.Works task) tt spent ends
+      by_end mid there There at spent ends =
+          let e : phase_of there.private.stage ≡ phase.Ready = in_phase task mid worker there phase.Ready at.0 at.1 (ready_only (phase_of at.0.stage) at.2) in
+          let its = ends_ready task mid worker there e in
+          stood_done planned worker worked.steps mid new worked (Ready (finished_with task its.0)) (outcome.Receipt its.0) (obeyed.Works task) ends.0 ends.1 ends.2 its.2 refl (λ q. cc) spent tt (its.1, refl)
+      by_end mid there Stopped at spent ends =
+          let e : phase_of there.private.stage ≡ phase.Enter = in_phase task mid worker there phase.Enter at.private at.found (stopped_enter worker mid at) in
+          stood_done planned worker (worked.steps + 1) mid new worked (Climb (waiting_with task)) outcome.Waiting (obeyed.Works task) ends.0 ends.1 ends.2 (ends_climb task mid worker there e) refl (λ q. cc) spent (omega arith) refl
+
+  -- A worker that is to be inside.
+  pub inside_done : IsUpIn is_way_in start worker → Went goals.Inside worker planned start worked new → IsDone planned worker worked new (obeyed.GoesInside (waiting_with task))
+  inside_done up went =
+      let there : Way task went.mid worker = way_walks task goals.Inside worker worked.steps start went.mid went.walks way in
+      by_end went.mid there (comes_in worker worked.steps start went.mid went.begun went.walks up) went.end went.is_end went.spent went.ends
+    where
+      by_end : (mid : Seen) → Way task mid worker → IsUpIn is_way_in mid worker → (end : End) → IsEnd goals.Inside worker mid end → IsSpent planned worked.steps end worked.left → Ends end worker mid worked new
+          → IsDone planned worker worked new (obeyed.GoesInside (waiting_with task))
+      by_end mid there in_it Fallen at spent ends = fell_done planned worker start goals.Inside worked mid new (obeyed.GoesInside (waiting_with task)) tt spent ends
+      by_end mid there in_it There at spent ends =
+          let same : in_it.0 ≡ at.0 = same_Some _ _ (same_Some _ _ (sym in_it.1 ∙ at.1)) in
+          let way_there : is_way_in (phase_of at.0.stage) ≡ true = subst (λ (p : Private). is_way_in (phase_of p.stage) ≡ true) same in_it.2 in
+          let e : phase_of there.private.stage ≡ phase.Section = in_phase task mid worker there phase.Section at.0 at.1 (inside_only (phase_of at.0.stage) at.2 way_there) in
+          stood_done planned worker worked.steps mid new worked (Held (waiting_with task)) (outcome.Inside task.number) (obeyed.GoesInside (waiting_with task)) ends.0 ends.1 ends.2 (ends_held task mid worker there e) refl (λ q. cc) spent tt (refl, refl)
+      by_end mid there in_it Stopped at spent ends =
+          let e : phase_of there.private.stage ≡ phase.Enter = in_phase task mid worker there phase.Enter at.private at.found (stopped_enter worker mid at) in
+          stood_done planned worker (worked.steps + 1) mid new worked (Climb (waiting_with task)) outcome.Waiting (obeyed.GoesInside (waiting_with task)) ends.0 ends.1 ends.2 (ends_climb task mid worker there e) refl (λ q. cc) spent (omega arith) refl
+
+  -- A worker that is inside, and is to have its receipt, waits no more.
+  pub commit_done : (pending : PendingWorker) → pending ≡ waiting_with task → IsUpIn is_past_entry start worker → Went goals.Ready worker planned start worked new → IsDone planned worker worked new (obeyed.Commits (Held pending))
+  commit_done pending is up went =
+      let there : Way task went.mid worker = way_walks task goals.Ready worker worked.steps start went.mid went.walks way in
+      by_end went.mid there (stays_past goals.Ready worker worked.steps start went.mid went.begun went.walks up) went.end went.is_end went.spent went.ends
+    where
+      by_end : (mid : Seen) → Way task mid worker → IsUpIn is_past_entry mid worker → (end : End) → IsEnd goals.Ready worker mid end → IsSpent planned worked.steps end worked.left → Ends end worker mid worked new
+          → IsDone planned worker worked new (obeyed.Commits (Held pending))
+      by_end mid there past Fallen at spent ends = fell_done planned worker start goals.Ready worked mid new (obeyed.Commits (Held pending)) tt spent ends
+      by_end mid there past There at spent ends =
+          let e : phase_of there.private.stage ≡ phase.Ready = in_phase task mid worker there phase.Ready at.0 at.1 (ready_only (phase_of at.0.stage) at.2) in
+          let its = ends_ready task mid worker there e in
+          let C : PendingWorker → Type 0 = λ (p : PendingWorker). obeyed.Commits (Held p) (Ready (finished_with task its.0)) (outcome.Receipt its.0) in
+          stood_done planned worker worked.steps mid new worked (Ready (finished_with task its.0)) (outcome.Receipt its.0) (obeyed.Commits (Held pending)) ends.0 ends.1 ends.2 its.2 refl (λ q. cc) spent tt
+          (subst C (sym is) (task.job, refl, (its.1, refl)))
+      by_end mid there past Stopped at spent ends =
+          let same : past.0 ≡ at.private = same_Some _ _ (same_Some _ _ (sym past.1 ∙ at.found)) in
+          let enter : phase_of past.0.stage ≡ phase.Enter = ap (λ (p : Private). phase_of p.stage) same ∙ stopped_enter worker mid at in
+          let no_ : is_past_entry phase.Enter ≡ true = subst (λ (p : Phase). is_past_entry p ≡ true) enter past.2 in
+          absurd (cc)

@@ -1,0 +1,168 @@
+-- Workers that begin an order: what the session shows of them, and the way that they are on.
+use Rattle.std.proofs.Common.{◌≡◌, ◌≢◌, ℕ, ◌+◌, refl, sym, ◌∙◌, ap, subst, inl, inr, arith}
+use Rattle.std.specs.Prelude.{Bool, true, false, Option, Some, None, Ok, slice_get}
+use Rattle.std.proofs.lemmas.Option.{same_Some}
+use Rattle.rme_script.specs.declared.job.Job.{Job}
+use Rattle.rme_program.specs.Phases.{phase_of}
+use Rattle.rme_program.specs.Steps.{submitted_private}
+use Rattle.rme_program.specs.declared.kinds.Phase.{Phase}
+use Rattle.rme_program.specs.declared.kinds.Phase.TheVariants as phase
+use Rattle.rme_program.specs.declared.private.Private.{Private}
+use Rattle.rme_program.specs.declared.stage.Slate.{Slate}
+use Rattle.rme_machine.specs.declared.stance.Stance.{Stance}
+use Rattle.rme_machine.specs.declared.stance.Stance.TheVariants.{Handed, Waiting, Inside}
+use Rattle.rme_machine.specs.Views.{slate_job}
+use Rattle.rme_orders.specs.Sights.{Task, its_task, next_task}
+use Rattle.rme_orders.specs.declared.view.PendingWorker.{PendingWorker}
+use Rattle.rme_orders.specs.declared.view.ReadyWorker.{ReadyWorker}
+use Rattle.rme_orders.specs.declared.view.Session.{Session}
+use Rattle.rme_orders.specs.declared.view.Session.TheVariants.{Nobody, Ready, Climb, Held}
+use Rattle.rme_world.specs.Seen.{Seen, IsKept}
+use Rattle.rme_world.specs.Events.{Submits}
+use Rattle.rme_world.specs.Looks.{words_seen}
+use Rattle.rme_desk.specs.Sights.{Rests, is_resting, last_under, me_in, sight_of}
+use Rattle.rme_desk.proofs.Posting.{posted_found}
+use Rattle.rme_desk.proofs.Sighting.{climb_sight, held_sight, inside_of, ready_sight, waiting_of}
+use Rattle.rme_desk.proofs.Stances.{IsNumbered, Suits, begun_known, numbered, post_begun, post_stance, suits}
+use Rattle.rme_desk.proofs.Ways.{OnWay, Way}
+use Rattle.rme_desk.proofs.Working.{IsUpIn, is_past_entry, is_way_in}
+
+module _ (seen : Seen) (worker : ℕ) (kept : IsKept seen) (rests : Rests seen worker) where
+  abbrev private : Private
+  private = rests.0
+
+  ready_is : phase_of private.stage ≡ phase.Ready → sight_of seen worker ≡ Ready record { worker = worker; number = (me_in seen worker).asked; last = last_under seen.history worker (me_in seen worker).asked }
+  ready_is e = ready_sight seen worker private kept rests.1 e
+
+  climb_is : phase_of private.stage ≡ phase.Enter → sight_of seen worker ≡ Climb record { worker = worker; number = (me_in seen worker).asked; draft = Some (slate_job (words_seen seen worker)) }
+  climb_is e = climb_sight seen worker private kept rests.1 e
+
+  held_is : phase_of private.stage ≡ phase.Section → sight_of seen worker ≡ Held record { worker = worker; number = (me_in seen worker).asked; draft = Some (slate_job (words_seen seen worker)) }
+  held_is e = held_sight seen worker private kept rests.1 e
+
+  not_nobody_at : (p : Phase) → phase_of private.stage ≡ p → is_resting p ≡ true → sight_of seen worker ≡ Nobody → ⊥
+  not_nobody_at phase.Ready e at none = let q = sym (ready_is e) ∙ none in cc
+  not_nobody_at phase.Enter e at none = let q = sym (climb_is e) ∙ none in cc
+  not_nobody_at phase.Section e at none = let q = sym (held_is e) ∙ none in cc
+  not_nobody_at phase.Recover e at none = cc
+  not_nobody_at phase.Post e at none = cc
+  not_nobody_at phase.Exit e at none = cc
+
+  -- The session shows its worker.
+  pub not_nobody : sight_of seen worker ≡ Nobody → ⊥
+  not_nobody none = not_nobody_at (phase_of private.stage) refl rests.2 none
+
+  ready_phase_at : (ready : ReadyWorker) (p : Phase) → phase_of private.stage ≡ p → is_resting p ≡ true → Ready ready ≡ sight_of seen worker → p ≡ phase.Ready
+  ready_phase_at ready phase.Ready e at is = refl
+  ready_phase_at ready phase.Enter e at is = absurd (let q = is ∙ climb_is e in cc)
+  ready_phase_at ready phase.Section e at is = absurd (let q = is ∙ held_is e in cc)
+  ready_phase_at ready phase.Recover e at is = absurd (cc)
+  ready_phase_at ready phase.Post e at is = absurd (cc)
+  ready_phase_at ready phase.Exit e at is = absurd (cc)
+
+  climb_phase_at : (pending : PendingWorker) (p : Phase) → phase_of private.stage ≡ p → is_resting p ≡ true → Climb pending ≡ sight_of seen worker → p ≡ phase.Enter
+  climb_phase_at pending phase.Enter e at is = refl
+  climb_phase_at pending phase.Ready e at is = absurd (let q = is ∙ ready_is e in cc)
+  climb_phase_at pending phase.Section e at is = absurd (let q = is ∙ held_is e in cc)
+  climb_phase_at pending phase.Recover e at is = absurd (cc)
+  climb_phase_at pending phase.Post e at is = absurd (cc)
+  climb_phase_at pending phase.Exit e at is = absurd (cc)
+
+  held_phase_at : (pending : PendingWorker) (p : Phase) → phase_of private.stage ≡ p → is_resting p ≡ true → Held pending ≡ sight_of seen worker → p ≡ phase.Section
+  held_phase_at pending phase.Section e at is = refl
+  held_phase_at pending phase.Ready e at is = absurd (let q = is ∙ ready_is e in cc)
+  held_phase_at pending phase.Enter e at is = absurd (let q = is ∙ climb_is e in cc)
+  held_phase_at pending phase.Recover e at is = absurd (cc)
+  held_phase_at pending phase.Post e at is = absurd (cc)
+  held_phase_at pending phase.Exit e at is = absurd (cc)
+
+  pub ready_phase : (ready : ReadyWorker) → Ready ready ≡ sight_of seen worker → phase_of private.stage ≡ phase.Ready
+  ready_phase ready is = ready_phase_at ready (phase_of private.stage) refl rests.2 is
+
+  pub climb_phase : (pending : PendingWorker) → Climb pending ≡ sight_of seen worker → phase_of private.stage ≡ phase.Enter
+  climb_phase pending is = climb_phase_at pending (phase_of private.stage) refl rests.2 is
+
+  pub held_phase : (pending : PendingWorker) → Held pending ≡ sight_of seen worker → phase_of private.stage ≡ phase.Section
+  held_phase pending is = held_phase_at pending (phase_of private.stage) refl rests.2 is
+
+  -- What it shows of one that is ready.
+  pub ready_parts : (ready : ReadyWorker) → Ready ready ≡ sight_of seen worker → (ready.worker ≡ worker) × (ready.number ≡ (me_in seen worker).asked)
+  ready_parts ready is =
+      let q = is ∙ ready_is (ready_phase ready is) in
+      let same : ready ≡ record { worker = worker; number = (me_in seen worker).asked; last = last_under seen.history worker (me_in seen worker).asked } = cc in
+      (ap (λ (r : ReadyWorker). r.worker) same, ap (λ (r : ReadyWorker). r.number) same)
+
+  abbrev pending_now : PendingWorker
+  pending_now = record { worker = worker; number = (me_in seen worker).asked; draft = Some (slate_job (words_seen seen worker)) }
+
+  pub climb_parts : (pending : PendingWorker) → Climb pending ≡ sight_of seen worker → pending ≡ record { worker = worker; number = (me_in seen worker).asked; draft = Some (slate_job (words_seen seen worker)) }
+  climb_parts pending is = let q = is ∙ climb_is (climb_phase pending is) in cc
+
+  pub held_parts : (pending : PendingWorker) → Held pending ≡ sight_of seen worker → pending ≡ record { worker = worker; number = (me_in seen worker).asked; draft = Some (slate_job (words_seen seen worker)) }
+  held_parts pending is = let q = is ∙ held_is (held_phase pending is) in cc
+
+  -- A worker with a pending job is on its way with it.
+  way_at : (pending : PendingWorker) (p : Phase) (stance : Stance) → pending ≡ record { worker = worker; number = (me_in seen worker).asked; draft = Some (slate_job (words_seen seen worker)) }
+      → phase_of private.stage ≡ p → p ≢ phase.Recover → p ≢ phase.Exit → (me_in seen worker).stance ≡ stance
+      → OnWay (its_task pending (slate_job (words_seen seen worker))) seen.history (me_in seen worker) stance → Way (its_task pending (slate_job (words_seen seen worker))) seen worker
+  way_at pending p stance is e early late at on = record {
+    kept = kept;
+    its = ap (λ (q : PendingWorker). q.worker) is;
+    private = private;
+    found = rests.1;
+    early = λ q. early (sym e ∙ q);
+    out = λ q. absurd (late (sym e ∙ q));
+    on = subst (λ (s : Stance). OnWay (its_task pending (slate_job (words_seen seen worker))) seen.history (me_in seen worker) s) (sym at) on;
+  }
+
+  pub climb_way : (pending : PendingWorker) → Climb pending ≡ sight_of seen worker → Way (its_task pending (slate_job (words_seen seen worker))) seen worker
+  climb_way pending is =
+      let e = climb_phase pending is in
+      let parts = climb_parts pending is in
+      let waits = waiting_of (me_in seen worker).stance (subst (λ (q : Phase). Suits q (me_in seen worker).stance) e (suits seen worker private kept rests.1)) in
+      let its = subst (λ (s : Stance). IsNumbered s (me_in seen worker).asked (slate_job (words_seen seen worker))) waits.2 (numbered seen worker) in
+      way_at pending phase.Enter (Waiting waits.0 waits.1) parts e (λ q. cc) (λ q. cc) waits.2 (sym (ap (λ (q : PendingWorker). q.number) parts), its.1)
+
+  pub held_way : (pending : PendingWorker) → Held pending ≡ sight_of seen worker → Way (its_task pending (slate_job (words_seen seen worker))) seen worker
+  held_way pending is =
+      let e = held_phase pending is in
+      let parts = held_parts pending is in
+      let in_it = inside_of (me_in seen worker).stance (subst (λ (q : Phase). Suits q (me_in seen worker).stance) e (suits seen worker private kept rests.1)) in
+      let its = subst (λ (s : Stance). IsNumbered s (me_in seen worker).asked (slate_job (words_seen seen worker))) in_it.2 (numbered seen worker) in
+      way_at pending phase.Section (Inside in_it.0 in_it.1) parts e (λ q. cc) (λ q. cc) in_it.2 (sym (ap (λ (q : PendingWorker). q.number) parts), its.1)
+
+  pub climb_way_in : (pending : PendingWorker) → Climb pending ≡ sight_of seen worker → IsUpIn is_way_in seen worker
+  climb_way_in pending is = (private, rests.1, ap is_way_in (climb_phase pending is))
+
+  pub held_past : (pending : PendingWorker) → Held pending ≡ sight_of seen worker → IsUpIn is_past_entry seen worker
+  held_past pending is = (private, rests.1, ap is_past_entry (held_phase pending is))
+
+-- A worker that was handed a job is on its way with it.
+module _ (old mid : Seen) (worker number : ℕ) (job : Job) (ready : ReadyWorker) (kept : IsKept old) (after : IsKept mid) (rests : Rests old worker) (is : Ready ready ≡ sight_of old worker)
+    (its : Submits old worker job number mid) where
+  posted : slice_get mid.privates worker ≡ Some (Some (submitted_private its.private job))
+  posted = posted_found old mid worker job number its
+
+  abbrev slate : Slate
+  slate = record { job = job; stored = 0 }
+
+  pub next_way : Way (next_task ready job) mid worker
+  next_way =
+      let parts = ready_parts old worker kept rests ready is in
+      let same : its.private ≡ rests.0 = same_Some _ _ (same_Some _ _ (sym its.found ∙ rests.1)) in
+      let begun : (me_in old worker).asked ≡ its.private.begun = begun_known old worker rests.0 kept rests.1 rests.2 ∙ ap (λ (p : Private). p.begun) (sym same) in
+      let asked : (me_in mid worker).asked ≡ its.private.begun = post_begun mid worker (submitted_private its.private job) after posted slate refl in
+      let stance : (me_in mid worker).stance ≡ Handed job = post_stance mid worker (submitted_private its.private job) after posted slate refl in
+      record {
+        kept = after;
+        its = parts.0;
+        private = submitted_private its.private job;
+        found = posted;
+        early = λ q. (let e : phase.Post ≡ phase.Recover = q in cc);
+        out = λ q. absurd (let e : phase.Post ≡ phase.Exit = q in cc);
+        on = subst (λ (s : Stance). OnWay (next_task ready job) mid.history (me_in mid worker) s) (sym stance)
+            (ap (λ (n : ℕ). n + 1) (asked ∙ sym begun ∙ sym parts.1), refl);
+      }
+
+  pub next_way_in : IsUpIn is_way_in mid worker
+  next_way_in = (submitted_private its.private job, posted, refl)
