@@ -31,13 +31,13 @@ module _ (seen : Seen) (worker : ℕ) (kept : IsKept seen) (rests : Rests seen w
   abbrev private : Private
   private = rests.0
 
-  ready_is : phase_of private.stage ≡ phase.Ready → sight_of seen worker ≡ Ready record { worker = worker; number = (me_in seen worker).asked; last = last_under seen.history worker (me_in seen worker).asked }
+  pub ready_is : phase_of private.stage ≡ phase.Ready → sight_of seen worker ≡ Ready record { worker = worker; number = (me_in seen worker).asked; last = last_under seen.history worker (me_in seen worker).asked }
   ready_is e = ready_sight seen worker private kept rests.1 e
 
-  climb_is : phase_of private.stage ≡ phase.Enter → sight_of seen worker ≡ Climb record { worker = worker; number = (me_in seen worker).asked; draft = Some (slate_job (words_seen seen worker)) }
+  pub climb_is : phase_of private.stage ≡ phase.Enter → sight_of seen worker ≡ Climb record { worker = worker; number = (me_in seen worker).asked; draft = Some (slate_job (words_seen seen worker)) }
   climb_is e = climb_sight seen worker private kept rests.1 e
 
-  held_is : phase_of private.stage ≡ phase.Section → sight_of seen worker ≡ Held record { worker = worker; number = (me_in seen worker).asked; draft = Some (slate_job (words_seen seen worker)) }
+  pub held_is : phase_of private.stage ≡ phase.Section → sight_of seen worker ≡ Held record { worker = worker; number = (me_in seen worker).asked; draft = Some (slate_job (words_seen seen worker)) }
   held_is e = held_sight seen worker private kept rests.1 e
 
   not_nobody_at : (p : Phase) → phase_of private.stage ≡ p → is_resting p ≡ true → sight_of seen worker ≡ Nobody → ⊥

@@ -22,7 +22,8 @@ use Rattle.rme_world.specs.Seen.{Seen}
 use Rattle.rme_desk.specs.declared.deed.Begin.{Begin}
 use Rattle.rme_desk.specs.declared.steps.Goal.{Goal}
 use Rattle.rme_desk.specs.declared.work.Worked.{Worked}
-use Rattle.rme_desk.specs.Carried.{Carries, IsDown, IsOf, view_with}
+use Rattle.rme_desk.specs.Carried.{Carries, IsOf, view_with}
+use Rattle.rme_desk.specs.Downs.{IsDown}
 use Rattle.rme_desk.specs.Deeds.{Happened, begin_events, fall_events, step_events}
 use Rattle.rme_desk.specs.Replies.{done_with, seat_after}
 use Rattle.rme_desk.specs.Sights.{Rests, sight_of}

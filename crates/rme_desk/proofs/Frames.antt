@@ -12,7 +12,7 @@ use Rattle.rme_desk.specs.declared.steps.End.{End}
 use Rattle.rme_desk.specs.declared.steps.End.TheVariants.{There, Stopped, Fallen}
 use Rattle.rme_desk.specs.declared.steps.Goal.{Goal}
 use Rattle.rme_desk.specs.declared.work.Worked.{Worked}
-use Rattle.rme_desk.specs.Carried.{IsDown}
+use Rattle.rme_desk.specs.Downs.{IsDown}
 use Rattle.rme_desk.specs.Sights.{Rests}
 use Rattle.rme_desk.specs.Walks.{IsEnd, Walks}
 use Rattle.rme_desk.specs.Works.{Ends, Went}
@@ -30,7 +30,7 @@ leaves_put worker old new private same put = record {
   others = λ other apart. ap (λ (ps : List (Option Private)). slice_get ps other) put ∙ get_set_other old.privates worker other private apart;
 }
 
-leaves_same : (worker : ℕ) (old new : Seen) → new ≡ old → Leaves worker old new
+pub leaves_same : (worker : ℕ) (old new : Seen) → new ≡ old → Leaves worker old new
 leaves_same worker old new same = record { shape = ap (λ (s : Seen). s.shape) same; others = λ other apart. ap (λ (s : Seen). slice_get s.privates other) same }
 
 pub leaves_then : (worker : ℕ) (old mid new : Seen) → Leaves worker old mid → Leaves worker mid new → Leaves worker old new

@@ -11,3 +11,8 @@ pub mod Events
 pub mod Frames
 pub mod Carrying
 pub mod Beginning
+pub mod Obeying
+pub mod Giving
+pub mod Answering
+pub mod Handing
+pub mod Sorting

@@ -48,14 +48,14 @@ me_there : (seen : Seen) (worker : ℕ) → worker < seen.shape.workers → slic
 me_there seen worker within = shown_me seen.shape (memory_seen seen) (privates_seen seen) seen.history worker within
 
 -- Its state is the one that was put there.
-me_put : (old new : Seen) (worker : ℕ) (me : WorkerState) → worker < old.shape.workers → worker < new.shape.workers → (shown_by new).workers ≡ slice_set (shown_by old).workers worker me → me_in new worker ≡ me
+pub me_put : (old new : Seen) (worker : ℕ) (me : WorkerState) → worker < old.shape.workers → worker < new.shape.workers → (shown_by new).workers ≡ slice_set (shown_by old).workers worker me → me_in new worker ≡ me
 me_put old new worker me was is put =
     same_Some _ _ (sym (me_there new worker is) ∙ ap (λ (ws : List WorkerState). slice_get ws worker) put ∙ get_set (shown_by old).workers worker me (omega (arith, was, workers_long old)))
 
-me_kept : (old new : Seen) (worker : ℕ) → worker < old.shape.workers → worker < new.shape.workers → shown_by new ≡ shown_by old → me_in new worker ≡ me_in old worker
+pub me_kept : (old new : Seen) (worker : ℕ) → worker < old.shape.workers → worker < new.shape.workers → shown_by new ≡ shown_by old → me_in new worker ≡ me_in old worker
 me_kept old new worker was is same = same_Some _ _ (sym (me_there new worker is) ∙ ap (λ (s : State). slice_get s.workers worker) same ∙ me_there old worker was)
 
-step_of : (old new : Seen) (worker : ℕ) (n : Note) → worker < old.shape.workers → GoesAs old new worker (act_of n) → StepOf old.shape (act_of n) (shown_by old) worker (me_in old worker) (shown_by new)
+pub step_of : (old new : Seen) (worker : ℕ) (n : Note) → worker < old.shape.workers → GoesAs old new worker (act_of n) → StepOf old.shape (act_of n) (shown_by old) worker (me_in old worker) (shown_by new)
 step_of old new worker n within goes =
     let same : goes.does.me ≡ me_in old worker = same_Some _ _ (sym goes.does.is_me ∙ me_there old worker within) in
     subst (λ (me : WorkerState). StepOf old.shape (act_of n) (shown_by old) worker me (shown_by new)) same goes.does.goes

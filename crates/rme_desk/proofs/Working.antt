@@ -34,7 +34,8 @@ use Rattle.rme_desk.specs.declared.steps.End.TheVariants.{There, Stopped, Fallen
 use Rattle.rme_desk.specs.declared.steps.Goal.{Goal}
 use Rattle.rme_desk.specs.declared.steps.Goal.TheVariants as goals
 use Rattle.rme_desk.specs.declared.work.Worked.{Worked}
-use Rattle.rme_desk.specs.Carried.{IsDown, view_with}
+use Rattle.rme_desk.specs.Carried.{view_with}
+use Rattle.rme_desk.specs.Downs.{IsDown}
 use Rattle.rme_desk.specs.Outcomes.{outcome_by}
 use Rattle.rme_desk.specs.Replies.{seat_after}
 use Rattle.rme_desk.specs.Sights.{Rests, is_resting, last_under, me_in, sight_of}
@@ -156,13 +157,13 @@ rest_phase goals.Ready phase.Ready at = refl
 pub there_rests : (goal : Goal) (worker : ℕ) (now : Seen) → IsEnd goal worker now There → Rests now worker
 there_rests goal worker now at = (at.0, at.1, rest_phase goal (phase_of at.0.stage) at.2)
 
-stopped_enter : (worker : ℕ) (now : Seen) → (stopped : IsStopped now worker) → phase_of stopped.private.stage ≡ phase.Enter
+pub stopped_enter : (worker : ℕ) (now : Seen) → (stopped : IsStopped now worker) → phase_of stopped.private.stage ≡ phase.Enter
 stopped_enter worker now stopped = ap phase_of stopped.climbs
 
 pub stopped_rests : (worker : ℕ) (now : Seen) → IsStopped now worker → Rests now worker
 stopped_rests worker now stopped = (stopped.private, stopped.found, ap is_resting (stopped_enter worker now stopped))
 
-ready_only : (p : Phase) → is_at goals.Ready p ≡ true → p ≡ phase.Ready
+pub ready_only : (p : Phase) → is_at goals.Ready p ≡ true → p ≡ phase.Ready
 ready_only phase.Recover at = cc
 ready_only phase.Post at = cc
 ready_only phase.Enter at = cc
@@ -248,7 +249,7 @@ fell_done planned worker start goal worked mid new Did fell spent ends =
       tried = subst (λ (o : Outcome). obeyed.IsTried 1 worked.steps o) (sym ends.1) tt;
     }
 
-stands_after : (worker : ℕ) (mid new : Seen) (worked : Worked) (session : Session) → worked.falls ≡ false → new ≡ mid → sight_of mid worker ≡ session
+pub stands_after : (worker : ℕ) (mid new : Seen) (worked : Worked) (session : Session) → worked.falls ≡ false → new ≡ mid → sight_of mid worker ≡ session
     → seen_after new worker worked ≡ record { session = session; planned = worked.left }
 stands_after worker mid new worked session falls same sees =
     ap (λ (b : Bool). view_with new (seat_after b worker) worked.left) falls ∙ ap (λ (s : Seen). record { session = sight_of s worker; planned = worked.left }) same

@@ -11,16 +11,13 @@ use Rattle.rme_world.specs.Seen.{Seen}
 use Rattle.rme_desk.specs.declared.orders.Carried.{Carried}
 use Rattle.rme_desk.specs.declared.deed.Deed.{Deed}
 use Rattle.rme_desk.specs.Deeds.{Happened, events_done}
+use Rattle.rme_desk.specs.Downs.{IsDown}
 use Rattle.rme_desk.specs.Sights.{Rests, sight_of}
 
 -- What a session shows, by the worker that it has, if any, and the crash that is planned.
 abbrev pub view_with : Seen → Option ℕ → Planned → View
 view_with seen None planned = record { session = Nobody; planned = planned }
 view_with seen (Some worker) planned = record { session = sight_of seen worker; planned = planned }
-
--- A worker is down.
-abbrev pub IsDown : Seen → ℕ → Type 0
-IsDown seen worker = slice_get seen.privates worker ≡ Some None
 
 -- The session's worker stands where an order may leave it; one that is to be attached is down.
 abbrev pub IsSeated : Seen → Option ℕ → Type 0

@@ -36,6 +36,7 @@ abbrev pub MayPost : Seen → ℕ → Job → Type 0
 MayPost seen worker job = submit_refusal seen worker job ≡ None
 
 pub record Posts (goal : Goal) (worker : ℕ) (job : Job) (planned : Planned) (old : Seen) (worked : Worked) (new : Seen) : Type 0 where
+  pub before : IsKept old
   pub number : ℕ
   pub mid : Seen
   pub submitted : Submitted old worker job (Ok number) mid

@@ -1,7 +1,8 @@
 //! The orders of a session, carried out as events of a world.
 
 ghost use Rattle.std.specs.Prelude.{◌≡◌, ◌<◌, IfOk, None, OnErr, Some};
-ghost use Rattle.rme_desk.specs.Carried.{Carries, IsDown, IsSeated, MayCome};
+ghost use Rattle.rme_desk.specs.Carried.{Carries, IsSeated, MayCome};
+ghost use Rattle.rme_desk.specs.Downs.{IsDown};
 ghost use Rattle.rme_desk.specs.Sights.{Rests, sight_of};
 ghost use Rattle.rme_desk.specs.Replies.{attached_by, done_with, goal_for, kept_with, last_in, number_in, order_for, refused_with, reply_for, withdrawn_by};
 ghost use Rattle.rme_orders.specs.Refusals.{PendingRefuses, Refuses, posting_refusal};
@@ -15,7 +16,7 @@ use crate::deed::{Begin, Deed};
 use crate::refusal::refusal;
 use crate::sight::{sight, told};
 use crate::steps::{Goal, go};
-use crate::work::{Worked, go_on, post};
+use crate::work::{Worked, fall, go_on, look, post, rise, turn};
 use rme_orders::{PendingWorker, Planned, ReadyWorker, Session};
 use rme_program::Receipt;
 use rme_session_lines::{Order, Outcome, SessionReply, Standing, Submission};
@@ -118,9 +119,7 @@ fn attach(world: &mut World, worker: u32) -> Carried
     requires down { IsDown world.old worker }
     ensures { (planned : Planned) (asked : Attachment) → asked.worker ≡ worker → Carries world.old None planned (word.Attach asked) result world.new }
 {
-    if world.restart(worker).is_err() {
-        unreachable!();
-    }
+    rise(world, worker);
     let planned = Planned::Nothing;
     let walk = go(world, worker, Goal::Rest, planned);
     Carried {
@@ -214,7 +213,8 @@ fn submit(
     match session {
         Session::Ready(ready) => hand(world, worker, ready, planned, its, aim),
         Session::Held(pending) => Ok(go_on_inside(world, worker, pending, planned, aim)),
-        Session::Climb(_) | Session::Nobody => {
+        Session::Nobody => unreachable!(),
+        Session::Climb(_) => {
             let worked = go_on(world, worker, aim.goal(), planned);
             Ok(done(
                 worker,
@@ -244,6 +244,7 @@ fn hand(
     if its.number == ready.number {
         return Ok(kept(worker, planned, aim.reply(told(ready.last))));
     }
+    look(world, worker);
     match post(world, worker, its.job, aim.goal(), planned) {
         Ok(worked) => Ok(done(
             worker,
@@ -293,9 +294,8 @@ fn withdraw(world: &mut World, worker: u32, session: &Session, planned: Planned)
     ensures { Carries world.old (Some worker) planned word.Withdraw result world.new }
 {
     let number = number_of(session);
-    if world.withdraw(worker).is_err() {
-        unreachable!();
-    }
+    look(world, worker);
+    turn(world, worker);
     let worked = go_on(world, worker, Goal::Ready, planned);
     done(
         worker,
@@ -341,9 +341,8 @@ fn detach(world: &mut World, worker: u32) -> Carried
     requires rests { Rests world.old worker }
     ensures { (planned : Planned) → Carries world.old (Some worker) planned word.Detach result world.new }
 {
-    if world.crash(worker).is_err() {
-        unreachable!();
-    }
+    look(world, worker);
+    fall(world, worker);
     Carried {
         reply: SessionReply::Detached,
         seat: None,

@@ -1,7 +1,9 @@
 //! What a session's worker does of its job, up to the end of the order.
 
-ghost use Rattle.std.specs.Prelude.{◌≡◌, IfOk, Ok, OnErr};
-ghost use Rattle.rme_world.specs.Calls.{Crashed};
+ghost use Rattle.std.specs.Prelude.{◌≡◌, IfOk, None, Ok, OnErr};
+ghost use Rattle.rme_desk.specs.Downs.{IsDown};
+ghost use Rattle.rme_world.specs.Calls.{Crashed, Restarted, Withdrawn};
+ghost use Rattle.rme_world.specs.Refused.{withdraw_refusal};
 ghost use Rattle.rme_world.specs.Seen.{IsKept};
 ghost use Rattle.rme_desk.specs.Walks.{IsUp};
 ghost use Rattle.rme_desk.specs.Works.{MayPost, Posts, Went};
@@ -46,20 +48,42 @@ pub(crate) fn go_on(world: &mut World, worker: u32, goal: Goal, planned: Planned
 }
 
 /// Each world keeps what it keeps.
-fn look(world: &World, worker: u32)
+pub(crate) fn look(world: &World, worker: u32)
     ensures { IsKept world.now }
 {
     let _ = world.known(worker);
 }
 
 /// The worker falls.
-fn fall(world: &mut World, worker: u32) -> Outcome
+pub(crate) fn fall(world: &mut World, worker: u32) -> Outcome
     requires up { IsUp world.old worker }
     ensures fell { result ≡ Outcome.Fell }
     ensures crashed { Crashed world.old worker (Ok tt) world.new }
 {
     match world.crash(worker) {
         Ok(()) => Outcome::Fell,
+        Err(_) => unreachable!(),
+    }
+}
+
+/// The worker comes up.
+pub(crate) fn rise(world: &mut World, worker: u32)
+    requires down { IsDown world.old worker }
+    ensures { Restarted world.old worker (Ok tt) world.new }
+{
+    match world.restart(worker) {
+        Ok(()) => {}
+        Err(_) => unreachable!(),
+    }
+}
+
+/// The worker begins to give its job up.
+pub(crate) fn turn(world: &mut World, worker: u32)
+    requires waits { withdraw_refusal world.old worker ≡ None }
+    ensures { Withdrawn world.old worker (Ok tt) world.new }
+{
+    match world.withdraw(worker) {
+        Ok(()) => {}
         Err(_) => unreachable!(),
     }
 }
@@ -76,6 +100,7 @@ pub(crate) fn post(
     ensures posts { IfOk result (λ worked. Posts goal worker job planned world.old worked world.new) }
     ensures unchanged { OnErr result (world.new ≡ world.old) }
 {
+    look(world, worker);
     match world.submit(worker, job) {
         Ok(_) => Ok(go_on(world, worker, goal, planned)),
         Err(_) => Err(NoMemory),

@@ -1,0 +1,107 @@
+-- What sessions are answered that attach a worker, let it go, or have it give its job up.
+use Rattle.std.proofs.Common.{◌≡◌, ◌≢◌, ℕ, ◌+◌, ◌<◌, List, [], ◌∷◌, ◌++◌, refl, sym, ◌∙◌, ap, subst, inl, inr, arith}
+use Rattle.std.specs.Prelude.{Bool, true, false, Option, Some, None, Ok, slice_get}
+use Rattle.std.proofs.lemmas.Bool.{lt-ltb}
+use Rattle.rme_words.specs.declared.shape.Shape.{Shape}
+use Rattle.rme_program.specs.Phases.{phase_of}
+use Rattle.rme_program.specs.declared.kinds.Phase.{Phase}
+use Rattle.rme_program.specs.declared.kinds.Phase.TheVariants as phase
+use Rattle.rme_machine.specs.Views.{slate_job}
+use Rattle.rme_orders.specs.Obeyed.{Attaches, Obeys}
+use Rattle.rme_orders.specs.Parts.{with_tries}
+use Rattle.rme_orders.specs.Refusals.{bare_refusal}
+use Rattle.rme_orders.specs.Sights.{nobody}
+use Rattle.rme_orders.specs.declared.planned.Planned.{Planned}
+use Rattle.rme_orders.specs.declared.planned.Planned.TheVariants.{Nothing}
+use Rattle.rme_orders.specs.declared.view.Session.{Session}
+use Rattle.rme_orders.specs.declared.view.Session.TheVariants.{Nobody, Ready, Climb, Held}
+use Rattle.rme_orders.specs.declared.view.View.{View}
+use Rattle.rme_session_lines.specs.declared.order.Attachment.{Attachment}
+use Rattle.rme_session_lines.specs.declared.order.Order.TheVariants.{Attach, Detach, Withdraw}
+use Rattle.rme_session_lines.specs.declared.session.SessionReply.{SessionReply}
+use Rattle.rme_session_lines.specs.declared.session.SessionReply.TheVariants as reply
+use Rattle.rme_session_lines.specs.declared.session.Standing.TheVariants as standing
+use Rattle.rme_world.specs.Seen.{Seen, IsKept}
+use Rattle.rme_world.specs.Calls.{Crashed, Restarted, Withdrawn}
+use Rattle.rme_world.specs.Looks.{words_seen}
+use Rattle.rme_desk.specs.declared.deed.Begin.TheVariants.{GoOn, Restart}
+use Rattle.rme_desk.specs.declared.deed.Deed.{Deed}
+use Rattle.rme_desk.specs.declared.orders.Carried.{Carried}
+use Rattle.rme_desk.specs.declared.steps.End.{End}
+use Rattle.rme_desk.specs.declared.steps.End.TheVariants.{There, Stopped, Fallen}
+use Rattle.rme_desk.specs.declared.steps.Goal.TheVariants as goals
+use Rattle.rme_desk.specs.declared.steps.Walk.{Walk}
+use Rattle.rme_desk.specs.Carried.{Carries, view_with}
+use Rattle.rme_desk.specs.Downs.{IsDown}
+use Rattle.rme_desk.specs.Replies.{attached_by}
+use Rattle.rme_desk.specs.Sights.{Rests, is_resting, last_under, me_in, sight_of}
+use Rattle.rme_desk.specs.Walks.{IsEnd, IsSpent, Walks}
+use Rattle.rme_desk.proofs.Beginning.{climb_is, held_is, not_nobody, ready_is}
+use Rattle.rme_program.specs.declared.event.Event.TheVariants as event
+use Rattle.rme_desk.specs.Deeds.{step_events}
+use Rattle.rme_desk.proofs.Events.{crash_happens, happens_then, nothing_happens, restart_happens, steps_happen}
+use Rattle.rme_desk.proofs.Frames.{Leaves, crash_leaves, leaves_then, restart_leaves, walk_leaves}
+use Rattle.rme_desk.proofs.Posting.{crashed_found}
+use Rattle.rme_desk.proofs.Working.{stopped_rests, there_rests}
+
+bare_none : (session : Session) → (session ≡ Nobody → ⊥) → bare_refusal session ≡ None
+bare_none Nobody some = absurd (some refl)
+bare_none (Ready ready) some = refl
+bare_none (Climb pending) some = refl
+bare_none (Held pending) some = refl
+
+-- A worker that is let go is down, and the session has none.
+pub detached : (old new : Seen) (worker : ℕ) (planned : Planned) → IsKept old → Rests old worker → Crashed old worker (Ok tt) new
+    → Carries old (Some worker) planned Detach record { reply = reply.Detached; seat = None; planned = Nothing; deed = Some record { worker = worker; begins = GoOn; steps = 0; falls = true } } new
+detached old new worker planned kept rests crashed =
+    let leaves : Leaves worker old new = crash_leaves worker old new crashed.accepted in
+    record {
+      obeys = (0, (sym (bare_none (sight_of old worker) (not_nobody old worker kept rests)), refl));
+      happened = crash_happens worker old new crashed;
+      shape = leaves.shape;
+      own = refl;
+      rests = tt;
+      gone = λ none. crashed_found old new worker crashed.accepted;
+      others = leaves.others;
+    }
+
+-- What is shown of a worker that was attached.
+shown_at : (seen : Seen) (worker : ℕ) → IsKept seen → (rests : Rests seen worker) → (asked : Attachment) → asked.worker ≡ worker → (shape : Shape) → worker < shape.workers → (planned : Planned)
+    → (p : Phase) → phase_of rests.0.stage ≡ p → is_resting p ≡ true
+    → Obeys shape record { session = Nobody; planned = planned } (Attach asked) record { session = sight_of seen worker; planned = Nothing } (attached_by (sight_of seen worker))
+shown_at seen worker kept rests asked is shape within planned phase.Ready e at =
+    let P : Session → Type 0 = λ (s : Session). Obeys shape record { session = Nobody; planned = planned } (Attach asked) record { session = s; planned = Nothing } (attached_by s) in
+    subst P (sym (ready_is seen worker kept rests e)) (0, (sym (rw (lt-ltb asked.worker shape.workers (omega (arith, is, within))) refl), ((sym is, refl), refl)))
+shown_at seen worker kept rests asked is shape within planned phase.Enter e at =
+    let P : Session → Type 0 = λ (s : Session). Obeys shape record { session = Nobody; planned = planned } (Attach asked) record { session = s; planned = Nothing } (attached_by s) in
+    subst P (sym (climb_is seen worker kept rests e)) (0, (sym (rw (lt-ltb asked.worker shape.workers (omega (arith, is, within))) refl), ((sym is, refl), refl)))
+shown_at seen worker kept rests asked is shape within planned phase.Section e at =
+    let P : Session → Type 0 = λ (s : Session). Obeys shape record { session = Nobody; planned = planned } (Attach asked) record { session = s; planned = Nothing } (attached_by s) in
+    subst P (sym (held_is seen worker kept rests e)) (0, (sym (rw (lt-ltb asked.worker shape.workers (omega (arith, is, within))) refl), ((sym is, refl), refl)))
+shown_at seen worker kept rests asked is shape within planned phase.Recover e at = absurd (cc)
+shown_at seen worker kept rests asked is shape within planned phase.Post e at = absurd (cc)
+shown_at seen worker kept rests asked is shape within planned phase.Exit e at = absurd (cc)
+
+-- Without a plan a worker does not fall, and so it stands where its order may leave it.
+pub comes_to_rest : (worker steps : ℕ) (now : Seen) (end : End) (left : Planned) → IsEnd goals.Rest worker now end → IsSpent Nothing steps end left → Rests now worker
+comes_to_rest worker steps now There left at spent = there_rests goals.Rest worker now at
+comes_to_rest worker steps now Stopped left at spent = stopped_rests worker now at
+comes_to_rest worker steps now Fallen left at spent = absurd spent.0
+
+-- A worker that was attached.
+pub attaches : (old mid new : Seen) (worker steps : ℕ) (planned : Planned) (asked : Attachment) → asked.worker ≡ worker → worker < old.shape.workers → IsKept new → Rests new worker
+    → Restarted old worker (Ok tt) mid → Walks goals.Rest worker mid steps new
+    → Carries old None planned (Attach asked)
+    record { reply = attached_by (sight_of new worker); seat = Some worker; planned = Nothing; deed = Some record { worker = worker; begins = Restart; steps = steps; falls = false } } new
+attaches old mid new worker steps planned asked is within kept rests restarted walks =
+    let leaves : Leaves worker old new = leaves_then worker old mid new (restart_leaves worker old mid restarted.accepted) (walk_leaves goals.Rest worker steps mid new walks) in
+    let stepped = steps_happen goals.Rest worker steps mid new walks in
+    record {
+      obeys = shown_at new worker kept rests asked is old.shape within planned (phase_of rests.0.stage) refl rests.2;
+      happened = happens_then (event.Restart worker ∷ []) (step_events worker steps ++ []) old mid new (restart_happens worker old mid restarted) (happens_then (step_events worker steps) [] mid new new stepped (nothing_happens new));
+      shape = leaves.shape;
+      own = sym is;
+      rests = (sym is, rests);
+      gone = tt;
+      others = λ other apart. leaves.others other (λ e. apart (e ∙ sym is));
+    }

@@ -1,0 +1,163 @@
+-- Orders that are not refused, and refused ones.
+use Rattle.std.proofs.Common.{◌≡◌, ◌≢◌, ℕ, ◌+◌, ◌<◌, List, [], refl, sym, ◌∙◌, ap, subst, inl, inr, arith}
+use Rattle.std.specs.Prelude.{Bool, true, false, Option, Some, None, Result, Ok, Err, slice_get, nat_lt, ◌==◌, if◌then◌else◌}
+use Rattle.std.proofs.lemmas.Bool.{cases_Bool, lt-ltb, ne_eqb}
+use Rattle.std.proofs.lemmas.Option.{none-some}
+use Rattle.rme_words.specs.declared.refusal.Refusal.{Refusal}
+use Rattle.rme_words.specs.declared.refusal.Refusal.TheVariants.{NoLock, NoWorker, TooManyJobs, WrongNumber}
+use Rattle.rme_words.specs.declared.shape.Shape.{Shape}
+use Rattle.rme_script.specs.declared.job.Job.{Job}
+use Rattle.rme_script.specs.Scripts.{check_of}
+use Rattle.rme_program.specs.Phases.{phase_of}
+use Rattle.rme_program.specs.declared.kinds.Phase.TheVariants as phase
+use Rattle.rme_program.specs.declared.private.Private.{Private}
+use Rattle.rme_program.specs.declared.stage.Stage.{Stage}
+use Rattle.rme_program.specs.declared.stage.Stage.TheVariants.{Resting, Recovering, Posting, Climbing, Logging, Copying, Leaving}
+use Rattle.rme_orders.specs.Parts.{with_tries}
+use Rattle.rme_orders.specs.Refusals as orders
+use Rattle.rme_orders.specs.declared.planned.Planned.{Planned}
+use Rattle.rme_orders.specs.declared.view.PendingWorker.{PendingWorker}
+use Rattle.rme_orders.specs.declared.view.ReadyWorker.{ReadyWorker}
+use Rattle.rme_orders.specs.declared.view.Session.{Session}
+use Rattle.rme_orders.specs.declared.view.Session.TheVariants.{Nobody, Ready, Climb, Held}
+use Rattle.rme_session_lines.specs.declared.order.Order.{Order}
+use Rattle.rme_session_lines.specs.declared.order.Order.TheVariants as order
+use Rattle.rme_session_lines.specs.declared.order.Patience.{Patience}
+use Rattle.rme_session_lines.specs.declared.order.Submission.{Submission}
+use Rattle.rme_session_lines.specs.declared.session.SessionReply.TheVariants as reply
+use Rattle.rme_world.specs.Refused.{is_climbing, is_ready, submit_refusal, withdraw_refusal}
+use Rattle.rme_world.specs.Refused as worlds
+use Rattle.rme_world.specs.Seen.{Seen, IsKept}
+use Rattle.rme_desk.specs.declared.deed.Begin.TheVariants.{GoOn}
+use Rattle.rme_desk.specs.declared.steps.Goal.TheVariants as goals
+use Rattle.rme_desk.specs.declared.work.Worked.{Worked}
+use Rattle.rme_desk.specs.Carried.{Carries, view_with}
+use Rattle.rme_desk.specs.Replies.{done_with, order_for, refused_with}
+use Rattle.rme_desk.specs.declared.orders.Aim.{Aim}
+use Rattle.rme_desk.specs.declared.orders.Aim.TheVariants as aims
+use Rattle.rme_desk.specs.Sights.{Rests, me_in, sight_of}
+use Rattle.rme_desk.specs.Works.{Went}
+use Rattle.rme_desk.proofs.Beginning.{climb_phase, ready_parts, ready_phase}
+use Rattle.rme_desk.proofs.Carrying.{tried_too}
+use Rattle.rme_desk.proofs.Events.{nothing_happens}
+use Rattle.rme_desk.proofs.Handing.{climb_resumed, committed, held_resumed}
+use Rattle.rme_desk.proofs.Stances.{begun_known}
+
+-- ---- a job that may be handed over
+
+same_unless : (checked : Result (Unit {0}) Refusal) (rest : Option Refusal) → orders.unless_checked checked rest ≡ None → worlds.unless_checked checked rest ≡ None
+same_unless (Ok tt) rest may = may
+same_unless (Err why) rest may = absurd (none-some why (sym may))
+
+same_locked : (locked : Bool) (checked : Result (Unit {0}) Refusal) (rest : Option Refusal) → (if locked then orders.unless_checked checked rest else Some NoLock) ≡ None
+    → (if locked then worlds.unless_checked checked rest else Some NoLock) ≡ None
+same_locked true checked rest may = same_unless checked rest may
+same_locked false checked rest may = absurd (none-some NoLock (sym may))
+
+ready_stage : (stage : Stage) → phase_of stage ≡ phase.Ready → is_ready stage ≡ true
+ready_stage Resting e = refl
+ready_stage (Recovering recovery) e = absurd (cc)
+ready_stage (Posting slate) e = absurd (cc)
+ready_stage (Climbing ascent) e = absurd (cc)
+ready_stage (Logging log) e = absurd (cc)
+ready_stage (Copying redo) e = absurd (cc)
+ready_stage (Leaving departure) e = absurd (cc)
+
+enter_stage : (stage : Stage) → phase_of stage ≡ phase.Enter → is_climbing stage ≡ true
+enter_stage Resting e = absurd (cc)
+enter_stage (Recovering recovery) e = absurd (cc)
+enter_stage (Posting slate) e = absurd (cc)
+enter_stage (Climbing ascent) e = refl
+enter_stage (Logging log) e = absurd (cc)
+enter_stage (Copying redo) e = absurd (cc)
+enter_stage (Leaving departure) e = absurd (cc)
+
+not_repeated : (last number : ℕ) → number ≢ last → orders.repeat_refusal last number ≡ None → ⊥
+not_repeated last number apart may = elim (cases_Bool (nat_lt 0 number)) [
+  | inl some ↦
+      (let why : orders.repeat_refusal last number ≡ Some (WrongNumber (last + 1)) = rw some (rw (ne_eqb number last apart) refl) in none-some (WrongNumber (last + 1)) (sym may ∙ why))
+  | inr none ↦ (let why : orders.repeat_refusal last number ≡ Some (WrongNumber (last + 1)) = rw none refl in none-some (WrongNumber (last + 1)) (sym may ∙ why))
+]
+
+posting_job : (shape : Shape) (last : ℕ) (its : Submission) → its.number ≢ last → orders.posting_refusal shape last its ≡ None → orders.job_refusal shape last its.job ≡ None
+posting_job shape last its apart may = elim (cases_Bool (its.number == last + 1)) [
+  | inl next ↦ (let same : orders.posting_refusal shape last its ≡ orders.job_refusal shape last its.job = rw next refl in sym same ∙ may)
+  | inr other ↦ (let same : orders.posting_refusal shape last its ≡ orders.repeat_refusal last its.number = rw other refl in absurd (not_repeated last its.number apart (sym same ∙ may)))
+]
+
+-- A world refuses a job to a worker that is ready for what an order would be refused for.
+pub may_post : (old : Seen) (worker : ℕ) (ready : ReadyWorker) (its : Submission) → IsKept old → (rests : Rests old worker) → Ready ready ≡ sight_of old worker → its.number ≢ ready.number
+    → orders.posting_refusal old.shape ready.number its ≡ None → submit_refusal old worker its.job ≡ None
+may_post old worker ready its kept rests is apart may =
+    let parts = ready_parts old worker kept rests ready is in
+    let begun : ready.number ≡ rests.0.begun = parts.1 ∙ begun_known old worker rests.0 kept rests.1 rests.2 in
+    let stage : is_ready rests.0.stage ≡ true = ready_stage rests.0.stage (ready_phase old worker kept rests ready is) in
+    let P : ℕ → Type 0 = λ (n : ℕ). orders.job_refusal old.shape n its.job ≡ None in
+    let free : orders.job_refusal old.shape rests.0.begun its.job ≡ None = subst P begun (posting_job old.shape ready.number its apart may) in
+    let same = same_locked (nat_lt its.job.lock old.shape.locks) (check_of old.shape.cells its.job.script) (if nat_lt rests.0.begun old.shape.jobs then None else Some TooManyJobs) free in
+    rw rests.1 (rw stage same)
+
+-- ---- orders of a worker with a pending job
+
+pub waits_in : (session : Session) → None ≡ orders.withdraw_refusal session → (pending : PendingWorker) × (session ≡ Climb pending)
+waits_in Nobody may = absurd (none-some _ may)
+waits_in (Ready ready) may = absurd (none-some _ may)
+waits_in (Climb pending) may = (pending, refl)
+waits_in (Held pending) may = absurd (none-some _ may)
+
+pub may_turn : (old : Seen) (worker : ℕ) (pending : PendingWorker) → IsKept old → (rests : Rests old worker) → Climb pending ≡ sight_of old worker → withdraw_refusal old worker ≡ None
+may_turn old worker pending kept rests is =
+    let stage : is_climbing rests.0.stage ≡ true = enter_stage rests.0.stage (climb_phase old worker kept rests pending is) in
+    rw rests.1 (rw stage refl)
+
+module _ (old new : Seen) (worker : ℕ) (planned : Planned) (worked : Worked) (rests : Rests old worker) (went : Went goals.Ready worker planned old worked new) where
+  pub resumed : (session : Session) → session ≡ sight_of old worker → (patience : Patience) → None ≡ orders.resume_refusal session
+      → Carries old (Some worker) planned (order.Resume patience) (done_with worker GoOn worked (reply.Resumed worked.outcome)) new
+  resumed Nobody is patience may = absurd (none-some _ may)
+  resumed (Ready ready) is patience may = absurd (none-some _ may)
+  resumed (Climb pending) is patience may = climb_resumed old new worker planned pending worked rests is patience went
+  resumed (Held pending) is patience may = held_resumed old new worker planned pending worked rests is patience went
+
+  pub commits : (session : Session) → session ≡ sight_of old worker → None ≡ orders.commit_refusal session
+      → Carries old (Some worker) planned order.Commit (done_with worker GoOn worked (reply.Committed worked.outcome)) new
+  commits Nobody is may = absurd (none-some _ may)
+  commits (Ready ready) is may = absurd (none-some _ may)
+  commits (Climb pending) is may = absurd (none-some _ may)
+  commits (Held pending) is may = committed old new worker planned pending worked rests is went
+
+-- ---- refused orders
+
+pub refused_carries : (old : Seen) (worker : ℕ) (planned : Planned) (its : Order) (why : Refusal) → Rests old worker → orders.Refuses old.shape (sight_of old worker) its (Some why)
+    → Carries old (Some worker) planned its (refused_with why (Some worker) planned) old
+refused_carries old worker planned its why rests refuses = record {
+  obeys = (0, (refl, inl (tried_too old.shape (sight_of old worker) its (Some why) refuses)));
+  happened = nothing_happens old;
+  shape = refl;
+  own = tt;
+  rests = (refl, rests);
+  gone = λ none. absurd (none-some worker (sym none));
+  others = λ other apart. refl;
+}
+
+-- A session that has a worker attaches none.
+pub attach_refused : (shape : Shape) (worker : ℕ) (session : Session) → (session ≡ Nobody → ⊥) → None ≡ orders.attach_refusal shape worker session → ⊥
+attach_refused shape worker session some may = elim (cases_Bool (nat_lt worker shape.workers)) [
+  | inl there ↦ (let same : orders.attach_refusal shape worker session ≡ orders.busy_refusal session = rw there refl in busy session some (may ∙ same))
+  | inr none ↦ (let same : orders.attach_refusal shape worker session ≡ Some NoWorker = rw none refl in none-some NoWorker (may ∙ same))
+]
+  where
+    busy : (s : Session) → (s ≡ Nobody → ⊥) → None ≡ orders.busy_refusal s → ⊥
+    busy Nobody apart q = apart refl
+    busy (Ready ready) apart q = none-some _ q
+    busy (Climb pending) apart q = none-some _ q
+    busy (Held pending) apart q = none-some _ q
+
+-- ---- what a submission may be
+
+pub climb_may : (shape : Shape) (aim : Aim) (its : Submission) (pending : PendingWorker) → orders.Refuses shape (Climb pending) (order_for aim its) None → orders.PendingRefuses pending.number pending.draft its None
+climb_may shape aims.Receipt its pending may = may
+climb_may shape aims.Inside its pending may = may
+
+pub held_may : (shape : Shape) (aim : Aim) (its : Submission) (pending : PendingWorker) → orders.Refuses shape (Held pending) (order_for aim its) None → orders.PendingRefuses pending.number pending.draft its None
+held_may shape aims.Receipt its pending may = may
+held_may shape aims.Inside its pending may = may
