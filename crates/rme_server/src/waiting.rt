@@ -49,7 +49,7 @@ pub(crate) fn obey_in_time<K: Tag, R: Wait + Clock, O: Sink, C: Client>(
     ensures writes { MakesWrites (O.took writer.old) (O.took writer.new) }
     ensures write_broke { IfErr result.1 (λ fault. fault ≡ EngineFault.WriteFailed → LastWriteFails (O.took writer.old) (O.took writer.new)) }
 {
-    let tries = first_tries(buffers.exchange.keeps_back());
+    let tries = first_tries(&order, buffers.exchange.keeps_back());
     let (stand, reply) = obey_here(rt, stand, with_tries(order, tries), client, host);
     if !goes_on(&order, tries, reply) {
         return (stand, Ok(reply));
@@ -61,11 +61,18 @@ pub(crate) fn obey_in_time<K: Tag, R: Wait + Clock, O: Sink, C: Client>(
     (stand, Ok(reply))
 }
 
-/// How many tries are made before what is kept back is written: one alone where something is.
-fn first_tries(keeps_back: bool) -> u32
+/// How many tries are made before what is kept back is written: one alone where something is, and never more than the order
+/// asks for.
+fn first_tries(order: &Order, keeps_back: bool) -> u32
     ensures { 1 ≤ result }
 {
-    if keeps_back { 1 } else { QUICK_TRIES }
+    if keeps_back {
+        return 1;
+    }
+    match patience_of(order) {
+        Some(Patience::Tries(most)) => most.min(QUICK_TRIES).max(1),
+        _ => QUICK_TRIES,
+    }
 }
 
 /// Whether an order is gone on with after so many tries, which were answered so.
