@@ -179,7 +179,7 @@ fn take_over<K: Tag, R: Wait + Clock, C: Client>(
     let mut stand = stand;
     for _ in rt.forever() {
         host.hall.send_away(rt, asked.worker);
-        returned.wait(rt, Duration::from_millis(LONGEST));
+        returned.wait(rt, Duration::from_micros(LONGEST));
         let (next, reply) = obey_here(rt, stand, Order::Attach(asked), client, host);
         if reply != SessionReply::Refused(Refusal::Taken) || client.is_gone() {
             return (next, reply);
@@ -218,11 +218,18 @@ fn try_on<K: Tag, R: Wait + Clock, C: Client>(
             return (stand, reply);
         }
         pauses.pass_on();
-        if pauses.are_over(rt, &order) || client.is_gone() {
+        if pauses.are_over(rt, &order) || has_left(client, &pauses) {
             return (stand, reply);
         }
     }
     (stand, reply)
+}
+
+/// Whether a client that waits is found to be gone. It is not looked for between tries that follow at once.
+fn has_left<C: Client>(client: &C, pauses: &Pauses<'_>) -> bool
+    ensures { IsTrue result → C.gone client.now }
+{
+    !pauses.are_short() && client.is_gone()
 }
 
 /// The most tries that an order makes.
