@@ -16,7 +16,7 @@ use std::time::{Clock, Duration, Instant};
 /// The shortest pause and the longest, in microseconds. Each is twice the one before, and ends when the lock is left.
 const SHORTEST: u64 = 100;
 
-pub(crate) const LONGEST: u64 = 20_000;
+pub(crate) const LONGEST: u64 = 40_000;
 
 /// So many tries follow a ring with pauses that only let others run: by the time that one is awake the lock may have been had
 /// and left again.
@@ -73,9 +73,7 @@ impl<'a> Pauses<'a> {
         if self.rung {
             self.eager = EAGER_TRIES;
         }
-        if self.next < LONGEST {
-            self.next *= 2;
-        }
+        self.next = LONGEST.min(self.next.saturating_mul(2));
     }
 
     /// Whether the next try follows at once.
