@@ -144,8 +144,9 @@ class Session:
         return json.loads(self.ask(order))
 
     def attach(self, worker):
-        """The answer, once the worker's last session has ended."""
-        while (answer := self.told(do="attach", worker=worker)).get("code") == 18:
+        """The answer, once the worker's last session has ended, for which it waits half a minute at most."""
+        latest = time.monotonic() + 30
+        while (answer := self.told(do="attach", worker=worker)).get("code") == 18 and time.monotonic() < latest:
             time.sleep(0.01)
         return answer
 
@@ -157,6 +158,10 @@ class Session:
     def close(self):
         self.lines.close()
         self.connection.close()
+
+    def reset(self):
+        self.lines.close()
+        reset(self.connection)
 
 
 def reset(connection):

@@ -4,8 +4,11 @@ use std::sync::atomic::{AtomicU64, Ordering};
 use std::sync::{Condvar, Mutex, Wait};
 use std::time::{Clock, Duration};
 
-/// A bell. Nobody who listens to it misses a ring that came since it listened; a ring wakes one listener, who passes it on
-/// where it is of no use to it.
+/// A ring wakes all who listen, where they are no more than these.
+const FEW: u64 = 16;
+
+/// A bell. Nobody who listens to it misses a ring that came since it listened. A ring wakes a few listeners together, since
+/// what they wait for is had and left in a moment; of a crowd it wakes one, who passes it on where it is of no use to it.
 #[derive(Drop)]
 pub(crate) struct Bell {
     listeners: AtomicU64,
@@ -22,14 +25,24 @@ impl Bell {
         }
     }
 
-    /// Wakes one listener, if there is any.
+    /// Wakes those who listen, or one of a crowd.
     pub(crate) fn ring<R: Wait>(&self, rt: &R) {
-        if self.listeners.load(Ordering::SeqCst) == 0 {
+        let listeners = self.listeners.load(Ordering::SeqCst);
+        if listeners == 0 {
             return;
         }
+        self.count(rt);
+        if listeners <= FEW {
+            self.rung.notify_all();
+        } else {
+            self.rung.notify_one();
+        }
+    }
+
+    /// One ring more.
+    fn count<R: Wait>(&self, rt: &R) {
         let mut rings = self.rings.lock(rt);
         *rings = rings.wrapping_add(1);
-        self.rung.notify_one();
     }
 
     /// Listens, from now on.

@@ -13,10 +13,14 @@ use std::sync::Wait;
 use std::thread;
 use std::time::{Clock, Duration, Instant};
 
-/// The shortest pause and the longest, in milliseconds. Each is twice the one before, and ends when the lock is left.
-const SHORTEST: u64 = 1;
+/// The shortest pause and the longest, in microseconds. Each is twice the one before, and ends when the lock is left.
+const SHORTEST: u64 = 100;
 
-pub(crate) const LONGEST: u64 = 20;
+pub(crate) const LONGEST: u64 = 40_000;
+
+/// So many tries follow a ring with pauses that only let others run: by the time that one is awake the lock may have been had
+/// and left again.
+const EAGER_TRIES: u32 = 8;
 
 /// The pauses of an order. There is none before its first try here.
 #[derive(Drop)]
@@ -25,10 +29,12 @@ pub(crate) struct Pauses<'a> {
     listener: Option<Listening<'a>>,
     /// When the order began to wait, where the clock tells.
     began: Option<Instant>,
-    /// How many milliseconds the next pause has; 0 where there was none.
+    /// How many microseconds the next pause has; 0 where there was none.
     next: u64,
     /// Whether the bell ended the last one.
     rung: bool,
+    /// How many tries still follow a ring at once.
+    eager: u32,
 }
 
 impl<'a> Pauses<'a> {
@@ -43,6 +49,7 @@ impl<'a> Pauses<'a> {
             began: Instant::now(rt).ok(),
             next: 0,
             rung: false,
+            eager: 0,
         }
     }
 
@@ -52,21 +59,32 @@ impl<'a> Pauses<'a> {
             self.next = SHORTEST;
             return;
         }
-        let most = Duration::from_millis(self.next);
+        if self.eager > 0 {
+            self.eager -= 1;
+            thread::yield_now();
+            return;
+        }
+        let most = Duration::from_micros(self.next);
         let most = self.left(rt, order).map_or(most, |left| most.min(left));
         match &mut self.listener {
             Some(listener) => self.rung = listener.wait(rt, most),
             None => thread::sleep(rt, most),
         }
-        if self.next < LONGEST {
-            self.next *= 2;
+        if self.rung {
+            self.eager = EAGER_TRIES;
         }
+        self.next = LONGEST.min(self.next.saturating_mul(2));
     }
 
-    /// Has others hear the ring that ended the last pause, which was of no use.
+    /// Whether the next try follows at once.
+    pub(crate) fn are_short(&self) -> bool {
+        self.eager > 0
+    }
+
+    /// Has others hear the ring that ended the last pause, once it was of no use in any of the tries that followed.
     pub(crate) fn pass_on(&self) {
         if let Some(listener) = &self.listener {
-            if self.rung {
+            if self.rung && !self.are_short() {
                 listener.pass_on();
             }
         }

@@ -49,7 +49,7 @@ pub(crate) fn obey_in_time<K: Tag, R: Wait + Clock, O: Sink, C: Client>(
     ensures writes { MakesWrites (O.took writer.old) (O.took writer.new) }
     ensures write_broke { IfErr result.1 (λ fault. fault ≡ EngineFault.WriteFailed → LastWriteFails (O.took writer.old) (O.took writer.new)) }
 {
-    let tries = first_tries(buffers.exchange.keeps_back());
+    let tries = first_tries(&order, buffers.exchange.keeps_back());
     let (stand, reply) = obey_here(rt, stand, with_tries(order, tries), client, host);
     if !goes_on(&order, tries, reply) {
         return (stand, Ok(reply));
@@ -61,11 +61,18 @@ pub(crate) fn obey_in_time<K: Tag, R: Wait + Clock, O: Sink, C: Client>(
     (stand, Ok(reply))
 }
 
-/// How many tries are made before what is kept back is written: one alone where something is.
-fn first_tries(keeps_back: bool) -> u32
+/// How many tries are made before what is kept back is written: one alone where something is, and never more than the order
+/// asks for.
+fn first_tries(order: &Order, keeps_back: bool) -> u32
     ensures { 1 ≤ result }
 {
-    if keeps_back { 1 } else { QUICK_TRIES }
+    if keeps_back {
+        return 1;
+    }
+    match patience_of(order) {
+        Some(Patience::Tries(most)) => most.min(QUICK_TRIES).max(1),
+        _ => QUICK_TRIES,
+    }
 }
 
 /// Whether an order is gone on with after so many tries, which were answered so.
@@ -172,7 +179,7 @@ fn take_over<K: Tag, R: Wait + Clock, C: Client>(
     let mut stand = stand;
     for _ in rt.forever() {
         host.hall.send_away(rt, asked.worker);
-        returned.wait(rt, Duration::from_millis(LONGEST));
+        returned.wait(rt, Duration::from_micros(LONGEST));
         let (next, reply) = obey_here(rt, stand, Order::Attach(asked), client, host);
         if reply != SessionReply::Refused(Refusal::Taken) || client.is_gone() {
             return (next, reply);
@@ -211,11 +218,18 @@ fn try_on<K: Tag, R: Wait + Clock, C: Client>(
             return (stand, reply);
         }
         pauses.pass_on();
-        if pauses.are_over(rt, &order) || client.is_gone() {
+        if pauses.are_over(rt, &order) || has_left(client, &pauses) {
             return (stand, reply);
         }
     }
     (stand, reply)
+}
+
+/// Whether a client that waits is found to be gone. It is not looked for between tries that follow at once.
+fn has_left<C: Client>(client: &C, pauses: &Pauses<'_>) -> bool
+    ensures { IsTrue result → C.gone client.now }
+{
+    !pauses.are_short() && client.is_gone()
 }
 
 /// The most tries that an order makes.

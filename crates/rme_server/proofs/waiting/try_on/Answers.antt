@@ -3,7 +3,7 @@ use Rattle.rme_orders.specs.Parts.{least_in, patience_in, still_waits, with_trie
 use Rattle.rme_sessions.specs.Obeyed.{Obeys}
 use Rattle.rme_sessions.specs.declared.stand.Stand.{Stand as Session}
 use Rattle.rme_server.proofs.Trying.{all_tries, one_more, over}
-use Rattle.rme_server.proofs.waiting.try_on.Goals.{then-are_over-via-then-are_over, then-are_over-via-else-are_over+then-is_gone}
+use Rattle.rme_server.proofs.waiting.try_on.Goals.{then-are_over-via-then-are_over, then-are_over-via-else-are_over+then-has_left}
 use Rattle.rme_server.proofs.waiting.try_on.Goals as goal
 
 pub returns-then-not-still_waits-clause-obeys : goal.returns-then-not-still_waits-clause-obeys
@@ -29,8 +29,8 @@ returns-then-are_over-clause-obeys g c old first =
     elim c.then-are_over.branch [
       | then-are_over-via-then-are_over w ↦ (let few : least_in (patience_in c.args.order) ≤ 1 = w.if-are_over.ensures refl in
           inl (all_tries ident count (made + 1) old now c.args.order told (λ waits. omega (arith, few)) more))
-      | then-are_over-via-else-are_over+then-is_gone w ↦ inr
-          (w.if-is_gone.ensures refl, sym c.still_waits.ensures ∙ c.if-not-still_waits.false, (made + 1, omega arith, more))
+      | then-are_over-via-else-are_over+then-has_left w ↦ inr
+          (w.if-has_left.ensures refl, sym c.still_waits.ensures ∙ c.if-not-still_waits.false, (made + 1, omega arith, more))
     ]
 
 pub loop-made-preserved : goal.loop-made-preserved
