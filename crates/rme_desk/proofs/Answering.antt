@@ -2,6 +2,7 @@
 use Rattle.std.proofs.Common.{◌≡◌, ◌≢◌, ℕ, ◌+◌, ◌<◌, List, [], ◌∷◌, ◌++◌, refl, sym, ◌∙◌, ap, subst, inl, inr, arith}
 use Rattle.std.specs.Prelude.{Bool, true, false, Option, Some, None, Ok, slice_get}
 use Rattle.std.proofs.lemmas.Bool.{lt-ltb}
+use Rattle.std.proofs.lemmas.Option.{none-some}
 use Rattle.rme_words.specs.declared.shape.Shape.{Shape}
 use Rattle.rme_program.specs.Phases.{phase_of}
 use Rattle.rme_program.specs.declared.kinds.Phase.{Phase}
@@ -63,6 +64,8 @@ detached old new worker planned kept rests crashed =
       rests = tt;
       gone = λ none. crashed_found old new worker crashed.accepted;
       others = leaves.others;
+      long = leaves.long;
+      alone = λ none other. absurd (none-some worker (sym none));
     }
 
 -- What is shown of a worker that was attached.
@@ -104,4 +107,6 @@ attaches old mid new worker steps planned asked is within kept rests restarted w
       rests = (sym is, rests);
       gone = tt;
       others = λ other apart. leaves.others other (λ e. apart (e ∙ sym is));
+      long = leaves.long;
+      alone = λ none other. absurd (none-some worker (sym other));
     }

@@ -77,4 +77,6 @@ done_carries goal old start new worker planned before its begins worked answer b
       rests = rests_after worked.falls worker new its (work_rests goal worker planned start new worked went);
       gone = λ none. gone_after worked.falls worker new (work_falls goal worker planned start new worked went) none;
       others = all.others;
+      long = all.long;
+      alone = λ none other. absurd (none-some worker (sym none));
     }

@@ -1,6 +1,7 @@
 -- What a worker's events leave of the others.
-use Rattle.std.proofs.Common.{◌≡◌, ◌≢◌, ℕ, zero, suc, List, refl, sym, ◌∙◌, ap, subst}
+use Rattle.std.proofs.Common.{◌≡◌, ◌≢◌, ℕ, zero, suc, List, length, refl, sym, ◌∙◌, ap, subst}
 use Rattle.std.specs.Prelude.{Bool, true, false, Option, Some, None, Ok, slice_get, slice_set}
+use Rattle.std.proofs.lemmas.List.{length-set}
 use Rattle.rme_words.specs.declared.shape.Shape.{Shape}
 use Rattle.rme_program.specs.declared.private.Private.{Private}
 use Rattle.rme_script.specs.declared.job.Job.{Job}
@@ -22,19 +23,21 @@ use Rattle.rme_desk.proofs.Working.{stopped_rests, there_rests}
 -- The shape is the same, and the others are up or down as they were, and know what they knew.
 pub record Leaves (worker : ℕ) (old new : Seen) : Type 0 where
   pub shape : new.shape ≡ old.shape
+  pub long : length new.privates ≡ length old.privates
   pub others : (other : ℕ) → other ≢ worker → slice_get new.privates other ≡ slice_get old.privates other
 
 leaves_put : (worker : ℕ) (old new : Seen) (private : Option Private) → new.shape ≡ old.shape → new.privates ≡ slice_set old.privates worker private → Leaves worker old new
 leaves_put worker old new private same put = record {
   shape = same;
+  long = ap (λ (ps : List (Option Private)). length ps) put ∙ length-set old.privates worker private;
   others = λ other apart. ap (λ (ps : List (Option Private)). slice_get ps other) put ∙ get_set_other old.privates worker other private apart;
 }
 
 pub leaves_same : (worker : ℕ) (old new : Seen) → new ≡ old → Leaves worker old new
-leaves_same worker old new same = record { shape = ap (λ (s : Seen). s.shape) same; others = λ other apart. ap (λ (s : Seen). slice_get s.privates other) same }
+leaves_same worker old new same = record { shape = ap (λ (s : Seen). s.shape) same; long = ap (λ (s : Seen). length s.privates) same; others = λ other apart. ap (λ (s : Seen). slice_get s.privates other) same }
 
 pub leaves_then : (worker : ℕ) (old mid new : Seen) → Leaves worker old mid → Leaves worker mid new → Leaves worker old new
-leaves_then worker old mid new one two = record { shape = two.shape ∙ one.shape; others = λ other apart. two.others other apart ∙ one.others other apart }
+leaves_then worker old mid new one two = record { shape = two.shape ∙ one.shape; long = two.long ∙ one.long; others = λ other apart. two.others other apart ∙ one.others other apart }
 
 pub crash_leaves : (worker : ℕ) (old new : Seen) → Crashes old worker new → Leaves worker old new
 crash_leaves worker old new its = leaves_put worker old new None (ap (λ (s : Seen). s.shape) its.falls) (ap (λ (s : Seen). s.privates) its.falls)

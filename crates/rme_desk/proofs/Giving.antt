@@ -128,9 +128,9 @@ giving_step number old new worker n giving steps =
     let same : steps.private ≡ giving.private = same_Some _ _ (same_Some _ _ (sym steps.found ∙ giving.found)) in
     let leaves : is_leaving (phase_of steps.private.stage) ≡ true = ap (λ (p : Private). is_leaving (phase_of p.stage)) same ∙ giving.leaves in
     let not_in : (lock : ℕ) → n ≡ note.Entered lock → ⊥ = λ lock e.
-        (let tale = tells old new worker n giving.kept steps (note.Entered lock) e in
-        let no_ : is_leaving phase.Enter ≡ true = subst (λ (s : Stage). is_leaving (phase_of s) ≡ true) tale.1 leaves in
-        let no : false ≡ true = no_ in cc) in
+    (let tale = tells old new worker n giving.kept steps (note.Entered lock) e in
+    let no_ : is_leaving phase.Enter ≡ true = subst (λ (s : Stage). is_leaving (phase_of s) ≡ true) tale.1 leaves in
+    let no : false ≡ true = no_ in cc) in
     let shows = shows_note number old new worker was is n (machine_step old new worker n giving.kept steps) not_in (giving.asked, giving.none, giving.on) in
     record {
       kept = step_kept old new worker n steps giving.kept;

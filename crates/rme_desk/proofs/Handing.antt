@@ -66,6 +66,8 @@ kept_carries old worker before after its answer rests obeys = record {
   rests = (refl, rests);
   gone = λ none. absurd (none-some worker (sym none));
   others = λ other apart. refl;
+  long = refl;
+  alone = λ none other. absurd (none-some worker (sym none));
 }
 
 -- The last number is answered again.

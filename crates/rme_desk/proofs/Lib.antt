@@ -16,3 +16,4 @@ pub mod Giving
 pub mod Answering
 pub mod Handing
 pub mod Sorting
+pub mod Seating

@@ -137,6 +137,8 @@ refused_carries old worker planned its why rests refuses = record {
   rests = (refl, rests);
   gone = λ none. absurd (none-some worker (sym none));
   others = λ other apart. refl;
+  long = refl;
+  alone = λ none other. absurd (none-some worker (sym none));
 }
 
 -- A session that has a worker attaches none.

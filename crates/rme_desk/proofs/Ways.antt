@@ -220,10 +220,10 @@ way_step task old new worker n way steps =
     let goes = machine_step old new worker n way.kept steps in
     let led = phases old new worker n way.kept steps in
     let not_up : (k : ℕ) → n ≡ note.Withdrew k → ⊥ = λ k e.
-        (let tale = tells old new worker n way.kept steps (note.Withdrew k) e in
-        let left : HasEntered (me_in old worker).stance = its.1 (ap phase_of tale.2) in
-        let gone = subst (λ (m : Note). StepOf old.shape (act_of m) (shown_by old) worker (me_in old worker) (shown_by new)) e goes in
-        subst HasEntered gone.2 left) in
+    (let tale = tells old new worker n way.kept steps (note.Withdrew k) e in
+    let left : HasEntered (me_in old worker).stance = its.1 (ap phase_of tale.2) in
+    let gone = subst (λ (m : Note). StepOf old.shape (act_of m) (shown_by old) worker (me_in old worker) (shown_by new)) e goes in
+    subst HasEntered gone.2 left) in
     record {
       kept = step_kept old new worker n steps way.kept;
       its = way.its;

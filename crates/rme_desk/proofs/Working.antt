@@ -192,12 +192,14 @@ module _ (task : Task) (seen : Seen) (worker : ℕ) (way : Way task seen worker)
   -- A worker that is ready then has finished its task.
   pub ends_ready : phase_of way.private.stage ≡ phase.Ready → (receipt : Receipt) × IsReceiptOf task receipt × (sight_of seen worker ≡ Ready (finished_with task receipt))
   ends_ready e =
-      let on = on_at Idle (idle seen worker way.private way.kept way.found e) in
-      (on.1.0, on.1.1,
-      ready_sight seen worker way.private way.kept way.found e
-      ∙ ap (λ (n : ℕ). Ready record { worker = worker; number = n; last = last_under seen.history worker n }) on.0
-      ∙ ap (λ (w : ℕ). Ready record { worker = w; number = task.number; last = last_under seen.history w task.number }) (sym way.its)
-      ∙ ap (λ (l : Option Receipt). Ready record { worker = task.worker; number = task.number; last = l }) on.1.2)
+      let on = on_at Idle (idle seen worker way.private way.kept way.found e) in (
+        on.1.0,
+        on.1.1,
+        ready_sight seen worker way.private way.kept way.found e
+            ∙ ap (λ (n : ℕ). Ready record { worker = worker; number = n; last = last_under seen.history worker n }) on.0
+            ∙ ap (λ (w : ℕ). Ready record { worker = w; number = task.number; last = last_under seen.history w task.number }) (sym way.its)
+            ∙ ap (λ (l : Option Receipt). Ready record { worker = task.worker; number = task.number; last = l }) on.1.2,
+      )
 
   as_waiting : (n : ℕ) (job : Job) → n ≡ task.number → job ≡ task.job → record { worker = worker; number = n; draft = Some job } ≡ waiting_with task
   as_waiting n job number same =

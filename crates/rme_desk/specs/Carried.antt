@@ -1,5 +1,5 @@
 -- What an order of a session does to a world, and what is left of the session's worker.
-use Rattle.std.specs.Prelude.{◌≡◌, ◌≢◌, ℕ, ◌<◌, Option, Some, None, IfSome, slice_get}
+use Rattle.std.specs.Prelude.{◌≡◌, ◌≢◌, ℕ, ◌<◌, Option, Some, None, IfSome, length, slice_get}
 use Rattle.rme_orders.specs.Obeyed.{Obeys}
 use Rattle.rme_orders.specs.Parts.{with_tries}
 use Rattle.rme_orders.specs.declared.planned.Planned.{Planned}
@@ -27,11 +27,11 @@ abbrev pub MayCome : Seen → Option ℕ → Order → Type 0
 MayCome seen None (Attach asked) = asked.worker < seen.shape.workers → IsDown seen asked.worker
 MayCome seen seat its = Unit {0}
 
--- The worker that an order is of: the session's, or the one that it asks for.
+-- The worker that an order is of: the session's, or the one that it asks for. Without a worker no other order is of any.
 abbrev pub IsOf : Option ℕ → Order → ℕ → Type 0
 IsOf (Some own) its worker = worker ≡ own
 IsOf None (Attach asked) worker = worker ≡ asked.worker
-IsOf None its worker = Unit {0}
+IsOf None its worker = ⊥
 
 -- An order was carried out with one try: the session obeyed it, by events of its worker alone, which stands where an order may
 -- leave it, or is down and the session's no more.
@@ -43,3 +43,5 @@ pub record Carries (old : Seen) (seat : Option ℕ) (planned : Planned) (its : O
   pub rests : IfSome carried.seat (λ worker. IsOf seat its worker × Rests new worker)
   pub gone : IfSome seat (λ worker. carried.seat ≡ None → IsDown new worker)
   pub others : (other : ℕ) → (IsOf seat its other → ⊥) → slice_get new.privates other ≡ slice_get old.privates other
+  pub long : length new.privates ≡ length old.privates
+  pub alone : seat ≡ None → carried.seat ≡ None → new ≡ old

@@ -8,3 +8,5 @@ pub mod Works
 pub mod Deeds
 pub mod Replies
 pub mod Carried
+pub mod Offices
+pub mod Desks

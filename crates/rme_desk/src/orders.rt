@@ -216,12 +216,7 @@ fn submit(
         Session::Nobody => unreachable!(),
         Session::Climb(_) => {
             let worked = go_on(world, worker, aim.goal(), planned);
-            Ok(done(
-                worker,
-                Begin::GoOn,
-                worked,
-                aim.reply(worked.outcome),
-            ))
+            Ok(done(worker, Begin::GoOn, worked, aim.reply(worked.outcome)))
         }
     }
 }

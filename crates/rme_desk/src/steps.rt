@@ -12,7 +12,7 @@ use rme_world::World;
 
 /// Where a worker is to come.
 #[derive(Clone, Copy)]
-pub enum Goal {
+pub(crate) enum Goal {
     /// To where its order leaves it: ready, waiting for its lock, or inside.
     Rest,
     /// To its lock.
@@ -37,7 +37,7 @@ impl Goal {
 
 /// Why a worker makes no more steps.
 #[derive(Clone, Copy)]
-pub enum End {
+pub(crate) enum End {
     /// It is where it was to come.
     There,
     /// Another worker holds the next node of its path.
@@ -48,17 +48,17 @@ pub enum End {
 
 /// What a worker did.
 #[derive(Clone, Copy)]
-pub struct Walk {
+pub(crate) struct Walk {
     /// So many own steps were made. A blocked one, which changes nothing, is not among them.
-    pub steps: u32,
-    pub end: End,
+    pub(crate) steps: u32,
+    pub(crate) end: End,
     /// What is left of the plan.
-    pub left: Planned,
+    pub(crate) left: Planned,
 }
 
 /// Lets a worker make its own steps, until it has come where it is to come, the next one would be blocked, or its planned crash
 /// is due. The plan is asked before each own step, and before the one that would be blocked too.
-pub fn go(world: &mut World, worker: u32, goal: Goal, planned: Planned) -> Walk
+pub(crate) fn go(world: &mut World, worker: u32, goal: Goal, planned: Planned) -> Walk
     requires up { IsUp world.old worker }
     ensures walks { Walks goal worker world.old result.steps world.new }
     ensures end { IsEnd goal worker world.new result.end }

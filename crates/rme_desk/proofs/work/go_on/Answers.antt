@@ -23,29 +23,29 @@ returns-in-Fallen c = record {
 pub returns-in-There : goal.returns-in-There
 returns-in-There c = elim c.in-There.is [
   | inl there ↦ record {
-      went = record {
-        begun = c.look.ensures;
-    mid = c.go-walk.new.world;
-        walks = c.go-walk.ensures.walks;
-        kept = c.go-walk.ensures.kept;
-        up = c.go-walk.ensures.up;
-        end = There;
-        is_end = subst (λ (e : End). IsEnd c.args.goal c.args.worker c.go-walk.new.world e) there c.go-walk.ensures.end;
-        spent = subst (λ (e : End). IsSpent c.args.planned c.go-walk.result.steps e c.go-walk.result.left) there c.go-walk.ensures.plan;
-        ends = (refl, c.outcome_of.ensures ∙ ap outcome_by c.sight.ensures.sight, refl);
-      };
-    }
+    went = record {
+      begun = c.look.ensures;
+      mid = c.go-walk.new.world;
+      walks = c.go-walk.ensures.walks;
+      kept = c.go-walk.ensures.kept;
+      up = c.go-walk.ensures.up;
+      end = There;
+      is_end = subst (λ (e : End). IsEnd c.args.goal c.args.worker c.go-walk.new.world e) there c.go-walk.ensures.end;
+      spent = subst (λ (e : End). IsSpent c.args.planned c.go-walk.result.steps e c.go-walk.result.left) there c.go-walk.ensures.plan;
+      ends = (refl, c.outcome_of.ensures ∙ ap outcome_by c.sight.ensures.sight, refl);
+    };
+  }
   | inr stopped ↦ record {
-      went = record {
-        begun = c.look.ensures;
-    mid = c.go-walk.new.world;
-        walks = c.go-walk.ensures.walks;
-        kept = c.go-walk.ensures.kept;
-        up = c.go-walk.ensures.up;
-        end = Stopped;
-        is_end = subst (λ (e : End). IsEnd c.args.goal c.args.worker c.go-walk.new.world e) stopped c.go-walk.ensures.end;
-        spent = subst (λ (e : End). IsSpent c.args.planned c.go-walk.result.steps e c.go-walk.result.left) stopped c.go-walk.ensures.plan;
-        ends = (refl, c.outcome_of.ensures ∙ ap outcome_by c.sight.ensures.sight, refl);
-      };
-    }
+    went = record {
+      begun = c.look.ensures;
+      mid = c.go-walk.new.world;
+      walks = c.go-walk.ensures.walks;
+      kept = c.go-walk.ensures.kept;
+      up = c.go-walk.ensures.up;
+      end = Stopped;
+      is_end = subst (λ (e : End). IsEnd c.args.goal c.args.worker c.go-walk.new.world e) stopped c.go-walk.ensures.end;
+      spent = subst (λ (e : End). IsSpent c.args.planned c.go-walk.result.steps e c.go-walk.result.left) stopped c.go-walk.ensures.plan;
+      ends = (refl, c.outcome_of.ensures ∙ ap outcome_by c.sight.ensures.sight, refl);
+    };
+  }
 ]

@@ -1,0 +1,112 @@
+-- Who has which worker, after an order.
+use Rattle.std.proofs.Common.{◌≡◌, ◌≢◌, ℕ, ◌<◌, List, length, refl, sym, ◌∙◌, ap, subst, inl, inr, arith}
+use Rattle.std.specs.Prelude.{◌==◌, Bool, true, false, Option, Some, None, IfSome, slice_get, slice_set, if◌then◌else◌}
+use Rattle.std.proofs.lemmas.Bool.{cases_Bool, cases_eq, eqb-true, eq-eqb, lt-ltb}
+use Rattle.std.proofs.lemmas.List.{length-set}
+use Rattle.std.proofs.lemmas.Option.{none-some, same_Some, slice_get_within}
+use Rattle.rme_words.specs.declared.shape.Shape.{Shape}
+use Rattle.rme_machine.proofs.Lists.{get_set, get_set_other}
+use Rattle.rme_orders.specs.declared.planned.Planned.{Planned}
+use Rattle.rme_session_lines.specs.declared.order.Attachment.{Attachment}
+use Rattle.rme_session_lines.specs.declared.order.Order.{Order}
+use Rattle.rme_session_lines.specs.declared.order.Order.TheVariants.{Attach, Submit, Resume, Enter, Commit, Withdraw, Last, CrashAfter, Detach}
+use Rattle.rme_world.specs.Seen.{Seen, IsKept}
+use Rattle.rme_desk.specs.Carried.{Carries, IsOf, IsSeated, MayCome}
+use Rattle.rme_desk.specs.Desks.{seat_by, seat_of, settled_by}
+use Rattle.rme_desk.specs.Downs.{IsDown}
+use Rattle.rme_desk.specs.Offices.{IsTended, Office, is_held}
+use Rattle.rme_desk.specs.Sights.{Rests}
+use Rattle.rme_desk.specs.declared.desk.Stand.{Stand}
+use Rattle.rme_desk.specs.declared.orders.Carried.{Carried}
+
+-- ---- who has a worker
+
+held_some : (session : ℕ) (found : Option (Option ℕ)) → is_held session found ≡ true → found ≡ Some (Some session)
+held_some session None held = absurd (cc)
+held_some session (Some None) held = absurd (cc)
+held_some session (Some (Some holder)) held = ap (λ (s : ℕ). Some (Some s)) (eqb-true holder session held)
+
+seat_held : (office : Office) (session : ℕ) (own : Option ℕ) (worker : ℕ) → seat_by office session own ≡ Some worker → slice_get office.holders worker ≡ Some (Some session)
+seat_held office session None worker is = absurd (none-some worker is)
+seat_held office session (Some its) worker is = elim (cases_Bool (is_held session (slice_get office.holders its))) [
+  | inl held ↦
+      (let at : Some its ≡ Some worker = rw held at is in
+      let same : its ≡ worker = same_Some _ _ at in
+      ap (slice_get office.holders) (sym same) ∙ held_some session (slice_get office.holders its) held)
+  | inr other ↦ (let at : None ≡ Some worker = rw other at is in absurd (none-some worker at))
+]
+
+-- The worker that a session has stands where an order may leave it.
+pub seat_rests : (office : Office) (stand : Stand) (seat : Option ℕ) → IsTended office → seat ≡ seat_of office stand → IsSeated office.world seat
+seat_rests office stand None tended is = tt
+seat_rests office stand (Some worker) tended is = tended.held worker stand.session (seat_held office stand.session stand.worker worker (sym is))
+
+pub seat_within : (office : Office) (stand : Stand) (seat : Option ℕ) → seat ≡ seat_of office stand → IfSome seat (λ worker. worker < length office.holders)
+seat_within office stand None is = tt
+seat_within office stand (Some worker) is = slice_get_within office.holders worker (Some stand.session) (seat_held office stand.session stand.worker worker (sym is))
+
+-- ---- after an order
+
+rests_still : (old new : Seen) (worker : ℕ) → slice_get new.privates worker ≡ slice_get old.privates worker → Rests old worker → Rests new worker
+rests_still old new worker same rests = (rests.0, same ∙ rests.1, rests.2)
+
+is_one : (seat : Option ℕ) (its : Order) (worker other : ℕ) → IsOf seat its worker → IsOf seat its other → other ≡ worker
+is_one (Some own) its worker other one two = two ∙ sym one
+is_one None (Attach asked) worker other one two = two ∙ sym one
+is_one None (Submit submission) worker other one two = absurd one
+is_one None (Resume patience) worker other one two = absurd one
+is_one None (Enter submission) worker other one two = absurd one
+is_one None Commit worker other one two = absurd one
+is_one None Withdraw worker other one two = absurd one
+is_one None Last worker other one two = absurd one
+is_one None (CrashAfter steps) worker other one two = absurd one
+is_one None Detach worker other one two = absurd one
+
+module _ (old new : Seen) (holders : List (Option ℕ)) (session : ℕ) (tended : IsTended record { world = old; holders = holders }) where
+  -- One worker has another holder, and stands so; all others are as before.
+  put_tended : (worker : ℕ) (holder : Option ℕ) → new.shape ≡ old.shape → worker < length holders → ((s : ℕ) → holder ≡ Some s → Rests new worker) → (holder ≡ None → IsDown new worker)
+      → ((other : ℕ) → other ≢ worker → slice_get new.privates other ≡ slice_get old.privates other) → IsTended record { world = new; holders = slice_set holders worker holder }
+  put_tended worker holder shape within rests down others = record {
+    all = length-set holders worker holder ∙ tended.all ∙ ap (λ (s : Shape). s.workers) (sym shape);
+    held = λ other s found. elim (cases_eq other worker) [
+          | inl same ↦
+              (let here : Some holder ≡ Some (Some s) = sym (get_set holders worker holder within) ∙ ap (slice_get (slice_set holders worker holder)) (sym same) ∙ found in
+              subst (λ (w : ℕ). Rests new w) (sym same) (rests s (same_Some _ _ here)))
+          | inr apart ↦ rests_still old new other (others other apart) (tended.held other s (sym (get_set_other holders worker other holder apart) ∙ found))
+        ];
+    free = λ other found. elim (cases_eq other worker) [
+          | inl same ↦
+              (let here : Some holder ≡ Some None = sym (get_set holders worker holder within) ∙ ap (slice_get (slice_set holders worker holder)) (sym same) ∙ found in
+              subst (λ (w : ℕ). IsDown new w) (sym same) (down (same_Some _ _ here)))
+          | inr apart ↦ others other apart ∙ tended.free other (sym (get_set_other holders worker other holder apart) ∙ found)
+        ];
+  }
+
+  pub tended_after : (seat now : Option ℕ) (planned : Planned) (its : Order) (carried : Carried) → carried.seat ≡ now → IfSome seat (λ worker. worker < length holders) → IfSome now (λ worker. worker < length holders)
+      → Carries old seat planned its carried new → IsTended record { world = new; holders = settled_by holders seat now session }
+  tended_after None None planned its carried is own then_ carries =
+      subst (λ (s : Seen). IsTended record { world = s; holders = holders }) (sym (carries.alone refl is)) tended
+  tended_after (Some worker) None planned its carried is own then_ carries =
+      put_tended worker None carries.shape own (λ s some. absurd (none-some s some)) (λ none. carries.gone is) (λ other apart. carries.others other apart)
+  tended_after None (Some worker) planned its carried is own then_ carries =
+      let rests = subst (λ (o : Option ℕ). IfSome o (λ w. IsOf None its w × Rests new w)) is carries.rests in
+      put_tended worker (Some session) carries.shape then_ (λ s some. rests.1) (λ none. absurd (none-some session (sym none)))
+      (λ other apart. carries.others other (λ its_own. apart (is_one None its worker other rests.0 its_own)))
+  tended_after (Some own_worker) (Some worker) planned its carried is own then_ carries =
+      let rests = subst (λ (o : Option ℕ). IfSome o (λ w. IsOf (Some own_worker) its w × Rests new w)) is carries.rests in
+      put_tended worker (Some session) carries.shape then_ (λ s some. rests.1) (λ none. absurd (none-some session (sym none)))
+      (λ other apart. carries.others other (λ its_own. apart (is_one (Some own_worker) its worker other rests.0 its_own)))
+
+  -- The session has the worker that it is said to have.
+  pub seat_after_is : (seat now : Option ℕ) → IfSome now (λ worker. worker < length holders) → seat_by record { world = new; holders = settled_by holders seat now session } session now ≡ now
+  seat_after_is seat None then_ = refl
+  seat_after_is None (Some worker) then_ = rw (get_set holders worker (Some session) then_) (rw (eq-eqb session session refl) refl)
+  seat_after_is (Some own) (Some worker) then_ = rw (get_set holders worker (Some session) then_) (rw (eq-eqb session session refl) refl)
+
+-- A worker that the session has then is one of the desk's.
+pub now_within : (old new : Seen) (holders : List (Option ℕ)) (seat now : Option ℕ) (planned : Planned) (its : Order) (carried : Carried) → IsKept old → length holders ≡ old.shape.workers → carried.seat ≡ now
+    → Carries old seat planned its carried new → IfSome now (λ worker. worker < length holders)
+now_within old new holders seat None planned its carried kept all is carries = tt
+now_within old new holders seat (Some worker) planned its carried kept all is carries =
+    let rests = subst (λ (o : Option ℕ). IfSome o (λ w. IsOf seat its w × Rests new w)) is carries.rests in
+    omega (arith, slice_get_within new.privates worker (Some rests.1.0) rests.1.1, carries.long, kept.all_privates, all)

@@ -1,0 +1,121 @@
+//! A world whose workers sessions take, and let go.
+
+ghost use Rattle.std.specs.Prelude.{◌≡◌, ◌<◌, IfSome, vec_len};
+ghost use Rattle.rme_desk.specs.Desks.{settled_by};
+
+use crate::deed::Deed;
+use crate::orders::carry;
+use crate::work::look;
+use rme_orders::Planned;
+use rme_session_lines::{Order, SessionReply};
+use rme_words::{NoMemory, Refusal};
+use rme_world::World;
+use std::marker::Model;
+
+/// A session: its number, the worker that it has, if any, and the crash that is planned.
+#[derive(Clone, Copy)]
+pub struct Stand {
+    pub session: u64,
+    pub worker: Option<u32>,
+    pub planned: Planned,
+}
+
+/// What became of an order.
+#[derive(Clone, Copy)]
+pub struct Done {
+    pub reply: SessionReply,
+    /// What was done, if anything was.
+    pub deed: Option<Deed>,
+}
+
+/// A world, and which session has which worker. A worker that no session has is down.
+#[derive(Drop)]
+pub struct Desk {
+    world: World,
+    /// For each worker the session that has it, if one has.
+    holders: Vec<Option<u64>>,
+}
+
+impl Model for Desk {
+    ghost use Rattle.rme_desk.specs.Offices.{Office, IsTended};
+
+    ghost Value = { Office };
+
+    ghost view = { λ desk. record { world = desk.world; holders = desk.holders.items } };
+
+    ghost invariant = { λ desk. IsTended record { world = desk.world; holders = desk.holders.items } };
+}
+
+impl Desk {
+    ghost use Rattle.std.specs.Prelude.{◌≡◌, IfOk, OnErr};
+    ghost use Rattle.rme_orders.specs.Obeyed.{Obeys};
+    ghost use Rattle.rme_orders.specs.Parts.{with_tries};
+    ghost use Rattle.rme_desk.specs.Deeds.{Happened, events_done};
+    ghost use Rattle.rme_desk.specs.Desks.{is_taken, seat_of, view_of};
+    ghost use Rattle.rme_desk.specs.Offices.{IsTended};
+
+    /// The worker that a session has, if the desk says so too: another session may have taken it over.
+    fn seat(&self, stand: &Stand) -> Option<u32>
+        ensures { result ≡ seat_of self.now stand.now }
+    {
+        let worker = stand.worker?;
+        match self.holders.get(worker as usize) {
+            Some(Some(holder)) if *holder == stand.session => Some(worker),
+            _ => None,
+        }
+    }
+
+    /// Obeys an order of a session with one try where its job waits, and answers it with what was done.
+    ///
+    /// A refused order changes nothing, and so does one for which memory was refused. `Taken` where another session has the
+    /// worker that is to be attached.
+    pub fn obey(&mut self, stand: &mut Stand, order: &Order) -> Result<Done, NoMemory>
+        ensures obeys { IfOk result (λ done. Obeys self.old.world.shape (view_of self.old stand.old) (with_tries 1 order.now) (view_of self.new stand.new) done.reply) }
+        ensures happened { IfOk result (λ done. Happened self.old.world (events_done done.deed) self.new.world) }
+        ensures unchanged { OnErr result ((self.new ≡ self.old) × (stand.new ≡ stand.old)) }
+    {
+        let seat = self.seat(stand);
+        if self.is_taken(seat, order) {
+            let reply = SessionReply::Refused(Refusal::Taken);
+            return Ok(Done { reply, deed: None });
+        }
+        look(&self.world, 0);
+        let carried = match carry(&mut self.world, seat, stand.planned, order) {
+            Ok(carried) => carried,
+            Err(fault) => return Err(fault),
+        };
+        settle(&mut self.holders, seat, carried.seat, stand.session);
+        stand.worker = carried.seat;
+        stand.planned = carried.planned;
+        Ok(Done {
+            reply: carried.reply,
+            deed: carried.deed,
+        })
+    }
+
+    /// Whether the worker that an order of a session without one would attach is another session's.
+    fn is_taken(&self, seat: Option<u32>, order: &Order) -> bool
+        ensures taken { result ≡ is_taken self.now seat order.now }
+        ensures tended { IsTended self.now }
+    {
+        match (seat, order) {
+            (None, Order::Attach(asked)) => {
+                matches!(self.holders.get(asked.worker as usize), Some(Some(_)))
+            }
+            _ => false,
+        }
+    }
+}
+
+/// Notes who has which worker after an order.
+fn settle(holders: &mut Vec<Option<u64>>, seat: Option<u32>, now: Option<u32>, session: u64)
+    requires own { IfSome seat (λ worker. worker < vec_len holders.old) }
+    requires then_ { IfSome now (λ worker. worker < vec_len holders.old) }
+    ensures { holders.new.items ≡ settled_by holders.old.items seat now session }
+{
+    match (seat, now) {
+        (_, Some(worker)) => holders[worker as usize] = Some(session),
+        (Some(worker), None) => holders[worker as usize] = None,
+        (None, None) => {}
+    }
+}
