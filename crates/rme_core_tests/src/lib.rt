@@ -10,6 +10,8 @@
 #[cfg(test)]
 mod checker;
 #[cfg(test)]
+mod desk;
+#[cfg(test)]
 mod images;
 #[cfg(test)]
 mod parts;

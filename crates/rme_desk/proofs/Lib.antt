@@ -17,3 +17,4 @@ pub mod Answering
 pub mod Handing
 pub mod Sorting
 pub mod Seating
+pub mod Falling

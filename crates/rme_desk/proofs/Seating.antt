@@ -71,17 +71,17 @@ module _ (old new : Seen) (holders : List (Option ℕ)) (session : ℕ) (tended 
   put_tended worker holder shape within rests down others = record {
     all = length-set holders worker holder ∙ tended.all ∙ ap (λ (s : Shape). s.workers) (sym shape);
     held = λ other s found. elim (cases_eq other worker) [
-          | inl same ↦
-              (let here : Some holder ≡ Some (Some s) = sym (get_set holders worker holder within) ∙ ap (slice_get (slice_set holders worker holder)) (sym same) ∙ found in
-              subst (λ (w : ℕ). Rests new w) (sym same) (rests s (same_Some _ _ here)))
-          | inr apart ↦ rests_still old new other (others other apart) (tended.held other s (sym (get_set_other holders worker other holder apart) ∙ found))
-        ];
+      | inl same ↦
+          (let here : Some holder ≡ Some (Some s) = sym (get_set holders worker holder within) ∙ ap (slice_get (slice_set holders worker holder)) (sym same) ∙ found in
+          subst (λ (w : ℕ). Rests new w) (sym same) (rests s (same_Some _ _ here)))
+      | inr apart ↦ rests_still old new other (others other apart) (tended.held other s (sym (get_set_other holders worker other holder apart) ∙ found))
+    ];
     free = λ other found. elim (cases_eq other worker) [
-          | inl same ↦
-              (let here : Some holder ≡ Some None = sym (get_set holders worker holder within) ∙ ap (slice_get (slice_set holders worker holder)) (sym same) ∙ found in
-              subst (λ (w : ℕ). IsDown new w) (sym same) (down (same_Some _ _ here)))
-          | inr apart ↦ others other apart ∙ tended.free other (sym (get_set_other holders worker other holder apart) ∙ found)
-        ];
+      | inl same ↦
+          (let here : Some holder ≡ Some None = sym (get_set holders worker holder within) ∙ ap (slice_get (slice_set holders worker holder)) (sym same) ∙ found in
+          subst (λ (w : ℕ). IsDown new w) (sym same) (down (same_Some _ _ here)))
+      | inr apart ↦ others other apart ∙ tended.free other (sym (get_set_other holders worker other holder apart) ∙ found)
+    ];
   }
 
   pub tended_after : (seat now : Option ℕ) (planned : Planned) (its : Order) (carried : Carried) → carried.seat ≡ now → IfSome seat (λ worker. worker < length holders) → IfSome now (λ worker. worker < length holders)
@@ -124,8 +124,8 @@ desk_obeys old new holders after stand seat its carried kept tended is settled c
     let P : Option ℕ → Type 0 = λ (own : Option ℕ). Obeys old.shape (view_with old own stand.planned) (with_tries 1 its) (view_with new carried.seat carried.planned) carried.reply in
     let Q : Option ℕ → Type 0 = λ (own : Option ℕ). Obeys old.shape (view_of record { world = old; holders = holders } stand) (with_tries 1 its) (view_with new own carried.planned) carried.reply in
     let H : List (Option ℕ) → Type 0 = λ (hs : List (Option ℕ)).
-        Obeys old.shape (view_of record { world = old; holders = holders } stand) (with_tries 1 its)
-        (view_of record { world = new; holders = hs } record { session = stand.session; worker = carried.seat; planned = carried.planned }) carried.reply in
+    Obeys old.shape (view_of record { world = old; holders = holders } stand) (with_tries 1 its)
+    (view_of record { world = new; holders = hs } record { session = stand.session; worker = carried.seat; planned = carried.planned }) carried.reply in
     subst H (sym settled) (subst Q (sym same) (subst P is carries.obeys))
 
 pub desk_tended : (old new : Seen) (holders after : List (Option ℕ)) (stand : Stand) (seat : Option ℕ) (its : Order) (carried : Carried) → IsKept old → IsTended record { world = old; holders = holders }

@@ -1,9 +1,14 @@
 -- A world whose workers sessions take, and what each of them shows.
-use Rattle.std.specs.Prelude.{◌≡◌, ℕ, ◌==◌, Bool, true, false, List, Option, Some, None, slice_get, slice_set, if◌then◌else◌}
+use Rattle.std.specs.Prelude.{◌≡◌, ℕ, ◌<◌, ◌==◌, Bool, true, false, List, [], ◌∷◌, Option, Some, None, slice_get, slice_set, if◌then◌else◌}
 use Rattle.rme_orders.specs.declared.view.View.{View}
 use Rattle.rme_session_lines.specs.declared.order.Order.{Order}
 use Rattle.rme_session_lines.specs.declared.order.Order.TheVariants.{Attach}
+use Rattle.rme_program.specs.declared.event.Event.{Event}
+use Rattle.rme_program.specs.declared.event.Event.TheVariants as event
+use Rattle.rme_world.specs.Seen.{Seen}
 use Rattle.rme_desk.specs.declared.desk.Stand.{Stand}
+use Rattle.rme_desk.specs.Deeds.{Happened}
+use Rattle.rme_desk.specs.Downs.{IsDown}
 use Rattle.rme_desk.specs.Carried.{view_with}
 use Rattle.rme_desk.specs.Offices.{Office, is_held}
 
@@ -35,3 +40,16 @@ has_holder (Some (Some session)) = true
 abbrev pub is_taken : Office → Option ℕ → Order → Bool
 is_taken office None (Attach asked) = has_holder (slice_get office.holders asked.worker)
 is_taken office seat its = false
+
+-- By crashes alone a world came to one in which all workers are down.
+abbrev pub AreCrashes : List Event → Type 0
+AreCrashes [] = Unit {0}
+AreCrashes (event.Crash worker ∷ events) = AreCrashes events
+AreCrashes _ = ⊥
+
+pub record HasFallen (old new : Seen) : Type 0 where
+  pub events : List Event
+  pub crashes : AreCrashes events
+  pub happened : Happened old events new
+  pub shape : new.shape ≡ old.shape
+  pub down : (worker : ℕ) → worker < old.shape.workers → IsDown new worker

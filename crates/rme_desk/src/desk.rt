@@ -1,15 +1,17 @@
 //! A world whose workers sessions take, and let go.
 
-ghost use Rattle.std.specs.Prelude.{◌≡◌, ◌<◌, IfSome, vec_len};
-ghost use Rattle.rme_desk.specs.Desks.{settled_by};
+ghost use Rattle.std.specs.Prelude.{◌≡◌, ◌<◌, IfOk, IfSome, None, replicate, vec_len};
+ghost use Rattle.rme_desk.specs.Desks.{HasFallen, settled_by};
+ghost use Rattle.rme_world.specs.Seen.{IsKept};
 
 use crate::deed::Deed;
-use crate::orders::carry;
-use crate::work::look;
+use crate::orders::{carry, detach};
+use crate::work::{fall, look};
 use rme_orders::Planned;
 use rme_session_lines::{Order, SessionReply};
 use rme_words::{NoMemory, Refusal};
 use rme_world::World;
+use std::alloc::Global;
 use std::marker::Model;
 
 /// A session: its number, the worker that it has, if any, and the crash that is planned.
@@ -46,13 +48,70 @@ impl Model for Desk {
     ghost invariant = { λ desk. IsTended record { world = desk.world; holders = desk.holders.items } };
 }
 
+impl Stand {
+    ghost use Rattle.std.specs.Prelude.{◌≡◌, None};
+    ghost use Rattle.rme_orders.specs.declared.planned.Planned.TheVariants as plan;
+
+    /// A session of this number, which has no worker yet.
+    pub fn new(session: u64) -> Stand
+        ensures { result ≡ record { session = session; worker = None; planned = plan.Nothing } }
+    {
+        Stand {
+            session,
+            worker: None,
+            planned: Planned::Nothing,
+        }
+    }
+}
+
 impl Desk {
-    ghost use Rattle.std.specs.Prelude.{◌≡◌, IfOk, OnErr};
+    ghost use Rattle.std.specs.Prelude.{◌≡◌, ◌<◌, IfOk, IfSome, OnErr, None, replicate};
     ghost use Rattle.rme_orders.specs.Obeyed.{Obeys};
     ghost use Rattle.rme_orders.specs.Parts.{with_tries};
     ghost use Rattle.rme_desk.specs.Deeds.{Happened, events_done};
-    ghost use Rattle.rme_desk.specs.Desks.{is_taken, seat_of, view_of};
+    ghost use Rattle.rme_desk.specs.Desks.{HasFallen, is_taken, seat_of, view_of};
+    ghost use Rattle.rme_orders.specs.Sights.{nobody};
+    ghost use Rattle.rme_desk.specs.Downs.{IsDown};
     ghost use Rattle.rme_desk.specs.Offices.{IsTended};
+
+    /// A desk over a world, of which no session has a worker: each worker that is up falls. Takes memory for the desk's own
+    /// list of the workers.
+    pub fn new(alloc: Global, world: World) -> Result<Desk, NoMemory>
+        ensures fallen { IfOk result (λ desk. HasFallen world desk.world) }
+        ensures nobody { IfOk result (λ desk. desk.holders ≡ replicate world.shape.workers None) }
+    {
+        let mut world = world;
+        put_down(&mut world);
+        match held_by_nobody(alloc, world.shape().workers) {
+            Ok(holders) => Ok(Desk { world, holders }),
+            Err(fault) => Err(fault),
+        }
+    }
+
+    /// The world, to look at.
+    pub fn world(&self) -> &World
+        ensures { result.now ≡ self.now.world }
+    {
+        &self.world
+    }
+
+    /// Lets go of the worker that a session has, if it has one: the worker falls where it is. So a session ends.
+    pub fn let_go(&mut self, stand: &mut Stand) -> Option<Deed>
+        ensures gone { view_of self.new stand.new ≡ nobody }
+        ensures down { IfSome (seat_of self.old stand.old) (λ worker. IsDown self.new.world worker) }
+        ensures happened { Happened self.old.world (events_done result) self.new.world }
+    {
+        let seat = self.seat(stand);
+        let session = stand.session;
+        *stand = Stand::new(session);
+        let Some(worker) = seat else {
+            return None;
+        };
+        look(&self.world, worker);
+        let carried = detach(&mut self.world, worker);
+        settle(&mut self.holders, seat, None, session);
+        carried.deed
+    }
 
     /// The worker that a session has, if the desk says so too: another session may have taken it over.
     fn seat(&self, stand: &Stand) -> Option<u32>
@@ -105,6 +164,29 @@ impl Desk {
             _ => false,
         }
     }
+}
+
+/// No session for any worker.
+fn held_by_nobody(alloc: Global, workers: u32) -> Result<Vec<Option<u64>>, NoMemory>
+    ensures { IfOk result (λ holders. holders.items ≡ replicate workers None) }
+{
+    match vec![in alloc; None; workers as usize] {
+        Ok(holders) => Ok(holders),
+        Err(_) => Err(NoMemory),
+    }
+}
+
+/// Lets each worker fall that is up.
+fn put_down(world: &mut World)
+    ensures fallen { HasFallen world.old world.new }
+    ensures kept { IsKept world.new }
+{
+    for worker in 0..world.shape().workers {
+        if world.known(worker).is_some() {
+            fall(world, worker);
+        }
+    }
+    look(world, 0);
 }
 
 /// Notes who has which worker after an order.

@@ -332,9 +332,10 @@ fn last_of(session: &Session) -> Option<Receipt>
 }
 
 /// A worker is let go: it falls.
-fn detach(world: &mut World, worker: u32) -> Carried
+pub(crate) fn detach(world: &mut World, worker: u32) -> Carried
     requires rests { Rests world.old worker }
-    ensures { (planned : Planned) → Carries world.old (Some worker) planned word.Detach result world.new }
+    ensures carries { (planned : Planned) → Carries world.old (Some worker) planned word.Detach result world.new }
+    ensures nobody { result.seat ≡ None }
 {
     look(world, worker);
     fall(world, worker);

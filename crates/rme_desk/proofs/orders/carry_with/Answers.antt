@@ -50,4 +50,4 @@ returns-in-Commit-clause-carries c =
 pub returns-in-Detach-clause-carries : goal.returns-in-Detach-clause-carries
 returns-in-Detach-clause-carries c =
     let Q = λ (its : Order). Carries c.args.world.now (Some c.args.worker) c.args.planned its c.detach.result c.detach.new.world in
-    subst Q (sym c.in-Detach.is) (c.detach.ensures c.args.planned)
+    subst Q (sym c.in-Detach.is) (c.detach.ensures.carries c.args.planned)

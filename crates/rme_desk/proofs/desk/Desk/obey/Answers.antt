@@ -16,7 +16,7 @@ pub returns-clause-obeys : goal.returns-clause-obeys
 returns-clause-obeys c =
     let S = λ (office : Office). c.seat-seat.result ≡ seat_of office c.args.stand.now in
     let P = λ (office : Office). Obeys office.world.shape (view_of office c.args.stand.now) (with_tries 1 c.args.order.now)
-        (view_of record { world = c.carry.new.world; holders = c.settle.new.holders.items } record { session = c.args.stand.now.session; worker = c.in-Ok.carried.seat; planned = c.in-Ok.carried.planned }) c.in-Ok.carried.reply in
+    (view_of record { world = c.carry.new.world; holders = c.settle.new.holders.items } record { session = c.args.stand.now.session; worker = c.in-Ok.carried.seat; planned = c.in-Ok.carried.planned }) c.in-Ok.carried.reply in
     subst P c.self.view_is
     (desk_obeys c.self.inside.world c.carry.new.world c.self.inside.holders.items c.settle.new.holders.items c.args.stand.now c.seat-seat.result c.args.order.now c.in-Ok.carried c.look.ensures c.self.invariant
     (subst S (sym c.self.view_is) c.seat-seat.ensures) c.settle.ensures c.in-Ok.ensures.carries)
