@@ -1,41 +1,30 @@
 -- What sessions are answered that attach a worker, let it go, or have it give its job up.
-use Rattle.std.proofs.Common.{◌≡◌, ◌≢◌, ℕ, ◌+◌, ◌<◌, List, [], ◌∷◌, ◌++◌, refl, sym, ◌∙◌, ap, subst, inl, inr, arith}
-use Rattle.std.specs.Prelude.{Bool, true, false, Option, Some, None, Ok, slice_get}
+use Rattle.std.proofs.Common.{◌≡◌, ℕ, ◌<◌, [], ◌∷◌, ◌++◌, refl, sym, ◌∙◌, subst, arith}
+use Rattle.std.specs.Prelude.{true, false, Some, None, Ok}
 use Rattle.std.proofs.lemmas.Bool.{lt-ltb}
 use Rattle.std.proofs.lemmas.Option.{none-some}
 use Rattle.rme_words.specs.declared.shape.Shape.{Shape}
 use Rattle.rme_program.specs.Phases.{phase_of}
 use Rattle.rme_program.specs.declared.kinds.Phase.{Phase}
 use Rattle.rme_program.specs.declared.kinds.Phase.TheVariants as phase
-use Rattle.rme_machine.specs.Views.{slate_job}
-use Rattle.rme_orders.specs.Obeyed.{Attaches, Obeys}
-use Rattle.rme_orders.specs.Parts.{with_tries}
+use Rattle.rme_orders.specs.Obeyed.{Obeys}
 use Rattle.rme_orders.specs.Refusals.{bare_refusal}
-use Rattle.rme_orders.specs.Sights.{nobody}
 use Rattle.rme_orders.specs.declared.planned.Planned.{Planned}
 use Rattle.rme_orders.specs.declared.planned.Planned.TheVariants.{Nothing}
 use Rattle.rme_orders.specs.declared.view.Session.{Session}
 use Rattle.rme_orders.specs.declared.view.Session.TheVariants.{Nobody, Ready, Climb, Held}
-use Rattle.rme_orders.specs.declared.view.View.{View}
 use Rattle.rme_session_lines.specs.declared.order.Attachment.{Attachment}
-use Rattle.rme_session_lines.specs.declared.order.Order.TheVariants.{Attach, Detach, Withdraw}
-use Rattle.rme_session_lines.specs.declared.session.SessionReply.{SessionReply}
+use Rattle.rme_session_lines.specs.declared.order.Order.TheVariants.{Attach, Detach}
 use Rattle.rme_session_lines.specs.declared.session.SessionReply.TheVariants as reply
-use Rattle.rme_session_lines.specs.declared.session.Standing.TheVariants as standing
 use Rattle.rme_world.specs.Seen.{Seen, IsKept}
-use Rattle.rme_world.specs.Calls.{Crashed, Restarted, Withdrawn}
-use Rattle.rme_world.specs.Looks.{words_seen}
+use Rattle.rme_world.specs.Calls.{Crashed, Restarted}
 use Rattle.rme_desk.specs.declared.deed.Begin.TheVariants.{GoOn, Restart}
-use Rattle.rme_desk.specs.declared.deed.Deed.{Deed}
-use Rattle.rme_desk.specs.declared.orders.Carried.{Carried}
 use Rattle.rme_desk.specs.declared.steps.End.{End}
 use Rattle.rme_desk.specs.declared.steps.End.TheVariants.{There, Stopped, Fallen}
 use Rattle.rme_desk.specs.declared.steps.Goal.TheVariants as goals
-use Rattle.rme_desk.specs.declared.steps.Walk.{Walk}
-use Rattle.rme_desk.specs.Carried.{Carries, view_with}
-use Rattle.rme_desk.specs.Downs.{IsDown}
+use Rattle.rme_desk.specs.Carried.{Carries}
 use Rattle.rme_desk.specs.Replies.{attached_by}
-use Rattle.rme_desk.specs.Sights.{Rests, is_resting, last_under, me_in, sight_of}
+use Rattle.rme_desk.specs.Sights.{Rests, is_resting, sight_of}
 use Rattle.rme_desk.specs.Walks.{IsEnd, IsSpent, Walks}
 use Rattle.rme_desk.proofs.Beginning.{climb_is, held_is, not_nobody, ready_is}
 use Rattle.rme_program.specs.declared.event.Event.TheVariants as event

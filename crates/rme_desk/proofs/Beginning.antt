@@ -1,6 +1,6 @@
 -- Workers that begin an order: what the session shows of them, and the way that they are on.
-use Rattle.std.proofs.Common.{◌≡◌, ◌≢◌, ℕ, ◌+◌, refl, sym, ◌∙◌, ap, subst, inl, inr, arith}
-use Rattle.std.specs.Prelude.{Bool, true, false, Option, Some, None, Ok, slice_get}
+use Rattle.std.proofs.Common.{◌≡◌, ◌≢◌, ℕ, ◌+◌, refl, sym, ◌∙◌, ap, subst}
+use Rattle.std.specs.Prelude.{true, Some, slice_get}
 use Rattle.std.proofs.lemmas.Option.{same_Some}
 use Rattle.rme_script.specs.declared.job.Job.{Job}
 use Rattle.rme_program.specs.Phases.{phase_of}
@@ -12,10 +12,9 @@ use Rattle.rme_program.specs.declared.stage.Slate.{Slate}
 use Rattle.rme_machine.specs.declared.stance.Stance.{Stance}
 use Rattle.rme_machine.specs.declared.stance.Stance.TheVariants.{Handed, Waiting, Inside}
 use Rattle.rme_machine.specs.Views.{slate_job}
-use Rattle.rme_orders.specs.Sights.{Task, its_task, next_task}
+use Rattle.rme_orders.specs.Sights.{its_task, next_task}
 use Rattle.rme_orders.specs.declared.view.PendingWorker.{PendingWorker}
 use Rattle.rme_orders.specs.declared.view.ReadyWorker.{ReadyWorker}
-use Rattle.rme_orders.specs.declared.view.Session.{Session}
 use Rattle.rme_orders.specs.declared.view.Session.TheVariants.{Nobody, Ready, Climb, Held}
 use Rattle.rme_world.specs.Seen.{Seen, IsKept}
 use Rattle.rme_world.specs.Events.{Submits}

@@ -1,20 +1,18 @@
 -- Orders that were carried out.
-use Rattle.std.proofs.Common.{◌≡◌, ◌≢◌, ℕ, ◌+◌, List, [], ◌∷◌, ◌++◌, refl, sym, ◌∙◌, ap, subst, inl, inr}
-use Rattle.std.specs.Prelude.{Bool, true, false, Option, Some, None, IfSome, Ok, slice_get}
-use Rattle.std.proofs.lemmas.Option.{none-some, same_Some}
+use Rattle.std.proofs.Common.{◌≡◌, ℕ, ◌++◌, refl, sym}
+use Rattle.std.specs.Prelude.{Bool, true, false, Option, Some, None, IfSome}
+use Rattle.std.proofs.lemmas.Option.{none-some}
 use Rattle.rme_words.specs.declared.refusal.Refusal.{Refusal}
 use Rattle.rme_words.specs.declared.refusal.Refusal.TheVariants.{Differs}
 use Rattle.rme_script.specs.declared.job.Job.{Job}
 use Rattle.rme_session_lines.specs.declared.order.Submission.{Submission}
 use Rattle.rme_words.specs.declared.shape.Shape.{Shape}
-use Rattle.rme_program.specs.declared.event.Event.{Event}
-use Rattle.rme_orders.specs.Obeyed.{Does, Obeys}
+use Rattle.rme_orders.specs.Obeyed.{Obeys}
 use Rattle.rme_orders.specs.Parts.{tried, with_tries}
 use Rattle.rme_orders.specs.Refusals.{PendingRefuses, Refuses, SubmitRefuses}
 use Rattle.rme_orders.specs.declared.planned.Planned.{Planned}
 use Rattle.rme_orders.specs.declared.view.Session.{Session}
 use Rattle.rme_orders.specs.declared.view.Session.TheVariants.{Nobody, Ready, Climb, Held}
-use Rattle.rme_orders.specs.declared.view.View.{View}
 use Rattle.rme_session_lines.specs.declared.order.Order.{Order}
 use Rattle.rme_session_lines.specs.declared.order.Order.TheVariants.{Attach, Submit, Resume, Enter, Commit, Withdraw, Last, CrashAfter, Detach}
 use Rattle.rme_session_lines.specs.declared.session.SessionReply.{SessionReply}
@@ -26,7 +24,7 @@ use Rattle.rme_desk.specs.Carried.{Carries, IsOf, view_with}
 use Rattle.rme_desk.specs.Downs.{IsDown}
 use Rattle.rme_desk.specs.Deeds.{Happened, begin_events, fall_events, step_events}
 use Rattle.rme_desk.specs.Replies.{done_with, seat_after}
-use Rattle.rme_desk.specs.Sights.{Rests, sight_of}
+use Rattle.rme_desk.specs.Sights.{Rests}
 use Rattle.rme_desk.specs.Works.{Went}
 use Rattle.rme_desk.proofs.Events.{happens_then, work_happens}
 use Rattle.rme_desk.proofs.Frames.{Leaves, leaves_then, work_falls, work_leaves, work_rests}

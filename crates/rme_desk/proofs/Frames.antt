@@ -1,14 +1,13 @@
 -- What a worker's events leave of the others.
-use Rattle.std.proofs.Common.{◌≡◌, ◌≢◌, ℕ, zero, suc, List, length, refl, sym, ◌∙◌, ap, subst}
-use Rattle.std.specs.Prelude.{Bool, true, false, Option, Some, None, Ok, slice_get, slice_set}
+use Rattle.std.proofs.Common.{◌≡◌, ◌≢◌, ℕ, zero, suc, List, length, sym, ◌∙◌, ap, subst}
+use Rattle.std.specs.Prelude.{true, false, Option, None, slice_get, slice_set}
 use Rattle.std.proofs.lemmas.List.{length-set}
-use Rattle.rme_words.specs.declared.shape.Shape.{Shape}
 use Rattle.rme_program.specs.declared.private.Private.{Private}
 use Rattle.rme_script.specs.declared.job.Job.{Job}
 use Rattle.rme_orders.specs.declared.planned.Planned.{Planned}
 use Rattle.rme_machine.proofs.Lists.{get_set_other}
 use Rattle.rme_world.specs.Seen.{Seen}
-use Rattle.rme_world.specs.Events.{Crashes, Restarts, Steps, Submits, Withdraws}
+use Rattle.rme_world.specs.Events.{Crashes, Restarts, Submits, Withdraws}
 use Rattle.rme_desk.specs.declared.steps.End.{End}
 use Rattle.rme_desk.specs.declared.steps.End.TheVariants.{There, Stopped, Fallen}
 use Rattle.rme_desk.specs.declared.steps.Goal.{Goal}

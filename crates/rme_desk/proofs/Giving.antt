@@ -1,8 +1,7 @@
 -- A worker that gives its job up.
-use Rattle.std.proofs.Common.{◌≡◌, ◌≢◌, ℕ, zero, suc, ◌+◌, ◌<◌, List, [], ◌∷◌, ◌++◌, refl, sym, ◌∙◌, ap, subst, inl, inr, arith}
-use Rattle.std.specs.Prelude.{Bool, true, false, Option, Some, None, Ok, slice_get, slice_set, if◌then◌else◌}
+use Rattle.std.proofs.Common.{◌≡◌, ℕ, zero, suc, ◌<◌, List, [], ◌∷◌, ◌++◌, refl, sym, ◌∙◌, ap, subst, inl, arith}
+use Rattle.std.specs.Prelude.{Bool, true, false, Option, Some, None, slice_get, if◌then◌else◌}
 use Rattle.std.proofs.lemmas.Option.{same_Some}
-use Rattle.rme_words.specs.declared.shape.Shape.{Shape}
 use Rattle.rme_program.specs.NoteLaws.{follows}
 use Rattle.rme_program.specs.Phases.{phase_of}
 use Rattle.rme_program.specs.Steps.{private_after, withdrawing_private}
@@ -22,14 +21,9 @@ use Rattle.rme_machine.specs.declared.stance.Stance.{Stance}
 use Rattle.rme_machine.specs.declared.stance.Stance.TheVariants.{Idle, Handed, Waiting, Inside, Finished}
 use Rattle.rme_machine.specs.Machine.{State, StaysOn, StepOf, WorkerState}
 use Rattle.rme_machine.specs.Shown.{act_of}
-use Rattle.rme_machine.specs.Views.{slate_job}
-use Rattle.rme_orders.specs.Plans.{IsDue, Leaves}
-use Rattle.rme_orders.specs.Sights.{given_up, nobody}
-use Rattle.rme_orders.specs.declared.planned.Planned.{Planned}
+use Rattle.rme_orders.specs.Sights.{given_up}
 use Rattle.rme_orders.specs.declared.view.PendingWorker.{PendingWorker}
-use Rattle.rme_orders.specs.declared.view.ReadyWorker.{ReadyWorker}
-use Rattle.rme_orders.specs.declared.view.Session.{Session}
-use Rattle.rme_orders.specs.declared.view.Session.TheVariants.{Nobody, Ready, Climb, Held}
+use Rattle.rme_orders.specs.declared.view.Session.TheVariants.{Ready, Climb}
 use Rattle.rme_world.specs.Seen.{Seen, IsKept, shown_by}
 use Rattle.rme_world.specs.Events.{Steps, Withdraws}
 use Rattle.rme_world.proofs.Happening.{may_withdraw, withdraws_goes}

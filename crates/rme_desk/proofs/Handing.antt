@@ -1,22 +1,16 @@
 -- Submissions that were carried out, and jobs that were gone on with.
-use Rattle.std.proofs.Common.{◌≡◌, ◌≢◌, ℕ, ◌+◌, ◌<◌, List, [], ◌∷◌, ◌++◌, refl, sym, ◌∙◌, ap, subst, inl, inr, arith}
-use Rattle.std.specs.Prelude.{◌⊎◌, Bool, true, false, Option, Some, None, Ok, slice_get, ◌==◌}
-use Rattle.std.proofs.lemmas.Bool.{eq-eqb}
+use Rattle.std.proofs.Common.{◌≡◌, ◌≢◌, ℕ, refl, sym, ◌∙◌, ap, subst}
+use Rattle.std.specs.Prelude.{Bool, true, false, Option, Some, None, Ok}
 use Rattle.std.proofs.lemmas.Option.{none-some, same_Some}
-use Rattle.rme_words.specs.declared.shape.Shape.{Shape}
 use Rattle.rme_script.specs.declared.job.Job.{Job}
 use Rattle.rme_program.specs.Phases.{phase_of}
 use Rattle.rme_program.specs.declared.kinds.Phase.TheVariants as phase
-use Rattle.rme_program.specs.declared.note.Receipt.{Receipt}
 use Rattle.rme_machine.specs.Views.{slate_job}
-use Rattle.rme_orders.specs.Obeyed.{Commits, GoesInside, IsLeft, IsTried, Obeys, Works, told}
-use Rattle.rme_orders.specs.Parts.{tried, with_tries}
-use Rattle.rme_orders.specs.Plans.{IsDue, Leaves}
+use Rattle.rme_orders.specs.Obeyed.{Obeys, told}
+use Rattle.rme_orders.specs.Parts.{with_tries}
 use Rattle.rme_orders.specs.Refusals.{PendingRefuses, posting_refusal}
 use Rattle.rme_orders.specs.Sights.{given_up, its_task, next_task, nobody, waiting_with}
-use Rattle.rme_orders.proofs.Counting.{leaves_none}
 use Rattle.rme_orders.specs.declared.planned.Planned.{Planned}
-use Rattle.rme_orders.specs.declared.planned.Planned.TheVariants.{Nothing}
 use Rattle.rme_orders.specs.declared.view.PendingWorker.{PendingWorker}
 use Rattle.rme_orders.specs.declared.view.ReadyWorker.{ReadyWorker}
 use Rattle.rme_orders.specs.declared.view.Session.{Session}
@@ -26,7 +20,6 @@ use Rattle.rme_session_lines.specs.declared.order.Order.{Order}
 use Rattle.rme_session_lines.specs.declared.order.Order.TheVariants as order
 use Rattle.rme_session_lines.specs.declared.order.Patience.{Patience}
 use Rattle.rme_session_lines.specs.declared.order.Submission.{Submission}
-use Rattle.rme_session_lines.specs.declared.session.Outcome.{Outcome}
 use Rattle.rme_session_lines.specs.declared.session.SessionReply.{SessionReply}
 use Rattle.rme_session_lines.specs.declared.session.SessionReply.TheVariants as reply
 use Rattle.rme_world.specs.Seen.{Seen, IsKept}
@@ -40,9 +33,9 @@ use Rattle.rme_desk.specs.declared.steps.End.TheVariants.{There, Stopped, Fallen
 use Rattle.rme_desk.specs.declared.steps.Goal.{Goal}
 use Rattle.rme_desk.specs.declared.steps.Goal.TheVariants as goals
 use Rattle.rme_desk.specs.declared.work.Worked.{Worked}
-use Rattle.rme_desk.specs.Carried.{Carries, IsOf, view_with}
+use Rattle.rme_desk.specs.Carried.{Carries, view_with}
 use Rattle.rme_desk.specs.Replies.{done_with, goal_for, kept_with, order_for, reply_for, seat_after, withdrawn_by}
-use Rattle.rme_desk.specs.Sights.{Rests, me_in, sight_of}
+use Rattle.rme_desk.specs.Sights.{Rests, sight_of}
 use Rattle.rme_desk.specs.Walks.{IsEnd, IsSpent}
 use Rattle.rme_desk.specs.Works.{Ends, Posts, Went}
 use Rattle.rme_desk.proofs.Beginning.{climb_parts, climb_way, climb_way_in, held_past, held_parts, held_way, next_way, next_way_in}
@@ -51,7 +44,7 @@ use Rattle.rme_desk.proofs.Events.{nothing_happens, submit_happens, withdraw_hap
 use Rattle.rme_desk.proofs.Frames.{leaves_same, submit_leaves, withdraw_leaves}
 use Rattle.rme_desk.proofs.Giving.{Giving, ends_given, gives, giving_walks, is_leaving}
 use Rattle.rme_desk.proofs.Obeying.{climb_inside_obeys, climb_obeys, climb_resumes, commit_obeys, hand_inside_obeys, hand_obeys, held_obeys, held_resumes, repeat_inside_obeys, repeat_obeys}
-use Rattle.rme_desk.proofs.Working.{IsDone, commit_done, inside_done, ready_done, ready_only, seen_after, stands_after, stopped_enter}
+use Rattle.rme_desk.proofs.Working.{commit_done, inside_done, ready_done, ready_only, seen_after, stands_after, stopped_enter}
 use Rattle.rme_program.specs.declared.kinds.Phase.{Phase}
 use Rattle.rme_program.specs.declared.private.Private.{Private}
 

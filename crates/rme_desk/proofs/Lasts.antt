@@ -1,6 +1,6 @@
 -- A worker's last entry, and the receipt of a number.
-use Rattle.std.proofs.Common.{◌≡◌, ◌≢◌, ℕ, ◌<◌, ◌≤◌, ◌+◌, List, [], ◌∷◌, refl, sym, ◌∙◌, ap, subst, inl, inr, arith}
-use Rattle.std.specs.Prelude.{Bool, true, false, ◌&&◌, ◌||◌, ◌==◌, Option, Some, None, Ok, is_some, nat_lt, if◌then◌else◌}
+use Rattle.std.proofs.Common.{◌≡◌, ◌≢◌, ℕ, ◌<◌, ◌≤◌, List, [], ◌∷◌, refl, sym, ◌∙◌, ap, inl, inr, arith}
+use Rattle.std.specs.Prelude.{true, false, ◌&&◌, ◌==◌, Option, Some, None, Ok, is_some, nat_lt}
 use Rattle.std.proofs.lemmas.Bool.{cases_Bool, cases_eq, eq-eqb, eqb-true, ne_eqb, and_from, and_left, and_right, or_from, or_left, or_right, le-ltb, ltb-true, ltb-false}
 use Rattle.std.proofs.lemmas.Option.{none-some, same_Some}
 use Rattle.rme_program.specs.declared.note.Entry.{Entry}
@@ -9,7 +9,7 @@ use Rattle.rme_program.specs.Steps.{withdrawn_place}
 use Rattle.rme_machine.specs.Histories.{RisesFrom, has_entry, last_by, last_of, numbers_by}
 use Rattle.rme_machine.specs.Views.{is_pending}
 use Rattle.rme_machine.proofs.Historical.{no_entry}
-use Rattle.rme_world.specs.Seen.{Seen, IsKept, memory_seen}
+use Rattle.rme_world.specs.Seen.{Seen, IsKept}
 use Rattle.rme_world.specs.Calls.{ShowsLast}
 use Rattle.rme_world.specs.Looks.{words_seen}
 use Rattle.rme_desk.specs.Sights.{last_under, receipt_if}

@@ -1,37 +1,27 @@
 -- What a worker did, as what its order does.
-use Rattle.std.proofs.Common.{◌≡◌, ◌≢◌, ℕ, ◌+◌, ◌<◌, refl, sym, ◌∙◌, ap, subst, inl, inr, arith}
-use Rattle.std.specs.Prelude.{Bool, true, false, ◌==◌, Option, Some, None}
-use Rattle.std.proofs.lemmas.Bool.{eq-eqb, lt-ltb, ne_eqb}
-use Rattle.std.proofs.lemmas.Option.{none-some}
-use Rattle.rme_words.specs.declared.refusal.Refusal.{Refusal}
+use Rattle.std.proofs.Common.{◌≡◌, ◌≢◌, ℕ, refl, sym, ◌∙◌, ap, subst}
+use Rattle.std.specs.Prelude.{Option, Some, None}
+use Rattle.std.proofs.lemmas.Bool.{eq-eqb, ne_eqb}
 use Rattle.rme_words.specs.declared.shape.Shape.{Shape}
 use Rattle.rme_script.specs.declared.job.Job.{Job}
 use Rattle.rme_program.specs.declared.note.Receipt.{Receipt}
 use Rattle.rme_orders.specs.Obeyed.{Commits, GoesInside, GoesOn, IsLeft, IsTried, Obeys, Works, told}
-use Rattle.rme_orders.specs.Parts.{tried, with_tries}
-use Rattle.rme_orders.specs.Refusals.{PendingRefuses, Refuses, SubmitRefuses, posting_refusal}
-use Rattle.rme_orders.specs.Plans.{Leaves}
+use Rattle.rme_orders.specs.Parts.{with_tries}
+use Rattle.rme_orders.specs.Refusals.{PendingRefuses, posting_refusal}
 use Rattle.rme_orders.proofs.Counting.{leaves_none}
-use Rattle.rme_orders.specs.Sights.{Task, its_task, next_task, waiting_with}
+use Rattle.rme_orders.specs.Sights.{its_task, next_task, waiting_with}
 use Rattle.rme_orders.specs.declared.planned.Planned.{Planned}
-use Rattle.rme_orders.specs.declared.planned.Planned.TheVariants.{Nothing}
 use Rattle.rme_orders.specs.declared.view.PendingWorker.{PendingWorker}
 use Rattle.rme_orders.specs.declared.view.ReadyWorker.{ReadyWorker}
 use Rattle.rme_orders.specs.declared.view.Session.{Session}
 use Rattle.rme_orders.specs.declared.view.Session.TheVariants.{Nobody, Ready, Climb, Held}
 use Rattle.rme_orders.specs.declared.view.View.{View}
-use Rattle.rme_session_lines.specs.declared.order.Attachment.{Attachment}
-use Rattle.rme_session_lines.specs.declared.order.Order.{Order}
 use Rattle.rme_session_lines.specs.declared.order.Order.TheVariants as order
 use Rattle.rme_session_lines.specs.declared.order.Patience.{Patience}
 use Rattle.rme_session_lines.specs.declared.order.Submission.{Submission}
 use Rattle.rme_session_lines.specs.declared.session.Outcome.{Outcome}
 use Rattle.rme_session_lines.specs.declared.session.Outcome.TheVariants as outcome
-use Rattle.rme_session_lines.specs.declared.session.SessionReply.{SessionReply}
 use Rattle.rme_session_lines.specs.declared.session.SessionReply.TheVariants as reply
-use Rattle.rme_desk.specs.declared.orders.Aim.{Aim}
-use Rattle.rme_desk.specs.declared.orders.Aim.TheVariants as aims
-use Rattle.rme_desk.specs.Replies.{attached_by, order_for, reply_for}
 
 -- The worker's job, by what is shown of it, is its task.
 same_pending : (pending : PendingWorker) (job : Job) → pending.draft ≡ Some job → waiting_with (its_task pending job) ≡ pending

@@ -1,6 +1,6 @@
 -- A plan that is asked before each own step.
-use Rattle.std.proofs.Common.{◌≡◌, ℕ, ◌+◌, ◌<◌, arith, refl}
-use Rattle.std.specs.Prelude.{Bool, true, false}
+use Rattle.std.proofs.Common.{◌≡◌, ℕ, ◌+◌, arith, refl}
+use Rattle.std.specs.Prelude.{true, false}
 use Rattle.rme_orders.specs.Plans.{IsAsked, IsDue, Leaves, left_of}
 use Rattle.rme_orders.specs.declared.planned.Countdown.{Countdown}
 use Rattle.rme_orders.specs.declared.planned.Countdown.TheVariants.{Runs, Fallen}

@@ -1,7 +1,7 @@
 -- Who has which worker, after an order.
 use Rattle.std.proofs.Common.{◌≡◌, ◌≢◌, ℕ, ◌<◌, List, length, refl, sym, ◌∙◌, ap, subst, inl, inr, arith}
-use Rattle.std.specs.Prelude.{◌==◌, Bool, true, false, Option, Some, None, IfSome, slice_get, slice_set, if◌then◌else◌}
-use Rattle.std.proofs.lemmas.Bool.{cases_Bool, cases_eq, eqb-true, eq-eqb, lt-ltb}
+use Rattle.std.specs.Prelude.{true, Option, Some, None, IfSome, slice_get, slice_set}
+use Rattle.std.proofs.lemmas.Bool.{cases_Bool, cases_eq, eqb-true, eq-eqb}
 use Rattle.std.proofs.lemmas.List.{length-set}
 use Rattle.std.proofs.lemmas.Option.{none-some, same_Some, slice_get_within}
 use Rattle.rme_words.specs.declared.shape.Shape.{Shape}
@@ -9,7 +9,6 @@ use Rattle.rme_machine.proofs.Lists.{get_set, get_set_other}
 use Rattle.rme_orders.specs.Obeyed.{Obeys}
 use Rattle.rme_orders.specs.Parts.{with_tries}
 use Rattle.rme_orders.specs.declared.planned.Planned.{Planned}
-use Rattle.rme_session_lines.specs.declared.order.Attachment.{Attachment}
 use Rattle.rme_session_lines.specs.declared.order.Order.{Order}
 use Rattle.rme_session_lines.specs.declared.order.Order.TheVariants.{Attach, Submit, Resume, Enter, Commit, Withdraw, Last, CrashAfter, Detach}
 use Rattle.rme_world.specs.Seen.{Seen, IsKept}

@@ -1,19 +1,16 @@
 -- Orders that are not refused, and refused ones.
-use Rattle.std.proofs.Common.{◌≡◌, ◌≢◌, ℕ, ◌+◌, ◌<◌, List, [], refl, sym, ◌∙◌, ap, subst, inl, inr, arith}
-use Rattle.std.specs.Prelude.{Bool, true, false, Option, Some, None, Result, Ok, Err, slice_get, nat_lt, ◌==◌, if◌then◌else◌}
-use Rattle.std.proofs.lemmas.Bool.{cases_Bool, lt-ltb, ne_eqb}
+use Rattle.std.proofs.Common.{◌≡◌, ◌≢◌, ℕ, ◌+◌, refl, sym, ◌∙◌, subst, inl, inr}
+use Rattle.std.specs.Prelude.{Bool, true, false, Option, Some, None, Result, Ok, Err, nat_lt, ◌==◌, if◌then◌else◌}
+use Rattle.std.proofs.lemmas.Bool.{cases_Bool, ne_eqb}
 use Rattle.std.proofs.lemmas.Option.{none-some}
 use Rattle.rme_words.specs.declared.refusal.Refusal.{Refusal}
 use Rattle.rme_words.specs.declared.refusal.Refusal.TheVariants.{NoLock, NoWorker, TooManyJobs, WrongNumber}
 use Rattle.rme_words.specs.declared.shape.Shape.{Shape}
-use Rattle.rme_script.specs.declared.job.Job.{Job}
 use Rattle.rme_script.specs.Scripts.{check_of}
 use Rattle.rme_program.specs.Phases.{phase_of}
 use Rattle.rme_program.specs.declared.kinds.Phase.TheVariants as phase
-use Rattle.rme_program.specs.declared.private.Private.{Private}
 use Rattle.rme_program.specs.declared.stage.Stage.{Stage}
 use Rattle.rme_program.specs.declared.stage.Stage.TheVariants.{Resting, Recovering, Posting, Climbing, Logging, Copying, Leaving}
-use Rattle.rme_orders.specs.Parts.{with_tries}
 use Rattle.rme_orders.specs.Refusals as orders
 use Rattle.rme_orders.specs.declared.planned.Planned.{Planned}
 use Rattle.rme_orders.specs.declared.view.PendingWorker.{PendingWorker}
@@ -31,11 +28,11 @@ use Rattle.rme_world.specs.Seen.{Seen, IsKept}
 use Rattle.rme_desk.specs.declared.deed.Begin.TheVariants.{GoOn}
 use Rattle.rme_desk.specs.declared.steps.Goal.TheVariants as goals
 use Rattle.rme_desk.specs.declared.work.Worked.{Worked}
-use Rattle.rme_desk.specs.Carried.{Carries, view_with}
+use Rattle.rme_desk.specs.Carried.{Carries}
 use Rattle.rme_desk.specs.Replies.{done_with, order_for, refused_with}
 use Rattle.rme_desk.specs.declared.orders.Aim.{Aim}
 use Rattle.rme_desk.specs.declared.orders.Aim.TheVariants as aims
-use Rattle.rme_desk.specs.Sights.{Rests, me_in, sight_of}
+use Rattle.rme_desk.specs.Sights.{Rests, sight_of}
 use Rattle.rme_desk.specs.Works.{Went}
 use Rattle.rme_desk.proofs.Beginning.{climb_phase, ready_parts, ready_phase}
 use Rattle.rme_desk.proofs.Carrying.{tried_too}

@@ -1,8 +1,7 @@
 -- Where a worker stands with its job, in the machine's words, by what it knows.
-use Rattle.std.proofs.Common.{◌≡◌, ◌≢◌, ℕ, ◌+◌, ◌<◌, ◌≤◌, List, refl, sym, ◌∙◌, ap, subst, inl, inr, arith}
-use Rattle.std.specs.Prelude.{◌⊎◌, Bool, true, false, ◌==◌, Option, Some, None, slice_get}
+use Rattle.std.proofs.Common.{◌≡◌, ℕ, ◌<◌, refl, ◌∙◌, subst, inl, inr, arith}
+use Rattle.std.specs.Prelude.{◌⊎◌, Bool, true, false, Option, Some, None, slice_get}
 use Rattle.std.proofs.lemmas.Bool.{cases_eq}
-use Rattle.rme_words.specs.declared.shape.Shape.{Shape}
 use Rattle.rme_tree.specs.Nodes.{held_in}
 use Rattle.rme_script.specs.declared.job.Job.{Job}
 use Rattle.rme_program.specs.declared.kinds.Phase.{Phase}
@@ -20,9 +19,8 @@ use Rattle.rme_machine.specs.Fits.{Fits, IsAt, IsPast, IsIdle, log_lock, redo_lo
 use Rattle.rme_machine.specs.FurtherLaws.{owned_by}
 use Rattle.rme_machine.proofs.Tables.{owning}
 use Rattle.rme_machine.specs.Histories.{last_by}
-use Rattle.rme_machine.specs.Machine.{WorkerState}
 use Rattle.rme_machine.specs.Shown.{job_of, lock_owned, stance_by, stance_outside}
-use Rattle.rme_machine.specs.Views.{is_pending, lock_words, site_of, slate_job, worker_words}
+use Rattle.rme_machine.specs.Views.{is_pending, lock_words, site_of, slate_job}
 use Rattle.rme_machine.proofs.Shows.{owned_at, owned_none, owned_site}
 use Rattle.rme_world.specs.Seen.{Seen, IsKept, memory_seen, privates_seen}
 use Rattle.rme_world.specs.Looks.{words_seen}

@@ -1,17 +1,16 @@
 -- Own steps of one worker, one after the other: how they add up, and that they come to an end.
-use Rattle.std.proofs.Common.{◌≡◌, ◌≢◌, ℕ, zero, suc, ◌+◌, ◌-◌, ◌*◌, ◌<◌, ◌≤◌, refl, sym, ◌∙◌, ap, subst, arith, inl, inr, List, length}
-use Rattle.std.specs.Prelude.{Option, Some, None, Ok, slice_get, false, true}
-use Rattle.std.proofs.lemmas.Option.{none-some, same_Some}
+use Rattle.std.proofs.Common.{◌≡◌, ◌≢◌, ℕ, zero, suc, ◌+◌, ◌-◌, ◌*◌, ◌<◌, ◌≤◌, refl, sym, ◌∙◌, ap, subst, arith, inl, inr}
+use Rattle.std.specs.Prelude.{Option, Some, None, slice_get, false}
+use Rattle.std.proofs.lemmas.Option.{none-some}
 use Rattle.rme_words.specs.declared.shape.Shape.{Shape}
 use Rattle.rme_program.specs.declared.kinds.Phase.{Phase}
 use Rattle.rme_program.specs.declared.kinds.Phase.TheVariants as phase
-use Rattle.rme_program.specs.declared.note.Note.{Note}
 use Rattle.rme_program.specs.declared.note.Note.TheVariants.{Blocked}
 use Rattle.rme_program.specs.declared.private.Private.{Private}
 use Rattle.rme_program.specs.declared.stage.Stage.{Stage}
 use Rattle.rme_program.specs.declared.stage.Stage.TheVariants.{Resting, Recovering, Posting, Climbing, Logging, Copying, Leaving}
 use Rattle.rme_program.specs.Phases.{phase_of, left_of}
-use Rattle.rme_program.specs.Progress.{Falls, rank}
+use Rattle.rme_program.specs.Progress.{rank}
 use Rattle.rme_program.specs.Steps.{private_after}
 use Rattle.rme_world.specs.Counting.{most_steps}
 use Rattle.rme_world.specs.Seen.{Seen, IsKept, privates_seen}

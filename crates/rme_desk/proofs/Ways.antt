@@ -1,11 +1,9 @@
 -- A worker on its way with a job: what its own steps leave of where it stands.
-use Rattle.std.proofs.Common.{◌≡◌, ◌≢◌, ℕ, zero, suc, ◌+◌, ◌<◌, ◌≤◌, List, [], ◌∷◌, ◌++◌, length, refl, sym, ◌∙◌, ap, subst, inl, inr, arith}
-use Rattle.std.specs.Prelude.{◌⊎◌, Bool, true, false, ◌==◌, Option, Some, None, Ok, slice_get, slice_set}
+use Rattle.std.proofs.Common.{◌≡◌, ◌≢◌, ℕ, zero, suc, ◌+◌, ◌<◌, List, [], ◌∷◌, ◌++◌, length, refl, sym, ◌∙◌, ap, subst, inl, inr, arith}
+use Rattle.std.specs.Prelude.{◌⊎◌, true, false, Some, slice_get, slice_set}
 use Rattle.std.proofs.lemmas.Bool.{eq-eqb}
 use Rattle.std.proofs.lemmas.Option.{same_Some}
-use Rattle.rme_words.specs.declared.shape.Shape.{Shape}
 use Rattle.rme_script.specs.declared.job.Job.{Job}
-use Rattle.rme_program.specs.Conditions.{Takes}
 use Rattle.rme_program.specs.NoteLaws.{follows}
 use Rattle.rme_program.specs.Phases.{phase_of}
 use Rattle.rme_program.specs.Steps.{private_after}
@@ -16,12 +14,10 @@ use Rattle.rme_program.specs.declared.note.Note.{Note}
 use Rattle.rme_program.specs.declared.note.Note.TheVariants as note
 use Rattle.rme_program.specs.declared.note.Receipt.{Receipt}
 use Rattle.rme_program.specs.declared.private.Private.{Private}
-use Rattle.rme_program.specs.declared.stage.Stage.{Stage}
 use Rattle.rme_program.proofs.NoteLaws.{phase_law}
 use Rattle.rme_machine.specs.declared.stance.Stance.{Stance}
 use Rattle.rme_machine.specs.declared.stance.Stance.TheVariants.{Idle, Handed, Waiting, Inside, Finished}
-use Rattle.rme_machine.specs.Histories.{last_by}
-use Rattle.rme_machine.specs.Machine.{State, WorkerState, StepOf, Does}
+use Rattle.rme_machine.specs.Machine.{State, WorkerState, StepOf}
 use Rattle.rme_machine.specs.Shown.{act_of, shown_worker}
 use Rattle.rme_machine.specs.Views.{slate_job}
 use Rattle.rme_machine.proofs.Historical.{last_by_same}
@@ -36,7 +32,7 @@ use Rattle.rme_world.proofs.Telling.{after_step, busy, tells, up}
 use Rattle.rme_world.proofs.Worlds.{GoesAs, is_worker, kept_sound, step_goes, step_kept}
 use Rattle.rme_desk.specs.declared.steps.Goal.{Goal}
 use Rattle.rme_desk.specs.Sights.{last_under, me_in, receipt_if}
-use Rattle.rme_desk.specs.Walks.{Moves, Walks}
+use Rattle.rme_desk.specs.Walks.{Walks}
 use Rattle.rme_desk.proofs.Stances.{IsNumbered, Suits, numbered, suits}
 
 -- ---- what the machine's state says of one worker after a step

@@ -1,6 +1,6 @@
 -- What a worker's way comes to at the end of its walk.
-use Rattle.std.proofs.Common.{◌≡◌, ◌≢◌, ℕ, zero, suc, ◌+◌, ◌<◌, ◌≤◌, refl, sym, ◌∙◌, ap, subst, inl, inr, arith}
-use Rattle.std.specs.Prelude.{◌⊎◌, Bool, true, false, Option, Some, None, slice_get}
+use Rattle.std.proofs.Common.{◌≡◌, ◌≢◌, ℕ, zero, suc, ◌+◌, refl, sym, ◌∙◌, ap, subst, arith}
+use Rattle.std.specs.Prelude.{Bool, true, false, Option, Some, slice_get}
 use Rattle.std.proofs.lemmas.Option.{same_Some}
 use Rattle.rme_script.specs.declared.job.Job.{Job}
 use Rattle.rme_program.specs.NoteLaws.{follows}
@@ -11,16 +11,13 @@ use Rattle.rme_program.specs.declared.kinds.Phase.TheVariants as phase
 use Rattle.rme_program.specs.declared.note.Receipt.{Receipt}
 use Rattle.rme_program.specs.declared.private.Private.{Private}
 use Rattle.rme_machine.specs.declared.stance.Stance.{Stance}
-use Rattle.rme_machine.specs.declared.stance.Stance.TheVariants.{Idle, Handed, Waiting, Inside, Finished}
-use Rattle.rme_machine.specs.Machine.{WorkerState}
+use Rattle.rme_machine.specs.declared.stance.Stance.TheVariants.{Idle, Waiting, Inside}
 use Rattle.rme_machine.specs.Views.{slate_job}
 use Rattle.rme_orders.specs.Obeyed as obeyed
 use Rattle.rme_orders.specs.Plans.{IsDue, Leaves}
 use Rattle.rme_orders.specs.Sights.{IsReceiptOf, Task, finished_with, nobody, waiting_with}
 use Rattle.rme_orders.specs.declared.planned.Planned.{Planned}
-use Rattle.rme_orders.specs.declared.planned.Planned.TheVariants.{Nothing}
 use Rattle.rme_orders.specs.declared.view.PendingWorker.{PendingWorker}
-use Rattle.rme_orders.specs.declared.view.ReadyWorker.{ReadyWorker}
 use Rattle.rme_orders.specs.declared.view.Session.{Session}
 use Rattle.rme_orders.specs.declared.view.Session.TheVariants.{Nobody, Ready, Climb, Held}
 use Rattle.rme_orders.specs.declared.view.View.{View}
@@ -35,17 +32,15 @@ use Rattle.rme_desk.specs.declared.steps.Goal.{Goal}
 use Rattle.rme_desk.specs.declared.steps.Goal.TheVariants as goals
 use Rattle.rme_desk.specs.declared.work.Worked.{Worked}
 use Rattle.rme_desk.specs.Carried.{view_with}
-use Rattle.rme_desk.specs.Downs.{IsDown}
 use Rattle.rme_desk.specs.Outcomes.{outcome_by}
 use Rattle.rme_desk.specs.Replies.{seat_after}
 use Rattle.rme_desk.specs.Sights.{Rests, is_resting, last_under, me_in, sight_of}
-use Rattle.rme_desk.specs.Walks.{IsEnd, IsSpent, Moves, Walks, is_at}
+use Rattle.rme_desk.specs.Walks.{IsEnd, IsSpent, Walks, is_at}
 use Rattle.rme_desk.specs.Works.{Ends, Went}
-use Rattle.rme_desk.proofs.Posting.{crashed_found}
 use Rattle.rme_desk.proofs.Sighting.{climb_sight, held_sight, idle, inside_of, ready_sight, waiting_of}
 use Rattle.rme_desk.proofs.Stances.{IsNumbered, Suits, numbered, suits}
 use Rattle.rme_desk.proofs.Walking.{made, then_kept}
-use Rattle.rme_desk.proofs.Ways.{HasEntered, OnWay, Way, phases, way_walks}
+use Rattle.rme_desk.proofs.Ways.{OnWay, Way, phases, way_walks}
 
 -- ---- phases that a walk may lead through
 

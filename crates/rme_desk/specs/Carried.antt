@@ -1,5 +1,5 @@
 -- What an order of a session does to a world, and what is left of the session's worker.
-use Rattle.std.specs.Prelude.{◌≡◌, ◌≢◌, ℕ, ◌<◌, Option, Some, None, IfSome, length, slice_get}
+use Rattle.std.specs.Prelude.{◌≡◌, ℕ, ◌<◌, Option, Some, None, IfSome, length, slice_get}
 use Rattle.rme_orders.specs.Obeyed.{Obeys}
 use Rattle.rme_orders.specs.Parts.{with_tries}
 use Rattle.rme_orders.specs.declared.planned.Planned.{Planned}

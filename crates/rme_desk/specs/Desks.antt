@@ -1,5 +1,5 @@
 -- A world whose workers sessions take, and what each of them shows.
-use Rattle.std.specs.Prelude.{◌≡◌, ℕ, ◌<◌, ◌==◌, Bool, true, false, List, [], ◌∷◌, Option, Some, None, slice_get, slice_set, if◌then◌else◌}
+use Rattle.std.specs.Prelude.{◌≡◌, ℕ, ◌<◌, Bool, true, false, List, [], ◌∷◌, Option, Some, None, slice_get, slice_set, if◌then◌else◌}
 use Rattle.rme_orders.specs.declared.view.View.{View}
 use Rattle.rme_session_lines.specs.declared.order.Order.{Order}
 use Rattle.rme_session_lines.specs.declared.order.Order.TheVariants.{Attach}

@@ -12,7 +12,7 @@ use Rattle.rme_orders.specs.Plans.{IsDue, Leaves}
 use Rattle.rme_orders.specs.declared.planned.Planned.{Planned}
 use Rattle.rme_orders.specs.declared.planned.Planned.TheVariants.{Nothing}
 use Rattle.rme_desk.specs.declared.steps.Goal.{Goal}
-use Rattle.rme_desk.specs.declared.steps.Goal.TheVariants.{Rest, Inside, Ready}
+use Rattle.rme_desk.specs.declared.steps.Goal.TheVariants.{Rest, Inside}
 use Rattle.rme_desk.specs.declared.steps.End.{End}
 use Rattle.rme_desk.specs.declared.steps.End.TheVariants.{There, Stopped, Fallen}
 

@@ -1,5 +1,5 @@
 -- What a worker of a world did of its job.
-use Rattle.std.specs.Prelude.{◌≡◌, ℕ, Bool, true, false, Option, None, Ok, OnOk}
+use Rattle.std.specs.Prelude.{◌≡◌, ℕ, true, false, None, Ok}
 use Rattle.rme_script.specs.declared.job.Job.{Job}
 use Rattle.rme_orders.specs.declared.planned.Planned.{Planned}
 use Rattle.rme_session_lines.specs.declared.session.Outcome.TheVariants.{Fell}
@@ -8,7 +8,7 @@ use Rattle.rme_world.specs.Refused.{submit_refusal}
 use Rattle.rme_world.specs.Calls.{Crashed, Submitted}
 use Rattle.rme_desk.specs.declared.steps.Goal.{Goal}
 use Rattle.rme_desk.specs.declared.steps.End.{End}
-use Rattle.rme_desk.specs.declared.steps.End.TheVariants.{There, Stopped, Fallen}
+use Rattle.rme_desk.specs.declared.steps.End.TheVariants.{Fallen}
 use Rattle.rme_desk.specs.declared.work.Worked.{Worked}
 use Rattle.rme_desk.specs.Outcomes.{outcome_by}
 use Rattle.rme_desk.specs.Sights.{sight_of}

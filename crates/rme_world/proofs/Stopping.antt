@@ -1,10 +1,9 @@
 -- Whether a worker's next own step would be blocked, by the word of its next node.
-use Rattle.std.proofs.Common.{◌≡◌, ◌≢◌, ℕ, suc, ◌+◌, refl, sym, ◌∙◌, ap, subst, arith, inl, inr}
-use Rattle.std.specs.Prelude.{Option, Some, None, slice_get, ◌<◌, ◌≤◌, ◌%◌}
+use Rattle.std.proofs.Common.{◌≡◌, ◌≢◌, ℕ, suc, ◌+◌, sym, ◌∙◌, ap, subst, arith}
+use Rattle.std.specs.Prelude.{Option, Some, None, slice_get, ◌<◌, ◌≤◌}
 use Rattle.std.proofs.lemmas.Option.{none-some, same_Some}
 use Rattle.rme_words.specs.declared.address.Address.{Address}
 use Rattle.rme_words.specs.declared.address.Address.TheVariants.{Node}
-use Rattle.rme_words.specs.declared.shape.Shape.{Shape}
 use Rattle.rme_tree.specs.Paths.{node, side}
 use Rattle.rme_tree.specs.Nodes.{nodes_of}
 use Rattle.rme_tree.specs.Rooted.{IsBlocked}

@@ -1,13 +1,11 @@
-use Rattle.std.proofs.Common.{ap, subst, sym, ◌∙◌}
-use Rattle.std.specs.Prelude.{None, Option, Some}
-use Rattle.rme_words.specs.declared.refusal.Refusal.{Refusal}
+use Rattle.std.proofs.Common.{subst, sym, ◌∙◌}
+use Rattle.std.specs.Prelude.{None, Some}
 use Rattle.rme_words.specs.declared.shape.Shape.{Shape}
 use Rattle.rme_orders.specs.Refusals.{Refuses}
 use Rattle.rme_orders.specs.declared.view.Session.{Session}
 use Rattle.rme_session_lines.specs.declared.order.Order.{Order}
 use Rattle.rme_session_lines.specs.declared.order.Order.TheVariants as order
 use Rattle.rme_desk.specs.Carried.{Carries}
-use Rattle.rme_desk.specs.Sights.{sight_of}
 use Rattle.rme_desk.specs.declared.orders.Carried.{Carried}
 use Rattle.rme_desk.proofs.Beginning.{not_nobody}
 use Rattle.rme_desk.proofs.Sorting.{attach_refused, commits, refused_carries, resumed}

@@ -1,5 +1,3 @@
-use Rattle.std.proofs.Common.{refl}
-use Rattle.std.proofs.lemmas.Option.{none-some}
 use Rattle.rme_desk.proofs.Answering.{detached}
 use Rattle.rme_desk.proofs.orders.detach.Goals as goal
 

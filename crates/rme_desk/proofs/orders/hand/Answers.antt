@@ -1,13 +1,11 @@
-use Rattle.std.proofs.Common.{ap, refl, subst, sym, ◌∙◌}
+use Rattle.std.proofs.Common.{ap, subst, sym, ◌∙◌}
 use Rattle.std.specs.Prelude.{Some}
-use Rattle.rme_orders.specs.Obeyed.{told}
 use Rattle.rme_desk.specs.Carried.{Carries}
 use Rattle.rme_desk.specs.Replies.{done_with, kept_with, order_for, reply_for}
 use Rattle.rme_desk.specs.Works.{Posts}
 use Rattle.rme_desk.specs.declared.deed.Begin.TheVariants.{Submit}
 use Rattle.rme_desk.specs.declared.orders.Carried.{Carried}
 use Rattle.rme_desk.specs.declared.steps.Goal.{Goal}
-use Rattle.rme_session_lines.specs.declared.session.SessionReply.{SessionReply}
 use Rattle.rme_desk.proofs.Handing.{handed, repeated}
 use Rattle.rme_desk.proofs.Sorting.{may_post}
 use Rattle.rme_desk.proofs.orders.hand.Goals as goal

@@ -1,7 +1,6 @@
 use Rattle.std.proofs.Common.{ap, subst, sym, ◌∙◌}
 use Rattle.std.specs.Prelude.{Some}
 use Rattle.rme_program.specs.Steps.{withdrawing_private}
-use Rattle.rme_orders.specs.declared.view.Session.{Session}
 use Rattle.rme_session_lines.specs.declared.order.Order.TheVariants as order
 use Rattle.rme_desk.specs.Carried.{Carries}
 use Rattle.rme_desk.specs.Replies.{done_with, number_in, withdrawn_by}

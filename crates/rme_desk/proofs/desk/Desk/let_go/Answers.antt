@@ -1,8 +1,7 @@
-use Rattle.std.proofs.Common.{◌≡◌, ap, refl, subst, sym, ◌∙◌}
+use Rattle.std.proofs.Common.{◌≡◌, subst, sym, ◌∙◌}
 use Rattle.std.specs.Prelude.{IfSome, List, None, Option, Some, ℕ}
 use Rattle.rme_orders.specs.declared.planned.Planned.TheVariants.{Nothing}
 use Rattle.rme_session_lines.specs.declared.order.Order.TheVariants.{Detach}
-use Rattle.rme_world.specs.Seen.{Seen}
 use Rattle.rme_desk.specs.Deeds.{Happened, events_done}
 use Rattle.rme_desk.specs.Desks.{seat_of}
 use Rattle.rme_desk.specs.Downs.{IsDown}
