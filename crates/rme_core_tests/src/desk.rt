@@ -52,6 +52,12 @@ fn receipt(worker: u32, place: u32, reply: u64) -> Outcome {
     })
 }
 
+/// What an order is answered.
+fn reply_to(desk: &mut Desk, stand: &mut Stand, order: Order) -> Result<SessionReply, NoMemory> {
+    let done = desk.obey(stand, &order)?;
+    Ok(done.reply)
+}
+
 /// An order must be answered so.
 fn ask(
     rt: &impl Abort,
@@ -60,8 +66,8 @@ fn ask(
     order: Order,
     wanted: SessionReply,
 ) -> Result<(), NoMemory> {
-    let done = desk.obey(stand, &order)?;
-    assert!(rt; done.reply == wanted);
+    let reply = reply_to(desk, stand, order)?;
+    assert!(rt; reply == wanted);
     Ok(())
 }
 
@@ -108,14 +114,25 @@ fn handed_on(rt: HostRuntime) -> Result<(), Fail> {
     Ok(())
 }
 
-/// What a client does whose worker fell: it attaches it again, and goes on.
-fn go_on(desk: &mut Desk, stand: &mut Stand) -> Result<(), NoMemory> {
-    let next = match desk.obey(stand, &attach(0))?.reply {
+/// What a client orders whose worker fell, by what it is told when it attaches it again.
+fn next_order(attached: SessionReply) -> Order {
+    match attached {
         SessionReply::Attached(0, _) => Order::Submit(adding(5)),
         SessionReply::Attached(_, Standing::Ready) => Order::Last,
         _ => Order::Resume(Patience::Tries(1)),
-    };
-    let _ = desk.obey(stand, &next)?;
+    }
+}
+
+/// Makes the job, whose worker is to fall after so many own steps, to its end.
+fn make_job(desk: &mut Desk, steps: u32) -> Result<(), NoMemory> {
+    let mut stand = Stand::new(1);
+    let _ = reply_to(desk, &mut stand, attach(0))?;
+    let _ = reply_to(desk, &mut stand, Order::CrashAfter(steps))?;
+    let reply = reply_to(desk, &mut stand, Order::Submit(adding(5)))?;
+    if reply == SessionReply::Submitted(Outcome::Fell) {
+        let attached = reply_to(desk, &mut stand, attach(0))?;
+        let _ = reply_to(desk, &mut stand, next_order(attached))?;
+    }
     Ok(())
 }
 
@@ -124,13 +141,7 @@ fn go_on(desk: &mut Desk, stand: &mut Stand) -> Result<(), NoMemory> {
 fn planned(rt: HostRuntime) -> Result<(), Fail> {
     for steps in 0..40 {
         let mut desk = new_desk(rt.alloc())?;
-        let mut stand = Stand::new(1);
-        let _ = desk.obey(&mut stand, &attach(0))?;
-        let _ = desk.obey(&mut stand, &Order::CrashAfter(steps))?;
-        let reply = desk.obey(&mut stand, &Order::Submit(adding(5)))?.reply;
-        if reply == SessionReply::Submitted(Outcome::Fell) {
-            go_on(&mut desk, &mut stand)?;
-        }
+        make_job(&mut desk, steps)?;
         assert!(rt; desk.world().history().len() == 1);
     }
     Ok(())
