@@ -52,12 +52,6 @@ fn receipt(worker: u32, place: u32, reply: u64) -> Outcome {
     })
 }
 
-/// What an order is answered.
-fn reply_to(desk: &mut Desk, stand: &mut Stand, order: Order) -> Result<SessionReply, NoMemory> {
-    let done = desk.obey(stand, &order)?;
-    Ok(done.reply)
-}
-
 /// An order must be answered so.
 fn ask(
     rt: &impl Abort,
@@ -66,8 +60,8 @@ fn ask(
     order: Order,
     wanted: SessionReply,
 ) -> Result<(), NoMemory> {
-    let reply = reply_to(desk, stand, order)?;
-    assert!(rt; reply == wanted);
+    let done = desk.obey(stand, &order)?;
+    assert!(rt; done.reply == wanted);
     Ok(())
 }
 
@@ -114,35 +108,22 @@ fn handed_on(rt: HostRuntime) -> Result<(), Fail> {
     Ok(())
 }
 
-/// What a client orders whose worker fell, by what it is told when it attaches it again.
-fn next_order(attached: SessionReply) -> Order {
-    match attached {
-        SessionReply::Attached(0, _) => Order::Submit(adding(5)),
-        SessionReply::Attached(_, Standing::Ready) => Order::Last,
-        _ => Order::Resume(Patience::Tries(1)),
-    }
-}
-
-/// Makes the job, whose worker is to fall after so many own steps, to its end.
-fn make_job(desk: &mut Desk, steps: u32) -> Result<(), NoMemory> {
-    let mut stand = Stand::new(1);
-    let _ = reply_to(desk, &mut stand, attach(0))?;
-    let _ = reply_to(desk, &mut stand, Order::CrashAfter(steps))?;
-    let reply = reply_to(desk, &mut stand, Order::Submit(adding(5)))?;
-    if reply == SessionReply::Submitted(Outcome::Fell) {
-        let attached = reply_to(desk, &mut stand, attach(0))?;
-        let _ = reply_to(desk, &mut stand, next_order(attached))?;
-    }
-    Ok(())
-}
-
-/// A job counts once, after how many own steps its worker falls.
+/// A worker that falls as is planned is inside still.
 #[test]
 fn planned(rt: HostRuntime) -> Result<(), Fail> {
-    for steps in 0..40 {
-        let mut desk = new_desk(rt.alloc())?;
-        make_job(&mut desk, steps)?;
-        assert!(rt; desk.world().history().len() == 1);
-    }
+    let mut desk = new_desk(rt.alloc())?;
+    let mut one = Stand::new(1);
+    let ready = SessionReply::Attached(0, Standing::Ready);
+    let within = SessionReply::Entered(Outcome::Inside(1));
+    let fell = SessionReply::Committed(Outcome::Fell);
+    let held = SessionReply::Attached(1, Standing::Held);
+    let done = SessionReply::Committed(receipt(0, 0, 5));
+    let planned = SessionReply::CrashPlanned;
+    ask(&rt, &mut desk, &mut one, attach(0), ready)?;
+    ask(&rt, &mut desk, &mut one, Order::CrashAfter(7), planned)?;
+    ask(&rt, &mut desk, &mut one, Order::Enter(adding(5)), within)?;
+    ask(&rt, &mut desk, &mut one, Order::Commit, fell)?;
+    ask(&rt, &mut desk, &mut one, attach(0), held)?;
+    ask(&rt, &mut desk, &mut one, Order::Commit, done)?;
     Ok(())
 }
