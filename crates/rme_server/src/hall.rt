@@ -10,11 +10,13 @@ use std::sync::{Mutex, MutexGuard, Wait};
 /// The seat of a worker among the sessions: a handle of the client whose session has the worker.
 pub(crate) type Seat<H> = Mutex<Option<H>>;
 
-/// Who has which worker, and the bells of those who wait.
+/// Who has which worker, whose turn it is at a lock, and the bells of those who wait.
 #[derive(Drop)]
 pub struct Hall<H: Reach> {
     /// One for each worker.
     seats: Vec<Seat<H>>,
+    /// One for each lock.
+    turns: Vec<Mutex<()>>,
     /// One for each lock. It rings when the lock may have been left.
     left: Vec<Bell>,
     /// It rings when a worker was given back.
@@ -26,6 +28,7 @@ impl<H: Reach> Hall<H> {
     pub fn new(alloc: Global, shape: Shape) -> Result<Hall<H>, NoMemory> {
         Ok(Hall {
             seats: seats_for(alloc, shape.workers())?,
+            turns: turns_for(alloc, shape.locks())?,
             left: bells_for(alloc, shape.locks())?,
             returned: Bell::new(),
         })
@@ -39,6 +42,13 @@ impl<H: Reach> Hall<H> {
     ) -> Option<MutexGuard<'_, Option<H>>> {
         let seat = self.seats.get(worker? as usize)?;
         Some(seat.lock(rt))
+    }
+
+    /// The turn to climb to a lock. Nobody needs it to be right: but a session that climbs while another sleeps halfway up
+    /// waits for that one although the lock is free.
+    pub(crate) fn turn<R: Wait>(&self, rt: &R, lock: Option<u32>) -> Option<MutexGuard<'_, ()>> {
+        let turn = self.turns.get(lock? as usize)?;
+        Some(turn.lock(rt))
     }
 
     /// Sends the client away whose session has the worker, if any has.
@@ -126,6 +136,18 @@ fn seats_for<H: Reach>(alloc: Global, count: u32) -> Result<Vec<Seat<H>>, NoMemo
         }
     }
     Ok(seats)
+}
+
+fn turns_for(alloc: Global, count: u32) -> Result<Vec<Mutex<()>>, NoMemory> {
+    let Ok(mut turns) = Vec::with_capacity(alloc, count as usize) else {
+        return Err(NoMemory);
+    };
+    for _ in 0..count {
+        if turns.push(Mutex::new(())).is_err() {
+            return Err(NoMemory);
+        }
+    }
+    Ok(turns)
 }
 
 fn bells_for(alloc: Global, count: u32) -> Result<Vec<Bell>, NoMemory> {

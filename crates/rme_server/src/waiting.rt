@@ -19,7 +19,7 @@ use crate::pauses::{LONGEST, Pauses};
 use crate::talk::Host;
 use rme_orders::{answer_as, once_more, patience_of, still_waits, with_tries};
 use rme_session_lines::{Attachment, Order, Patience, SessionReply};
-use rme_sessions::{Stand, let_go, obey};
+use rme_sessions::{Holding, Stand, let_go, obey};
 use rme_table::Tag;
 use rme_wire::{EngineFault, Sink};
 use rme_words::Refusal;
@@ -109,7 +109,9 @@ fn obey_here<K: Tag, R: Wait, C: Client>(
 {
     let had = stand.worker().is_some();
     let seat = host.hall.seat(rt, asked_of(&stand, &order));
+    let turn = host.hall.turn(rt, climbed(&stand, &order));
     let (stand, reply) = obey(rt, stand, order, host.service, host.slots);
+    drop(turn);
     note(seat, client, had, stand.worker().is_some());
     host.hall.ring_for(rt, reply);
     (stand, reply)
@@ -121,6 +123,15 @@ fn asked_of(stand: &Stand, order: &Order) -> Option<u32> {
         (Some(worker), _) => Some(worker),
         (None, Order::Attach(asked)) => Some(asked.worker),
         (None, _) => None,
+    }
+}
+
+/// The lock to which an order of a session climbs, if it climbs to one.
+fn climbed(stand: &Stand, order: &Order) -> Option<u32> {
+    match (&stand.value, order) {
+        (Holding::Climb(climb), _) => Some(climb.lock()),
+        (Holding::Ready(_), Order::Submit(its) | Order::Enter(its)) => Some(its.job.lock),
+        _ => None,
     }
 }
 
