@@ -36,7 +36,7 @@ pub struct Engine {
 }
 
 impl Engine {
-    ghost use Rattle.std.specs.Prelude.{◌≡◌, ◌++◌, Some, IfOk, IfErr, OnOk, string_bytes};
+    ghost use Rattle.std.specs.Prelude.{◌≡◌, ◌++◌, Some, IfOk, IfErr, OnOk, option_map, string_bytes};
     ghost use Rattle.rme_lines.specs.Cuts.{line_read};
     ghost use Rattle.rme_engine.specs.States.{history_of, nothing_open, reply_by, text_of};
     ghost use Rattle.rme_engine.specs.Lines.{IsAnswered, Loads, Obeys, OpensIn, Replies, written};
@@ -171,7 +171,8 @@ impl Engine {
         }
     }
 
-    fn obey_request(&mut self, request: &Request) -> Reply
+    /// Obeys a request, and answers it as plain data. A refused one changes nothing.
+    pub fn obey_request(&mut self, request: &Request) -> Reply
         ensures { Obeys (state_of self.old) (Some request.now) result (state_of self.new) }
     {
         match request {
@@ -219,6 +220,21 @@ impl Engine {
         self.names = loaded.names;
         self.world = Some(loaded.world);
         Ok(())
+    }
+
+    /// The names of the locks of the world that is open; none where no world is.
+    pub fn names(&self) -> &Names
+        ensures { result.now ≡ (state_of self.now).names }
+    {
+        &self.names
+    }
+
+    /// The world that is open, if one is, and the names of its locks.
+    pub fn into_world(self) -> Option<(Names, TalliedWorld)>
+        ensures { result ≡ option_map (λ world. ((state_of self).names, world)) (state_of self).world }
+    {
+        let Engine { names, world, .. } = self;
+        Some((names, world?))
     }
 
     /// The image of the world that is open, if one is. `NoMemory` where there was no room for it.

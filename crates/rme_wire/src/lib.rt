@@ -14,7 +14,7 @@ mod request;
 mod shaped;
 mod value;
 
-pub use command::{Command, Until, Walk, lock_of, worker_of};
+pub use command::{Command, Until, Walk, command_named, lock_of, worker_of};
 pub use loading::Loading;
 pub use opening::{GivenNames, Opening};
 pub use operation::script_of;

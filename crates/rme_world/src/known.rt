@@ -38,6 +38,14 @@ impl World {
         })
     }
 
+    /// The number of the last job that a worker was handed, whether the worker is up or down; 0 where it was handed none.
+    pub fn number(&self, worker: u32) -> u64
+        requires { worker < self.now.shape.workers }
+        ensures { result ≡ (words_seen self.now worker).begun }
+    {
+        self.bank.load(Address::Begun(worker))
+    }
+
     /// The lock of a pending job.
     fn slate_lock(&self, worker: u32) -> u32
         requires within { worker < self.now.shape.workers }
