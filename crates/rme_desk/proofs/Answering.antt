@@ -1,13 +1,15 @@
 -- What sessions are answered that attach a worker, let it go, or have it give its job up.
-use Rattle.std.proofs.Common.{◌≡◌, ℕ, ◌<◌, [], ◌∷◌, ◌++◌, refl, sym, ◌∙◌, subst, arith}
+use Rattle.std.proofs.Common.{◌≡◌, ◌≢◌, ℕ, ◌<◌, [], ◌∷◌, ◌++◌, refl, sym, ◌∙◌, subst, arith}
 use Rattle.std.specs.Prelude.{true, false, Some, None, Ok}
 use Rattle.std.proofs.lemmas.Bool.{lt-ltb}
 use Rattle.std.proofs.lemmas.Option.{none-some}
+use Rattle.rme_words.specs.declared.refusal.Refusal.TheVariants.{Taken}
 use Rattle.rme_words.specs.declared.shape.Shape.{Shape}
 use Rattle.rme_program.specs.Phases.{phase_of}
 use Rattle.rme_program.specs.declared.kinds.Phase.{Phase}
 use Rattle.rme_program.specs.declared.kinds.Phase.TheVariants as phase
 use Rattle.rme_orders.specs.Obeyed.{Obeys}
+use Rattle.rme_orders.specs.Parts.{still_waits}
 use Rattle.rme_orders.specs.Refusals.{bare_refusal}
 use Rattle.rme_orders.specs.declared.planned.Planned.{Planned}
 use Rattle.rme_orders.specs.declared.planned.Planned.TheVariants.{Nothing}
@@ -55,7 +57,22 @@ detached old new worker planned kept rests crashed =
       others = leaves.others;
       long = leaves.long;
       alone = λ none other. absurd (none-some worker (sym none));
+      untaken = λ q. cc;
+      waits = λ waits. cc;
     }
+
+-- Who attaches a worker is answered what that is at.
+attached_untaken : (session : Session) → attached_by session ≢ reply.Refused Taken
+attached_untaken Nobody q = cc
+attached_untaken (Ready ready) q = cc
+attached_untaken (Climb pending) q = cc
+attached_untaken (Held pending) q = cc
+
+attached_still : (session : Session) → still_waits (attached_by session) ≡ false
+attached_still Nobody = refl
+attached_still (Ready ready) = refl
+attached_still (Climb pending) = refl
+attached_still (Held pending) = refl
 
 -- What is shown of a worker that was attached.
 shown_at : (seen : Seen) (worker : ℕ) → IsKept seen → (rests : Rests seen worker) → (asked : Attachment) → asked.worker ≡ worker → (shape : Shape) → worker < shape.workers → (planned : Planned)
@@ -98,4 +115,6 @@ attaches old mid new worker steps planned asked is within kept rests restarted w
       others = λ other apart. leaves.others other (λ e. apart (e ∙ sym is));
       long = leaves.long;
       alone = λ none other. absurd (none-some worker (sym other));
+      untaken = attached_untaken (sight_of new worker);
+      waits = λ waits. absurd (let e : false ≡ true = sym (attached_still (sight_of new worker)) ∙ waits in cc);
     }

@@ -1,7 +1,7 @@
 -- Workers that begin an order: what the session shows of them, and the way that they are on.
 use Rattle.std.proofs.Common.{◌≡◌, ◌≢◌, ℕ, ◌+◌, refl, sym, ◌∙◌, ap, subst}
-use Rattle.std.specs.Prelude.{true, Some, slice_get}
-use Rattle.std.proofs.lemmas.Option.{same_Some}
+use Rattle.std.specs.Prelude.{Some, slice_get}
+use Rattle.std.proofs.lemmas.Option.{none-some, same_Some}
 use Rattle.rme_script.specs.declared.job.Job.{Job}
 use Rattle.rme_program.specs.Phases.{phase_of}
 use Rattle.rme_program.specs.Steps.{submitted_private}
@@ -19,9 +19,9 @@ use Rattle.rme_orders.specs.declared.view.Session.TheVariants.{Nobody, Ready, Cl
 use Rattle.rme_world.specs.Seen.{Seen, IsKept}
 use Rattle.rme_world.specs.Events.{Submits}
 use Rattle.rme_world.specs.Looks.{words_seen}
-use Rattle.rme_desk.specs.Sights.{Rests, is_resting, last_under, me_in, sight_of}
+use Rattle.rme_desk.specs.Sights.{Rests, last_under, me_in, sight_of}
 use Rattle.rme_desk.proofs.Posting.{posted_found}
-use Rattle.rme_desk.proofs.Sighting.{climb_sight, held_sight, inside_of, ready_sight, waiting_of}
+use Rattle.rme_desk.proofs.Sighting.{climb_sight, held_sight, inside_of, phase_shown, ready_sight, shows_phase, waiting_of}
 use Rattle.rme_desk.proofs.Stances.{IsNumbered, Suits, begun_known, numbered, post_begun, post_stance, suits}
 use Rattle.rme_desk.proofs.Ways.{OnWay, Way}
 use Rattle.rme_desk.proofs.Working.{IsUpIn, is_past_entry, is_way_in}
@@ -39,50 +39,21 @@ module _ (seen : Seen) (worker : ℕ) (kept : IsKept seen) (rests : Rests seen w
   pub held_is : phase_of private.stage ≡ phase.Section → sight_of seen worker ≡ Held record { worker = worker; number = (me_in seen worker).asked; draft = Some (slate_job (words_seen seen worker)) }
   held_is e = held_sight seen worker private kept rests.1 e
 
-  not_nobody_at : (p : Phase) → phase_of private.stage ≡ p → is_resting p ≡ true → sight_of seen worker ≡ Nobody → ⊥
-  not_nobody_at phase.Ready e at none = let q = sym (ready_is e) ∙ none in cc
-  not_nobody_at phase.Enter e at none = let q = sym (climb_is e) ∙ none in cc
-  not_nobody_at phase.Section e at none = let q = sym (held_is e) ∙ none in cc
-  not_nobody_at phase.Recover e at none = cc
-  not_nobody_at phase.Post e at none = cc
-  not_nobody_at phase.Exit e at none = cc
+  shown : phase_shown (sight_of seen worker) ≡ Some (phase_of private.stage)
+  shown = shows_phase seen worker private kept rests.1 rests.2
 
   -- The session shows its worker.
   pub not_nobody : sight_of seen worker ≡ Nobody → ⊥
-  not_nobody none = not_nobody_at (phase_of private.stage) refl rests.2 none
-
-  ready_phase_at : (ready : ReadyWorker) (p : Phase) → phase_of private.stage ≡ p → is_resting p ≡ true → Ready ready ≡ sight_of seen worker → p ≡ phase.Ready
-  ready_phase_at ready phase.Ready e at is = refl
-  ready_phase_at ready phase.Enter e at is = absurd (let q = is ∙ climb_is e in cc)
-  ready_phase_at ready phase.Section e at is = absurd (let q = is ∙ held_is e in cc)
-  ready_phase_at ready phase.Recover e at is = absurd (cc)
-  ready_phase_at ready phase.Post e at is = absurd (cc)
-  ready_phase_at ready phase.Exit e at is = absurd (cc)
-
-  climb_phase_at : (pending : PendingWorker) (p : Phase) → phase_of private.stage ≡ p → is_resting p ≡ true → Climb pending ≡ sight_of seen worker → p ≡ phase.Enter
-  climb_phase_at pending phase.Enter e at is = refl
-  climb_phase_at pending phase.Ready e at is = absurd (let q = is ∙ ready_is e in cc)
-  climb_phase_at pending phase.Section e at is = absurd (let q = is ∙ held_is e in cc)
-  climb_phase_at pending phase.Recover e at is = absurd (cc)
-  climb_phase_at pending phase.Post e at is = absurd (cc)
-  climb_phase_at pending phase.Exit e at is = absurd (cc)
-
-  held_phase_at : (pending : PendingWorker) (p : Phase) → phase_of private.stage ≡ p → is_resting p ≡ true → Held pending ≡ sight_of seen worker → p ≡ phase.Section
-  held_phase_at pending phase.Section e at is = refl
-  held_phase_at pending phase.Ready e at is = absurd (let q = is ∙ ready_is e in cc)
-  held_phase_at pending phase.Enter e at is = absurd (let q = is ∙ climb_is e in cc)
-  held_phase_at pending phase.Recover e at is = absurd (cc)
-  held_phase_at pending phase.Post e at is = absurd (cc)
-  held_phase_at pending phase.Exit e at is = absurd (cc)
+  not_nobody none = none-some (phase_of private.stage) (sym (ap phase_shown none) ∙ shown)
 
   pub ready_phase : (ready : ReadyWorker) → Ready ready ≡ sight_of seen worker → phase_of private.stage ≡ phase.Ready
-  ready_phase ready is = ready_phase_at ready (phase_of private.stage) refl rests.2 is
+  ready_phase ready is = same_Some _ _ (sym shown ∙ ap phase_shown (sym is))
 
   pub climb_phase : (pending : PendingWorker) → Climb pending ≡ sight_of seen worker → phase_of private.stage ≡ phase.Enter
-  climb_phase pending is = climb_phase_at pending (phase_of private.stage) refl rests.2 is
+  climb_phase pending is = same_Some _ _ (sym shown ∙ ap phase_shown (sym is))
 
   pub held_phase : (pending : PendingWorker) → Held pending ≡ sight_of seen worker → phase_of private.stage ≡ phase.Section
-  held_phase pending is = held_phase_at pending (phase_of private.stage) refl rests.2 is
+  held_phase pending is = same_Some _ _ (sym shown ∙ ap phase_shown (sym is))
 
   -- What it shows of one that is ready.
   pub ready_parts : (ready : ReadyWorker) → Ready ready ≡ sight_of seen worker → (ready.worker ≡ worker) × (ready.number ≡ (me_in seen worker).asked)
@@ -90,9 +61,6 @@ module _ (seen : Seen) (worker : ℕ) (kept : IsKept seen) (rests : Rests seen w
       let q = is ∙ ready_is (ready_phase ready is) in
       let same : ready ≡ record { worker = worker; number = (me_in seen worker).asked; last = last_under seen.history worker (me_in seen worker).asked } = cc in
       (ap (λ (r : ReadyWorker). r.worker) same, ap (λ (r : ReadyWorker). r.number) same)
-
-  abbrev pending_now : PendingWorker
-  pending_now = record { worker = worker; number = (me_in seen worker).asked; draft = Some (slate_job (words_seen seen worker)) }
 
   pub climb_parts : (pending : PendingWorker) → Climb pending ≡ sight_of seen worker → pending ≡ record { worker = worker; number = (me_in seen worker).asked; draft = Some (slate_job (words_seen seen worker)) }
   climb_parts pending is = let q = is ∙ climb_is (climb_phase pending is) in cc

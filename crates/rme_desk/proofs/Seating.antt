@@ -7,12 +7,12 @@ use Rattle.std.proofs.lemmas.Option.{none-some, same_Some, slice_get_within}
 use Rattle.rme_words.specs.declared.shape.Shape.{Shape}
 use Rattle.rme_machine.proofs.Lists.{get_set, get_set_other}
 use Rattle.rme_orders.specs.Obeyed.{Obeys}
-use Rattle.rme_orders.specs.Parts.{with_tries}
+use Rattle.rme_orders.specs.Parts.{still_waits, with_tries}
 use Rattle.rme_orders.specs.declared.planned.Planned.{Planned}
 use Rattle.rme_session_lines.specs.declared.order.Order.{Order}
 use Rattle.rme_session_lines.specs.declared.order.Order.TheVariants.{Attach, Submit, Resume, Enter, Commit, Withdraw, Last, CrashAfter, Detach}
 use Rattle.rme_world.specs.Seen.{Seen, IsKept}
-use Rattle.rme_desk.specs.Carried.{Carries, IsOf, IsSeated, view_with}
+use Rattle.rme_desk.specs.Carried.{Carries, IsOf, IsSeatStopped, IsSeated, view_with}
 use Rattle.rme_desk.specs.Desks.{seat_by, seat_of, settled_by, view_of}
 use Rattle.rme_desk.specs.Downs.{IsDown}
 use Rattle.rme_desk.specs.Offices.{IsTended, Office, is_held}
@@ -112,20 +112,31 @@ now_within old new holders seat (Some worker) planned its carried kept all is ca
     let rests = subst (λ (o : Option ℕ). IfSome o (λ w. IsOf seat its w × Rests new w)) is carries.rests in
     omega (arith, slice_get_within new.privates worker (Some rests.1.0) rests.1.1, carries.long, kept.all_privates, all)
 
+-- The session has the worker that the order left it.
+desk_seat : (old new : Seen) (holders after : List (Option ℕ)) (stand : Stand) (seat : Option ℕ) (its : Order) (carried : Carried) → IsKept old → IsTended record { world = old; holders = holders }
+    → after ≡ settled_by holders seat carried.seat stand.session → Carries old seat stand.planned its carried new → seat_by record { world = new; holders = after } stand.session carried.seat ≡ carried.seat
+desk_seat old new holders after stand seat its carried kept tended settled carries =
+    let then_ = now_within old new holders seat carried.seat stand.planned its carried kept tended.all refl carries in
+    let H : List (Option ℕ) → Type 0 = λ (hs : List (Option ℕ)). seat_by record { world = new; holders = hs } stand.session carried.seat ≡ carried.seat in
+    subst H (sym settled) (seat_after_is old new holders stand.session tended seat carried.seat then_)
+
 -- What the session shows obeys the order.
 pub desk_obeys : (old new : Seen) (holders after : List (Option ℕ)) (stand : Stand) (seat : Option ℕ) (its : Order) (carried : Carried) → IsKept old → IsTended record { world = old; holders = holders }
     → seat ≡ seat_of record { world = old; holders = holders } stand → after ≡ settled_by holders seat carried.seat stand.session → Carries old seat stand.planned its carried new
     → Obeys old.shape (view_of record { world = old; holders = holders } stand) (with_tries 1 its)
     (view_of record { world = new; holders = after } record { session = stand.session; worker = carried.seat; planned = carried.planned }) carried.reply
 desk_obeys old new holders after stand seat its carried kept tended is settled carries =
-    let then_ = now_within old new holders seat carried.seat stand.planned its carried kept tended.all refl carries in
-    let same : seat_by record { world = new; holders = settled_by holders seat carried.seat stand.session } stand.session carried.seat ≡ carried.seat = seat_after_is old new holders stand.session tended seat carried.seat then_ in
+    let same = desk_seat old new holders after stand seat its carried kept tended settled carries in
     let P : Option ℕ → Type 0 = λ (own : Option ℕ). Obeys old.shape (view_with old own stand.planned) (with_tries 1 its) (view_with new carried.seat carried.planned) carried.reply in
     let Q : Option ℕ → Type 0 = λ (own : Option ℕ). Obeys old.shape (view_of record { world = old; holders = holders } stand) (with_tries 1 its) (view_with new own carried.planned) carried.reply in
-    let H : List (Option ℕ) → Type 0 = λ (hs : List (Option ℕ)).
-    Obeys old.shape (view_of record { world = old; holders = holders } stand) (with_tries 1 its)
-    (view_of record { world = new; holders = hs } record { session = stand.session; worker = carried.seat; planned = carried.planned }) carried.reply in
-    subst H (sym settled) (subst Q (sym same) (subst P is carries.obeys))
+    subst Q (sym same) (subst P is carries.obeys)
+
+-- A job that waits is that of a worker that the session has, and that another stops.
+pub desk_waits : (old new : Seen) (holders after : List (Option ℕ)) (stand : Stand) (seat : Option ℕ) (its : Order) (carried : Carried) → IsKept old → IsTended record { world = old; holders = holders }
+    → after ≡ settled_by holders seat carried.seat stand.session → Carries old seat stand.planned its carried new → still_waits carried.reply ≡ true
+    → IsSeatStopped new (seat_of record { world = new; holders = after } record { session = stand.session; worker = carried.seat; planned = carried.planned })
+desk_waits old new holders after stand seat its carried kept tended settled carries waits =
+    subst (IsSeatStopped new) (sym (desk_seat old new holders after stand seat its carried kept tended settled carries)) (carries.waits waits)
 
 pub desk_tended : (old new : Seen) (holders after : List (Option ℕ)) (stand : Stand) (seat : Option ℕ) (its : Order) (carried : Carried) → IsKept old → IsTended record { world = old; holders = holders }
     → seat ≡ seat_of record { world = old; holders = holders } stand → after ≡ settled_by holders seat carried.seat stand.session → Carries old seat stand.planned its carried new

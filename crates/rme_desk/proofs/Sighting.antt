@@ -10,7 +10,8 @@ use Rattle.rme_program.specs.declared.private.Private.{Private}
 use Rattle.rme_machine.specs.declared.stance.Stance.{Stance}
 use Rattle.rme_machine.specs.declared.stance.Stance.TheVariants.{Idle, Handed, Waiting, Inside, Finished}
 use Rattle.rme_machine.specs.Views.{is_pending, slate_job}
-use Rattle.rme_orders.specs.declared.view.Session.TheVariants.{Ready, Climb, Held}
+use Rattle.rme_orders.specs.declared.view.Session.{Session}
+use Rattle.rme_orders.specs.declared.view.Session.TheVariants.{Nobody, Ready, Climb, Held}
 use Rattle.rme_world.specs.Seen.{Seen, IsKept}
 use Rattle.rme_world.specs.Calls.{ShowsLast}
 use Rattle.rme_world.specs.Looks.{words_seen}
@@ -43,6 +44,13 @@ inside_of (Finished number job) its = absurd its
 drafted : (draft : Option Job) (slate : Job) → is_some draft ≡ true → IfSome draft (λ job. job ≡ slate) → draft ≡ Some slate
 drafted None slate some is = absurd (let e : false ≡ true = some in cc)
 drafted (Some job) slate some is = ap (λ (j : Job). Some j) is
+
+-- The phase of the worker that is shown.
+abbrev pub phase_shown : Session → Option Phase
+phase_shown Nobody = None
+phase_shown (Ready ready) = Some phase.Ready
+phase_shown (Climb pending) = Some phase.Enter
+phase_shown (Held pending) = Some phase.Section
 
 module _ (seen : Seen) (worker : ℕ) (private : Private) (kept : IsKept seen) (found : slice_get seen.privates worker ≡ Some (Some private)) where
   at_phase : (p : Phase) → phase_of private.stage ≡ p → Suits p (me_in seen worker).stance
@@ -85,6 +93,18 @@ module _ (seen : Seen) (worker : ℕ) (private : Private) (kept : IsKept seen) (
       by_stance (Inside in_it.0 in_it.1) in_it.2
       ∙ ap (λ (n : ℕ). Held record { worker = worker; number = n; draft = Some in_it.1 }) its.0
       ∙ ap (λ (j : Job). Held record { worker = worker; number = (me_in seen worker).asked; draft = Some j }) its.1
+
+  -- What is shown tells the phase.
+  shown_in : (p : Phase) → phase_of private.stage ≡ p → is_resting p ≡ true → phase_shown (sight_of seen worker) ≡ Some p
+  shown_in phase.Ready e rests = ap phase_shown (ready_sight e)
+  shown_in phase.Enter e rests = ap phase_shown (climb_sight e)
+  shown_in phase.Section e rests = ap phase_shown (held_sight e)
+  shown_in phase.Recover e rests = absurd (cc)
+  shown_in phase.Post e rests = absurd (cc)
+  shown_in phase.Exit e rests = absurd (cc)
+
+  pub shows_phase : is_resting (phase_of private.stage) ≡ true → phase_shown (sight_of seen worker) ≡ Some (phase_of private.stage)
+  shows_phase rests = shown_in (phase_of private.stage) refl rests
 
   draft_is : (draft : Option Job) → is_pending (words_seen seen worker) ≡ true → (IsSome draft ↔ (is_pending (words_seen seen worker) ≡ true)) → IfSome draft (λ job. job ≡ slate_job (words_seen seen worker))
       → draft ≡ Some (slate_job (words_seen seen worker))

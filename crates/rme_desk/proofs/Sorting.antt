@@ -1,12 +1,14 @@
 -- Orders that are not refused, and refused ones.
 use Rattle.std.proofs.Common.{◌≡◌, ◌≢◌, ℕ, ◌+◌, refl, sym, ◌∙◌, subst, inl, inr}
 use Rattle.std.specs.Prelude.{Bool, true, false, Option, Some, None, Result, Ok, Err, nat_lt, ◌==◌, if◌then◌else◌}
+use Rattle.std.specs.List.{list_all}
 use Rattle.std.proofs.lemmas.Bool.{cases_Bool, ne_eqb}
 use Rattle.std.proofs.lemmas.Option.{none-some}
 use Rattle.rme_words.specs.declared.refusal.Refusal.{Refusal}
-use Rattle.rme_words.specs.declared.refusal.Refusal.TheVariants.{NoLock, NoWorker, TooManyJobs, WrongNumber}
+use Rattle.rme_words.specs.declared.refusal.Refusal.TheVariants.{BadScript, NoCell, NoLock, NoWorker, Taken, TooManyJobs, WrongNumber}
 use Rattle.rme_words.specs.declared.shape.Shape.{Shape}
-use Rattle.rme_script.specs.Scripts.{check_of}
+use Rattle.rme_script.specs.declared.job.Job.{Job}
+use Rattle.rme_script.specs.Scripts.{check_of, fits}
 use Rattle.rme_program.specs.Phases.{phase_of}
 use Rattle.rme_program.specs.declared.kinds.Phase.TheVariants as phase
 use Rattle.rme_program.specs.declared.stage.Stage.{Stage}
@@ -124,6 +126,54 @@ module _ (old new : Seen) (worker : ℕ) (planned : Planned) (worked : Worked) (
 
 -- ---- refused orders
 
+-- No look answers that a worker is another session's.
+one_of : (test : Bool) (one two : Option Refusal) → one ≢ Some Taken → two ≢ Some Taken → (if test then one else two) ≢ Some Taken
+one_of true one two first second = first
+one_of false one two first second = second
+
+checked_untaken : (long within : Bool) (rest : Option Refusal) → rest ≢ Some Taken → orders.unless_checked (if long then Err BadScript else if within then Ok tt else Err NoCell) rest ≢ Some Taken
+checked_untaken true within rest untaken = λ q. cc
+checked_untaken false true rest untaken = untaken
+checked_untaken false false rest untaken = λ q. cc
+
+job_untaken : (shape : Shape) (last : ℕ) (job : Job) → orders.job_refusal shape last job ≢ Some Taken
+job_untaken shape last job =
+    let many = one_of (nat_lt last shape.jobs) None (Some TooManyJobs) (λ q. cc) (λ q. cc) in
+    let checked = checked_untaken (nat_lt 8 job.script.n) (list_all (fits shape.cells) job.script.ops) (if nat_lt last shape.jobs then None else Some TooManyJobs) many in
+    one_of (nat_lt job.lock shape.locks) (orders.unless_checked (check_of shape.cells job.script) (if nat_lt last shape.jobs then None else Some TooManyJobs)) (Some NoLock) checked (λ q. cc)
+
+repeat_untaken : (last number : ℕ) → orders.repeat_refusal last number ≢ Some Taken
+repeat_untaken last number =
+    let again = one_of (number == last) None (Some (WrongNumber (last + 1))) (λ q. cc) (λ q. cc) in
+    one_of (nat_lt 0 number) (if number == last then None else Some (WrongNumber (last + 1))) (Some (WrongNumber (last + 1))) again (λ q. cc)
+
+posting_untaken : (shape : Shape) (last : ℕ) (its : Submission) → orders.posting_refusal shape last its ≢ Some Taken
+posting_untaken shape last its =
+    one_of (its.number == last + 1) (orders.job_refusal shape last its.job) (orders.repeat_refusal last its.number) (job_untaken shape last its.job) (repeat_untaken last its.number)
+
+busy_untaken : (session : Session) → orders.busy_refusal session ≢ Some Taken
+busy_untaken Nobody q = cc
+busy_untaken session q = cc
+
+submit_untaken : (shape : Shape) (session : Session) (its : Submission) → orders.SubmitRefuses shape session its (Some Taken) → ⊥
+submit_untaken shape Nobody its refuses = cc
+submit_untaken shape (Ready ready) its refuses = posting_untaken shape ready.number its (sym refuses)
+submit_untaken shape (Climb pending) its refuses = let q = refuses.1 in cc
+submit_untaken shape (Held pending) its refuses = let q = refuses.1 in cc
+
+not_taken : (shape : Shape) (session : Session) (its : Order) → orders.Refuses shape session its (Some Taken) → ⊥
+not_taken shape session (order.Attach asked) refuses =
+    one_of (nat_lt asked.worker shape.workers) (orders.busy_refusal session) (Some NoWorker) (busy_untaken session) (λ q. cc) (sym refuses)
+not_taken shape session (order.Submit its) refuses = submit_untaken shape session its refuses
+not_taken shape session (order.Enter its) refuses = submit_untaken shape session its refuses
+not_taken shape Nobody its refuses = cc
+not_taken shape session its refuses = cc
+
+untaken_why : (shape : Shape) (session : Session) (its : Order) (why : Refusal) → orders.Refuses shape session its (Some why) → reply.Refused why ≢ reply.Refused Taken
+untaken_why shape session its why refuses is =
+    let same : why ≡ Taken = cc in
+    not_taken shape session its (subst (λ (r : Refusal). orders.Refuses shape session its (Some r)) same refuses)
+
 pub refused_carries : (old : Seen) (worker : ℕ) (planned : Planned) (its : Order) (why : Refusal) → Rests old worker → orders.Refuses old.shape (sight_of old worker) its (Some why)
     → Carries old (Some worker) planned its (refused_with why (Some worker) planned) old
 refused_carries old worker planned its why rests refuses = record {
@@ -136,6 +186,8 @@ refused_carries old worker planned its why rests refuses = record {
   others = λ other apart. refl;
   long = refl;
   alone = λ none other. absurd (none-some worker (sym none));
+  untaken = untaken_why old.shape (sight_of old worker) its why refuses;
+  waits = λ waits. cc;
 }
 
 -- A session that has a worker attaches none.

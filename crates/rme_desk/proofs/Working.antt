@@ -58,45 +58,21 @@ is_past_entry phase.Ready = true
 is_past_entry p = false
 
 way_in_on : (p q : Phase) → is_way_in p ≡ true → is_at goals.Inside p ≡ false → follows p q ≡ true → is_way_in q ≡ true
-way_in_on phase.Recover q way away goes = absurd (cc)
-way_in_on phase.Exit q way away goes = absurd (cc)
-way_in_on phase.Ready q way away goes = absurd (cc)
-way_in_on phase.Section q way away goes = absurd (cc)
-way_in_on phase.Post phase.Post way away goes = refl
-way_in_on phase.Post phase.Enter way away goes = refl
-way_in_on phase.Post phase.Recover way away goes = absurd (cc)
-way_in_on phase.Post phase.Section way away goes = refl
-way_in_on phase.Post phase.Exit way away goes = absurd (cc)
-way_in_on phase.Post phase.Ready way away goes = absurd (cc)
-way_in_on phase.Enter phase.Post way away goes = refl
-way_in_on phase.Enter phase.Enter way away goes = refl
-way_in_on phase.Enter phase.Section way away goes = refl
-way_in_on phase.Enter phase.Recover way away goes = absurd (cc)
-way_in_on phase.Enter phase.Exit way away goes = absurd (cc)
-way_in_on phase.Enter phase.Ready way away goes = absurd (cc)
+way_in_on p phase.Post way away goes = refl
+way_in_on p phase.Enter way away goes = refl
+way_in_on p phase.Section way away goes = refl
+way_in_on phase.Post q way away goes = absurd (cc)
+way_in_on phase.Enter q way away goes = absurd (cc)
+way_in_on p q way away goes = absurd (cc)
 
 past_entry_on : (p q : Phase) → is_past_entry p ≡ true → follows p q ≡ true → is_past_entry q ≡ true
-past_entry_on phase.Recover q past goes = absurd (cc)
-past_entry_on phase.Post q past goes = absurd (cc)
-past_entry_on phase.Enter q past goes = absurd (cc)
-past_entry_on phase.Section phase.Section past goes = refl
-past_entry_on phase.Section phase.Exit past goes = refl
-past_entry_on phase.Section phase.Ready past goes = refl
-past_entry_on phase.Section phase.Recover past goes = absurd (cc)
-past_entry_on phase.Section phase.Post past goes = absurd (cc)
-past_entry_on phase.Section phase.Enter past goes = absurd (cc)
-past_entry_on phase.Exit phase.Section past goes = refl
-past_entry_on phase.Exit phase.Exit past goes = refl
-past_entry_on phase.Exit phase.Ready past goes = refl
-past_entry_on phase.Exit phase.Recover past goes = absurd (cc)
-past_entry_on phase.Exit phase.Post past goes = absurd (cc)
-past_entry_on phase.Exit phase.Enter past goes = absurd (cc)
-past_entry_on phase.Ready phase.Section past goes = refl
-past_entry_on phase.Ready phase.Exit past goes = refl
-past_entry_on phase.Ready phase.Ready past goes = refl
-past_entry_on phase.Ready phase.Recover past goes = absurd (cc)
-past_entry_on phase.Ready phase.Post past goes = absurd (cc)
-past_entry_on phase.Ready phase.Enter past goes = absurd (cc)
+past_entry_on p phase.Section past goes = refl
+past_entry_on p phase.Exit past goes = refl
+past_entry_on p phase.Ready past goes = refl
+past_entry_on phase.Section q past goes = absurd (cc)
+past_entry_on phase.Exit q past goes = absurd (cc)
+past_entry_on phase.Ready q past goes = absurd (cc)
+past_entry_on p q past goes = absurd (cc)
 
 -- A worker is up in a phase that passes a test.
 abbrev pub IsUpIn : (Phase → Bool) → Seen → ℕ → Type 0
@@ -129,25 +105,13 @@ stays_past goal worker steps old new kept walks up = walk_in goal is_past_entry 
 
 -- ---- where a walk ends
 
-rest_phase : (goal : Goal) (p : Phase) → is_at goal p ≡ true → is_resting p ≡ true
-rest_phase goals.Rest phase.Recover at = cc
-rest_phase goals.Rest phase.Post at = cc
-rest_phase goals.Rest phase.Enter at = refl
-rest_phase goals.Rest phase.Section at = refl
-rest_phase goals.Rest phase.Exit at = cc
-rest_phase goals.Rest phase.Ready at = refl
-rest_phase goals.Inside phase.Recover at = cc
-rest_phase goals.Inside phase.Post at = cc
-rest_phase goals.Inside phase.Enter at = cc
-rest_phase goals.Inside phase.Section at = refl
-rest_phase goals.Inside phase.Exit at = cc
-rest_phase goals.Inside phase.Ready at = refl
-rest_phase goals.Ready phase.Recover at = cc
-rest_phase goals.Ready phase.Post at = cc
-rest_phase goals.Ready phase.Enter at = cc
-rest_phase goals.Ready phase.Section at = cc
-rest_phase goals.Ready phase.Exit at = cc
-rest_phase goals.Ready phase.Ready at = refl
+pub rest_phase : (goal : Goal) (p : Phase) → is_at goal p ≡ true → is_resting p ≡ true
+rest_phase goal phase.Ready at = refl
+rest_phase goal phase.Enter at = refl
+rest_phase goal phase.Section at = refl
+rest_phase goals.Rest p at = cc
+rest_phase goals.Inside p at = cc
+rest_phase goals.Ready p at = cc
 
 pub there_rests : (goal : Goal) (worker : ℕ) (now : Seen) → IsEnd goal worker now There → Rests now worker
 there_rests goal worker now at = (at.0, at.1, rest_phase goal (phase_of at.0.stage) at.2)
@@ -159,20 +123,12 @@ pub stopped_rests : (worker : ℕ) (now : Seen) → IsStopped now worker → Res
 stopped_rests worker now stopped = (stopped.private, stopped.found, ap is_resting (stopped_enter worker now stopped))
 
 pub ready_only : (p : Phase) → is_at goals.Ready p ≡ true → p ≡ phase.Ready
-ready_only phase.Recover at = cc
-ready_only phase.Post at = cc
-ready_only phase.Enter at = cc
-ready_only phase.Section at = cc
-ready_only phase.Exit at = cc
 ready_only phase.Ready at = refl
+ready_only p at = cc
 
 inside_only : (p : Phase) → is_at goals.Inside p ≡ true → is_way_in p ≡ true → p ≡ phase.Section
-inside_only phase.Recover at way = cc
-inside_only phase.Post at way = cc
-inside_only phase.Enter at way = cc
 inside_only phase.Section at way = refl
-inside_only phase.Exit at way = cc
-inside_only phase.Ready at way = cc
+inside_only p at way = cc
 
 module _ (task : Task) (seen : Seen) (worker : ℕ) (way : Way task seen worker) where
   same_private : (private : Private) → slice_get seen.privates worker ≡ Some (Some private) → way.private ≡ private

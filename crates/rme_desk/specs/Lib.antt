@@ -1,5 +1,5 @@
--- In reading order: what a session shows; own steps of one worker; what a worker does of its job; what was done of an order;
--- what an order does.
+-- In reading order: what a session shows; own steps of one worker; what a worker does of its job; what was done of an
+-- order; what an order does; a desk.
 pub mod Sights
 pub mod Downs
 pub mod Outcomes

@@ -65,17 +65,18 @@ impl Stand {
 }
 
 impl Desk {
-    ghost use Rattle.std.specs.Prelude.{◌≡◌, ◌<◌, IfOk, IfSome, OnErr, None, replicate};
+    ghost use Rattle.std.specs.Prelude.{◌≡◌, ◌<◌, ◌↔◌, IfOk, IfSome, OnErr, None, replicate, true};
     ghost use Rattle.rme_orders.specs.Obeyed.{Obeys};
-    ghost use Rattle.rme_orders.specs.Parts.{with_tries};
+    ghost use Rattle.rme_orders.specs.Parts.{still_waits, with_tries};
+    ghost use Rattle.rme_desk.specs.Carried.{IsOf, IsSeatStopped};
     ghost use Rattle.rme_desk.specs.Deeds.{Happened, events_done};
     ghost use Rattle.rme_desk.specs.Desks.{HasFallen, is_taken, seat_of, view_of};
     ghost use Rattle.rme_orders.specs.Sights.{nobody};
     ghost use Rattle.rme_desk.specs.Downs.{IsDown};
     ghost use Rattle.rme_desk.specs.Offices.{IsTended};
 
-    /// A desk over a world, of which no session has a worker: each worker that is up falls. Takes memory for the desk's own
-    /// list of the workers.
+    /// A desk over a world, of which no session has a worker: each worker that is up falls. Takes memory for the desk's
+    /// own list of the workers.
     pub fn new(alloc: Global, world: World) -> Result<Desk, NoMemory>
         ensures fallen { IfOk result (λ desk. HasFallen world desk.world) }
         ensures nobody { IfOk result (λ desk. desk.holders ≡ replicate world.shape.workers None) }
@@ -126,11 +127,14 @@ impl Desk {
 
     /// Obeys an order of a session with one try where its job waits, and answers it with what was done.
     ///
-    /// A refused order changes nothing, and so does one for which memory was refused. `Taken` where another session has the
-    /// worker that is to be attached.
+    /// A refused order changes nothing, and so does one for which memory was refused. `Taken` where another session has
+    /// the worker that is to be attached.
     pub fn obey(&mut self, stand: &mut Stand, order: &Order) -> Result<Done, NoMemory>
         ensures obeys { IfOk result (λ done. Obeys self.old.world.shape (view_of self.old stand.old) (with_tries 1 order.now) (view_of self.new stand.new) done.reply) }
         ensures happened { IfOk result (λ done. Happened self.old.world (events_done done.deed) self.new.world) }
+        ensures own { IfOk result (λ done. IfSome done.deed (λ deed. IsOf (seat_of self.old stand.old) order.now deed.worker)) }
+        ensures taken { IfOk result (λ done. (done.reply ≡ SessionReply.Refused Refusal.Taken) ↔ (is_taken self.old (seat_of self.old stand.old) order.now ≡ true)) }
+        ensures waits { IfOk result (λ done. still_waits done.reply ≡ true → IsSeatStopped self.new.world (seat_of self.new stand.new)) }
         ensures unchanged { OnErr result ((self.new ≡ self.old) × (stand.new ≡ stand.old)) }
     {
         let seat = self.seat(stand);

@@ -25,14 +25,14 @@ use rme_world::World;
 
 /// What became of an order.
 #[derive(Clone, Copy)]
-pub struct Carried {
-    pub reply: SessionReply,
+pub(crate) struct Carried {
+    pub(crate) reply: SessionReply,
     /// The worker that the session has then, if any.
-    pub seat: Option<u32>,
+    pub(crate) seat: Option<u32>,
     /// The crash that is planned then.
-    pub planned: Planned,
+    pub(crate) planned: Planned,
     /// What was done, if anything was.
-    pub deed: Option<Deed>,
+    pub(crate) deed: Option<Deed>,
 }
 
 /// What a submission is made for.
@@ -68,9 +68,9 @@ impl Aim {
 
 /// Carries out an order of a session that has this worker, if any, with one try where its job waits.
 ///
-/// A refused order changes nothing. A worker that is to be attached is down, or there is none. `NoMemory` where a job could
-/// not be handed over for want of memory; then nothing changed.
-pub fn carry(
+/// A refused order changes nothing. A worker that is to be attached is down, or there is none. `NoMemory` where a job
+/// could not be handed over for want of memory; then nothing changed.
+pub(crate) fn carry(
     world: &mut World,
     seat: Option<u32>,
     planned: Planned,

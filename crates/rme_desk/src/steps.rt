@@ -56,8 +56,8 @@ pub(crate) struct Walk {
     pub(crate) left: Planned,
 }
 
-/// Lets a worker make its own steps, until it has come where it is to come, the next one would be blocked, or its planned crash
-/// is due. The plan is asked before each own step, and before the one that would be blocked too.
+/// Lets a worker make its own steps, until it has come where it is to come, the next one would be blocked, or its
+/// planned crash is due. The plan is asked before each own step, and before the one that would be blocked too.
 pub(crate) fn go(world: &mut World, worker: u32, goal: Goal, planned: Planned) -> Walk
     requires up { IsUp world.old worker }
     ensures walks { Walks goal worker world.old result.steps world.new }
