@@ -1,2 +1,3 @@
+pub mod Asking
 mod Trying
 mod Talking

@@ -19,7 +19,7 @@ use Rattle.rme_session_lines.specs.declared.order.Order.TheVariants.{Submit, Res
 use Rattle.rme_session_lines.specs.declared.order.Patience.TheVariants.{Tries}
 use Rattle.rme_session_lines.specs.declared.order.Submission.{Submission}
 use Rattle.rme_orders.specs.Obeyed.{ObeysBy, Resumes}
-use Rattle.rme_orders.specs.Refusals.{SubmitRefuses, resume_refusal}
+use Rattle.rme_orders.specs.Refusals.{resume_refusal}
 use Rattle.rme_orders.specs.Parts.{answer_as, once_more, still_waits, tried, with_tries}
 use Rattle.rme_orders.specs.declared.view.PendingWorker.{PendingWorker}
 use Rattle.rme_orders.specs.declared.view.Session as shown

@@ -1,24 +1,34 @@
--- How the orders of a session's lines are obeyed, and what is left where a line has no reply.
-use Rattle.std.specs.Prelude.{◌≡◌, ◌≤◌, ◌⊎◌, ℕ, List, [], Option, true}
+-- How the orders of a session's lines are obeyed, and what is left where a line has no answer.
+use Rattle.std.specs.Prelude.{◌≡◌, ◌≤◌, ◌⊎◌, ℕ, List, [], Option, Result, Err, true}
+use Rattle.std.specs.Option.{ok_or}
 use Rattle.rme_seats.specs.Stands.{Ident}
 use Rattle.rme_session_lines.specs.declared.order.Order.{Order}
 use Rattle.rme_session_lines.specs.declared.order.Order.TheVariants.{Attach}
 use Rattle.rme_session_lines.specs.declared.session.SessionReply.{SessionReply}
 use Rattle.rme_session_lines.specs.declared.session.SessionReply.TheVariants.{Refused}
-use Rattle.rme_words.specs.declared.refusal.Refusal.TheVariants.{Taken}
+use Rattle.rme_session_lines.specs.Orders.{order_of_line}
+use Rattle.rme_words.specs.declared.refusal.Refusal.{Refusal}
+use Rattle.rme_words.specs.declared.refusal.Refusal.TheVariants.{BadLine, LineTooLong, Taken}
 use Rattle.rme_orders.specs.Parts.{least_in, patience_in, still_waits, with_tries}
 use Rattle.rme_sessions.specs.Obeyed.{Obeys}
 use Rattle.rme_sessions.specs.declared.stand.Stand.{Stand}
 use Rattle.rme_lines.specs.declared.fault.EngineFault.{EngineFault}
 use Rattle.rme_lines.specs.declared.fault.EngineFault.TheVariants.{ReadFailed, WriteFailed, NoMemory}
+use Rattle.rme_lines.specs.Pieces.{InputLine, text, too_long}
 use Rattle.rme_lines.specs.Puts.{AppendsFront, Gathers}
+use Rattle.rme_lines.specs.Traffic.{Event, LastWriteFails}
 
--- What was written of the answers that were kept back where a line has no reply: for want of memory the others are kept
--- back still, and where the writer failed a front of them was written.
-abbrev pub Breaks : EngineFault → Option (List ℕ) → List ℕ → Option (List ℕ) → List ℕ → Type 0
-Breaks ReadFailed held kept holds keeps = ⊥
-Breaks NoMemory held kept holds keeps = Gathers held kept [] holds keeps
-Breaks WriteFailed held kept holds keeps = AppendsFront held holds kept
+-- The order that a line is, where the locks have these names, or why it is refused.
+abbrev pub asked_by : List (List ℕ) → InputLine → Result Order Refusal
+asked_by names too_long = Err LineTooLong
+asked_by names (text bytes) = ok_or (order_of_line names bytes) BadLine
+
+-- What was written of the answers that were kept back where a line has none, and what the writes came to: for want of memory
+-- the others are kept back still, and where the writer failed a front of them was written.
+abbrev pub Breaks : EngineFault → Option (List ℕ) → List ℕ → Option (List ℕ) → List ℕ → Option (List Event) → Option (List Event) → Type 0
+Breaks ReadFailed held kept holds keeps took takes = ⊥
+Breaks NoMemory held kept holds keeps took takes = Gathers held kept [] holds keeps
+Breaks WriteFailed held kept holds keeps took takes = AppendsFront held holds kept × LastWriteFails took takes
 
 -- An order is obeyed; or, once the client was found to be gone, with fewer tries than it asks for, where its job waits still.
 abbrev pub ObeysFor : Type 0 → Ident → ℕ → Stand → Order → Stand → SessionReply → Type 0

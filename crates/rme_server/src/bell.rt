@@ -7,8 +7,9 @@ use std::time::{Clock, Duration};
 /// A ring wakes all who listen, where they are no more than these.
 const FEW: u64 = 16;
 
-/// A bell. Nobody who listens to it misses a ring that came since it listened. A ring wakes a few listeners together, since
-/// what they wait for is had and left in a moment; of a crowd it wakes one, who passes it on where it is of no use to it.
+/// A bell. Nobody who listens to it misses a ring that came since it listened. A ring wakes a few listeners together,
+/// since what they wait for is had and left in a moment; of a crowd it wakes one, who passes it on where it is of no
+/// use to it.
 #[derive(Drop)]
 pub(crate) struct Bell {
     listeners: AtomicU64,
@@ -55,8 +56,9 @@ impl Bell {
     }
 }
 
-/// Somebody who listens to a bell.
-pub(crate) struct Listening<'a> {
+/// Somebody who listens, for a lock that is left or a worker that is given back. Whoever looks for it after this and
+/// then waits misses no ring.
+pub struct Listening<'a> {
     bell: &'a Bell,
     /// How often it had rung when the listener last heard it.
     heard: u64,
@@ -64,7 +66,7 @@ pub(crate) struct Listening<'a> {
 
 impl Listening<'_> {
     /// Waits until the bell has rung since the listener last heard it, for so long at most. Whether it has.
-    pub(crate) fn wait<R: Wait + Clock>(&mut self, rt: &R, most: Duration) -> bool {
+    pub fn wait<R: Wait + Clock>(&mut self, rt: &R, most: Duration) -> bool {
         let heard = self.heard;
         let rings = self.bell.rings.lock(rt);
         let (rings, waited) = self
@@ -76,7 +78,7 @@ impl Listening<'_> {
     }
 
     /// Passes a ring on, which was of no use, to a listener who has not heard it.
-    pub(crate) fn pass_on(&self) {
+    pub fn pass_on(&self) {
         self.bell.rung.notify_one();
     }
 }

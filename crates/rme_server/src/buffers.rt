@@ -3,26 +3,28 @@
 ghost use Rattle.std.specs.Prelude.{◌≡◌, ◌++◌, OnOk, string_bytes};
 ghost use Rattle.rme_orders.specs.Sessions.{session_line};
 
-use rme_session_lines::{SessionReply, push_session_reply};
-use rme_wire::{EngineFault, Exchange, Names, Sink};
+use rme_session_lines::{Order, SessionReply, order_of, push_session_reply};
+use rme_wire::{Cut, EngineFault, Exchange, Names};
+use rme_words::{NoMemory, Refusal};
 use std::alloc::{AllocError, Global};
 
 /// Room for the answer of most orders.
 const USUAL_ROOM: usize = 256;
 
-/// The lines of a session and the answers that are kept back, and the answer to the last line.
+/// The lines of a session, the answers that are kept back, and the text of the answer to the last line.
 #[derive(Drop)]
-pub(crate) struct Buffers {
-    pub(crate) exchange: Exchange,
-    text: String,
+pub struct Buffers {
+    pub exchange: Exchange,
+    pub text: String,
 }
 
 impl Buffers {
-    ghost use Rattle.std.specs.Prelude.{◌≡◌, ◌≢◌, ◌++◌, [], IfOk, IfErr, OnOk};
-    ghost use Rattle.rme_lines.specs.Puts.{AppendsFront, Gathers};
-    ghost use Rattle.rme_lines.specs.Traffic.{LastWriteFails, MakesWrites};
+    ghost use Rattle.std.specs.Prelude.{◌≡◌, [], IfOk, IfErr, OnOk, string_bytes};
+    ghost use Rattle.rme_lines.specs.Cuts.{line_read};
     ghost use Rattle.rme_orders.specs.Sessions.{session_line};
+    ghost use Rattle.rme_server.specs.Sessions.{asked_by};
 
+    /// No line was taken, and no answer is kept back.
     pub(crate) fn new(alloc: Global) -> Result<Buffers, AllocError>
         ensures { IfOk result (λ buffers. buffers.exchange.pending ≡ []) }
     {
@@ -32,30 +34,42 @@ impl Buffers {
         })
     }
 
-    /// Answers the line that was taken last. After `NoMemory` nothing was written, and what was kept back still is;
-    /// after `WriteFailed` a front of all answers was written.
-    pub(crate) fn answer<O: Sink>(
-        &mut self,
+    /// The order of the line that was taken last, or why it is refused.
+    pub fn order(
+        &self,
+        cut: Cut,
+        alloc: Global,
         names: &Names,
-        reply: SessionReply,
-        writer: &mut O,
-    ) -> Result<(), EngineFault>
-        ensures gathers { OnOk result (Gathers (O.contents writer.old) self.old.exchange.pending (session_line names.now reply) (O.contents writer.new) self.new.exchange.pending) }
-        ensures kind { IfErr result (λ fault. fault ≢ EngineFault.ReadFailed) }
-        ensures memory { IfErr result (λ fault. fault ≡ EngineFault.NoMemory → Gathers (O.contents writer.old) self.old.exchange.pending [] (O.contents writer.new) self.new.exchange.pending) }
-        ensures front { IfErr result (λ fault. fault ≡ EngineFault.WriteFailed → AppendsFront (O.contents writer.old) (O.contents writer.new) (self.old.exchange.pending ++ session_line names.now reply)) }
-        ensures writes { MakesWrites (O.took writer.old) (O.took writer.new) }
-        ensures write_broke { IfErr result (λ fault. fault ≡ EngineFault.WriteFailed → LastWriteFails (O.took writer.old) (O.took writer.new)) }
+    ) -> Result<Result<Order, Refusal>, NoMemory>
+        ensures { IfOk result (λ asked. asked ≡ asked_by names.now (line_read cut self.now.exchange.line.items)) }
+    {
+        if cut == Cut::TooLong {
+            return Ok(Err(Refusal::LineTooLong));
+        }
+        match order_of(alloc, names, self.exchange.line()) {
+            Ok(order) => Ok(order.ok_or(Refusal::BadLine)),
+            Err(_) => Err(NoMemory),
+        }
+    }
+
+    /// Puts a reply and a newline in the place of the text. After an error the text is of no use.
+    pub fn say(&mut self, names: &Names, reply: SessionReply) -> Result<(), EngineFault>
+        ensures says { OnOk result (string_bytes self.new.text ≡ session_line names.now reply) }
+        ensures err { IfErr result (λ fault. fault ≡ EngineFault.NoMemory) }
+        ensures same { self.new.exchange ≡ self.old.exchange }
     {
         self.text.clear();
-        match push_line(&mut self.text, names, reply) {
-            Ok(()) => self.exchange.answer(self.text.as_bytes(), writer),
-            Err(_) => Err(EngineFault::NoMemory),
-        }
+        push_line(&mut self.text, names, reply)?;
+        Ok(())
     }
 }
 
-fn push_line(text: &mut String, names: &Names, reply: SessionReply) -> Result<(), AllocError>
+/// Appends a reply and a newline.
+pub(crate) fn push_line(
+    text: &mut String,
+    names: &Names,
+    reply: SessionReply,
+) -> Result<(), AllocError>
     ensures { OnOk result (string_bytes text.new ≡ string_bytes text.old ++ session_line names.now reply) }
 {
     push_session_reply(text, names, reply)?;

@@ -44,8 +44,8 @@ impl Connection {
 impl Client for Connection {
     type Handle = Closer;
 
-    /// Whether nothing more can come: the client has closed its end or its sending side, or has reset it, or it was ended
-    /// here. It takes no byte and does not wait.
+    /// Whether nothing more can come: the client has closed its end or its sending side, or has reset it, or it was
+    /// ended here. It takes no byte and does not wait.
     ///
     /// It is for the thread that reads and writes the connection: meanwhile neither would wait in another.
     fn is_gone(&self) -> bool {
@@ -134,8 +134,8 @@ pub struct Closer {
 }
 
 impl Closer {
-    /// Closes it: whoever waits for a connection of a listener goes on with an error, and no more come; whoever reads or
-    /// writes a connection, or waits to, goes on with what there was and then finds its end.
+    /// Closes it: whoever waits for a connection of a listener goes on with an error, and no more come; whoever reads
+    /// or writes a connection, or waits to, goes on with what there was and then finds its end.
     pub(crate) fn close(&self) {
         // On Linux a listening socket that is shut down refuses connections and wakes who accepts.
         let _ = self.socket.shutdown(Shutdown::Both);

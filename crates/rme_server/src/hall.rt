@@ -7,14 +7,15 @@ use rme_words::{NoMemory, Shape};
 use std::alloc::Global;
 use std::sync::{Mutex, MutexGuard, Wait};
 
-/// The seat of a worker among the sessions: a handle of the client whose session has the worker.
-pub(crate) type Seat<H> = Mutex<Option<H>>;
+/// A worker's seat among the sessions: a handle of the client whose session has the worker. Nobody else takes or leaves
+/// it while it is held.
+pub type Seat<'a, H> = MutexGuard<'a, Option<H>>;
 
 /// Who has which worker, whose turn it is at a lock, and the bells of those who wait.
 #[derive(Drop)]
 pub struct Hall<H: Reach> {
     /// One for each worker.
-    seats: Vec<Seat<H>>,
+    seats: Vec<Mutex<Option<H>>>,
     /// One for each lock.
     turns: Vec<Mutex<()>>,
     /// One for each lock. It rings when the lock may have been left.
@@ -34,25 +35,22 @@ impl<H: Reach> Hall<H> {
         })
     }
 
-    /// The seat of a worker, which nobody else takes or leaves meanwhile; none where there is no such worker.
-    pub(crate) fn seat<R: Wait>(
-        &self,
-        rt: &R,
-        worker: Option<u32>,
-    ) -> Option<MutexGuard<'_, Option<H>>> {
+    /// The seat of a worker; none where there is no such worker.
+    pub fn seat<R: Wait>(&self, rt: &R, worker: Option<u32>) -> Option<Seat<'_, H>> {
         let seat = self.seats.get(worker? as usize)?;
         Some(seat.lock(rt))
     }
 
-    /// The turn to climb to a lock. Nobody needs it to be right: but a session that climbs while another sleeps halfway up
-    /// waits for that one although the lock is free.
+    /// The turn to climb to a lock. Nobody needs it to be right: but a session that climbs while another sleeps halfway
+    /// up waits for that one although the lock is free.
     pub(crate) fn turn<R: Wait>(&self, rt: &R, lock: Option<u32>) -> Option<MutexGuard<'_, ()>> {
         let turn = self.turns.get(lock? as usize)?;
         Some(turn.lock(rt))
     }
 
-    /// Sends the client away whose session has the worker, if any has.
-    pub(crate) fn send_away<R: Wait>(&self, rt: &R, worker: u32) {
+    /// Sends the client away whose session has the worker, if any has, and wakes those who wait: its session may be one
+    /// of them.
+    pub fn send_away<R: Wait>(&self, rt: &R, worker: u32) {
         if let Some(seat) = self.seat(rt, Some(worker)) {
             if let Some(handle) = &*seat {
                 handle.send_away();
@@ -61,18 +59,18 @@ impl<H: Reach> Hall<H> {
         self.ring_at_all(rt);
     }
 
-    /// Listens to the bell of a lock.
-    pub(crate) fn listen_at<R: Wait>(&self, rt: &R, lock: u32) -> Option<Listening<'_>> {
+    /// Listens for a lock that is left; none where there is no such lock.
+    pub fn listen_at<R: Wait>(&self, rt: &R, lock: u32) -> Option<Listening<'_>> {
         Some(self.left.get(lock as usize)?.listen(rt))
     }
 
-    /// Listens for workers that are given back.
-    pub(crate) fn listen_for_workers<R: Wait>(&self, rt: &R) -> Listening<'_> {
+    /// Listens for any worker that is given back.
+    pub fn listen_for_workers<R: Wait>(&self, rt: &R) -> Listening<'_> {
         self.returned.listen(rt)
     }
 
-    /// Rings for what an order did that was answered so.
-    pub(crate) fn ring_for<R: Wait>(&self, rt: &R, reply: SessionReply) {
+    /// Rings for what an order did that was answered so: it may have left a lock, or given a worker back.
+    pub fn ring_for<R: Wait>(&self, rt: &R, reply: SessionReply) {
         match reply {
             SessionReply::Submitted(outcome)
             | SessionReply::Resumed(outcome)
@@ -99,25 +97,21 @@ impl<H: Reach> Hall<H> {
     }
 
     /// Rings for a worker that was given back. It may have left its lock just before.
-    pub(crate) fn ring_for_worker<R: Wait>(&self, rt: &R) {
+    pub fn ring_for_worker<R: Wait>(&self, rt: &R) {
         self.returned.ring(rt);
         self.ring_at_all(rt);
     }
 
-    fn ring_at_all<R: Wait>(&self, rt: &R) {
+    /// Rings at all locks: any may have been left.
+    pub fn ring_at_all<R: Wait>(&self, rt: &R) {
         for bell in &self.left {
             bell.ring(rt);
         }
     }
 }
 
-/// Notes in the seat of a worker that the client's session now has it, or has it no more.
-pub(crate) fn note<C: Client>(
-    seat: Option<MutexGuard<'_, Option<C::Handle>>>,
-    client: &C,
-    had: bool,
-    has: bool,
-) {
+/// Notes in the seat of a worker that the client's session now has it, or has it no more, where that has changed.
+pub fn note<C: Client>(seat: Option<Seat<'_, C::Handle>>, client: &C, had: bool, has: bool) {
     if had == has {
         return;
     }
@@ -126,7 +120,7 @@ pub(crate) fn note<C: Client>(
     }
 }
 
-fn seats_for<H: Reach>(alloc: Global, count: u32) -> Result<Vec<Seat<H>>, NoMemory> {
+fn seats_for<H: Reach>(alloc: Global, count: u32) -> Result<Vec<Mutex<Option<H>>>, NoMemory> {
     let Ok(mut seats) = Vec::with_capacity(alloc, count as usize) else {
         return Err(NoMemory);
     };

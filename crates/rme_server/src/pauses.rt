@@ -8,23 +8,23 @@ use crate::client::Reach;
 use crate::hall::Hall;
 use rme_orders::patience_of;
 use rme_session_lines::{Order, Patience};
-use rme_sessions::{Holding, Stand};
 use std::sync::Wait;
 use std::thread;
 use std::time::{Clock, Duration, Instant};
 
-/// The shortest pause and the longest, in microseconds. Each is twice the one before, and ends when the lock is left.
+/// The shortest pause, in microseconds. Each is twice the one before, and ends when the lock is left.
 const SHORTEST: u64 = 100;
 
-pub(crate) const LONGEST: u64 = 40_000;
+/// The longest pause, in microseconds.
+pub const LONGEST: u64 = 40_000;
 
-/// So many tries follow a ring with pauses that only let others run: by the time that one is awake the lock may have been had
-/// and left again.
+/// So many tries follow a ring with pauses that only let others run: by the time that one is awake the lock may have
+/// been had and left again.
 const EAGER_TRIES: u32 = 8;
 
 /// The pauses of an order. There is none before its first try here.
 #[derive(Drop)]
-pub(crate) struct Pauses<'a> {
+pub struct Pauses<'a> {
     /// Whoever listens to the lock that the job waits for.
     listener: Option<Listening<'a>>,
     /// When the order began to wait, where the clock tells.
@@ -38,14 +38,14 @@ pub(crate) struct Pauses<'a> {
 }
 
 impl<'a> Pauses<'a> {
-    /// The pauses of a session whose job waits.
-    pub(crate) fn new<R: Wait + Clock, H: Reach>(
+    /// The pauses of an order whose job waits for this lock, if it is known.
+    pub fn new<R: Wait + Clock, H: Reach>(
         rt: &R,
-        stand: &Stand,
+        lock: Option<u32>,
         hall: &'a Hall<H>,
     ) -> Pauses<'a> {
         Pauses {
-            listener: listener_of(rt, stand, hall),
+            listener: listener_at(rt, lock, hall),
             began: Instant::now(rt).ok(),
             next: 0,
             rung: false,
@@ -54,7 +54,7 @@ impl<'a> Pauses<'a> {
     }
 
     /// Pauses, if a try was made since the order began to wait.
-    pub(crate) fn pause<R: Wait + Clock>(&mut self, rt: &R, order: &Order) {
+    pub fn pause<R: Wait + Clock>(&mut self, rt: &R, order: &Order) {
         if self.next == 0 {
             self.next = SHORTEST;
             return;
@@ -77,12 +77,12 @@ impl<'a> Pauses<'a> {
     }
 
     /// Whether the next try follows at once.
-    pub(crate) fn are_short(&self) -> bool {
+    pub fn are_short(&self) -> bool {
         self.eager > 0
     }
 
     /// Has others hear the ring that ended the last pause, once it was of no use in any of the tries that followed.
-    pub(crate) fn pass_on(&self) {
+    pub fn pass_on(&self) {
         if let Some(listener) = &self.listener {
             if self.rung && !self.are_short() {
                 listener.pass_on();
@@ -100,7 +100,7 @@ impl<'a> Pauses<'a> {
     }
 
     /// Whether the time of an order that waits for one is over. Where no clock tells, it is.
-    pub(crate) fn are_over<R: Clock>(&self, rt: &R, order: &Order) -> bool
+    pub fn are_over<R: Clock>(&self, rt: &R, order: &Order) -> bool
         ensures { IsTrue result → part.least_in (part.patience_in order.now) ≤ 1 }
     {
         match patience_of(order) {
@@ -110,14 +110,11 @@ impl<'a> Pauses<'a> {
     }
 }
 
-/// Listens to the lock for which the job of a session waits.
-fn listener_of<'a, R: Wait, H: Reach>(
+/// Listens to a lock, if it is known.
+fn listener_at<'a, R: Wait, H: Reach>(
     rt: &R,
-    stand: &Stand,
+    lock: Option<u32>,
     hall: &'a Hall<H>,
 ) -> Option<Listening<'a>> {
-    match &stand.value {
-        Holding::Climb(climb) => hall.listen_at(rt, climb.lock()),
-        _ => None,
-    }
+    hall.listen_at(rt, lock?)
 }

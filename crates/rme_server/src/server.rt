@@ -1,15 +1,13 @@
 //! A server: a session for each connection.
 
-ghost use Rattle.std.specs.Prelude.{◌≡◌};
-
-use crate::buffers::Buffers;
+use crate::backend::Backend;
+use crate::buffers::push_line;
 use crate::connection::{Closer, Connection, Listener};
-use crate::talk::{Host, session};
+use crate::talk::session;
 use rme_lines::ServeFault;
 use rme_reasons::{Reason, Teller, Told, Vocabulary};
 use rme_session_lines::SessionReply;
-use rme_table::Tag;
-use rme_wire::{LineReader, Names};
+use rme_wire::{LineReader, Names, put_all};
 use rme_words::Refusal;
 use std::alloc::Global;
 use std::io::{Error, ErrorKind};
@@ -48,20 +46,24 @@ pub trait Trouble {
     fn bad_line(&self, connection: u64, line: u64, why: &Reason);
 }
 
-/// Takes the connections of a door, from one listener or from two, and makes a session of each in a thread of its own. It
-/// answers when all have ended; the listeners are closed as soon as the last connection was taken.
+/// Takes the connections of a door, from one listener or from two, and makes a session of each in a thread of its own.
+/// It answers when all have ended; the listeners are closed as soon as the last connection was taken.
 ///
 /// What ends one session ends no other. A connection that can't be accepted, or have a thread, ends nothing either:
 /// `trouble` is told, and the next one is taken. An error is the first such trouble, and comes when all is over; where
 /// two listeners can't be listened on at once, it comes before any connection was taken.
-pub fn serve<K: Tag + Send + Sync, R: Threads + Wait + Clock + Sync, T: Trouble + Sync>(
+pub fn serve<
+    B: Backend<Handle = Closer> + Sync,
+    R: Threads + Wait + Clock + Sync,
+    T: Trouble + Sync,
+>(
     rt: &R,
     listeners: (Listener, Option<Listener>),
     door: Door,
     trouble: &T,
-    host: &Host<'_, K, Closer>,
+    backend: &B,
 ) -> Result<(), ServeFault>
-    requires ours { host.now.service.now ≡ K.ident }
+    requires fits { B.fits backend.now }
 {
     let (listener, other) = listeners;
     let closers = match &other {
@@ -79,18 +81,18 @@ pub fn serve<K: Tag + Send + Sync, R: Threads + Wait + Clock + Sync, T: Trouble 
         thread::scope_env(),
         rt,
         move |scope| -> Result<(), ServeFault>
-            requires ours { host.now.service.now ≡ K.ident }
+            requires fits { B.fits backend.now }
         {
             let Some(other) = other else {
-                return receive(rt, listener, shared, trouble, host);
+                return receive(rt, listener, shared, trouble, backend);
             };
             let beside = move || -> Result<(), ServeFault>
-                requires ours { host.now.service.now ≡ K.ident }
-            { receive(rt, other, shared, trouble, host) };
+                requires fits { B.fits backend.now }
+            { receive(rt, other, shared, trouble, backend) };
             let Ok(beside) = Builder::new().stack_size(STACK).spawn_scoped(scope, beside) else {
                 return Err(ServeFault::NoThread);
             };
-            let ended = receive(rt, listener, shared, trouble, host);
+            let ended = receive(rt, listener, shared, trouble, backend);
             ended.and(beside.join(rt))
         },
     )
@@ -105,20 +107,20 @@ fn closers_of(listener: &Listener, other: &Listener) -> Result<(Closer, Closer),
 }
 
 /// Takes the connections of a listener, until those of the door are taken, and answers when their sessions have ended.
-fn receive<K: Tag + Send + Sync, R: Threads + Wait + Clock + Sync, T: Trouble + Sync>(
+fn receive<B: Backend<Handle = Closer> + Sync, R: Threads + Wait + Clock + Sync, T: Trouble + Sync>(
     rt: &R,
     listener: Listener,
     entrance: &Entrance,
     trouble: &T,
-    host: &Host<'_, K, Closer>,
+    backend: &B,
 ) -> Result<(), ServeFault>
-    requires ours { host.now.service.now ≡ K.ident }
+    requires fits { B.fits backend.now }
 {
     thread::scope(
         thread::scope_env(),
         rt,
         move |scope| -> Result<(), ServeFault>
-            requires ours { host.now.service.now ≡ K.ident }
+            requires fits { B.fits backend.now }
         {
             let listener = listener;
             let mut ended = Ok(());
@@ -126,14 +128,14 @@ fn receive<K: Tag + Send + Sync, R: Threads + Wait + Clock + Sync, T: Trouble + 
                 match entrance.next(&listener) {
                     Arrival::Over => break,
                     Arrival::GivenUp => {}
-                    Arrival::Early(client) => turn_away(host.alloc, &client, host.names),
+                    Arrival::Early(client) => turn_away(backend.alloc(), &client, backend.names()),
                     Arrival::Failed(why) => ended = ended.and(Err(not_accepted(trouble, why))),
                     Arrival::Client(number, client) => {
                         let teller = entrance.teller(trouble, number);
                         let talk = move ||
-                            requires ours { host.now.service.now ≡ K.ident }
+                            requires fits { B.fits backend.now }
                         {
-                            welcome(rt, &client, teller, host);
+                            welcome(rt, &client, teller, backend);
                             entrance.running.fetch_sub(1, Ordering::SeqCst);
                         };
                         let thread = Builder::new().stack_size(STACK).spawn_scoped(scope, talk);
@@ -263,13 +265,12 @@ fn no_thread<T: Trouble>(trouble: &T, sessions: &AtomicU64) -> ServeFault {
 
 /// Answers a connection, for which there is no room, that it is `Busy`, before it is closed.
 fn turn_away(alloc: Global, client: &Connection, names: &Names) {
-    let Ok(mut buffers) = Buffers::new(alloc) else {
-        return;
-    };
-    let mut writer = client;
-    // What can't be told is told to nobody: the client sees that the connection is closed.
-    let _ = buffers.answer(names, SessionReply::Refused(Refusal::Busy), &mut writer);
-    let _ = buffers.exchange.write(&mut writer);
+    let mut text = String::new(alloc);
+    if push_line(&mut text, names, SessionReply::Refused(Refusal::Busy)).is_ok() {
+        let mut writer = client;
+        // What can't be told is told to nobody: the client sees that the connection is closed.
+        let _ = put_all(&mut writer, text.as_bytes());
+    }
     client.end_answers();
 }
 
@@ -287,18 +288,18 @@ impl<T: Trouble> Teller for TellerOf<'_, T> {
 }
 
 /// A connection's session. What ends it is told to nobody: the client sees that the connection is closed.
-fn welcome<K: Tag, R: Wait + Clock, T: Teller + Drop>(
+fn welcome<B: Backend<Handle = Closer>, R: Wait + Clock, T: Teller + Drop>(
     rt: &R,
     client: &Connection,
     teller: Option<T>,
-    host: &Host<'_, K, Closer>,
+    backend: &B,
 )
-    requires ours { host.now.service.now ≡ K.ident }
+    requires fits { B.fits backend.now }
 {
     let mut writer = client;
-    let reader = Told::new(host.alloc, client, Vocabulary::Orders, teller);
-    let Ok(mut lines) = LineReader::new(host.alloc, reader) else {
+    let reader = Told::new(backend.alloc(), client, Vocabulary::Orders, teller);
+    let Ok(mut lines) = LineReader::new(backend.alloc(), reader) else {
         return;
     };
-    let _ = session(rt, host, client, &mut lines, &mut writer);
+    let _ = session(rt, backend, client, &mut lines, &mut writer);
 }

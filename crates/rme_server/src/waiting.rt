@@ -2,7 +2,7 @@
 
 ghost use Rattle.std.specs.Prelude.{◌≡◌, ◌≤◌, [], IfErr, IfOk, IsFalse, IsTrue, OnOk, true};
 ghost use Rattle.rme_lines.specs.Puts.{Gathers};
-ghost use Rattle.rme_lines.specs.Traffic.{LastWriteFails, MakesWrites};
+ghost use Rattle.rme_lines.specs.Traffic.{MakesWrites};
 ghost use Rattle.rme_orders.specs.Parts as part;
 ghost use Rattle.rme_session_lines.specs.declared.session.SessionReply.TheVariants as answer;
 ghost use Rattle.rme_session_lines.specs.declared.order.Order.TheVariants as order;
@@ -12,16 +12,15 @@ ghost use Rattle.rme_sessions.specs.declared.stand.Stand.{Stand as Session};
 ghost use Rattle.rme_server.specs.Sessions.{Breaks, HasAll, MayGoOn, ObeysFor};
 ghost use Rattle.rme_words.specs.declared.refusal.Refusal.TheVariants.{Taken};
 
-use crate::buffers::Buffers;
-use crate::client::{Client, Reach};
+use crate::client::Client;
 use crate::hall::note;
+use crate::host::Host;
 use crate::pauses::{LONGEST, Pauses};
-use crate::talk::Host;
 use rme_orders::{answer_as, once_more, patience_of, still_waits, with_tries};
 use rme_session_lines::{Attachment, Order, Patience, SessionReply};
-use rme_sessions::{Holding, Stand, let_go, obey};
+use rme_sessions::{Holding, Stand, obey};
 use rme_table::Tag;
-use rme_wire::{EngineFault, Sink};
+use rme_wire::{EngineFault, Exchange, Sink};
 use rme_words::Refusal;
 use std::sync::Wait;
 use std::time::{Clock, Duration};
@@ -29,13 +28,13 @@ use std::time::{Clock, Duration};
 /// So many tries are made at once, with pauses that only let others run: about as long as a section takes.
 const QUICK_TRIES: u32 = 12;
 
-/// Obeys an order. Where its job waits for its lock, all answers that were kept back are written before it goes on to try, so
-/// that no client waits for an answer that is there.
+/// Obeys an order. Where its job waits for its lock, all answers that were kept back are written before it goes on to
+/// try, so that no client waits for an answer that is there.
 pub(crate) fn obey_in_time<K: Tag, R: Wait + Clock, O: Sink, C: Client>(
     rt: &R,
     stand: Stand,
     order: Order,
-    buffers: &mut Buffers,
+    exchange: &mut Exchange,
     writer: &mut O,
     client: &C,
     host: &Host<'_, K, C::Handle>,
@@ -44,25 +43,25 @@ pub(crate) fn obey_in_time<K: Tag, R: Wait + Clock, O: Sink, C: Client>(
     requires stand { MayHold K.ident host.now.slots.now stand.value }
     ensures ours { MayHold K.ident host.now.slots.now result.0.value }
     ensures obeys { IfOk result.1 (λ reply. ObeysFor (C.gone client.now) K.ident host.now.slots.now stand order result.0 reply) }
-    ensures gathers { OnOk result.1 (Gathers (O.contents writer.old) buffers.old.exchange.pending [] (O.contents writer.new) buffers.new.exchange.pending) }
-    ensures err { IfErr result.1 (λ fault. Breaks fault (O.contents writer.old) buffers.old.exchange.pending (O.contents writer.new) buffers.new.exchange.pending) }
+    ensures gathers { OnOk result.1 (Gathers (O.contents writer.old) exchange.old.pending [] (O.contents writer.new) exchange.new.pending) }
+    ensures err { IfErr result.1 (λ fault. Breaks fault (O.contents writer.old) exchange.old.pending (O.contents writer.new) exchange.new.pending
+        (O.took writer.old) (O.took writer.new)) }
     ensures writes { MakesWrites (O.took writer.old) (O.took writer.new) }
-    ensures write_broke { IfErr result.1 (λ fault. fault ≡ EngineFault.WriteFailed → LastWriteFails (O.took writer.old) (O.took writer.new)) }
 {
-    let tries = first_tries(&order, buffers.exchange.keeps_back());
+    let tries = first_tries(&order, exchange.keeps_back());
     let (stand, reply) = obey_here(rt, stand, with_tries(order, tries), client, host);
     if !goes_on(&order, tries, reply) {
         return (stand, Ok(reply));
     }
-    if let Err(fault) = buffers.exchange.write(writer) {
+    if let Err(fault) = exchange.write(writer) {
         return (stand, Err(fault));
     }
     let (stand, reply) = go_on(rt, stand, order, tries, reply, client, host);
     (stand, Ok(reply))
 }
 
-/// How many tries are made before what is kept back is written: one alone where something is, and never more than the order
-/// asks for.
+/// How many tries are made before what is kept back is written: one alone where something is, and never more than the
+/// order asks for.
 fn first_tries(order: &Order, keeps_back: bool) -> u32
     ensures { 1 ≤ result }
 {
@@ -135,18 +134,6 @@ fn climbed(stand: &Stand, order: &Order) -> Option<u32> {
     }
 }
 
-/// Lets the worker go whom a session has that is over.
-pub(crate) fn send_home<K: Tag, R: Wait, H: Reach>(rt: &R, stand: Stand, host: &Host<'_, K, H>)
-    requires stand { MayHold K.ident host.now.slots.now stand.value }
-{
-    let seat = host.hall.seat(rt, stand.worker());
-    let_go(rt, stand, host.slots);
-    if let Some(mut seat) = seat {
-        *seat = None;
-    }
-    host.hall.ring_for_worker(rt);
-}
-
 /// Goes on with an order.
 fn go_on<K: Tag, R: Wait + Clock, C: Client>(
     rt: &R,
@@ -217,7 +204,7 @@ fn try_on<K: Tag, R: Wait + Clock, C: Client>(
     ensures ours { MayHold K.ident host.now.slots.now result.0.value }
     ensures obeys { (old : Session) → Obeys K.ident host.now.slots.now old (part.with_tries tries order) stand reply → ObeysFor (C.gone client.now) K.ident host.now.slots.now old order result.0 result.1 }
 {
-    let mut pauses = Pauses::new(rt, &stand, host.hall);
+    let mut pauses = Pauses::new(rt, climbed(&stand, &order), host.hall);
     let mut stand = stand;
     let mut reply = reply;
     for made in tries..most_tries(&order) {

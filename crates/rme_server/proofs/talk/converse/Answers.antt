@@ -7,28 +7,25 @@ use Rattle.rme_lines.specs.Runs.{IsPrompt, TurnFails, Turns}
 use Rattle.rme_lines.proofs.MomentLemmas.{prompt_turn, read_none}
 use Rattle.rme_lines.proofs.ReaderLemmas.{came_first, came_no_more, ended_at_end}
 use Rattle.rme_lines.proofs.RunLemmas.{came_turn, failed, fails_to_read, finished, so_far_first, so_far_more}
-use Rattle.rme_orders.specs.Sessions.{IsAnswered}
-use Rattle.rme_server.specs.Sessions.{ObeysFor}
-use Rattle.rme_sessions.specs.Stands.{nobody}
 use Rattle.rme_lines.specs.Traffic.{LastWriteFails}
 use Rattle.rme_lines.proofs.TrafficLemmas.{fails_after, fails_more, makes_more, makes_none, writes_more, writes_none}
 use Rattle.rme_server.proofs.talk.converse.Goals as goal
 
 pub loop-init : goal.loop-init
 loop-init g c = record {
-  ours = rw c.empty-stand.ensures tt;
-  so_far = so_far_first (IsAnswered (ObeysFor (g.C.Client.gone c.args.client.now) g.K.Tag.ident c.args.host.now.slots.now) c.args.host.now.names.now) (bytes_left g.I.Source.remaining c.args.lines.now) (g.O.Sink.contents c.args.writer.now)
-      c.args.lines.now.ended nobody c.empty-stand.result c.args.buffers.now.exchange.pending c.empty-stand.ensures c.requires.none_kept
+  may_hold = c.begin-stand.ensures.may_hold;
+  so_far = so_far_first (g.B.Backend.answers c.args.backend.now (g.C.Client.gone c.args.client.now)) (bytes_left g.I.Source.remaining c.args.lines.now) (g.O.Sink.contents c.args.writer.now)
+      c.args.lines.now.ended (g.B.Backend.nobody c.args.backend.now) c.begin-stand.result c.args.buffers.now.exchange.pending c.begin-stand.ensures.nobody c.requires.none_kept
       (ended_at_end g.I.Source.remaining c.args.lines.now);
   came_on = came_first c.args.lines.now [] refl;
   reads = makes_none g.I.Source.gave c.args.lines.now;
-  prompt = read_none g.I.Source.moments c.args.lines.now (IsPrompt (IsAnswered (ObeysFor (g.C.Client.gone c.args.client.now) g.K.Tag.ident c.args.host.now.slots.now) c.args.host.now.names.now) nobody (bytes_left g.I.Source.remaining c.args.lines.now) (g.O.Sink.contents c.args.writer.now));
+  prompt = read_none g.I.Source.moments c.args.lines.now (IsPrompt (g.B.Backend.answers c.args.backend.now (g.C.Client.gone c.args.client.now)) (g.B.Backend.nobody c.args.backend.now) (bytes_left g.I.Source.remaining c.args.lines.now) (g.O.Sink.contents c.args.writer.now));
   writes = writes_none (g.O.Sink.took c.args.writer.now);
 }
 
 pub loop-preserved : goal.loop-preserved
 loop-preserved g c =
-    let has = IsAnswered (ObeysFor (g.C.Client.gone c.args.client.now) g.K.Tag.ident c.args.host.now.slots.now) c.args.host.now.names.now in
+    let has = g.B.Backend.answers c.args.backend.now (g.C.Client.gone c.args.client.now) in
     let held = g.O.Sink.contents in
     let left = bytes_left g.I.Source.remaining in
     let now = c.loop in
@@ -38,20 +35,20 @@ loop-preserved g c =
     let R : Result Bool EngineFault → Type 0 = λ r. IfOk r P in
     let L : Result Bool EngineFault → Type 0 = λ r. IfOk r (λ more. more ≡ true → most_lines new.lines < most_lines now.lines) in
     let fewer = subst L c.in-Ok-true.is c.turn-next.ensures.fewer in record {
-      ours = c.turn-next.ensures.ours;
-      so_far = so_far_more has (left c.args.lines.now) (held c.args.writer.now) (left now.lines) (left new.lines) (held now.writer) (held new.writer) now.lines.ended new.lines.ended nobody
+      may_hold = c.turn-next.ensures.may_hold;
+      so_far = so_far_more has (left c.args.lines.now) (held c.args.writer.now) (left now.lines) (left new.lines) (held now.writer) (held new.writer) now.lines.ended new.lines.ended (g.B.Backend.nobody c.args.backend.now)
           now.stand c.turn-next.result.0 now.buffers.exchange.pending new.buffers.exchange.pending now.invariant.so_far (λ e. (c.turn-next.ensures.ended e).ended)
           (subst P c.in-Ok-true.field-0-test (subst R c.in-Ok-true.is c.turn-next.ensures.ok)) (ended_at_end g.I.Source.remaining new.lines);
       came_on = came_turn c.args.lines.now now.lines new.lines now.invariant.came_on c.turn-next.ensures.ended c.turn-next.ensures.fewer_reads (fewer c.in-Ok-true.field-0-test);
       reads = makes_more g.I.Source.gave c.args.lines.now now.lines new.lines now.invariant.reads c.turn-next.ensures.reads;
-      prompt = prompt_turn g.I.Source.moments has (left c.args.lines.now) (held c.args.writer.now) (left now.lines) (held now.writer) nobody now.stand now.buffers.exchange.pending c.args.lines.now
+      prompt = prompt_turn g.I.Source.moments has (left c.args.lines.now) (held c.args.writer.now) (left now.lines) (held now.writer) (g.B.Backend.nobody c.args.backend.now) now.stand now.buffers.exchange.pending c.args.lines.now
           now.lines new.lines now.invariant.prompt now.invariant.so_far c.turn-next.ensures.ended c.turn-next.ensures.prompt;
       writes = writes_more (g.O.Sink.took c.args.writer.now) (g.O.Sink.took now.writer) (g.O.Sink.took new.writer) now.invariant.writes c.turn-next.ensures.writes;
     }
 
 pub returns-in-Ok-false-clause-ok : goal.returns-in-Ok-false-clause-ok
 returns-in-Ok-false-clause-ok g c =
-    let has = IsAnswered (ObeysFor (g.C.Client.gone c.args.client.now) g.K.Tag.ident c.args.host.now.slots.now) c.args.host.now.names.now in
+    let has = g.B.Backend.answers c.args.backend.now (g.C.Client.gone c.args.client.now) in
     let held = g.O.Sink.contents in
     let left = bytes_left g.I.Source.remaining in
     let now = c.loop in
@@ -59,13 +56,13 @@ returns-in-Ok-false-clause-ok g c =
     let P : Bool → Type 0 = λ more. Turns has (left now.lines) (left new.lines) new.lines.ended now.stand c.turn-next.result.0 (held now.writer) now.buffers.exchange.pending (held new.writer)
     new.buffers.exchange.pending more in
     let R : Result Bool EngineFault → Type 0 = λ r. IfOk r P in
-    finished has (left c.args.lines.now) (held c.args.writer.now) (left now.lines) (left new.lines) (held now.writer) (held new.writer) now.lines.ended new.lines.ended nobody now.stand
+    finished has (left c.args.lines.now) (held c.args.writer.now) (left now.lines) (left new.lines) (held now.writer) (held new.writer) now.lines.ended new.lines.ended (g.B.Backend.nobody c.args.backend.now) now.stand
     c.turn-next.result.0 now.buffers.exchange.pending new.buffers.exchange.pending now.invariant.so_far
     (subst P c.in-Ok-false.field-0-test (subst R c.in-Ok-false.is c.turn-next.ensures.ok))
 
 pub returns-in-Err-clause-err : goal.returns-in-Err-clause-err
 returns-in-Err-clause-err g c =
-    let has = IsAnswered (ObeysFor (g.C.Client.gone c.args.client.now) g.K.Tag.ident c.args.host.now.slots.now) c.args.host.now.names.now in
+    let has = g.B.Backend.answers c.args.backend.now (g.C.Client.gone c.args.client.now) in
     let held = g.O.Sink.contents in
     let left = bytes_left g.I.Source.remaining in
     let now = c.loop in
@@ -75,7 +72,7 @@ returns-in-Err-clause-err g c =
     let Q : Result Bool EngineFault → Type 0 = λ r. IfErr r (λ fault. fault ≡ ReadFailed → FailsToRead now.lines new.lines) in
     let fails = subst Q c.in-Err.is c.turn-next.ensures.failed in
     λ holds last gives.
-    failed has (left c.args.lines.now) (held c.args.writer.now) (left now.lines) (left new.lines) (held now.writer) (held new.writer) holds now.lines.ended nobody now.stand
+    failed has (left c.args.lines.now) (held c.args.writer.now) (left now.lines) (left new.lines) (held now.writer) (held new.writer) holds now.lines.ended (g.B.Backend.nobody c.args.backend.now) now.stand
     now.buffers.exchange.pending new.buffers.exchange.pending now.invariant.so_far c.in-Err.fault last (λ e. (fails e).going) (subst R c.in-Err.is c.turn-next.ensures.err) gives
 
 pub returns-in-Ok-false-clause-writes : goal.returns-in-Ok-false-clause-writes
@@ -101,12 +98,12 @@ returns-in-Ok-false-clause-reads g c =
 
 pub returns-in-Ok-false-clause-prompt : goal.returns-in-Ok-false-clause-prompt
 returns-in-Ok-false-clause-prompt g c =
-    let has = IsAnswered (ObeysFor (g.C.Client.gone c.args.client.now) g.K.Tag.ident c.args.host.now.slots.now) c.args.host.now.names.now in
+    let has = g.B.Backend.answers c.args.backend.now (g.C.Client.gone c.args.client.now) in
     let held = g.O.Sink.contents in
     let left = bytes_left g.I.Source.remaining in
     let now = c.loop in
     let new = c.turn-next.new in
-    prompt_turn g.I.Source.moments has (left c.args.lines.now) (held c.args.writer.now) (left now.lines) (held now.writer) nobody now.stand now.buffers.exchange.pending c.args.lines.now
+    prompt_turn g.I.Source.moments has (left c.args.lines.now) (held c.args.writer.now) (left now.lines) (held now.writer) (g.B.Backend.nobody c.args.backend.now) now.stand now.buffers.exchange.pending c.args.lines.now
     now.lines new.lines now.invariant.prompt now.invariant.so_far c.turn-next.ensures.ended c.turn-next.ensures.prompt
 
 pub returns-in-Ok-false-clause-ended : goal.returns-in-Ok-false-clause-ended
@@ -123,12 +120,12 @@ returns-in-Err-clause-reads g c =
 
 pub returns-in-Err-clause-prompt : goal.returns-in-Err-clause-prompt
 returns-in-Err-clause-prompt g c =
-    let has = IsAnswered (ObeysFor (g.C.Client.gone c.args.client.now) g.K.Tag.ident c.args.host.now.slots.now) c.args.host.now.names.now in
+    let has = g.B.Backend.answers c.args.backend.now (g.C.Client.gone c.args.client.now) in
     let held = g.O.Sink.contents in
     let left = bytes_left g.I.Source.remaining in
     let now = c.loop in
     let new = c.turn-next.new in
-    prompt_turn g.I.Source.moments has (left c.args.lines.now) (held c.args.writer.now) (left now.lines) (held now.writer) nobody now.stand now.buffers.exchange.pending c.args.lines.now
+    prompt_turn g.I.Source.moments has (left c.args.lines.now) (held c.args.writer.now) (left now.lines) (held now.writer) (g.B.Backend.nobody c.args.backend.now) now.stand now.buffers.exchange.pending c.args.lines.now
     now.lines new.lines now.invariant.prompt now.invariant.so_far c.turn-next.ensures.ended c.turn-next.ensures.prompt
 
 pub returns-in-Err-clause-ended : goal.returns-in-Err-clause-ended

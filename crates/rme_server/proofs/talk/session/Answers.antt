@@ -8,14 +8,11 @@ use Rattle.rme_lines.specs.Runs.{IsPrompt, WritesTo}
 use Rattle.rme_lines.proofs.MomentLemmas.{read_none}
 use Rattle.rme_lines.proofs.RunLemmas.{failed_first}
 use Rattle.rme_lines.proofs.TrafficLemmas.{gave_up_writing, makes_none}
-use Rattle.rme_orders.specs.Sessions.{IsAnswered}
-use Rattle.rme_server.specs.Sessions.{ObeysFor}
-use Rattle.rme_sessions.specs.Stands.{nobody}
 use Rattle.rme_server.proofs.talk.session.Goals as goal
 
 pub returns-in_default-clause-err : goal.returns-in_default-clause-err
 returns-in_default-clause-err g c =
-    failed_first (IsAnswered (ObeysFor (g.C.Client.gone c.args.client.now) g.K.Tag.ident c.args.host.now.slots.now) c.args.host.now.names.now) nobody (bytes_left g.I.Source.remaining c.args.lines.now) (g.O.Sink.contents c.args.writer.now)
+    failed_first (g.B.Backend.answers c.args.backend.now (g.C.Client.gone c.args.client.now)) (g.B.Backend.nobody c.args.backend.now) (bytes_left g.I.Source.remaining c.args.lines.now) (g.O.Sink.contents c.args.writer.now)
 
 pub returns-in_default-clause-reads : goal.returns-in_default-clause-reads
 returns-in_default-clause-reads g c = makes_none g.I.Source.gave c.args.lines.now
@@ -23,7 +20,7 @@ returns-in_default-clause-reads g c = makes_none g.I.Source.gave c.args.lines.no
 pub returns-in_default-clause-prompt : goal.returns-in_default-clause-prompt
 returns-in_default-clause-prompt g c =
     read_none g.I.Source.moments c.args.lines.now
-    (IsPrompt (IsAnswered (ObeysFor (g.C.Client.gone c.args.client.now) g.K.Tag.ident c.args.host.now.slots.now) c.args.host.now.names.now) nobody (bytes_left g.I.Source.remaining c.args.lines.now) (g.O.Sink.contents c.args.writer.now))
+    (IsPrompt (g.B.Backend.answers c.args.backend.now (g.C.Client.gone c.args.client.now)) (g.B.Backend.nobody c.args.backend.now) (bytes_left g.I.Source.remaining c.args.lines.now) (g.O.Sink.contents c.args.writer.now))
 
 pub returns-clause-write_broke : goal.returns-clause-write_broke
 returns-clause-write_broke g c e =
@@ -35,6 +32,6 @@ returns-clause-write_broke g c e =
 pub returns-in-Ok-ended-clause-ok : goal.returns-in-Ok-ended-clause-ok
 returns-in-Ok-ended-clause-ok g c =
     let P : Result (Unit {0}) EngineFault → Type 0 =
-    λ r. OnOk r (WritesTo (IsAnswered (ObeysFor (g.C.Client.gone c.args.client.now) g.K.Tag.ident c.args.host.now.slots.now) c.args.host.now.names.now) nobody
+    λ r. OnOk r (WritesTo (g.B.Backend.answers c.args.backend.now (g.C.Client.gone c.args.client.now)) (g.B.Backend.nobody c.args.backend.now)
     (bytes_left g.I.Source.remaining c.args.lines.now) (g.O.Sink.contents c.args.writer.now) (g.O.Sink.contents c.converse-stand.new.writer) c.converse-stand.result.0) in
     (c.converse-stand.result.0, subst P c.in-Ok-ended.is c.converse-stand.ensures.ok)

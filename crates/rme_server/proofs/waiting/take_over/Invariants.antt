@@ -1,11 +1,6 @@
 -- The worker is another session's, and so this session is as it was.
 use Rattle.std.proofs.Common.{◌≡◌}
-use Rattle.rme_session_lines.specs.declared.order.Order.TheVariants.{Attach}
-use Rattle.rme_session_lines.specs.declared.session.SessionReply.TheVariants.{Refused}
-use Rattle.rme_words.specs.declared.refusal.Refusal.TheVariants.{Taken}
-use Rattle.rme_sessions.specs.Obeyed.{Obeys}
 use Rattle.rme_sessions.specs.Stands.{MayHold}
-use Rattle.rme_sessions.specs.declared.stand.Stand.{Stand as Session}
 use Rattle.rme_server.proofs.waiting.take_over.Given as goal
 
 abbrev pub invariant-loop : goal.invariant-loop

@@ -1,6 +1,5 @@
-use Rattle.std.proofs.Common.{◌≡◌, ◌≤◌, ◌+◌, ◌∙◌, arith, inl, inr, refl, sym, true}
-use Rattle.rme_orders.specs.Parts.{least_in, patience_in, still_waits, with_tries}
-use Rattle.rme_sessions.specs.Obeyed.{Obeys}
+use Rattle.std.proofs.Common.{◌≤◌, ◌+◌, ◌∙◌, arith, inl, inr, refl, sym}
+use Rattle.rme_orders.specs.Parts.{least_in, patience_in}
 use Rattle.rme_sessions.specs.declared.stand.Stand.{Stand as Session}
 use Rattle.rme_server.proofs.Trying.{all_tries, one_more, over}
 use Rattle.rme_server.proofs.waiting.try_on.Goals.{then-are_over-via-then-are_over, then-are_over-via-else-are_over+then-has_left}
