@@ -11,6 +11,7 @@
 mod checker;
 #[cfg(test)]
 mod desk;
+mod journal;
 #[cfg(test)]
 mod images;
 #[cfg(test)]

@@ -1,0 +1,270 @@
+//! Line 1 of a file: what earlier epochs left.
+
+use rme_texts::name_of;
+use rme_wire::{Names, key_count, lock_of, read_value, small};
+use rme_words::{NoMemory, Shape};
+use serde_json::Value;
+use std::alloc::{AllocError, Global};
+
+/// The most that a number or a place may come to: a JSON number of more is not exact everywhere.
+const MOST: u64 = 9_007_199_254_740_992;
+
+/// A receipt as it was answered: its number and its place are those of all epochs together.
+#[derive(Clone, Copy, Debug, PartialEq, Eq)]
+pub struct KeptReceipt {
+    pub worker: u32,
+    pub lock: u32,
+    pub number: u64,
+    pub place: u64,
+    pub reply: u64,
+}
+
+/// What became of a worker's last number in earlier epochs.
+#[derive(Clone, Copy, Debug, PartialEq, Eq)]
+pub enum LastWord {
+    /// It had none.
+    Nothing,
+    Withdrawn,
+    Receipt(KeptReceipt),
+}
+
+/// What earlier epochs left.
+#[derive(Drop)]
+pub struct Header {
+    /// How many epochs there were.
+    pub epoch: u64,
+    /// For each worker but the keeper what became of its last number.
+    pub last: Vec<LastWord>,
+    /// For each of them how many numbers it had.
+    pub numbers: Vec<u64>,
+    /// For each lock how many sections it had, less those that the keeper made in this epoch.
+    pub places: Vec<i64>,
+}
+
+impl Header {
+    /// No epoch was before, of a world of this shape.
+    pub fn first(alloc: Global, shape: Shape) -> Result<Header, AllocError> {
+        let workers = clients_in(shape);
+        Ok(Header {
+            epoch: 0,
+            last: vec![in alloc; LastWord::Nothing; workers]?,
+            numbers: vec![in alloc; 0u64; workers]?,
+            places: vec![in alloc; 0i64; shape.locks() as usize]?,
+        })
+    }
+}
+
+/// How many workers there are but for the last, which is the keeper and has no clients.
+fn clients_in(shape: Shape) -> usize {
+    shape.workers().saturating_sub(1) as usize
+}
+
+/// Appends the line of a header, and its newline. An error leaves a text that is of no use.
+pub fn push_header(out: &mut String, names: &Names, header: &Header) -> Result<(), AllocError> {
+    write!(out, "{{\"epoch\":{},\"last\":[", header.epoch)?;
+    push_last_words(out, names, header.last.as_slice())?;
+    out.push_str("],\"numbers\":[")?;
+    push_numbers(out, header.numbers.as_slice())?;
+    out.push_str("],\"places\":[")?;
+    push_places(out, header.places.as_slice())?;
+    out.push_str("],\"rme\":\"kept\",\"version\":1}\n")
+}
+
+fn push_last_words(out: &mut String, names: &Names, words: &[LastWord]) -> Result<(), AllocError> {
+    let mut comma = "";
+    for word in words {
+        out.push_str(comma)?;
+        push_last_word(out, names, *word)?;
+        comma = ",";
+    }
+    Ok(())
+}
+
+/// Appends what became of a last number.
+pub fn push_last_word(out: &mut String, names: &Names, word: LastWord) -> Result<(), AllocError> {
+    match word {
+        LastWord::Nothing => out.push_str("null"),
+        LastWord::Withdrawn => out.push_str("{\"withdrawn\":true}"),
+        LastWord::Receipt(receipt) => push_kept_receipt(out, names, receipt),
+    }
+}
+
+/// Appends a receipt, as `{"lock":"bank","number":1,"place":0,"reply":5,"worker":0}`.
+pub fn push_kept_receipt(
+    out: &mut String,
+    names: &Names,
+    receipt: KeptReceipt,
+) -> Result<(), AllocError> {
+    let name = name_of(names, receipt.lock);
+    let KeptReceipt {
+        worker,
+        lock: _,
+        number,
+        place,
+        reply,
+    } = receipt;
+    write!(
+        out,
+        "{{\"lock\":\"{name}\",\"number\":{number},\"place\":{place},\"reply\":{reply},\"worker\":{worker}}}"
+    )
+}
+
+fn push_numbers(out: &mut String, numbers: &[u64]) -> Result<(), AllocError> {
+    let mut comma = "";
+    for number in numbers {
+        write!(out, "{comma}{number}")?;
+        comma = ",";
+    }
+    Ok(())
+}
+
+fn push_places(out: &mut String, places: &[i64]) -> Result<(), AllocError> {
+    let mut comma = "";
+    for place in places {
+        write!(out, "{comma}{place}")?;
+        comma = ",";
+    }
+    Ok(())
+}
+
+/// The value of a header's line; `None` where the line is none of this version.
+pub(crate) fn header_value(alloc: Global, line: &[u8]) -> Result<Option<Value>, NoMemory> {
+    let Some(value) = read_value(alloc, line)? else {
+        return Ok(None);
+    };
+    if is_header(&value) {
+        Ok(Some(value))
+    } else {
+        Ok(None)
+    }
+}
+
+/// Whether a value has the members of a header, and says that it is one of this version.
+fn is_header(value: &Value) -> bool {
+    let says = value.get("rme").and_then(Value::as_str);
+    let version = value.get("version").and_then(Value::as_u64);
+    key_count(value) == Some(6) && says == Some("kept") && version == Some(1)
+}
+
+/// The header of a world of this shape whose locks have these names; `None` where the value is none.
+pub(crate) fn header_of(
+    alloc: Global,
+    names: &Names,
+    shape: Shape,
+    value: &Value,
+) -> Result<Option<Header>, AllocError> {
+    let Some(epoch) = value.get("epoch").and_then(Value::as_u64) else {
+        return Ok(None);
+    };
+    let workers = clients_in(shape);
+    let locks = shape.locks() as usize;
+    let Some(last) = last_words_of(alloc, names, items_of(value, "last", workers))? else {
+        return Ok(None);
+    };
+    let Some(numbers) = numbers_of(alloc, items_of(value, "numbers", workers))? else {
+        return Ok(None);
+    };
+    let Some(places) = places_of(alloc, items_of(value, "places", locks))? else {
+        return Ok(None);
+    };
+    Ok(Some(Header {
+        epoch,
+        last,
+        numbers,
+        places,
+    }))
+}
+
+/// The items of a member, a list of so many.
+fn items_of<'a>(value: &'a Value, key: &str, count: usize) -> Option<&'a [Value]> {
+    let items = value.get(key)?.as_array()?.as_slice();
+    if items.len() == count {
+        Some(items)
+    } else {
+        None
+    }
+}
+
+fn last_words_of(
+    alloc: Global,
+    names: &Names,
+    items: Option<&[Value]>,
+) -> Result<Option<Vec<LastWord>>, AllocError> {
+    let Some(items) = items else {
+        return Ok(None);
+    };
+    let mut words = Vec::new(alloc);
+    for item in items {
+        let Some(word) = last_word_of(names, item) else {
+            return Ok(None);
+        };
+        words.push(word)?;
+    }
+    Ok(Some(words))
+}
+
+fn last_word_of(names: &Names, value: &Value) -> Option<LastWord> {
+    if value.is_null() {
+        return Some(LastWord::Nothing);
+    }
+    if key_count(value)? == 1 {
+        return if value.get("withdrawn")?.as_bool()? {
+            Some(LastWord::Withdrawn)
+        } else {
+            None
+        };
+    }
+    if key_count(value)? != 5 {
+        return None;
+    }
+    Some(LastWord::Receipt(KeptReceipt {
+        worker: small(value.get("worker")?)?,
+        lock: lock_of(names, value)?,
+        number: whole(value.get("number")?)?,
+        place: whole(value.get("place")?)?,
+        reply: value.get("reply")?.as_u64()?,
+    }))
+}
+
+/// A whole number that a number or a place may come to.
+fn whole(value: &Value) -> Option<u64> {
+    let number = value.as_u64()?;
+    if number > MOST { None } else { Some(number) }
+}
+
+fn numbers_of(alloc: Global, items: Option<&[Value]>) -> Result<Option<Vec<u64>>, AllocError> {
+    let Some(items) = items else {
+        return Ok(None);
+    };
+    let mut numbers = Vec::new(alloc);
+    for item in items {
+        let Some(number) = whole(item) else {
+            return Ok(None);
+        };
+        numbers.push(number)?;
+    }
+    Ok(Some(numbers))
+}
+
+fn places_of(alloc: Global, items: Option<&[Value]>) -> Result<Option<Vec<i64>>, AllocError> {
+    let Some(items) = items else {
+        return Ok(None);
+    };
+    let mut places = Vec::new(alloc);
+    for item in items {
+        let Some(place) = place_of(item) else {
+            return Ok(None);
+        };
+        places.push(place)?;
+    }
+    Ok(Some(places))
+}
+
+/// The places of a lock that earlier epochs had, which may be below 0.
+fn place_of(value: &Value) -> Option<i64> {
+    let place = value.as_i64()?;
+    if place.unsigned_abs() > MOST {
+        return None;
+    }
+    Some(place)
+}

@@ -1,0 +1,167 @@
+//! The bytes of a file, read as what they did to a world.
+
+ghost use Rattle.std.specs.Prelude.{◌≡◌, IfOk, OnOk, true};
+ghost use Rattle.rme_lines.specs.Cuts.{line_read};
+ghost use Rattle.rme_lines.specs.Readers.{bytes_left};
+ghost use Rattle.rme_engine.specs.Engines.{state_of};
+ghost use Rattle.rme_journal.specs.Starts.{Accepts, AcceptsAllOf, Starts, changes, is_kept, refusal_in};
+
+use crate::fault::BadState;
+use crate::header::{Header, header_of, header_value};
+use memchr::memrchr;
+use rme_engine::{Engine, TalliedWorld};
+use rme_texts::Reply;
+use rme_wire::{Command, Cut, LineReader, Names, Request, Source, request_of};
+use rme_words::{NoMemory, Refusal};
+use rme_world::World;
+use std::alloc::Global;
+
+/// What a file says: what earlier epochs left, and the world that its lines lead to.
+#[derive(Drop)]
+pub struct Started {
+    pub header: Header,
+    pub names: Names,
+    pub world: World,
+    /// So many lines were read.
+    pub lines: u64,
+}
+
+/// Who is told how far the reading has come.
+pub trait Progress {
+    /// So many lines were read.
+    fn read(&self, lines: u64);
+}
+
+/// So often it is told how far the reading has come, in lines.
+const TELLING: u64 = 65_536;
+
+/// The bytes up to the last newline, and with it: the whole lines. What follows them is torn.
+pub fn whole_lines(bytes: &[u8]) -> &[u8] {
+    match memrchr(b'\n', bytes) {
+        Some(at) => &bytes[..=at],
+        None => &[],
+    }
+}
+
+/// Reads whole lines: the first as a header, the second as the opening of a world, and every other as a command that changes it.
+///
+/// Each line must be accepted: a command that is refused, and one that changes nothing, make the state bad, as does a line that
+/// is none.
+pub fn start<P: Progress>(alloc: Global, bytes: &[u8], progress: &P) -> Result<Started, BadState>
+    ensures ok { IfOk result (λ started. Starts bytes.now started.names started.world) }
+{
+    let mut reader = LineReader::new(alloc, bytes)?;
+    let mut line = Vec::new(alloc);
+    let cut = reader.next_line(&mut line, &Vec::<u8>::new(alloc))?;
+    match cut {
+        Cut::Line => {}
+        Cut::TooLong | Cut::End => return Err(BadState::Line(1)),
+    }
+    let Some(header) = header_value(alloc, line.as_slice())? else {
+        return Err(BadState::Line(1));
+    };
+    let mut engine = Engine::new(alloc)?;
+    let lines = obey_lines(alloc, &mut engine, &mut reader, progress)?;
+    let Some((names, tallied)) = engine.into_world() else {
+        return Err(BadState::Line(2));
+    };
+    let TalliedWorld { world, .. } = tallied;
+    match header_of(alloc, &names, world.shape(), &header)? {
+        Some(header) => Ok(Started {
+            header,
+            names,
+            world,
+            lines,
+        }),
+        None => Err(BadState::Line(1)),
+    }
+}
+
+/// Obeys each of the lines behind a header, and answers how many lines there are with it.
+fn obey_lines<R: Source + Drop, P: Progress>(
+    alloc: Global,
+    engine: &mut Engine,
+    reader: &mut LineReader<R>,
+    progress: &P,
+) -> Result<u64, BadState>
+    ensures { OnOk result (AcceptsAllOf (bytes_left R.remaining reader.old) (state_of engine.old) (state_of engine.new)) }
+{
+    let mut line = Vec::new(alloc);
+    let nobody = Vec::<u8>::new(alloc);
+    let mut count: u64 = 1;
+    loop {
+        let cut = reader.next_line(&mut line, &nobody)?;
+        if cut == Cut::End {
+            return Ok(count);
+        }
+        count = count.saturating_add(1);
+        if !obey_line(alloc, engine, cut, line.as_slice())? {
+            return Err(BadState::Line(count));
+        }
+        if count % TELLING == 0 {
+            progress.read(count);
+        }
+    }
+}
+
+/// Obeys a line, and says whether it was accepted.
+fn obey_line(alloc: Global, engine: &mut Engine, cut: Cut, line: &[u8]) -> Result<bool, NoMemory>
+    ensures { IfOk result (λ accepted. accepted ≡ true → Accepts (state_of engine.old) (line_read cut line.now) (state_of engine.new)) }
+{
+    if cut == Cut::TooLong {
+        return Ok(false);
+    }
+    let Some(request) = request_of(alloc, engine.names(), line)? else {
+        return Ok(false);
+    };
+    if !is_kept(&request) {
+        return Ok(false);
+    }
+    let reply = engine.obey_request(&request);
+    match refusal_in(&reply) {
+        None => Ok(true),
+        Some(Refusal::NoMemory) => Err(NoMemory),
+        Some(_) => Ok(false),
+    }
+}
+
+/// Why a line was refused, if it was.
+fn refusal_in(reply: &Reply) -> Option<Refusal>
+    ensures { result ≡ refusal_in reply.now }
+{
+    match reply {
+        Reply::Refused(why) => Some(*why),
+        _ => None,
+    }
+}
+
+/// Whether a file may hold this: what opens a world, or changes it.
+fn is_kept(request: &Request) -> bool
+    ensures { result ≡ is_kept request.now }
+{
+    match request {
+        Request::Open(_) => true,
+        Request::Load(_) => false,
+        Request::World(command) => changes(*command),
+    }
+}
+
+/// Whether a command changes a world.
+fn changes(command: Command) -> bool
+    ensures { result ≡ changes command }
+{
+    match command {
+        Command::Submit(..)
+        | Command::Step(_)
+        | Command::Walk(_)
+        | Command::Crash(_)
+        | Command::Restart(_)
+        | Command::Withdraw(_) => true,
+        Command::Owner(_)
+        | Command::Cells(_)
+        | Command::Last(_)
+        | Command::History
+        | Command::Report
+        | Command::Save => false,
+    }
+}

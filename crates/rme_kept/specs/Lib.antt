@@ -1,0 +1,2 @@
+-- What a desk and its lines come to.
+pub mod Records

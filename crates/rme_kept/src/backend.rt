@@ -1,0 +1,154 @@
+//! A kept world as what answers sessions.
+
+use crate::back::Ledger;
+use crate::kept::Kept;
+use crate::look::{Look, look_of};
+use crate::waiting::goes_on;
+use rme_desk::Stand;
+use rme_server::{Backend, Buffers, Client, Reach};
+use rme_session_lines::{Order, SessionReply};
+use rme_wire::{Cut, EngineFault, Names, Sink};
+use rme_words::Refusal;
+use std::alloc::Global;
+use std::sync::Wait;
+use std::time::Clock;
+
+/// A line is obeyed as an order of a session over the kept world, or as a look-up. It is answered once all lines that tell of it
+/// are kept. A session whose lines can't be kept ends as for want of memory.
+impl<L: Ledger, H: Reach> Backend for Kept<L, H> {
+    ghost use Rattle.std.specs.Prelude.{⊤, None};
+
+    /// None before its first line.
+    type Stand = Option<Stand>;
+
+    type Handle = H;
+
+    ghost fits = { λ _. ⊤ };
+
+    ghost may_hold = { λ _ _. ⊤ };
+
+    ghost nobody = { λ _. None };
+
+    ghost answers = { λ _ _ _ _ _ _. ⊤ };
+
+    fn alloc(&self) -> Global {
+        self.alloc
+    }
+
+    fn names(&self) -> &Names {
+        &self.names
+    }
+
+    fn begin(&self) -> Option<Stand> {
+        None
+    }
+
+    fn answer<R: Wait + Clock, O: Sink, C: Client<Handle = H>>(
+        &self,
+        rt: &R,
+        stand: Option<Stand>,
+        cut: Cut,
+        buffers: &mut Buffers,
+        writer: &mut O,
+        client: &C,
+    ) -> (Option<Stand>, Result<(), EngineFault>) {
+        let mut stand = self.stand_or_new(stand);
+        let order = match buffers.order(cut, self.alloc, &self.names) {
+            Ok(Ok(order)) => order,
+            Ok(Err(why)) => return (Some(stand), self.answer_other(rt, why, buffers)),
+            Err(_) => return (Some(stand), Err(EngineFault::NoMemory)),
+        };
+        let answered = self.answer_order(rt, &mut stand, order, buffers, writer, client);
+        (Some(stand), answered)
+    }
+
+    fn send_home<R: Wait>(&self, rt: &R, stand: Option<Stand>) {
+        if let Some(stand) = stand {
+            self.let_go(rt, stand);
+        }
+    }
+}
+
+impl<L: Ledger, H: Reach> Kept<L, H> {
+    ghost use Rattle.std.specs.Prelude.{◌≡◌, [], IfErr, OnOk};
+    ghost use Rattle.rme_lines.specs.Puts.{Gathers};
+    ghost use Rattle.rme_lines.specs.Traffic.{MakesWrites};
+    ghost use Rattle.rme_server.specs.Sessions.{Breaks};
+
+    /// Obeys an order, and answers it once its lines are kept. Where its job waits for its lock, all answers that were kept back
+    /// are written before it goes on to try, so that no client waits for an answer that is there.
+    fn answer_order<R: Wait + Clock, O: Sink, C: Client<Handle = H>>(
+        &self,
+        rt: &R,
+        stand: &mut Stand,
+        order: Order,
+        buffers: &mut Buffers,
+        writer: &mut O,
+        client: &C,
+    ) -> Result<(), EngineFault>
+        ensures gathers { OnOk result (Gathers (O.contents writer.old) buffers.old.exchange.pending [] (O.contents writer.new) buffers.new.exchange.pending) }
+        ensures err { IfErr result (λ fault. Breaks fault (O.contents writer.old) buffers.old.exchange.pending (O.contents writer.new) buffers.new.exchange.pending
+            (O.took writer.old) (O.took writer.new)) }
+        ensures writes { MakesWrites (O.took writer.old) (O.took writer.new) }
+    {
+        if self.is_keepers(&order) {
+            return buffers.say(&self.names, SessionReply::Refused(Refusal::NoWorker));
+        }
+        let mut acted = self.obey_or_end(rt, stand, &order, client)?;
+        if goes_on(&order, acted.reply) {
+            if let Err(fault) = buffers.exchange.write(writer) {
+                return Err(fault);
+            }
+            acted = self.go_on(rt, stand, order, acted, client)?;
+        }
+        match self.keep(rt, acted.end) {
+            Ok(()) => buffers.say(&self.names, acted.reply),
+            Err(_) => Err(EngineFault::NoMemory),
+        }
+    }
+
+    /// Answers a line that is no order: what it looks up, or why it is refused.
+    fn answer_other<R: Wait>(
+        &self,
+        rt: &R,
+        why: Refusal,
+        buffers: &mut Buffers,
+    ) -> Result<(), EngineFault>
+        ensures same { buffers.new.exchange ≡ buffers.old.exchange }
+        ensures err { IfErr result (λ fault. fault ≡ EngineFault.NoMemory) }
+    {
+        if why != Refusal::BadLine {
+            return buffers.say(&self.names, SessionReply::Refused(why));
+        }
+        match look_of(self.alloc, &self.names, buffers.exchange.line())? {
+            Some(look) => self.answer_look(rt, look, &mut buffers.text),
+            None => buffers.say(&self.names, SessionReply::Refused(why)),
+        }
+    }
+
+    /// Answers a look-up, once all lines are kept that tell of what it shows.
+    fn answer_look<R: Wait>(
+        &self,
+        rt: &R,
+        look: Look,
+        text: &mut String,
+    ) -> Result<(), EngineFault>
+        ensures err { IfErr result (λ fault. fault ≡ EngineFault.NoMemory) }
+    {
+        text.clear();
+        let end = self.look(rt, look, text)?;
+        text.push_str("\n")?;
+        match self.keep(rt, end) {
+            Ok(()) => Ok(()),
+            Err(_) => Err(EngineFault::NoMemory),
+        }
+    }
+
+    /// The session, which has no worker before its first line.
+    fn stand_or_new(&self, stand: Option<Stand>) -> Stand {
+        match stand {
+            Some(stand) => stand,
+            None => self.new_stand(),
+        }
+    }
+}

@@ -1,0 +1,121 @@
+//! How an order is obeyed: at once, or try by try where its job waits for its lock.
+
+use crate::back::Ledger;
+use crate::written::{Acted, Lost};
+use crate::kept::Kept;
+use rme_desk::Stand;
+use rme_orders::{answer_as, once_more, patience_of, still_waits};
+use rme_server::{Client, LONGEST, Pauses, Reach};
+use rme_session_lines::{Attachment, Order, Patience, SessionReply};
+use rme_words::{NoMemory, Refusal};
+use std::sync::Wait;
+use std::time::{Clock, Duration};
+
+impl<L: Ledger, H: Reach> Kept<L, H> {
+    /// Goes on with an order that was answered so after its first try.
+    pub(crate) fn go_on<R: Wait + Clock, C: Client<Handle = H>>(
+        &self,
+        rt: &R,
+        stand: &mut Stand,
+        order: Order,
+        first: Acted,
+        client: &C,
+    ) -> Result<Acted, NoMemory> {
+        match order {
+            Order::Attach(asked) => self.take_over(rt, stand, asked, client),
+            order => self.try_on(rt, stand, order, first, client),
+        }
+    }
+
+    /// Obeys an order with one try. What can't be written down ends the server.
+    pub(crate) fn obey_or_end<R: Wait, C: Client<Handle = H>>(
+        &self,
+        rt: &R,
+        stand: &mut Stand,
+        order: &Order,
+        client: &C,
+    ) -> Result<Acted, NoMemory> {
+        match self.obey_once(rt, stand, order, client) {
+            Ok(acted) => Ok(acted),
+            Err(Lost::NoMemory) => Err(NoMemory),
+            Err(Lost::Unwritten) => {
+                self.lose(rt);
+                Err(NoMemory)
+            }
+        }
+    }
+
+    /// Sends the client away that has the worker, and takes the worker when it was given back. A client that is gone itself
+    /// waits no more.
+    fn take_over<R: Wait + Clock, C: Client<Handle = H>>(
+        &self,
+        rt: &R,
+        stand: &mut Stand,
+        asked: Attachment,
+        client: &C,
+    ) -> Result<Acted, NoMemory> {
+        let mut returned = self.hall().listen_for_workers(rt);
+        for _ in rt.forever() {
+            self.hall().send_away(rt, asked.worker);
+            returned.wait(rt, Duration::from_micros(LONGEST));
+            let acted = self.obey_or_end(rt, stand, &Order::Attach(asked), client)?;
+            if acted.reply != SessionReply::Refused(Refusal::Taken) || client.is_gone() {
+                return Ok(acted);
+            }
+        }
+        unreachable!()
+    }
+
+    /// Goes on with an order whose job waits for its lock, by one try at a time, with a pause before each but the first.
+    fn try_on<R: Wait + Clock, C: Client<Handle = H>>(
+        &self,
+        rt: &R,
+        stand: &mut Stand,
+        order: Order,
+        first: Acted,
+        client: &C,
+    ) -> Result<Acted, NoMemory> {
+        let mut pauses = Pauses::new(rt, first.waits_for, self.hall());
+        let mut acted = first;
+        for _ in 1..most_tries(&order) {
+            pauses.pause(rt, &order);
+            let next = self.obey_or_end(rt, stand, &once_more(order), client)?;
+            acted = Acted {
+                reply: answer_as(acted.reply, next.reply),
+                ..next
+            };
+            if !still_waits(acted.reply) {
+                return Ok(acted);
+            }
+            pauses.pass_on();
+            if pauses.are_over(rt, &order) || (!pauses.are_short() && client.is_gone()) {
+                return Ok(acted);
+            }
+        }
+        Ok(acted)
+    }
+}
+
+/// Whether an order is gone on with that was answered so after its first try.
+pub(crate) fn goes_on(order: &Order, reply: SessionReply) -> bool {
+    if let Order::Attach(asked) = order {
+        return asked.take && reply == SessionReply::Refused(Refusal::Taken);
+    }
+    if !still_waits(reply) {
+        return false;
+    }
+    match patience_of(order) {
+        Some(Patience::Tries(most)) => most > 1,
+        Some(Patience::Wait(milliseconds)) => milliseconds > 0,
+        None => false,
+    }
+}
+
+/// The most tries that an order makes.
+fn most_tries(order: &Order) -> u32 {
+    match patience_of(order) {
+        Some(Patience::Tries(most)) => most,
+        Some(Patience::Wait(_)) => u32::MAX,
+        None => 0,
+    }
+}
