@@ -7,8 +7,28 @@
         with worker.inside("bank", [["add", 0, 5]]) as held:
             ...  # no other worker is inside the lock
         receipt = held.receipt
+
+A server that keeps its state in a file can also be looked at:
+
+    from rme_client import Observer
+
+    for lock in Observer("127.0.0.1", 7000).status()["locks"]:
+        print(lock["name"], lock["owner"], lock["cells"])
 """
 
+from .observer import Cells, LockStatus, Observer, Status, WorkerStatus
 from .worker import Done, Held, Receipt, Refused, Script, Worker
 
-__all__ = ["Done", "Held", "Receipt", "Refused", "Script", "Worker"]
+__all__ = [
+    "Cells",
+    "Done",
+    "Held",
+    "LockStatus",
+    "Observer",
+    "Receipt",
+    "Refused",
+    "Script",
+    "Status",
+    "Worker",
+    "WorkerStatus",
+]

@@ -14,6 +14,8 @@ from contextlib import contextmanager
 from types import TracebackType
 from typing import Any, Callable, Iterator, Optional, Sequence, Type, TypedDict, TypeVar, Union
 
+from .connection import connect
+
 Script = Sequence[Sequence[Union[str, int]]]
 Answer = TypeVar("Answer")
 
@@ -265,7 +267,7 @@ class Worker:
 
     def _attach(self) -> None:
         try:
-            self._connection = self._connected()
+            self._connection = connect(self.address, self.socket_path, self.timeout)
         except OSError as error:  # nobody listens there, as yet or any more
             raise Again from error
         order = {"do": "attach", "worker": self.worker, **({"take": True} if self.take else {})}
@@ -274,18 +276,6 @@ class Worker:
             time.sleep(0.01)
         self.take = False
         self._number, self._is_pending = answer["number"], answer["stance"] != "ready"
-
-    def _connected(self) -> socket.socket:
-        if not self.socket_path:
-            return socket.create_connection(self.address, self.timeout)
-        connection = socket.socket(socket.AF_UNIX)
-        try:
-            connection.settimeout(self.timeout)
-            connection.connect(self.socket_path)
-        except BaseException:
-            connection.close()
-            raise
-        return connection
 
     def _ask(self, order: dict[str, Any]) -> dict[str, Any]:
         """Sends a line and answers the server's. Where none comes, the order may have been obeyed or not."""

@@ -10,9 +10,12 @@ mod closing;
 mod command;
 mod draw;
 mod hearing;
+mod keep;
+mod looking;
 mod progress;
 mod serve;
 mod socket;
 mod threads;
+mod trouble;
 
 pub use command::perform;

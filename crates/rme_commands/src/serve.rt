@@ -7,20 +7,20 @@ ghost use Rattle.rme_commands.specs.Closing.{Says};
 
 use crate::closing::{Closing, closing_of_service, end_with};
 use crate::hearing::{Hearing, listen};
+use crate::trouble::Complaints;
 use log::sink::Console;
 use log::{Level, Logged, info};
 use rme_faults::{Fault, why_not_locks, why_not_sizes};
 use rme_options::{Remarks, ServeTask};
-use rme_reasons::Reason;
-use rme_server::{Door, Hall, Listener, ServeFault, Slots, Trouble, serve};
+use rme_server::{Door, Hall, Listener, ServeFault, Slots, serve};
 use rme_table::{CountRoom, Down, Service, Tag};
 use rme_wire::{GivenNames, Names};
 use rme_words::Shape;
+use std::io;
 use std::marker::Brand;
 use std::sync::Wait;
 use std::thread::Threads;
-use std::time::{Clock, Duration};
-use std::{io, thread};
+use std::time::Clock;
 
 /// Serves the connections, prints what the locks then hold, and answers the status.
 pub fn run_serve<R: Threads + Wait + Clock + Sync>(
@@ -82,26 +82,6 @@ struct Host<'a> {
     hearing: Hearing,
     door: Door,
     names: &'a Names,
-}
-
-/// How many milliseconds it waits after a connection that could not be had or served, for others to end.
-const PAUSE: u64 = 100;
-
-/// Trouble is told of on the standard error.
-impl Trouble for Host<'_> {
-    fn not_accepted(&self, why: io::Error) {
-        let _ = eprintln!(self.rt; "rme: a connection can't be accepted: {why}");
-        thread::sleep(self.rt, Duration::from_millis(PAUSE));
-    }
-
-    fn no_thread(&self) {
-        let _ = eprintln!(self.rt; "rme: a connection is closed, since it can't have a thread");
-        thread::sleep(self.rt, Duration::from_millis(PAUSE));
-    }
-
-    fn bad_line(&self, connection: u64, line: u64, why: &Reason) {
-        let _ = eprintln!(self.rt; "rme: connection {connection}, line {line}: {why}");
-    }
 }
 
 /// Serves the workers of a new service of this shape, prints what its locks then hold, and answers the status.
@@ -172,6 +152,7 @@ fn serve_all<K: Tag + Send + Sync, R: Threads + Wait + Clock + Sync>(
         names: host.names,
         hall: &hall,
     };
-    let served = serve(threads, listeners, host.door, host, &shared);
+    let complaints = Complaints { rt: host.rt };
+    let served = serve(threads, listeners, host.door, &complaints, &shared);
     Ok((slots.into_downs_in(threads, room), served))
 }

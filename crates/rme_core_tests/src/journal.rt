@@ -93,7 +93,8 @@ fn written_and_read(rt: HostRuntime) -> Result<(), Fail> {
     Ok(())
 }
 
-const STATUS: &str = "{\"epoch\":0,\"locks\":[{\"cells\":[5],\"name\":\"bank\",\"owner\":null,\"sections\":1,\"settled\":true}],\"ok\":\"status\",\"workers\":[{\"attached\":true,\"number\":1,\"stance\":\"ready\"}]}";
+const STATUS: &str =
+    "{\"epoch\":0,\"locks\":[{\"cells\":[5],\"name\":\"bank\",\"owner\":null,\"sections\":1,\"settled\":true}],\"ok\":\"status\",\"workers\":[{\"attached\":true,\"number\":1,\"stance\":\"ready\"}]}";
 
 /// What is looked up, and what all of it is.
 #[test]
@@ -128,9 +129,11 @@ fn is_refused_at(alloc: Global, lines: &str, number: u64) -> bool {
     }
 }
 
-const HEADER: &str = "{\"epoch\":0,\"last\":[null],\"numbers\":[0],\"places\":[-3],\"rme\":\"kept\",\"version\":1}\n";
+const HEADER: &str =
+    "{\"epoch\":0,\"last\":[null],\"numbers\":[0],\"places\":[-3],\"rme\":\"kept\",\"version\":1}\n";
 
-const OPENING: &str = "{\"cells\":1,\"do\":\"open\",\"jobs\":10,\"locks\":[\"bank\"],\"workers\":2}\n";
+const OPENING: &str =
+    "{\"cells\":1,\"do\":\"open\",\"jobs\":10,\"locks\":[\"bank\"],\"workers\":2}\n";
 
 /// Lines that no file holds.
 #[test]

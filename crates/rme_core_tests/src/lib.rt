@@ -11,9 +11,9 @@
 mod checker;
 #[cfg(test)]
 mod desk;
-mod journal;
 #[cfg(test)]
 mod images;
+mod journal;
 #[cfg(test)]
 mod parts;
 #[cfg(test)]

@@ -1,9 +1,9 @@
 -- What a fault prints.
 use Rattle.std.specs.Prelude.{ℕ, List, ◌++◌, codes, decimal, string_bytes, Option, Some, None}
 use Rattle.rme_faults.specs.declared.argument.BadArgument.{BadArgument}
-use Rattle.rme_faults.specs.declared.argument.BadArgument.TheVariants.{NoText, NoFile, NoName, Twice, ManyLocks, OutOfRange, FallsBack, NoSocket, ServedAlready}
+use Rattle.rme_faults.specs.declared.argument.BadArgument.TheVariants.{NoText, NoFile, NoName, Twice, ManyLocks, OutOfRange, FallsBack, NoSocket, ServedAlready, NoState, StateServed, OtherSize, OtherNames, NoNames}
 use Rattle.rme_faults.specs.declared.fault.Fault.{Fault}
-use Rattle.rme_faults.specs.declared.fault.Fault.TheVariants.{BadArguments, ReadFailed, WriteFailed, NoMemory, BadNames, ImageUnread, BadImage, OtherLocks, Unsavable, ImageUnwritten, FolderUnsynced, ListenFailed, AcceptFailed, NoThread, Unexplained, NothingAsked}
+use Rattle.rme_faults.specs.declared.fault.Fault.TheVariants.{BadArguments, ReadFailed, WriteFailed, NoMemory, BadNames, ImageUnread, BadImage, OtherLocks, Unsavable, ImageUnwritten, FolderUnsynced, ListenFailed, AcceptFailed, NoThread, BadState, StateUnread, StateUnwritten, Unexplained, NothingAsked}
 use Rattle.rme_faults.specs.declared.fault.Hindrance.{Hindrance}
 use Rattle.rme_faults.specs.declared.fault.Hindrance.TheVariants.{Irregular, Unwritable}
 
@@ -17,6 +17,11 @@ argument_text (ManyLocks count most) = decimal count ++ (codes " locks: a servic
 argument_text (OutOfRange option number most) = option.now ++ (codes " " ++ (decimal number ++ (codes ": it is 1 to " ++ decimal most)))
 argument_text (NoSocket path) = codes "--socket " ++ (string_bytes path ++ codes ": it is there, and is no socket")
 argument_text (ServedAlready path) = codes "--socket " ++ (string_bytes path ++ codes ": a server listens on it")
+argument_text (NoState path) = codes "--state " ++ (string_bytes path ++ codes ": it is there, and is no regular file")
+argument_text (StateServed path) = codes "--state " ++ (string_bytes path ++ codes ": a server has it")
+argument_text (OtherSize option number has) = option.now ++ (codes " " ++ (decimal number ++ (codes ": the state has " ++ decimal has)))
+argument_text (OtherNames path) = codes "LOCK: the state " ++ (string_bytes path ++ codes " has other locks")
+argument_text (NoNames path) = codes "LOCK: the state " ++ (string_bytes path ++ codes " is not there, and its locks need names")
 argument_text (FallsBack before after) = codes "FALL " ++ (decimal after ++ (codes " after " ++ (decimal before ++ codes ": each is greater than the one before")))
 
 -- what stands in the way of an image that is to be saved; a reason of the system has its own text, which no definition knows
@@ -40,5 +45,8 @@ fault_text (FolderUnsynced file why) = None
 fault_text (ListenFailed place why) = None
 fault_text (AcceptFailed place) = Some (codes "socket failed\n  " ++ (string_bytes place ++ codes ": a connection could not be accepted"))
 fault_text NoThread = Some (codes "no thread")
+fault_text (BadState file line) = Some (codes "bad state\n  " ++ (string_bytes file ++ (codes ": line " ++ decimal line)))
+fault_text (StateUnread file why) = None
+fault_text (StateUnwritten file why) = None
 fault_text (Unexplained asked) = Some (codes "no refusal and no status is called " ++ (string_bytes asked ++ codes ": rme explain names each"))
 fault_text NothingAsked = Some (codes "an empty word is the name of no refusal and no status: rme explain names each")

@@ -17,6 +17,16 @@ pub enum BadArgument {
     FallsBack(u32, u32),
     NoSocket(String),
     ServedAlready(String),
+    /// What is there under the name of a state can't be one.
+    NoState(String),
+    /// Another server has the state.
+    StateServed(String),
+    /// An option's number, where the state has another.
+    OtherSize(&'static str, u32, u32),
+    /// The state has other locks.
+    OtherNames(String),
+    /// No locks, where there is no state that names some.
+    NoNames(String),
 }
 
 impl fmt::Display for BadArgument {
@@ -53,6 +63,20 @@ impl fmt::Display for BadArgument {
             BadArgument::ServedAlready(path) => write!(
                 f,
                 "--socket {path}: a server listens on it"
+            ),
+            BadArgument::NoState(path) => write!(
+                f,
+                "--state {path}: it is there, and is no regular file"
+            ),
+            BadArgument::StateServed(path) => write!(f, "--state {path}: a server has it"),
+            BadArgument::OtherSize(option, number, has) => write!(
+                f,
+                "{option} {number}: the state has {has}"
+            ),
+            BadArgument::OtherNames(path) => write!(f, "LOCK: the state {path} has other locks"),
+            BadArgument::NoNames(path) => write!(
+                f,
+                "LOCK: the state {path} is not there, and its locks need names"
             ),
         }
     }

@@ -62,6 +62,12 @@ pub enum Fault {
     AcceptFailed(String),
     /// A connection can't have a thread.
     NoThread,
+    /// This line of the file of a state, counted from 1, is none that it may hold, or is refused.
+    BadState(String, u64),
+    /// The file of a state is there and can't be read.
+    StateUnread(String, io::Error),
+    /// The file of a state can't be written.
+    StateUnwritten(String, io::Error),
     /// Nothing that can be explained has this number or name.
     Unexplained(String),
     /// A word that is to be explained is empty.
@@ -106,6 +112,12 @@ impl fmt::Display for Fault {
                 "socket failed\n  {place}: a connection could not be accepted"
             ),
             Fault::NoThread => f.write_str("no thread"),
+            Fault::BadState(file, line) => write!(f, "bad state\n  {file}: line {line}"),
+            Fault::StateUnread(file, why) => write!(f, "the state {file} can't be read: {why}"),
+            Fault::StateUnwritten(file, why) => write!(
+                f,
+                "the state {file} can't be written: {why}"
+            ),
             Fault::Unexplained(asked) => write!(
                 f,
                 "no refusal and no status is called {asked}: rme explain names each"
@@ -141,6 +153,9 @@ impl Fault {
             Fault::ListenFailed(_, _) => 6,
             Fault::AcceptFailed(_) => 6,
             Fault::NoThread => 7,
+            Fault::BadState(_, _) => 2,
+            Fault::StateUnread(_, _) => 3,
+            Fault::StateUnwritten(_, _) => 4,
             Fault::Unexplained(_) => 2,
             Fault::NothingAsked => 2,
         }

@@ -39,7 +39,7 @@ falls worker false = refl
 pub deed_asks : (deed : Deed) → all_events (commands_of deed) ≡ events_of deed
 deed_asks deed =
     asked_then (begin_commands deed.worker deed.begins) (walk_commands deed.worker deed.steps ++ fall_commands deed.worker deed.falls)
-        ∙ ap (λ (b : List Event). b ++ all_events (walk_commands deed.worker deed.steps ++ fall_commands deed.worker deed.falls)) (begins deed.worker deed.begins)
-        ∙ ap (λ (r : List Event). begin_events deed.worker deed.begins ++ r) (asked_then (walk_commands deed.worker deed.steps) (fall_commands deed.worker deed.falls)
-            ∙ ap (λ (w : List Event). w ++ all_events (fall_commands deed.worker deed.falls)) (walks deed.worker deed.steps)
-            ∙ ap (λ (f : List Event). step_events deed.worker deed.steps ++ f) (falls deed.worker deed.falls))
+    ∙ ap (λ (b : List Event). b ++ all_events (walk_commands deed.worker deed.steps ++ fall_commands deed.worker deed.falls)) (begins deed.worker deed.begins)
+    ∙ ap (λ (r : List Event). begin_events deed.worker deed.begins ++ r) (asked_then (walk_commands deed.worker deed.steps) (fall_commands deed.worker deed.falls)
+    ∙ ap (λ (w : List Event). w ++ all_events (fall_commands deed.worker deed.falls)) (walks deed.worker deed.steps)
+    ∙ ap (λ (f : List Event). step_events deed.worker deed.steps ++ f) (falls deed.worker deed.falls))

@@ -1,6 +1,6 @@
 -- The lines of the workers that are up, one after the other.
-use Rattle.std.proofs.Common.{◌≡◌, ℕ, zero, suc, ◌+◌, ◌<◌, ◌≤◌, List, [], ◌∷◌, ◌++◌, refl, sym, ◌∙◌, ap, subst, arith}
-use Rattle.std.specs.Prelude.{Bool, true, false, Option, Some, None, is_some, drop, length, slice_get}
+use Rattle.std.proofs.Common.{◌≡◌, ℕ, suc, ◌+◌, ◌<◌, ◌≤◌, List, ◌∷◌, ◌++◌, refl, sym, ◌∙◌, ap, subst, arith}
+use Rattle.std.specs.Prelude.{Option, Some, None, is_some, drop, length, slice_get}
 use Rattle.std.proofs.lemmas.Option.{none-some, slice_get-get_or}
 use Rattle.rme_world.specs.Seen.{if_up}
 use Rattle.std.proofs.Math.ListN.{drop_of_length-le}
@@ -26,7 +26,7 @@ fall_at : (privates : List (Option Private)) (worker : ℕ) (private : Option Pr
 fall_at privates worker private found =
     let next : suc worker ≡ worker + 1 = omega arith in
     ap (falls_from worker) (drop_at privates worker private found) ∙ one_fall worker private (drop (worker + 1) privates)
-        ∙ ap (λ (w : ℕ). fall_commands worker (is_some private) ++ falls_from w (drop (worker + 1) privates)) next
+    ∙ ap (λ (w : ℕ). fall_commands worker (is_some private) ++ falls_from w (drop (worker + 1) privates)) next
 
 -- One worker's line, if it is up.
 pub falls_on : (names : List (List ℕ)) (first now next : List ℕ) (privates : List (Option Private)) (worker : ℕ) (private : Option Private) → slice_get privates worker ≡ Some private → FallsOn names first privates worker now

@@ -1,9 +1,8 @@
 -- Texts that grow by lines.
-use Rattle.std.proofs.Common.{◌≡◌, ℕ, List, [], ◌∷◌, ◌++◌, refl, sym, ◌∙◌, ap, subst}
-use Rattle.std.specs.Prelude.{◌≤◌, ◌==◌, Bool, true, false, not, ◌&&◌, length, OnOk, Option, Some, String, string_bytes, Result, Ok, Err}
+use Rattle.std.proofs.Common.{◌≡◌, ℕ, List, [], ◌∷◌, ◌++◌, refl, subst}
+use Rattle.std.specs.Prelude.{◌==◌, Bool, true, false, not, OnOk, Some, String, string_bytes, Result, Ok, Err}
 use Rattle.std.specs.declared.alloc.Global.{Global}
 use Rattle.std.specs.List.{list_all}
-use Rattle.std.specs.Str.{is_utf8}
 use Rattle.std.proofs.lemmas.Bool.{and_parts}
 use Rattle.std.proofs.lemmas.Str.{IsUtf8-string_bytes, is_utf8-from_IsUtf8}
 use Rattle.serde_json.specs.Data.{Data}
@@ -13,7 +12,6 @@ use Rattle.rme_wire.specs.Requests.{request_of, request_of_line}
 use Rattle.rme_wire.specs.Values.{value_of}
 use Rattle.rme_wire.specs.declared.command.Command.{Command}
 use Rattle.rme_wire.specs.declared.request.Request.{Request}
-use Rattle.rme_wire.specs.declared.request.Request.TheVariants.{World}
 use Rattle.rme_journal.specs.Lines.{IsLineOf, Writes, WritesAll, is_no_newline}
 
 -- First by these lines, and then by those.

@@ -1,10 +1,10 @@
 -- What lines that are read one by one lead to.
-use Rattle.std.proofs.Common.{◌≡◌, ◌≢◌, ℕ, List, [], ◌∷◌, refl, sym, ◌∙◌, ap, subst}
+use Rattle.std.proofs.Common.{◌≡◌, ◌≢◌, ℕ, List, refl, sym, ◌∙◌, ap, subst}
 use Rattle.std.specs.Prelude.{Option, Some, None, option_map}
 use Rattle.std.specs.Io.KnownBytes.{Keeps}
 use Rattle.std.proofs.lemmas.Option.{none-some, same_Some}
 use Rattle.rme_lines.specs.Cuts.{Cuts, CutsKnown, line_read}
-use Rattle.rme_lines.specs.Pieces.{InputLine, lines_of, text, too_long}
+use Rattle.rme_lines.specs.Pieces.{InputLine, lines_of, text}
 use Rattle.rme_lines.specs.declared.cut.Cut.{Cut}
 use Rattle.rme_lines.specs.declared.cut.Cut.TheVariants.{Line, TooLong, End}
 use Rattle.rme_engine.specs.States.{State, nothing_open}

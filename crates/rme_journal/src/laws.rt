@@ -8,5 +8,4 @@ ghost use Rattle.rme_journal.specs.Deeds.{all_events, commands_of};
 /// The commands that a deed is written as ask for its events, in order, and for no others.
 pub fn deeds()
     ensures { (deed : Deed) → all_events (commands_of deed) ≡ events_of deed }
-{
-}
+{}

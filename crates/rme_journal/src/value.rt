@@ -18,11 +18,7 @@ const MOST_OPERATIONS: u32 = 8;
 
 /// The value of a command's line, as it is asked for where the locks have these names. A command that has no line gets one that
 /// does not ask for it.
-pub(crate) fn value_of(
-    alloc: Global,
-    names: &Names,
-    command: &Command,
-) -> Result<Value, AllocError>
+pub(crate) fn value_of(alloc: Global, names: &Names, command: &Command) -> Result<Value, AllocError>
     ensures { IfOk result (λ value. depth (view value) ≤ 4) }
 {
     match command {
@@ -52,12 +48,7 @@ fn walk_value(alloc: Global, walk: Walk) -> Result<Value, AllocError>
     json!(in alloc; {"do": "walk", "max": max, "worker": worker})
 }
 
-fn submission(
-    alloc: Global,
-    lock: &str,
-    script: Value,
-    worker: u32,
-) -> Result<Value, AllocError>
+fn submission(alloc: Global, lock: &str, script: Value, worker: u32) -> Result<Value, AllocError>
     requires { depth (view script) ≤ 3 }
     ensures { IfOk result (λ value. depth (view value) ≤ 4) }
 {

@@ -127,12 +127,7 @@ impl<L: Ledger, H: Reach> Kept<L, H> {
     }
 
     /// Answers a look-up, once all lines are kept that tell of what it shows.
-    fn answer_look<R: Wait>(
-        &self,
-        rt: &R,
-        look: Look,
-        text: &mut String,
-    ) -> Result<(), EngineFault>
+    fn answer_look<R: Wait>(&self, rt: &R, look: Look, text: &mut String) -> Result<(), EngineFault>
         ensures err { IfErr result (λ fault. fault ≡ EngineFault.NoMemory) }
     {
         text.clear();

@@ -1,9 +1,9 @@
 //! The backend of sessions over a kept world.
 
 use crate::back::{Back, Ledger, NotKept};
-use crate::written::{Acted, WrittenDesk, Lost};
 use crate::look::{Look, push_cells, push_owner};
 use crate::status::{clients_of, push_status};
+use crate::written::{Acted, Lost, WrittenDesk};
 use rme_desk::{Desk, Stand};
 use rme_server::{Client, Hall, Reach, note};
 use rme_session_lines::Order;

@@ -18,7 +18,8 @@ mod written;
 pub use back::{Ledger, NotKept};
 pub use kept::Kept;
 pub use look::{Look, look_of};
-pub use written::{Acted, Lost, WrittenDesk};
 pub use status::{
-    LockStatus, Sections, Stance, WorkerStatus, clients_of, lock_status, push_row, push_status, worker_status,
+    LockStatus, Sections, Stance, WorkerStatus, clients_of, lock_status, push_row, push_status,
+    worker_status,
 };
+pub use written::{Acted, Lost, WrittenDesk};

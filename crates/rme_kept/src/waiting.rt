@@ -1,8 +1,8 @@
 //! How an order is obeyed: at once, or try by try where its job waits for its lock.
 
 use crate::back::Ledger;
-use crate::written::{Acted, Lost};
 use crate::kept::Kept;
+use crate::written::{Acted, Lost};
 use rme_desk::Stand;
 use rme_orders::{answer_as, once_more, patience_of, still_waits};
 use rme_server::{Client, LONGEST, Pauses, Reach};

@@ -119,12 +119,7 @@ impl WrittenDesk {
     }
 
     /// Lets go of the worker that a session has, and writes that down.
-    pub fn let_go(
-        &mut self,
-        alloc: Global,
-        names: &Names,
-        stand: &mut Stand,
-    ) -> Result<u64, Lost>
+    pub fn let_go(&mut self, alloc: Global, names: &Names, stand: &mut Stand) -> Result<u64, Lost>
         ensures written { OnOk result (IsWritten names.now self.old self.new) }
     {
         let deed = self.desk.let_go(stand);

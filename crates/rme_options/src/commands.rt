@@ -26,8 +26,8 @@ struct Word<'a> {
 enum Presence<'a> {
     Optional,
     Required,
-    /// It has to be, unless this option is.
-    RequiredWithout(&'a str),
+    /// It has to be, unless one of these options is.
+    RequiredWithout(&'a [&'a str]),
 }
 
 /// How a word is given.
@@ -53,6 +53,8 @@ enum Value {
     Port,
     /// 1 to 1000000.
     Count,
+    /// `always` or `never`.
+    Sync,
 }
 
 /// A command of the program.
@@ -64,16 +66,21 @@ enum Named {
     Explain,
     Threads,
     Serve,
+    Look,
 }
 
+/// When lines are with the disk.
+const SYNCS: &[&str] = &["always", "never"];
+
 /// The commands, as help lists them.
-const COMMANDS: [Named; 6] = [
+const COMMANDS: [Named; 7] = [
     Named::Run,
     Named::Check,
     Named::Draw,
     Named::Explain,
     Named::Threads,
     Named::Serve,
+    Named::Look,
 ];
 
 /// The command line of the program.
@@ -102,6 +109,7 @@ fn command_named<'a>(alloc: Global, named: Named) -> Result<Command<'a>, AllocEr
         Named::Explain => explain_command(alloc),
         Named::Threads => threads_command(alloc),
         Named::Serve => serve_command(alloc),
+        Named::Look => look_command(alloc),
     }
 }
 
@@ -192,67 +200,74 @@ fn threads_command<'a>(alloc: Global) -> Result<Command<'a>, AllocError> {
 }
 
 fn serve_command<'a>(alloc: Global) -> Result<Command<'a>, AllocError> {
-    let number = Kind::Option("N");
     let words = [
-        required(
-            number,
-            Value::Number,
+        sized(
             "workers",
-            "How many workers the service has, 1 to 256",
+            "How many workers there are, 1 to 256; with --state 1 to 255, and 8 without it",
         ),
-        required(
-            number,
-            Value::Number,
+        sized(
             "cells",
-            "How many cells each lock guards, 1 to 16",
+            "How many cells each lock guards, 1 to 16; with --state 1 without it",
         ),
-        required(
-            number,
-            Value::Number,
+        sized(
             "jobs",
-            "How many jobs each worker may make, 1 to 1000000",
+            "How many jobs each worker may make, 1 to 1000000; with --state all of them without it",
         ),
         Word {
             value: Value::Port,
-            presence: Presence::RequiredWithout("socket"),
-            ..optional("port", number, "The port to listen on; 0 takes a free one")
+            presence: Presence::RequiredWithout(&["socket", "state"]),
+            ..optional(
+                "port",
+                Kind::Option("N"),
+                "The port to listen on; 0 takes a free one; with --state 7000 without it",
+            )
         },
         optional(
             "socket",
             Kind::Option("PATH"),
             "The Unix socket to listen on, in place of the port or beside it, for this user alone",
         ),
+        optional(
+            "state",
+            Kind::Option("FILE"),
+            "Keeps what it did in this file before it answers, and goes on from there",
+        ),
         Word {
-            value: Value::Count,
+            value: Value::Sync,
+            needs: &["state"],
             ..optional(
+                "sync",
+                Kind::Option("WHEN"),
+                "always: the disk has it before each answer; never, without it: the system has",
+            )
+        },
+        Word {
+            conflicts: &["state"],
+            ..counted(
                 "connections",
-                number,
+                "N",
                 "How many connections to serve, 1 to 1000000; without it it serves until it is killed",
             )
         },
-        Word {
-            value: Value::Count,
-            ..optional(
-                "at-once",
-                number,
-                "How many sessions run at a time, 1 to 1000000; 1000 without it",
-            )
-        },
-        Word {
-            value: Value::Count,
-            ..optional(
-                "idle",
-                Kind::Option("SECONDS"),
-                "How long a client may send nothing, 1 to 1000000; for good without it",
-            )
-        },
-        why(),
-        required(
-            Kind::Arguments(1),
-            Value::Text,
-            "LOCK",
-            "The names of the locks, 1 to 16, each of 1 to 32 of a-z 0-9 _ -",
+        counted(
+            "at-once",
+            "N",
+            "How many sessions run at a time, 1 to 1000000; 1000 without it",
         ),
+        counted(
+            "idle",
+            "SECONDS",
+            "How long a client may send nothing, 1 to 1000000; for good without it",
+        ),
+        why(),
+        Word {
+            presence: Presence::RequiredWithout(&["state"]),
+            ..optional(
+                "LOCK",
+                Kind::Arguments(0),
+                "The names of the locks, 1 to 16, each of 1 to 32 of a-z 0-9 _ -",
+            )
+        },
     ];
     command_of(
         alloc,
@@ -261,6 +276,54 @@ fn serve_command<'a>(alloc: Global) -> Result<Command<'a>, AllocError> {
         texts::serve_lines(),
         &words,
     )
+}
+
+fn look_command<'a>(alloc: Global) -> Result<Command<'a>, AllocError> {
+    let words = [
+        Word {
+            conflicts: &["check"],
+            ..optional(
+                "json",
+                Kind::Flag('j'),
+                "Prints it as the order `status` is answered",
+            )
+        },
+        optional(
+            "check",
+            Kind::Flag('c'),
+            "Says whether all of the file can be read",
+        ),
+        required(
+            Kind::Argument,
+            Value::Text,
+            "FILE",
+            "The file that `rme serve --state` keeps",
+        ),
+    ];
+    command_of(
+        alloc,
+        "look",
+        texts::look_about(),
+        texts::look_lines(),
+        &words,
+    )
+}
+
+/// A size of a service, which a state says where there is one.
+fn sized<'a>(name: &'a str, help: &'a str) -> Word<'a> {
+    Word {
+        value: Value::Number,
+        presence: Presence::RequiredWithout(&["state"]),
+        ..optional(name, Kind::Option("N"), help)
+    }
+}
+
+/// An option whose value is a count of something.
+fn counted<'a>(name: &'a str, value: &'a str, help: &'a str) -> Word<'a> {
+    Word {
+        value: Value::Count,
+        ..optional(name, Kind::Option(value), help)
+    }
 }
 
 /// A word that may be left out, and takes a text or nothing.
@@ -318,7 +381,7 @@ fn demanded<'a>(arg: Arg<'a>, presence: Presence<'a>) -> Result<Arg<'a>, AllocEr
     match presence {
         Presence::Optional => Ok(arg),
         Presence::Required => Ok(arg.required(true)),
-        Presence::RequiredWithout(other) => arg.required_unless_present(other),
+        Presence::RequiredWithout(others) => arg.required_unless_present_any(others),
     }
 }
 
@@ -345,5 +408,6 @@ fn valued(arg: Arg<'_>, value: Value) -> Arg<'_> {
         Value::Number => arg.value_parser(value_parser!(u32)),
         Value::Port => arg.value_parser(value_parser!(u16)),
         Value::Count => arg.value_parser(value_parser!(u32).range(1..=1_000_000)),
+        Value::Sync => arg.value_parser(SYNCS),
     }
 }

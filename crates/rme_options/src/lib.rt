@@ -10,5 +10,8 @@ mod tasks;
 mod texts;
 mod words;
 
-pub use tasks::{Images, LineTask, Places, Remarks, ServeTask, Task, ThreadsTask};
+pub use tasks::{
+    Form, Images, KeepTask, LineTask, LookTask, Places, Remarks, ServeTask, Synced, Task,
+    ThreadsTask,
+};
 pub use words::task_of;

@@ -11,6 +11,10 @@ pub enum Task {
     Threads(ThreadsTask),
     /// Serve workers to the sessions of connections.
     Serve(ServeTask),
+    /// Serve workers of a world that is kept in a file.
+    Keep(KeepTask),
+    /// Look at a world that is kept in a file.
+    Look(LookTask),
 }
 
 /// What is done over lines alone, with no threads and no picture.
@@ -82,4 +86,51 @@ pub struct ServeTask {
     pub remarks: Remarks,
     /// The words for the names of its locks.
     pub locks: Vec<String>,
+}
+
+/// When the lines of what was done are with the disk.
+#[derive(Clone, Copy, PartialEq, Eq)]
+pub enum Synced {
+    /// Before each answer that tells of it.
+    Always,
+    /// When the system sees fit: what was answered survives the process, and not the machine.
+    Never,
+}
+
+/// What `rme serve --state` is asked for. A size that is not given is the one of the state, or the usual one.
+#[derive(Drop)]
+pub struct KeepTask {
+    /// The file of the state.
+    pub state: String,
+    pub workers: Option<u32>,
+    pub cells: Option<u32>,
+    pub jobs: Option<u32>,
+    pub places: Places,
+    /// So many sessions at a time.
+    pub at_once: u32,
+    /// So many seconds of silence end a session, if any do.
+    pub idle: Option<u32>,
+    pub sync: Synced,
+    pub remarks: Remarks,
+    /// The words for the names of its locks; those of the state where there are none.
+    pub locks: Vec<String>,
+}
+
+/// What `rme look` is asked for.
+#[derive(Drop)]
+pub struct LookTask {
+    /// The file of the state.
+    pub state: String,
+    pub form: Form,
+}
+
+/// How a state is looked at.
+#[derive(Clone, Copy, PartialEq, Eq)]
+pub enum Form {
+    /// By lines for people.
+    Text,
+    /// By the answer to the order `status`.
+    Json,
+    /// Whether all of it can be read.
+    Check,
 }

@@ -248,8 +248,44 @@ goes on for all others. --idle ends a session that is silent for so long, and on
 for 10 seconds is ended always. SIGTERM ends the server at once, with no closing lines, and all that the
 service held is gone.
 
+With --state FILE it keeps what it did in FILE before it answers, and goes on from there when it is started
+again with the same words, however it ended. What is no longer so:
+
+  - it serves until it is killed; there are no closing lines and no --connections
+  - sizes and LOCKs may be left out: they are those of FILE, or 8 workers, 1 cell and 1000000 jobs
+  - further lines, in any stance: {\"do\":\"owner\",\"lock\":NAME} and {\"do\":\"cells\",\"lock\":NAME}, as for
+    `rme run`, and {\"do\":\"status\"}, all of it at once; `rme look FILE` prints the same of a file
+  - --sync always: what is answered survives the machine too; without it it survives the process
+
+FILE is a first line and then lines of `rme run`: `tail -n +2 FILE | rme run` shows its state. A last piece
+without its newline is cut off at the start. A line that is none or is refused ends the start with `fault: bad
+state` and its number, and leaves FILE as it was.
+
 Status: 0 after the closing lines, 1 with none of them where a worker was not given back, 2 for words that
 are refused (also 0 or more than 256 workers, 16 locks, 16 cells or 1000000 jobs, and a name that is none
-or stands twice; a socket that is listened on, and another file in its place), 4 where writing failed, 5 where memory ran out, 6 where it can't listen on the port or the socket. After
+or stands twice; a socket that is listened on, and another file in its place; a FILE that another server
+has, that is no state, or that the words contradict), 3 where FILE can't be read, 4 where writing failed, 5 where memory ran out, 6 where it can't listen on the port or the socket. After
 the closing lines it is 5, 6 or 7 where a connection found no memory, could not be accepted or had no thread."
+}
+
+pub fn look_about<'a>() -> &'a str {
+    "Looks at the file that `rme serve --state` keeps, whether a server has it or not"
+}
+
+pub fn look_lines<'a>() -> &'a str {
+    "\
+It reads the file as a server would that starts from it, and changes nothing. It prints a line for each lock
+and each worker, as
+
+  epoch 0
+  lock bank owner 0 cells 5,7 sections 2
+  worker 0 attached held bank 3
+  worker 1 down ready 2
+
+with the owner, or nobody; what the cells hold, with `unsettled` behind while the lock is owned; whether a session has the worker; and what the worker is at, with its last number. --json
+prints it as the answer to the order `status`. --check prints yes, or `no LINE` for the first line that a
+server would not accept. A last piece without its newline, which a server cuts off, is left out.
+
+Status: 0, 1 after no, 2 for words that are refused and for a file that a server would not accept, 3 where
+reading failed, 4 where writing failed, 5 where memory ran out."
 }

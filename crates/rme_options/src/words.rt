@@ -1,9 +1,15 @@
 //! What the words of the command line ask for.
 
 use crate::commands::command;
-use crate::tasks::{Images, LineTask, Places, Remarks, ServeTask, Task, ThreadsTask};
+use crate::tasks::{
+    Form, Images, KeepTask, LineTask, LookTask, Places, Remarks, ServeTask, Synced, Task,
+    ThreadsTask,
+};
 use clap::{ArgMatches, Error};
 use std::alloc::{AllocError, Global};
+
+/// The port of a server that keeps its state, where nothing else is asked for.
+const USUAL_PORT: u16 = 7000;
 
 /// How many sessions a server runs at a time, where nothing else is asked for.
 const AT_ONCE: u32 = 1000;
@@ -27,10 +33,29 @@ fn service_task(alloc: Global, found: &ArgMatches<'_>) -> Result<Option<Task>, E
     if let Some(threads) = found.subcommand_matches("threads") {
         return Ok(Some(Task::Threads(threads_task(alloc, threads)?)));
     }
-    match found.subcommand_matches("serve") {
-        None => Ok(None),
-        Some(serve) => Ok(Some(Task::Serve(serve_task(alloc, serve)?))),
+    if let Some(look) = found.subcommand_matches("look") {
+        return Ok(Some(Task::Look(look_task(alloc, look)?)));
     }
+    let Some(serve) = found.subcommand_matches("serve") else {
+        return Ok(None);
+    };
+    match text_of(alloc, serve, "state")? {
+        None => Ok(Some(Task::Serve(serve_task(alloc, serve)?))),
+        Some(state) => Ok(Some(Task::Keep(keep_task(alloc, serve, state)?))),
+    }
+}
+
+/// What the words after `look` ask for.
+fn look_task(alloc: Global, found: &ArgMatches<'_>) -> Result<LookTask, AllocError> {
+    let form = if found.get_flag("check") {
+        Form::Check
+    } else if found.get_flag("json") {
+        Form::Json
+    } else {
+        Form::Text
+    };
+    let state = text_of(alloc, found, "FILE")?.unwrap_or(String::new(alloc));
+    Ok(LookTask { state, form })
 }
 
 /// What words that ask for something over lines, or for an explanation, ask for.
@@ -108,14 +133,15 @@ fn threads_task(alloc: Global, found: &ArgMatches<'_>) -> Result<ThreadsTask, Er
     })
 }
 
-/// Where the words after `serve` ask to listen. A port was demanded where there is no socket.
-fn places_of(alloc: Global, found: &ArgMatches<'_>) -> Result<Places, AllocError> {
+/// Where the words after `serve` ask to listen, where this is the port that nothing is said of. One was demanded where there is
+/// no socket and no state.
+fn places_of(alloc: Global, found: &ArgMatches<'_>, usual: u16) -> Result<Places, AllocError> {
     let port = found.get_one::<u16>("port");
     let socket = text_of(alloc, found, "socket")?;
     Ok(match (port, socket) {
         (None, Some(path)) => Places::Socket(path),
         (Some(port), Some(path)) => Places::Both(port, path),
-        (port, None) => Places::Port(port.unwrap_or(0)),
+        (port, None) => Places::Port(port.unwrap_or(usual)),
     })
 }
 
@@ -125,11 +151,35 @@ fn serve_task(alloc: Global, found: &ArgMatches<'_>) -> Result<ServeTask, AllocE
         workers: found.get_one("workers").unwrap_or(0),
         cells: found.get_one("cells").unwrap_or(0),
         jobs: found.get_one("jobs").unwrap_or(0),
-        places: places_of(alloc, found)?,
+        places: places_of(alloc, found, 0)?,
         connections: found.get_one("connections"),
         at_once: found.get_one("at-once").unwrap_or(AT_ONCE),
         idle: found.get_one("idle"),
         remarks: remarks_of(found),
         locks: texts_of(alloc, found, "LOCK")?,
     })
+}
+
+/// What the words after `serve` ask for with a state.
+fn keep_task(alloc: Global, found: &ArgMatches<'_>, state: String) -> Result<KeepTask, AllocError> {
+    Ok(KeepTask {
+        state,
+        workers: found.get_one("workers"),
+        cells: found.get_one("cells"),
+        jobs: found.get_one("jobs"),
+        places: places_of(alloc, found, USUAL_PORT)?,
+        at_once: found.get_one("at-once").unwrap_or(AT_ONCE),
+        idle: found.get_one("idle"),
+        sync: sync_of(found),
+        remarks: remarks_of(found),
+        locks: texts_of(alloc, found, "LOCK")?,
+    })
+}
+
+/// When lines are to be with the disk.
+fn sync_of(found: &ArgMatches<'_>) -> Synced {
+    match found.get_str("sync") {
+        Some("always") => Synced::Always,
+        _ => Synced::Never,
+    }
 }

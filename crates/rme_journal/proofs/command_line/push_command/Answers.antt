@@ -1,4 +1,4 @@
-use Rattle.std.proofs.Common.{arith, sym, subst}
+use Rattle.std.proofs.Common.{arith, subst}
 use Rattle.std.specs.Prelude.{ℕ, List, ◌≡◌, ◌≤◌, Some, string_bytes, length, true}
 use Rattle.std.specs.List.{list_all}
 use Rattle.serde_json.specs.View.{view}

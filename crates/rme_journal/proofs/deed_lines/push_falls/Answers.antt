@@ -1,5 +1,5 @@
-use Rattle.std.proofs.Common.{arith, refl, sym, subst, ◌∙◌}
-use Rattle.std.specs.Prelude.{Bool, List, string_bytes}
+use Rattle.std.proofs.Common.{arith, refl, subst, ◌∙◌}
+use Rattle.std.specs.Prelude.{Bool, string_bytes}
 use Rattle.rme_journal.specs.Deeds.{fall_commands}
 use Rattle.rme_journal.specs.Lines.{WritesAll}
 use Rattle.rme_journal.proofs.Falling.{falls_end, falls_on, known_fall}
@@ -10,8 +10,10 @@ loop-worker-preserved c =
     let privates = c.args.world.now.privates in
     let its = known_fall privates c.loop-worker.worker c.known.result _ refl (let t = c.loop-worker-test.true in let e = c.worker_count-worker-end.ensures in omega (arith, t, e)) c.known.ensures.known in
     let W : Bool → Type 0 = λ (up : Bool). WritesAll c.args.names.now (string_bytes c.loop-worker.out) (fall_commands c.loop-worker.worker up) (string_bytes c.push_fall.new.out) in
-    record { on = falls_on c.args.names.now (string_bytes c.args.out.now) (string_bytes c.loop-worker.out) (string_bytes c.push_fall.new.out) privates c.loop-worker.worker its.0 its.1 c.loop-worker.invariant.on
-        (subst W (c.is_some.ensures ∙ its.2) c.in_ok-push_fall.ensures) }
+    record {
+      on = falls_on c.args.names.now (string_bytes c.args.out.now) (string_bytes c.loop-worker.out) (string_bytes c.push_fall.new.out) privates c.loop-worker.worker its.0 its.1 c.loop-worker.invariant.on
+          (subst W (c.is_some.ensures ∙ its.2) c.in_ok-push_fall.ensures);
+    }
 
 pub returns : goal.returns
 returns c =

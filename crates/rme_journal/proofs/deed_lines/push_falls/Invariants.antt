@@ -1,8 +1,5 @@
 -- Whatever the lines of the workers that are left make of the text, those of all make of it.
-use Rattle.std.proofs.Common.{ℕ, List, ◌≤◌}
-use Rattle.std.specs.Prelude.{drop, string_bytes}
-use Rattle.rme_journal.specs.Deeds.{falls_from}
-use Rattle.rme_journal.specs.Lines.{WritesAll}
+use Rattle.std.specs.Prelude.{string_bytes}
 use Rattle.rme_journal.proofs.Falling.{FallsOn}
 use Rattle.rme_journal.proofs.deed_lines.push_falls.Given as goal
 

@@ -1,6 +1,3 @@
-use Rattle.std.specs.Prelude.{Some}
-use Rattle.rme_lines.specs.Readers.{bytes_left}
-use Rattle.rme_engine.specs.Engines.{state_of}
 use Rattle.rme_journal.proofs.Leading.{starts_from}
 use Rattle.rme_journal.proofs.starting.start.Goals as goal
 

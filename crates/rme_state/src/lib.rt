@@ -1,0 +1,12 @@
+//! The file of a kept world on the disk: made, opened for one server alone, read, and appended to.
+//!
+//! The crate stands on rme_journal for what the file holds, on rme_kept, whose `Ledger` it is, and on rme_faults for what goes
+//! wrong with it. What those above use are `StateFile::open`, `make_state` and `read_state`. Begin with `file.rt`.
+#![tactic(auto)]
+
+mod file;
+mod making;
+mod reading;
+
+pub use file::{StateFile, make_state};
+pub use reading::read_state;

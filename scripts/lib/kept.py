@@ -1,0 +1,119 @@
+"""Servers that keep their state in a file, and what such a file says by `rme run` and by `rme look`."""
+
+import collections
+import json
+
+from lib.programs import run
+from lib.servers import Server, line_of
+
+# What may stand behind the last newline of a file where its server was killed: all of it is cut off.
+TORN = (b"{", b'{"do":"crash","worker":0}', b'{"do":"walk","max":1', b"\0" * 4096, b"x" * 70_000, bytes(range(11, 256)))
+
+
+def state_words(path, *locks, **options):
+    """The words after `rme` for a server that keeps this file, with these options, as `at_once` for `--at-once`."""
+    given = [word for name, value in options.items() for word in ("--" + name.replace("_", "-"), str(value))]
+    return ["serve", "--state", path, *given, *locks]
+
+
+def serve(path, *locks, how=(), **options):
+    """A server that keeps this file, on a port that is free where no place is said."""
+    if not {"port", "socket"} & set(options):
+        options["port"] = 0
+    return Server(words=state_words(path, *locks, **options), how=how)
+
+
+def kill(server):
+    """Kills a server as the kernel does that has no memory left, and answers how it ended."""
+    server.program.kill()
+    return server.end()
+
+
+def read(path):
+    with open(path, "rb") as file:
+        return file.read()
+
+
+# ---- what a file says
+
+
+def whole_lines(held):
+    """The whole lines of a file's bytes, each with its newline. What stands behind the last newline is torn."""
+    return [line + b"\n" for line in held.split(b"\n")[:-1]]
+
+
+def answers_to(lines):
+    """What `rme run` answers to these lines."""
+    return [json.loads(line) for line in run(["run"], b"".join(lines)).stdout.splitlines()]
+
+
+class Told:
+    """What the lines of a file tell of one worker."""
+
+    def __init__(self):
+        self.is_up, self.number, self.handed, self.is_pending = True, 0, None, False
+
+    def hear(self, order, answer):
+        """An order of the worker, and what `rme run` answers to it."""
+        if order["do"] in ("crash", "restart"):
+            self.is_up = order["do"] == "restart"
+        elif order["do"] == "submit":
+            self.handed = order["lock"]
+        for kind, *told in answer.get("notes", ()):
+            if kind == "asked":
+                self.number, self.is_pending = told[0], True
+            elif kind in ("finished", "withdrew"):
+                self.is_pending = False
+
+    def status(self, number, owners):
+        """The worker of this number, where the locks have these owners."""
+        status = {"attached": self.is_up, "number": self.number, "stance": "ready"}
+        if self.is_pending:
+            status["lock"] = self.handed
+            status["stance"] = "held" if owners[self.handed] == number else "climb"
+        return status
+
+
+def status_of(lines):
+    """The answer to `status` to which the lines of a file lead, but for its header: by what `rme run` answers to them,
+    and to look-ups behind them."""
+    opening = json.loads(lines[0])
+    locks = opening["locks"]
+    looks = [line_of(do=look, lock=lock) for look in ("owner", "cells") for lock in locks]
+    answers = answers_to([*lines, *looks, line_of(do="history")])
+    *looked, history = answers[len(lines) :]
+    owners = {lock: answer["owner"] for lock, answer in zip(locks, looked)}
+    sections = collections.Counter(entry["lock"] for entry in history["entries"])
+    workers = [Told() for _ in range(opening["workers"])]
+    for line, answer in zip(lines[1:], answers[1:]):
+        order = json.loads(line)
+        workers[order["worker"]].hear(order, answer)
+    rows = [{"cells": answer["cells"], "settled": answer["settled"]} for answer in looked[len(locks) :]]
+    return {
+        "epoch": 0,
+        "locks": [
+            {**row, "name": lock, "owner": owners[lock], "sections": sections[lock]} for lock, row in zip(locks, rows)
+        ],
+        "ok": "status",
+        "workers": [worker.status(number, owners) for number, worker in enumerate(workers[:-1])],  # but the keeper
+    }
+
+
+def look(path, *words):
+    """A run of `rme look`."""
+    return run(["look", *words, path])
+
+
+def looked(path):
+    """The answer to `status` that `rme look` gives; or how it ended, where it gives none."""
+    ran = look(path, "--json")
+    return json.loads(ran.stdout) if ran.returncode == 0 else (ran.returncode, ran.stderr)
+
+
+def faults_of(held):
+    """What is wrong with a file's bytes as lines of `rme run`: lines that are refused, or a run that no machine has."""
+    lines = b"".join(whole_lines(held)[1:])
+    answers = run(["run"], lines).stdout.splitlines()
+    refused = [(number, answer) for number, answer in enumerate(answers, 2) if b'"code"' in answer]
+    verdict = run(["check"], run(["run", "--transcript"], lines).stdout).stdout
+    return [*refused[:3], *([] if verdict == b"yes\n" else [verdict])]

@@ -1,0 +1,189 @@
+"""Storms: clients of a server that keeps its state, which is killed again and again and started on the same file."""
+
+import os
+import random
+import signal
+import socket
+import subprocess
+import sys
+import threading
+import time
+
+from lib.kept import TORN, answers_to, faults_of, kill, look, looked, read, state_words, status_of, whole_lines
+from lib.programs import TOP, built
+from lib.servers import HOST, Server, line_of
+
+sys.path.insert(0, os.path.join(TOP, "clients", "python"))
+from rme_client import Observer, Worker  # noqa: E402
+
+
+def free_port():
+    """A port that nobody listens on, below those that connections are given: a client that waits for its server on one
+    of these may be connected with itself."""
+    while True:
+        port = random.randrange(20_000, 32_000)
+        with socket.socket() as tried:
+            try:
+                tried.bind((HOST, port))
+                return port
+            except OSError:
+                pass
+
+
+class Storm:
+    """Clients with numbered jobs, and their server, which is killed again and again and started on the same file.
+
+    Each job adds 1 to the second cell of a lock, and an amount to the first. Some are entered and committed, and nobody
+    else may be inside meanwhile. Half of the clients come by the port, and half by the socket.
+    """
+
+    WORKERS, LOCKS = 8, ("bank", "shop")
+
+    def __init__(self, folder, seed):
+        self.seed, self.numbers = seed, random.Random(seed)
+        self.state, self.socket = os.path.join(folder, "state"), os.path.join(folder, "socket")
+        self.port = free_port()
+        self.receipts = [[] for _ in range(self.WORKERS)]  # of each client, with the lock and the amount of its job
+        self.inside = {}
+        self.kept = b""  # the whole lines of the file when a server was killed last
+        self.wrong, self.kills, self.torn, self.over = [], 0, 0, threading.Event()
+
+    def words(self):
+        """When the disk has the lines may change with each start."""
+        options = {"workers": self.WORKERS, "cells": 2, "port": self.port, "socket": self.socket}
+        return state_words(self.state, *self.LOCKS, sync=self.numbers.choice(("always", "never", "never")), **options)
+
+    def run(self, kills):
+        """Kills so many servers, and answers what is wrong at the end."""
+        clients = [threading.Thread(target=self.client, args=(worker,), daemon=True) for worker in range(self.WORKERS)]
+        for client in clients:
+            client.start()
+        while self.kills < kills and not self.wrong:
+            self.live()
+        server = Server(words=self.words())
+        time.sleep(0.3)
+        self.over.set()
+        for client in clients:
+            client.join(60)
+        if any(client.is_alive() for client in clients):
+            self.wrong.append(("a client has no end", server.first))
+        if not self.wrong:
+            self.compare(self.status())
+        kill(server)
+        return self.wrong
+
+    def status(self):
+        """What all are at once the server has seen the end of each client."""
+        for _ in range(1000):
+            status = Observer(HOST, self.port).status()
+            if not any(worker["attached"] for worker in status["workers"]):
+                break
+            time.sleep(0.01)
+        return status
+
+    # -- the server
+
+    def live(self):
+        """Starts a server and kills it: at times while it starts, and most often when some more jobs were answered."""
+        how = {"stdin": subprocess.DEVNULL, "stdout": subprocess.PIPE, "stderr": subprocess.PIPE}
+        server = subprocess.Popen([built(), *self.words()], **how)
+        listens = self.numbers.random() < 0.75 and server.stdout.readline()
+        if listens == b"":
+            self.wrong.append(("a server that does not listen", server.communicate()))
+            return
+        self.wait_for_jobs(self.numbers.randrange(100) if listens else 0)
+        # Meanwhile the server writes, so that the time of a look must not make the next one longer.
+        if listens and len(self.kept) < 200_000 and (ran := look(self.state, "--check")).stdout != b"yes\n":
+            self.wrong.append(("look at a file that grows", ran))
+        way = self.numbers.choice((signal.SIGKILL, signal.SIGKILL, signal.SIGKILL, signal.SIGTERM))
+        server.send_signal(way)
+        _, told = server.communicate()
+        if server.returncode != -way:
+            self.wrong.append(("a server that ended by itself", server.returncode, told))
+        self.kills += 1
+        self.look_at_file()
+
+    def wait_for_jobs(self, count):
+        """Waits for so many receipts more, and then for a moment. Who found no server may come after a second alone."""
+        goal, latest = self.jobs() + count, time.monotonic() + 3
+        while self.jobs() < goal and time.monotonic() < latest:
+            time.sleep(0.0005)
+        time.sleep(0.02 * self.numbers.random() ** 2)
+
+    def look_at_file(self):
+        """What was in the file stays there. Then bytes of a line that was not finished are appended, or none."""
+        if not os.path.exists(self.state):  # it was killed before it had made the file
+            return
+        held = read(self.state)
+        if not held.startswith(self.kept):
+            self.wrong.append("a line that was kept is not there any more")
+        self.kept = held[: held.rfind(b"\n") + 1]
+        self.torn += len(self.kept) < len(held)
+        if self.numbers.random() < 0.5:
+            with open(self.state, "ab") as file:
+                file.write(self.numbers.choice(TORN))
+            self.torn += 1
+
+    # -- the clients
+
+    def client(self, worker):
+        """Makes jobs of one worker until all is over."""
+        numbers = random.Random(f"{self.seed} {worker}")
+        try:
+            with Worker(HOST, self.port, worker, socket_path=self.socket if worker % 2 else "") as own:
+                while not self.over.is_set():
+                    lock, amount = numbers.choice(self.LOCKS), numbers.randrange(10**6)
+                    receipt = self.job(own, lock, [["add", 1, 1], ["add", 0, amount]], numbers.random() < 0.4)
+                    self.receipts[worker].append((receipt, lock, amount))
+                    time.sleep(0.004 * numbers.random())
+                    if numbers.random() < 0.05:
+                        own.close()  # its worker falls, and is attached again
+        except Exception as error:
+            self.wrong.append((f"client {worker}", repr(error)))
+
+    def job(self, own, lock, script, is_entered):
+        """The receipt of the client's next job."""
+        number = len(self.receipts[own.worker]) + 1
+        if not is_entered:
+            return own.submit(lock, script, number)
+        with own.inside(lock, script, number) as held:
+            if self.inside.setdefault(lock, own.worker) != own.worker:
+                self.wrong.append(f"worker {own.worker} is inside {lock} beside worker {self.inside[lock]}")
+            time.sleep(0.0005)
+            del self.inside[lock]
+        return held.receipt
+
+    # -- at the end
+
+    def compare(self, status):
+        """Each job counted once: by its receipt, by the history of the file's lines, and by the cells."""
+        lines = whole_lines(read(self.state))[1:]
+        self.wrong += faults_of(read(self.state))
+        if not {**status, "ok": "status"} == looked(self.state) == status_of(lines):
+            self.wrong.append(("status, look and run differ", status, looked(self.state), status_of(lines)))
+        history = answers_to([*lines, line_of(do="history")])[-1]["entries"]
+        for entry in history:
+            del entry["script"]
+        for worker, receipts in enumerate(self.receipts):
+            own = [receipt for receipt, _, _ in receipts]
+            entries = [entry for entry in history if entry["worker"] == worker]
+            if own != entries or [entry["number"] for entry in entries] != list(range(1, len(own) + 1)):
+                self.wrong.append((f"the receipts of client {worker} are not its entries", own[-2:], entries[-2:]))
+        for lock in status["locks"]:
+            self.compare_lock(lock, history)
+
+    def compare_lock(self, status, history):
+        """The receipts are the lock's whole history: each place once, and each reply the sum up to there."""
+        jobs = [job for receipts in self.receipts for job in receipts if job[1] == status["name"]]
+        total = 0
+        for place, (receipt, lock, amount) in enumerate(sorted(jobs, key=lambda job: job[0]["place"])):
+            total += amount
+            if (receipt["lock"], receipt["place"], receipt["reply"]) != (lock, place, total):
+                self.wrong.append(("a receipt that does not follow those before", receipt, place, total))
+        places = [entry["place"] for entry in history if entry["lock"] == status["name"]]
+        count = len(jobs)
+        if (places, status["cells"], status["sections"]) != (list(range(count)), [total, count], count):
+            self.wrong.append(("a lock that has not counted each job once", status, total, count))
+
+    def jobs(self):
+        return sum(map(len, self.receipts))
