@@ -60,17 +60,23 @@ class Storm:
             client.start()
         while self.kills < kills and not self.wrong:
             self.live()
+        if not self.wrong:
+            self.end(clients)
+        return self.wrong
+
+    def end(self, clients):
+        """The last server, with which each client comes to its end."""
         server = Server(words=self.words())
         time.sleep(0.3)
         self.over.set()
+        latest = time.monotonic() + 60
         for client in clients:
-            client.join(60)
+            client.join(max(0, latest - time.monotonic()))
         if any(client.is_alive() for client in clients):
             self.wrong.append(("a client has no end", server.first))
-        if not self.wrong:
+        else:
             self.compare(self.status())
         kill(server)
-        return self.wrong
 
     def status(self):
         """What all are at once the server has seen the end of each client."""
