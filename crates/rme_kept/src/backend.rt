@@ -4,6 +4,7 @@ use crate::back::Ledger;
 use crate::kept::Kept;
 use crate::look::{Look, look_of};
 use crate::waiting::goes_on;
+use crate::written::Acted;
 use rme_desk::Stand;
 use rme_server::{Backend, Buffers, Client, Reach};
 use rme_session_lines::{Order, SessionReply};
@@ -17,6 +18,7 @@ use std::time::Clock;
 /// are kept. A session whose lines can't be kept ends as for want of memory.
 impl<L: Ledger, H: Reach> Backend for Kept<L, H> {
     ghost use Rattle.std.specs.Prelude.{⊤, None};
+    ghost use Rattle.rme_kept.specs.Serving.{Answers};
 
     /// None before its first line.
     type Stand = Option<Stand>;
@@ -29,7 +31,7 @@ impl<L: Ledger, H: Reach> Backend for Kept<L, H> {
 
     ghost nobody = { λ _. None };
 
-    ghost answers = { λ _ _ _ _ _ _. ⊤ };
+    ghost answers = { λ kept _. Answers kept.clients kept.names };
 
     fn alloc(&self) -> Global {
         self.alloc
@@ -70,7 +72,10 @@ impl<L: Ledger, H: Reach> Backend for Kept<L, H> {
 }
 
 impl<L: Ledger, H: Reach> Kept<L, H> {
-    ghost use Rattle.std.specs.Prelude.{◌≡◌, [], IfErr, OnOk};
+    ghost use Rattle.std.specs.Prelude.{◌≡◌, [], IfErr, OnOk, string_bytes, Err, Ok};
+    ghost use Rattle.rme_desk.specs.declared.desk.Stand.{Stand as Session};
+    ghost use Rattle.rme_kept.specs.Serving.{AnswersTo, IsBegun};
+    ghost use Rattle.rme_orders.specs.Sessions.{session_line};
     ghost use Rattle.rme_lines.specs.Puts.{Gathers};
     ghost use Rattle.rme_lines.specs.Traffic.{MakesWrites};
     ghost use Rattle.rme_server.specs.Sessions.{Breaks};
@@ -86,6 +91,7 @@ impl<L: Ledger, H: Reach> Kept<L, H> {
         writer: &mut O,
         client: &C,
     ) -> Result<(), EngineFault>
+        ensures answers { OnOk result (AnswersTo self.now.clients self.now.names stand.old (Ok order) (string_bytes buffers.new.text) stand.new) }
         ensures gathers { OnOk result (Gathers (O.contents writer.old) buffers.old.exchange.pending [] (O.contents writer.new) buffers.new.exchange.pending) }
         ensures err { IfErr result (λ fault. Breaks fault (O.contents writer.old) buffers.old.exchange.pending (O.contents writer.new) buffers.new.exchange.pending
             (O.took writer.old) (O.took writer.new)) }
@@ -94,13 +100,28 @@ impl<L: Ledger, H: Reach> Kept<L, H> {
         if self.is_keepers(&order) {
             return buffers.say(&self.names, SessionReply::Refused(Refusal::NoWorker));
         }
-        let mut acted = self.obey_or_end(rt, stand, &order, client)?;
-        if goes_on(&order, acted.reply) {
-            if let Err(fault) = buffers.exchange.write(writer) {
-                return Err(fault);
-            }
-            acted = self.go_on(rt, stand, order, acted, client)?;
+        let first = self.obey_or_end(rt, stand, &order, client)?;
+        if !goes_on(&order, first.reply) {
+            return self.answer_kept(rt, first, buffers);
         }
+        if let Err(fault) = buffers.exchange.write(writer) {
+            return Err(fault);
+        }
+        let acted = self.go_on(rt, stand, order, first, client)?;
+        self.answer_kept(rt, acted, buffers)
+    }
+
+    /// Answers what became of an order, once its lines are kept.
+    fn answer_kept<R: Wait>(
+        &self,
+        rt: &R,
+        acted: Acted,
+        buffers: &mut Buffers,
+    ) -> Result<(), EngineFault>
+        ensures says { OnOk result (string_bytes buffers.new.text ≡ session_line self.now.names acted.reply) }
+        ensures same { buffers.new.exchange ≡ buffers.old.exchange }
+        ensures err { IfErr result (λ fault. fault ≡ EngineFault.NoMemory) }
+    {
         match self.keep(rt, acted.end) {
             Ok(()) => buffers.say(&self.names, acted.reply),
             Err(_) => Err(EngineFault::NoMemory),
@@ -114,6 +135,7 @@ impl<L: Ledger, H: Reach> Kept<L, H> {
         why: Refusal,
         buffers: &mut Buffers,
     ) -> Result<(), EngineFault>
+        ensures answers { OnOk result ((stand : Session) → AnswersTo self.now.clients self.now.names stand (Err why) (string_bytes buffers.new.text) stand) }
         ensures same { buffers.new.exchange ≡ buffers.old.exchange }
         ensures err { IfErr result (λ fault. fault ≡ EngineFault.NoMemory) }
     {
@@ -140,7 +162,9 @@ impl<L: Ledger, H: Reach> Kept<L, H> {
     }
 
     /// The session, which has no worker before its first line.
-    fn stand_or_new(&self, stand: Option<Stand>) -> Stand {
+    fn stand_or_new(&self, stand: Option<Stand>) -> Stand
+        ensures { IsBegun stand result }
+    {
         match stand {
             Some(stand) => stand,
             None => self.new_stand(),

@@ -32,6 +32,9 @@ pub struct Kept<L: Ledger, H: Reach> {
 }
 
 impl<L: Ledger, H: Reach> Kept<L, H> {
+    ghost use Rattle.std.specs.Prelude.{◌≡◌, IfOk, None, true};
+    ghost use Rattle.rme_kept.specs.Serving.{IsBegun, Tries, is_keepers};
+
     /// A desk over a world, of which all is kept in the ledger, and the names of its locks.
     pub fn new(
         alloc: Global,
@@ -60,7 +63,9 @@ impl<L: Ledger, H: Reach> Kept<L, H> {
     }
 
     /// Whether an order asks for the keeper, which no session can have.
-    pub(crate) fn is_keepers(&self, order: &Order) -> bool {
+    pub(crate) fn is_keepers(&self, order: &Order) -> bool
+        ensures { result ≡ is_keepers self.now.clients order.now }
+    {
         match order {
             Order::Attach(asked) => asked.worker >= self.clients,
             _ => false,
@@ -73,7 +78,9 @@ impl<L: Ledger, H: Reach> Kept<L, H> {
     }
 
     /// A session that has no worker yet.
-    pub(crate) fn new_stand(&self) -> Stand {
+    pub(crate) fn new_stand(&self) -> Stand
+        ensures { IsBegun None result }
+    {
         Stand::new(self.sessions.fetch_add(1, Ordering::SeqCst))
     }
 
@@ -84,7 +91,9 @@ impl<L: Ledger, H: Reach> Kept<L, H> {
         stand: &mut Stand,
         order: &Order,
         client: &C,
-    ) -> Result<Acted, Lost> {
+    ) -> Result<Acted, Lost>
+        ensures { IfOk result (λ acted. Tries stand.old order.now stand.new acted.reply) }
+    {
         let had = stand.worker.is_some();
         let seat = self.hall.seat(rt, asked_of(stand, order));
         let acted = self

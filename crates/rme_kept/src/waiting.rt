@@ -1,5 +1,10 @@
 //! How an order is obeyed: at once, or try by try where its job waits for its lock.
 
+ghost use Rattle.std.specs.Prelude.{◌≡◌, IsTrue};
+ghost use Rattle.rme_server.specs.Sessions.{MayGoOn};
+ghost use Rattle.rme_session_lines.specs.declared.session.SessionReply.TheVariants as answer;
+ghost use Rattle.rme_words.specs.declared.refusal.Refusal.TheVariants.{Taken};
+
 use crate::back::Ledger;
 use crate::kept::Kept;
 use crate::written::{Acted, Lost};
@@ -12,6 +17,14 @@ use std::sync::Wait;
 use std::time::{Clock, Duration};
 
 impl<L: Ledger, H: Reach> Kept<L, H> {
+    ghost use Rattle.std.specs.Prelude.{◌≡◌, IfOk, true};
+    ghost use Rattle.rme_kept.specs.Serving.{Extends, Tries};
+    ghost use Rattle.rme_orders.specs.Parts.{still_waits};
+    ghost use Rattle.rme_server.specs.Sessions.{MayGoOn};
+    ghost use Rattle.rme_session_lines.specs.declared.order.Order.TheVariants as word;
+    ghost use Rattle.rme_session_lines.specs.declared.session.SessionReply.TheVariants as answer;
+    ghost use Rattle.rme_words.specs.declared.refusal.Refusal.TheVariants.{Taken};
+
     /// Goes on with an order that was answered so after its first try.
     pub(crate) fn go_on<R: Wait + Clock, C: Client<Handle = H>>(
         &self,
@@ -20,7 +33,10 @@ impl<L: Ledger, H: Reach> Kept<L, H> {
         order: Order,
         first: Acted,
         client: &C,
-    ) -> Result<Acted, NoMemory> {
+    ) -> Result<Acted, NoMemory>
+        requires may { MayGoOn order first.reply }
+        ensures { IfOk result (λ acted. Extends order stand.old first.reply stand.new acted.reply) }
+    {
         match order {
             Order::Attach(asked) => self.take_over(rt, stand, asked, client),
             order => self.try_on(rt, stand, order, first, client),
@@ -34,7 +50,9 @@ impl<L: Ledger, H: Reach> Kept<L, H> {
         stand: &mut Stand,
         order: &Order,
         client: &C,
-    ) -> Result<Acted, NoMemory> {
+    ) -> Result<Acted, NoMemory>
+        ensures { IfOk result (λ acted. Tries stand.old order.now stand.new acted.reply) }
+    {
         match self.obey_once(rt, stand, order, client) {
             Ok(acted) => Ok(acted),
             Err(Lost::NoMemory) => Err(NoMemory),
@@ -53,13 +71,15 @@ impl<L: Ledger, H: Reach> Kept<L, H> {
         stand: &mut Stand,
         asked: Attachment,
         client: &C,
-    ) -> Result<Acted, NoMemory> {
+    ) -> Result<Acted, NoMemory>
+        ensures { IfOk result (λ acted. Extends (word.Attach asked) stand.old (answer.Refused Taken) stand.new acted.reply) }
+    {
         let mut returned = self.hall().listen_for_workers(rt);
         for _ in rt.forever() {
             self.hall().send_away(rt, asked.worker);
             returned.wait(rt, Duration::from_micros(LONGEST));
             let acted = self.obey_or_end(rt, stand, &Order::Attach(asked), client)?;
-            if acted.reply != SessionReply::Refused(Refusal::Taken) || client.is_gone() {
+            if !is_taken(acted.reply) || client.is_gone() {
                 return Ok(acted);
             }
         }
@@ -74,7 +94,10 @@ impl<L: Ledger, H: Reach> Kept<L, H> {
         order: Order,
         first: Acted,
         client: &C,
-    ) -> Result<Acted, NoMemory> {
+    ) -> Result<Acted, NoMemory>
+        requires waits { still_waits first.reply ≡ true }
+        ensures { IfOk result (λ acted. Extends order stand.old first.reply stand.new acted.reply) }
+    {
         let mut pauses = Pauses::new(rt, first.waits_for, self.hall());
         let mut acted = first;
         for _ in 1..most_tries(&order) {
@@ -97,9 +120,11 @@ impl<L: Ledger, H: Reach> Kept<L, H> {
 }
 
 /// Whether an order is gone on with that was answered so after its first try.
-pub(crate) fn goes_on(order: &Order, reply: SessionReply) -> bool {
+pub(crate) fn goes_on(order: &Order, reply: SessionReply) -> bool
+    ensures { IsTrue result → MayGoOn order.now reply }
+{
     if let Order::Attach(asked) = order {
-        return asked.take && reply == SessionReply::Refused(Refusal::Taken);
+        return asked.take && is_taken(reply);
     }
     if !still_waits(reply) {
         return false;
@@ -109,6 +134,13 @@ pub(crate) fn goes_on(order: &Order, reply: SessionReply) -> bool {
         Some(Patience::Wait(milliseconds)) => milliseconds > 0,
         None => false,
     }
+}
+
+/// Whether another session has the worker that was asked for.
+fn is_taken(reply: SessionReply) -> bool
+    ensures { IsTrue result → reply ≡ answer.Refused Taken }
+{
+    reply == SessionReply::Refused(Refusal::Taken)
 }
 
 /// The most tries that an order makes.

@@ -278,13 +278,14 @@ It reads the file as a server would that starts from it, and changes nothing. It
 and each worker, as
 
   epoch 0
-  lock bank owner 0 cells 5,7 sections 2
+  lock bank owner 0 cells 5,7 unsettled sections 2
   worker 0 attached held bank 3
   worker 1 down ready 2
 
-with the owner, or nobody; what the cells hold, with `unsettled` behind while the lock is owned; whether a session has the worker; and what the worker is at, with its last number. --json
-prints it as the answer to the order `status`. --check prints yes, or `no LINE` for the first line that a
-server would not accept. A last piece without its newline, which a server cuts off, is left out.
+with the owner, or nobody; what the cells hold, with `unsettled` behind while the lock is owned; whether a
+session has the worker; and what the worker is at, with its last number. --json prints it as the answer to the
+order `status`. --check prints yes, or `no LINE` for the first line that a server would not accept. A last
+piece without its newline, which a server cuts off, is left out.
 
 Status: 0, 1 after no, 2 for words that are refused and for a file that a server would not accept, 3 where
 reading failed, 4 where writing failed, 5 where memory ran out."

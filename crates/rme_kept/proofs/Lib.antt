@@ -1,0 +1,2 @@
+-- Orders that are served try by try.
+pub mod Extending

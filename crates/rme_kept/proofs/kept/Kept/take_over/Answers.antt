@@ -1,0 +1,24 @@
+use Rattle.std.proofs.Common.{inr, refl, subst}
+use Rattle.rme_kept.specs.Serving.{Extends}
+use Rattle.rme_session_lines.specs.declared.order.Order.TheVariants as word
+use Rattle.rme_session_lines.specs.declared.session.SessionReply.{SessionReply}
+use Rattle.rme_session_lines.specs.declared.session.SessionReply.TheVariants as answer
+use Rattle.rme_words.specs.declared.refusal.Refusal.TheVariants.{Taken}
+use Rattle.rme_kept.proofs.Extending.{extends_on}
+use Rattle.rme_kept.proofs.kept.Kept.take_over.Goals as goal
+
+pub returns-then-not-is_taken : goal.returns-then-not-is_taken
+returns-then-not-is_taken g c =
+    let its = word.Attach c.args.asked in
+    extends_on its its c.args.stand.now c.loop.stand c.obey_or_end.new.stand (answer.Refused Taken) (answer.Refused Taken) c.in_ok-acted.acted.reply c.in_ok-acted.acted.reply c.loop.invariant.extends (inr refl) refl
+    c.in_ok-acted.ensures refl
+
+pub loop-preserved : goal.loop-preserved
+loop-preserved g c =
+    let its = word.Attach c.args.asked in
+    let E : SessionReply → Type 0 = λ (reply : SessionReply). Extends its c.args.stand.now (answer.Refused Taken) c.obey_or_end.new.stand reply in
+    record {
+      extends = subst E (c.is_taken.ensures c.if-not-is_taken.false)
+          (extends_on its its c.args.stand.now c.loop.stand c.obey_or_end.new.stand (answer.Refused Taken) (answer.Refused Taken) c.in_ok-acted.acted.reply c.in_ok-acted.acted.reply c.loop.invariant.extends (inr refl) refl
+          c.in_ok-acted.ensures refl);
+    }

@@ -1,0 +1,11 @@
+-- The order was served by the tries so far, and its job waits.
+use Rattle.std.proofs.Common.{◌≡◌, true}
+use Rattle.rme_kept.specs.Serving.{Extends}
+use Rattle.rme_orders.specs.Parts.{still_waits}
+use Rattle.rme_kept.proofs.kept.Kept.try_on.Given as goal
+
+abbrev pub invariant-loop : goal.invariant-loop
+invariant-loop g l = record {
+  extends : Extends l.fn.order l.fn.stand l.fn.first.reply l.stand l.acted.reply;
+  waits : still_waits l.acted.reply ≡ true;
+}

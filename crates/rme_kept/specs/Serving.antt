@@ -1,0 +1,67 @@
+-- How the lines of a session over a kept world are answered.
+use Rattle.std.specs.Prelude.{◌≡◌, ◌⊎◌, ℕ, zero, suc, nat_le, Bool, true, false, List, Option, Some, None, Result, Ok, Err}
+use Rattle.rme_desk.specs.Desks.{view_of}
+use Rattle.rme_desk.specs.Offices.{Office}
+use Rattle.rme_desk.specs.declared.desk.Stand.{Stand}
+use Rattle.rme_lines.specs.Pieces.{InputLine}
+use Rattle.rme_orders.specs.Obeyed.{Obeys}
+use Rattle.rme_orders.specs.Parts.{answer_as, once_more, still_waits, with_tries}
+use Rattle.rme_orders.specs.Sessions.{session_line}
+use Rattle.rme_orders.specs.declared.planned.Planned.TheVariants.{Nothing}
+use Rattle.rme_server.specs.Sessions.{asked_by}
+use Rattle.rme_session_lines.specs.declared.order.Order.{Order}
+use Rattle.rme_session_lines.specs.declared.order.Order.TheVariants.{Attach}
+use Rattle.rme_session_lines.specs.declared.session.SessionReply.{SessionReply}
+use Rattle.rme_session_lines.specs.declared.session.SessionReply.TheVariants.{Refused}
+use Rattle.rme_words.specs.declared.refusal.Refusal.{Refusal}
+use Rattle.rme_words.specs.declared.refusal.Refusal.TheVariants.{BadLine, NoWorker, Taken}
+
+-- One try: between two moments of the desk, at which no other session does anything, the session obeyed the order with it.
+pub record Tries (old : Stand) (its : Order) (now : Stand) (answer : SessionReply) : Type 0 where
+  pub before : Office
+  pub after : Office
+  pub obeys : Obeys before.world.shape (view_of before old) (with_tries 1 its) (view_of after now) answer
+
+-- An order that was answered so is gone on with: its job waits, or another session has the worker that it would take over.
+abbrev pub CanGoOn : SessionReply → Type 0
+CanGoOn first = (still_waits first ≡ true) ⊎ (first ≡ Refused Taken)
+
+-- An order is obeyed by one try, and by so many more, between which other sessions may do what they do.
+abbrev pub Serves : ℕ → Stand → Order → Stand → SessionReply → Type 0
+Serves zero old its now answer = Tries old its now answer
+Serves (suc more) old its now answer =
+    (mid : Stand) × (first : SessionReply) × (last : SessionReply) × Serves more old its mid first × CanGoOn first × Tries mid (once_more its) now last × (answer ≡ answer_as first last)
+
+abbrev pub Served : Stand → Order → Stand → SessionReply → Type 0
+Served old its now answer = (more : ℕ) × Serves more old its now answer
+
+-- What was served so far is served so, after further tries.
+abbrev pub Extends : Order → Stand → SessionReply → Stand → SessionReply → Type 0
+Extends its mid first now answer = (old : Stand) → Served old its mid first → Served old its now answer
+
+-- The keeper is no session's.
+abbrev pub is_keepers : ℕ → Order → Bool
+is_keepers clients (Attach asked) = nat_le clients asked.worker
+is_keepers clients its = false
+
+abbrev pub ServesOrder : ℕ → Stand → Order → Stand → SessionReply → Type 0
+ServesOrder clients old its now answer = ((answer ≡ Refused NoWorker) × (now ≡ old)) ⊎ Served old its now answer
+
+-- A session has no worker before its first line.
+abbrev pub IsBegun : Option Stand → Stand → Type 0
+IsBegun None stand = (stand.worker ≡ None) × (stand.planned ≡ Nothing)
+IsBegun (Some old) stand = stand ≡ old
+
+-- A line that is an order is answered by the reply that it has; one that is none by what it looks up, of which nothing is said
+-- here, or by why it is refused. Without an order the session is as it was.
+abbrev pub AnswersTo : ℕ → List (List ℕ) → Stand → Result Order Refusal → List ℕ → Stand → Type 0
+AnswersTo clients names old (Ok its) bytes now = (reply : SessionReply) × ServesOrder clients old its now reply × (bytes ≡ session_line names reply)
+AnswersTo clients names old (Err BadLine) bytes now = now ≡ old
+AnswersTo clients names old (Err why) bytes now = (now ≡ old) × (bytes ≡ session_line names (Refused why))
+
+pub record Answers (clients : ℕ) (names : List (List ℕ)) (old : Option Stand) (line : InputLine) (bytes : List ℕ) (now : Option Stand) : Type 0 where
+  pub start : Stand
+  pub end : Stand
+  pub begun : IsBegun old start
+  pub is : now ≡ Some end
+  pub answers : AnswersTo clients names start (asked_by names line) bytes end
