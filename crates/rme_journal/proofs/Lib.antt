@@ -4,3 +4,4 @@ pub mod Nesting
 pub mod Leading
 pub mod Falling
 pub mod Asking
+pub mod Running

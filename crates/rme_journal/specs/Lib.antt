@@ -1,3 +1,4 @@
 pub mod Deeds
 pub mod Lines
 pub mod Starts
+pub mod Runs
