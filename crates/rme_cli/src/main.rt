@@ -7,7 +7,7 @@
 use rme_commands::perform;
 use rme_faults::Fault;
 use rme_line_commands::{Asked, end, read_words};
-use std::process::{Abort, ExitCode};
+use std::process::ExitCode;
 use std::sync::Wait;
 use std::thread::Threads;
 use std::time::Clock;
@@ -17,10 +17,7 @@ fn main(rt: HostRuntime) -> ExitCode {
 }
 
 /// Does what the words of the command line ask for, and answers the status.
-fn obey<R: Threads + Wait + Clock + Abort + Sync>(
-    rt: &HostRuntime,
-    threads: &R,
-) -> Result<u8, Fault> {
+fn obey<R: Threads + Wait + Clock + Sync>(rt: &HostRuntime, threads: &R) -> Result<u8, Fault> {
     match read_words(rt)? {
         Asked::Task(task) => perform(rt, threads, task),
         Asked::Told(status) => Ok(status),

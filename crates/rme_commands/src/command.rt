@@ -8,7 +8,6 @@ use crate::threads::run_threads;
 use rme_faults::Fault;
 use rme_line_commands::perform_lines;
 use rme_options::Task;
-use std::process::Abort;
 use std::sync::Wait;
 use std::thread::Threads;
 use std::time::Clock;
@@ -16,7 +15,7 @@ use std::time::Clock;
 /// Does what is asked for over the standard streams of the process, and answers its status.
 ///
 /// An error is what ended it early; what the command says of it in `--help` was done before.
-pub fn perform<R: Threads + Wait + Clock + Abort + Sync>(
+pub fn perform<R: Threads + Wait + Clock + Sync>(
     rt: &HostRuntime,
     threads: &R,
     task: Task,

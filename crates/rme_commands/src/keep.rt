@@ -5,14 +5,13 @@ use crate::trouble::Complaints;
 use rme_desk::Desk;
 use rme_faults::{BadArgument, Fault, shown, why_not_locks, why_not_sizes};
 use rme_journal::{Header, Started, push_falls, push_header, whole_lines};
-use rme_kept::{Kept, Ledger, clients_of};
+use rme_kept::{Kept, clients_of};
 use rme_options::{KeepTask, Remarks, Synced};
 use rme_server::{Closer, Door, serve};
 use rme_state::{StateFile, make_state, read_state};
 use rme_texts::push_opening;
 use rme_wire::{GivenNames, Names};
 use rme_words::Shape;
-use std::process::Abort;
 use std::sync::Wait;
 use std::thread::Threads;
 use std::time::Clock;
@@ -41,7 +40,7 @@ struct Asked {
 }
 
 /// Serves a state until the process is killed, and makes it first where it is not there. It answers where it can't begin.
-pub fn run_keep<R: Threads + Wait + Clock + Abort + Sync>(
+pub fn run_keep<R: Threads + Wait + Clock + Sync>(
     rt: &HostRuntime,
     threads: &R,
     task: KeepTask,
@@ -72,7 +71,7 @@ pub fn run_keep<R: Threads + Wait + Clock + Abort + Sync>(
         idle,
         tells_why: remarks == Remarks::Why,
     };
-    let kept = begin(rt, threads, asked)?;
+    let kept = begin(rt, asked)?;
     let (listeners, hearing) = listen(rt, places)?;
     hearing.print(rt)?;
     let served = serve(threads, listeners, door, &Complaints { rt }, &kept);
@@ -84,12 +83,8 @@ pub fn run_keep<R: Threads + Wait + Clock + Abort + Sync>(
 }
 
 /// The state that is asked for, where all workers are down.
-fn begin<'a, R: Abort>(
-    rt: &'a HostRuntime,
-    ends: &'a R,
-    asked: Asked,
-) -> Result<Kept<StateFile<'a, R>, Closer>, Fault> {
-    let mut file = open(rt, ends, &asked)?;
+fn begin(rt: &HostRuntime, asked: Asked) -> Result<Kept<StateFile<'_>, Closer>, Fault> {
+    let mut file = open(rt, &asked)?;
     let bytes = file.bytes()?;
     let started = read_state(rt, asked.path.as_str(), bytes.as_slice())?;
     refuse_others(rt, &asked, &started)?;
@@ -107,29 +102,23 @@ fn begin<'a, R: Abort>(
     if push_falls(&mut falls, rt.alloc(), &names, &world).is_err() {
         return Err(Fault::NoMemory);
     }
-    if file.keep(falls.as_bytes()).is_err() {
-        return Err(Fault::WriteFailed);
-    }
+    file.write(falls.as_bytes())?;
     let desk = Desk::new(rt.alloc(), world)?;
     Ok(Kept::new(rt.alloc(), names, header.epoch, desk, file)?)
 }
 
 /// The file of the state, which is made where it is not there.
-fn open<'a, R: Abort>(
-    rt: &'a HostRuntime,
-    ends: &'a R,
-    asked: &Asked,
-) -> Result<StateFile<'a, R>, Fault> {
+fn open<'a>(rt: &'a HostRuntime, asked: &Asked) -> Result<StateFile<'a>, Fault> {
     let path = asked.path.as_str();
     if path.is_empty() {
         return Err(Fault::BadArguments(BadArgument::NoFile("--state")));
     }
-    if let Some(file) = StateFile::open(rt, ends, path, asked.syncs)? {
+    if let Some(file) = StateFile::open(rt, path, asked.syncs)? {
         return Ok(file);
     }
     let bytes = first_lines(rt, asked)?;
     make_state(rt, path, bytes.as_bytes())?;
-    match StateFile::open(rt, ends, path, asked.syncs)? {
+    match StateFile::open(rt, path, asked.syncs)? {
         Some(file) => Ok(file),
         None => Err(Fault::BadArguments(BadArgument::NoState(shown(rt.alloc(), path)?))),
     }

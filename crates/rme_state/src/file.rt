@@ -5,18 +5,15 @@ use rme_faults::{BadArgument, Fault, shown};
 use rme_kept::{Ledger, NotKept};
 use std::fs::{File, OpenOptions, TryLockError};
 use std::io::{ErrorKind, Read, Write};
-use std::process::Abort;
 use std::{fs, io};
 
 /// A state's file, which no other server has while this value is there. Its lines are appended.
 ///
-/// Where that fails the process ends at once, with what is wrong on the standard error: what was not kept must not be answered,
-/// and the next start goes on from what was.
+/// Where that fails it says on the standard error what is wrong, and nothing more is kept: what was not kept must not be
+/// answered, and the next start goes on from what was.
 #[derive(Drop)]
-pub struct StateFile<'a, E> {
+pub struct StateFile<'a> {
     rt: &'a HostRuntime,
-    /// By which the process ends.
-    ends: &'a E,
     path: String,
     file: File,
     /// Whether the disk is waited for.
@@ -33,15 +30,14 @@ pub fn make_state(rt: &HostRuntime, path: &str, bytes: &[u8]) -> Result<(), Faul
     }
 }
 
-impl<'a, E: Abort> StateFile<'a, E> {
+impl<'a> StateFile<'a> {
     /// Opens the file for this server alone; `None` where it is not there. What is no regular file is refused, as is a file that
     /// another server has.
     pub fn open(
         rt: &'a HostRuntime,
-        ends: &'a E,
         path: &str,
         syncs: bool,
-    ) -> Result<Option<StateFile<'a, E>>, Fault> {
+    ) -> Result<Option<StateFile<'a>>, Fault> {
         match fs::symlink_metadata(rt, path) {
             Err(error) if error.kind() == ErrorKind::NotFound => return Ok(None),
             Err(error) => return Err(unread(rt, path, error)?),
@@ -67,7 +63,6 @@ impl<'a, E: Abort> StateFile<'a, E> {
         }
         Ok(Some(StateFile {
             rt,
-            ends,
             path: String::from_str(rt.alloc(), path)?,
             file,
             syncs,
@@ -91,6 +86,14 @@ impl<'a, E: Abort> StateFile<'a, E> {
         }
     }
 
+    /// Appends lines, which are then kept.
+    pub fn write(&mut self, lines: &[u8]) -> Result<(), Fault> {
+        match self.append(lines) {
+            Ok(()) => Ok(()),
+            Err(error) => Err(unwritten(self.rt, self.path.as_str(), error)?),
+        }
+    }
+
     /// Appends lines, and waits for the disk where that is asked for.
     fn append(&mut self, lines: &[u8]) -> io::Result<()> {
         self.file.write_all(lines)?;
@@ -100,27 +103,25 @@ impl<'a, E: Abort> StateFile<'a, E> {
         Ok(())
     }
 
-    /// The process ends, since this went wrong.
-    fn end(&self, fault: &Fault) {
+    /// Says on the standard error what went wrong.
+    fn tell(&self, fault: &Fault) {
         let _ = eprintln!(self.rt; "fault: {fault}");
-        self.ends.exit(i32::from(fault.status()));
     }
 }
 
-impl<E: Abort> Ledger for StateFile<'_, E> {
+impl Ledger for StateFile<'_> {
     fn keep(&mut self, lines: &[u8]) -> Result<(), NotKept> {
-        let Err(error) = self.append(lines) else {
-            return Ok(());
-        };
-        match unwritten(self.rt, self.path.as_str(), error) {
-            Ok(fault) => self.end(&fault),
-            Err(fault) => self.end(&fault),
+        match self.write(lines) {
+            Ok(()) => Ok(()),
+            Err(fault) => {
+                self.tell(&fault);
+                Err(NotKept)
+            }
         }
-        Err(NotKept)
     }
 
     fn lose(&mut self) {
-        self.end(&Fault::NoMemory);
+        self.tell(&Fault::NoMemory);
     }
 }
 
