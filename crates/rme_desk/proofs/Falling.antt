@@ -55,6 +55,11 @@ down_by None none there = absurd (there refl)
 down_by (Some None) none there = refl
 down_by (Some (Some private)) none there = absurd (cc)
 
+-- One that knows nothing is down.
+pub down_found : (seen : Seen) (worker : ℕ) → IsKept seen → worker < seen.shape.workers → is_some (privates_seen seen worker) ≡ false → IsDown seen worker
+down_found seen worker kept within none =
+    down_by (slice_get seen.privates worker) none (λ missing. none-some _ (sym missing ∙ slice_get-get_or seen.privates worker None (omega (arith, kept.all_privates, within))))
+
 -- It was down already.
 pub down_next : (count : ℕ) (old now : Seen) → FallenTo count old now → IsKept now → count < now.shape.workers → is_some (privates_seen now count) ≡ false → FallenTo (count + 1) old now
 down_next count old now fallen kept within none = record {
@@ -63,7 +68,7 @@ down_next count old now fallen kept within none = record {
   happened = fallen.happened;
   shape = fallen.shape;
   down = λ worker less. elim (cases_eq worker count) [
-    | inl same ↦ subst (λ (w : ℕ). IsDown now w) (sym same) (down_by (slice_get now.privates count) none (λ missing. none-some _ (sym missing ∙ slice_get-get_or now.privates count None (omega (arith, kept.all_privates, within)))))
+    | inl same ↦ subst (λ (w : ℕ). IsDown now w) (sym same) (down_found now count kept within none)
     | inr apart ↦ fallen.down worker (omega (arith, less, apart))
   ];
 }

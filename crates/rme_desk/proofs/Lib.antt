@@ -18,3 +18,4 @@ pub mod Handing
 pub mod Sorting
 pub mod Seating
 pub mod Falling
+pub mod Places

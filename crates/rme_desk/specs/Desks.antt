@@ -1,5 +1,7 @@
 -- A world whose workers sessions take, and what each of them shows.
 use Rattle.std.specs.Prelude.{◌≡◌, ℕ, ◌<◌, Bool, true, false, List, [], ◌∷◌, Option, Some, None, slice_get, slice_set, if◌then◌else◌}
+use Rattle.rme_orders.specs.declared.view.Session.{Session}
+use Rattle.rme_orders.specs.declared.view.Session.TheVariants.{Nobody}
 use Rattle.rme_orders.specs.declared.view.View.{View}
 use Rattle.rme_session_lines.specs.declared.order.Order.{Order}
 use Rattle.rme_session_lines.specs.declared.order.Order.TheVariants.{Attach}
@@ -11,6 +13,7 @@ use Rattle.rme_desk.specs.Deeds.{Happened}
 use Rattle.rme_desk.specs.Downs.{IsDown}
 use Rattle.rme_desk.specs.Carried.{view_with}
 use Rattle.rme_desk.specs.Offices.{Office, is_held}
+use Rattle.rme_desk.specs.Sights.{sight_of}
 
 -- The worker that a session has, if the desk says so too.
 abbrev pub seat_by : Office → ℕ → Option ℕ → Option ℕ
@@ -30,6 +33,15 @@ settled_by holders (Some own) (Some worker) session = slice_set holders worker (
 -- What a session shows.
 abbrev pub view_of : Office → Stand → View
 view_of office stand = view_with office.world (seat_of office stand) stand.planned
+
+-- What the session shows that has a worker, if one has.
+abbrev pub shown_if : Option (Option ℕ) → Session → Session
+shown_if None shown = Nobody
+shown_if (Some None) shown = Nobody
+shown_if (Some (Some session)) shown = shown
+
+abbrev pub shown_by_holder : Office → ℕ → Session
+shown_by_holder office worker = shown_if (slice_get office.holders worker) (sight_of office.world worker)
 
 -- The worker that an order would attach is another session's.
 abbrev pub has_holder : Option (Option ℕ) → Bool

@@ -14,6 +14,11 @@ is_held session None = false
 is_held session (Some None) = false
 is_held session (Some (Some holder)) = holder == session
 
+-- A worker that a session has stands where an order may leave it; one that no session has is down.
+abbrev pub IsInPlace : Seen → ℕ → Option ℕ → Type 0
+IsInPlace seen worker None = IsDown seen worker
+IsInPlace seen worker (Some session) = Rests seen worker
+
 -- Each worker has a place; one that a session has stands where an order may leave it, and every other is down.
 pub record IsTended (office : Office) : Type 0 where
   pub all : length office.holders ≡ office.world.shape.workers

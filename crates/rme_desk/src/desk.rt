@@ -6,8 +6,10 @@ ghost use Rattle.rme_world.specs.Seen.{IsKept};
 
 use crate::deed::Deed;
 use crate::orders::{carry, detach};
+use crate::resuming::are_in_place;
+use crate::sight::sight;
 use crate::work::{fall, look};
-use rme_orders::Planned;
+use rme_orders::{Planned, Session};
 use rme_session_lines::{Order, SessionReply};
 use rme_words::{NoMemory, Refusal};
 use rme_world::World;
@@ -70,7 +72,7 @@ impl Desk {
     ghost use Rattle.rme_orders.specs.Parts.{still_waits, with_tries};
     ghost use Rattle.rme_desk.specs.Carried.{IsOf, IsSeatStopped};
     ghost use Rattle.rme_desk.specs.Deeds.{Happened, events_done};
-    ghost use Rattle.rme_desk.specs.Desks.{HasFallen, is_taken, seat_of, view_of};
+    ghost use Rattle.rme_desk.specs.Desks.{HasFallen, is_taken, seat_of, shown_by_holder, view_of};
     ghost use Rattle.rme_orders.specs.Sights.{nobody};
     ghost use Rattle.rme_desk.specs.Downs.{IsDown};
     ghost use Rattle.rme_desk.specs.Offices.{IsTended};
@@ -89,11 +91,49 @@ impl Desk {
         }
     }
 
+    /// A desk over a world whose workers stand as these sessions left them: each that a session has stands where an
+    /// order may leave it, and every other is down. `None` where one does not.
+    pub fn resumed(world: World, holders: Vec<Option<u64>>) -> Option<Desk>
+        ensures { IfSome result (λ desk. (desk.world ≡ world) × (desk.holders ≡ holders.items)) }
+    {
+        if !are_in_place(&world, holders.as_slice()) {
+            return None;
+        }
+        Some(Desk { world, holders })
+    }
+
     /// The world, to look at.
     pub fn world(&self) -> &World
         ensures { result.now ≡ self.now.world }
     {
         &self.world
+    }
+
+    /// For each worker the session that has it, if one has.
+    pub fn holders(&self) -> &[Option<u64>]
+        ensures { result.now ≡ self.now.holders }
+    {
+        &self.holders
+    }
+
+    /// What a session shows of its worker, if it has one.
+    pub fn session(&self, stand: &Stand) -> Session
+        ensures { result ≡ (view_of self.now stand.now).session }
+    {
+        match self.seat(stand) {
+            Some(worker) => sight(&self.world, worker),
+            None => Session::Nobody,
+        }
+    }
+
+    /// What the session shows that has a worker, if one has.
+    pub fn shown(&self, worker: u32) -> Session
+        ensures { result ≡ shown_by_holder self.now worker }
+    {
+        match self.holders.get(worker as usize) {
+            Some(Some(_)) => sight(&self.world, worker),
+            _ => Session::Nobody,
+        }
     }
 
     /// Lets go of the worker that a session has, if it has one: the worker falls where it is. So a session ends.

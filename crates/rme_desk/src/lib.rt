@@ -13,6 +13,7 @@ mod deed;
 mod desk;
 mod orders;
 mod refusal;
+mod resuming;
 mod sight;
 mod steps;
 mod work;

@@ -6,7 +6,7 @@ use Rattle.std.proofs.lemmas.Option.{none-some}
 use Rattle.rme_words.specs.declared.shape.Shape.{Shape}
 use Rattle.rme_words.specs.declared.refusal.Refusal.{Refusal}
 use Rattle.rme_session_lines.specs.declared.order.Submission.{Submission}
-use Rattle.rme_orders.specs.Refusals.{number_refusal, posting_refusal, job_refusal, repeat_refusal}
+use Rattle.rme_orders.specs.Refusals.{Sizes, number_refusal, posting_refusal, posting_refusal_within, job_refusal, repeat_refusal, sizes_of}
 
 -- A number that is refused as such is refused, whatever its job is.
 pub number_refused : (shape : Shape) (last : ℕ) (its : Submission) (why : Refusal) → number_refusal last its.number ≡ Some why → posting_refusal shape last its ≡ Some why
@@ -19,5 +19,8 @@ number_refused shape last its why is = elim (cases_Bool (its.number == last + 1)
 pub next_posted : (shape : Shape) (last : ℕ) (its : Submission) → its.number ≡ last + 1 → posting_refusal shape last its ≡ job_refusal shape last its.job
 next_posted shape last its next = rw (eq-eqb its.number (last + 1) next) refl
 
+pub last_repeated_within : (sizes : Sizes) (last : ℕ) (its : Submission) → 0 < its.number → its.number ≡ last → posting_refusal_within sizes last its ≡ None
+last_repeated_within sizes last its some same = rw (ne_eqb its.number (last + 1) (omega (arith, same)), lt-ltb 0 its.number some, eq-eqb its.number last same) refl
+
 pub last_repeated : (shape : Shape) (last : ℕ) (its : Submission) → 0 < its.number → its.number ≡ last → posting_refusal shape last its ≡ None
-last_repeated shape last its some same = rw (ne_eqb its.number (last + 1) (omega (arith, same)), lt-ltb 0 its.number some, eq-eqb its.number last same) refl
+last_repeated shape = last_repeated_within (sizes_of shape)

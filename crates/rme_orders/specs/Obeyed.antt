@@ -14,7 +14,7 @@ use Rattle.rme_session_lines.specs.declared.order.Order.{Order}
 use Rattle.rme_session_lines.specs.declared.order.Order.TheVariants as order
 use Rattle.rme_session_lines.specs.declared.order.Submission.{Submission}
 use Rattle.rme_orders.specs.Plans.{IsDue, Leaves}
-use Rattle.rme_orders.specs.Refusals.{IsMissed, Refuses}
+use Rattle.rme_orders.specs.Refusals.{IsMissedWithin, RefusesWithin, Sizes, sizes_of}
 use Rattle.rme_orders.specs.Sights.{IsReceiptOf, Task, finished_with, given_up, its_task, next_task, nobody, waiting_with}
 use Rattle.rme_orders.specs.declared.planned.Planned.TheVariants.{Nothing, After}
 use Rattle.rme_orders.specs.declared.view.PendingWorker.{PendingWorker}
@@ -134,11 +134,14 @@ Does made old (order.CrashAfter steps) now reply.CrashPlanned = now ≡ record {
 Does made old order.Detach now reply.Detached = now ≡ nobody
 Does made old its now answer = ⊥
 
--- A session of a service of this shape obeyed an order, by so many own steps: it refused it, for the reason that the order
+-- A session of a service of these sizes obeyed an order, by so many own steps: it refused it, for the reason that the order
 -- has there, and is as it was; or the order is not refused there, and did what it does.
+abbrev pub ObeysWithin : Sizes → ℕ → View → Order → View → SessionReply → Type 0
+ObeysWithin sizes made old its now (reply.Refused why) = (now ≡ old) × (RefusesWithin sizes old.session its (Some why) ⊎ IsMissedWithin sizes old.session its why)
+ObeysWithin sizes made old its now answer = RefusesWithin sizes old.session its None × Does made old its now answer
+
 abbrev pub ObeysBy : Shape → ℕ → View → Order → View → SessionReply → Type 0
-ObeysBy shape made old its now (reply.Refused why) = (now ≡ old) × (Refuses shape old.session its (Some why) ⊎ IsMissed shape old.session its why)
-ObeysBy shape made old its now answer = Refuses shape old.session its None × Does made old its now answer
+ObeysBy shape = ObeysWithin (sizes_of shape)
 
 abbrev pub Obeys : Shape → View → Order → View → SessionReply → Type 0
 Obeys shape old its now answer = (made : ℕ) × ObeysBy shape made old its now answer

@@ -13,13 +13,27 @@ use Rattle.rme_orders.specs.declared.refusal.Asked.TheVariants.{Post, Repeat}
 use Rattle.rme_orders.specs.declared.view.Session.{Session}
 use Rattle.rme_orders.specs.declared.view.Session.TheVariants as at
 
+-- How many workers, locks, cells of each lock, and jobs of each worker there are. Those of a shape have limits; over years there are more
+-- jobs than one world has.
+pub record Sizes : Type 0 where
+  pub workers : ℕ
+  pub locks : ℕ
+  pub cells : ℕ
+  pub jobs : ℕ
+
+abbrev pub sizes_of : Shape → Sizes
+sizes_of shape = record { workers = shape.workers; locks = shape.locks; cells = shape.cells; jobs = shape.jobs }
+
 -- ATTACH: there is no such worker, or the session has one.
 abbrev pub busy_refusal : Session → Option Refusal
 busy_refusal at.Nobody = None
 busy_refusal session = Some Busy
 
+abbrev pub attach_refusal_within : Sizes → ℕ → Session → Option Refusal
+attach_refusal_within sizes worker session = if nat_lt worker sizes.workers then busy_refusal session else Some NoWorker
+
 abbrev pub attach_refusal : Shape → ℕ → Session → Option Refusal
-attach_refusal shape worker session = if nat_lt worker shape.workers then busy_refusal session else Some NoWorker
+attach_refusal shape = attach_refusal_within (sizes_of shape)
 
 -- SUBMIT, ENTER
 
@@ -28,9 +42,12 @@ abbrev pub unless_checked : Result (Unit {0}) Refusal → Option Refusal → Opt
 unless_checked (Ok tt) rest = rest
 unless_checked (Err refusal) rest = Some refusal
 
+abbrev pub job_refusal_within : Sizes → ℕ → Job → Option Refusal
+job_refusal_within sizes last job =
+    if nat_lt job.lock sizes.locks then unless_checked (check_of sizes.cells job.script) (if nat_lt last sizes.jobs then None else Some TooManyJobs) else Some NoLock
+
 abbrev pub job_refusal : Shape → ℕ → Job → Option Refusal
-job_refusal shape last job =
-    if nat_lt job.lock shape.locks then unless_checked (check_of shape.cells job.script) (if nat_lt last shape.jobs then None else Some TooManyJobs) else Some NoLock
+job_refusal shape = job_refusal_within (sizes_of shape)
 
 -- Where no job is pending, the last number is answered again, but 0 is not; and the next number's job may be posted.
 abbrev pub repeat_refusal : ℕ → ℕ → Option Refusal
@@ -40,8 +57,11 @@ repeat_refusal last number =
 abbrev pub number_refusal : ℕ → ℕ → Option Refusal
 number_refusal last number = if number == last + 1 then None else repeat_refusal last number
 
+abbrev pub posting_refusal_within : Sizes → ℕ → Submission → Option Refusal
+posting_refusal_within sizes last its = if its.number == last + 1 then job_refusal_within sizes last its.job else repeat_refusal last its.number
+
 abbrev pub posting_refusal : Shape → ℕ → Submission → Option Refusal
-posting_refusal shape last its = if its.number == last + 1 then job_refusal shape last its.job else repeat_refusal last its.number
+posting_refusal shape = posting_refusal_within (sizes_of shape)
 
 -- What a number asks that is not refused.
 abbrev pub IsAsked : ℕ → ℕ → Asked → Type 0
@@ -55,11 +75,14 @@ PendingRefuses number draft its None = (its.number ≡ number) × (draft ≡ Som
 PendingRefuses number draft its (Some Differs) = (its.number ≡ number) × (draft ≢ Some its.job)
 PendingRefuses number draft its (Some why) = (its.number ≢ number) × (why ≡ WrongNumber number)
 
+abbrev pub SubmitRefusesWithin : Sizes → Session → Submission → Option Refusal → Type 0
+SubmitRefusesWithin sizes at.Nobody its why = why ≡ Some NotAttached
+SubmitRefusesWithin sizes (at.Ready ready) its why = why ≡ posting_refusal_within sizes ready.number its
+SubmitRefusesWithin sizes (at.Climb pending) its why = PendingRefuses pending.number pending.draft its why
+SubmitRefusesWithin sizes (at.Held pending) its why = PendingRefuses pending.number pending.draft its why
+
 abbrev pub SubmitRefuses : Shape → Session → Submission → Option Refusal → Type 0
-SubmitRefuses shape at.Nobody its why = why ≡ Some NotAttached
-SubmitRefuses shape (at.Ready ready) its why = why ≡ posting_refusal shape ready.number its
-SubmitRefuses shape (at.Climb pending) its why = PendingRefuses pending.number pending.draft its why
-SubmitRefuses shape (at.Held pending) its why = PendingRefuses pending.number pending.draft its why
+SubmitRefuses shape = SubmitRefusesWithin (sizes_of shape)
 
 -- RESUME, COMMIT, WITHDRAW, LAST: there is no worker, or it is not at this.
 abbrev pub resume_refusal : Session → Option Refusal
@@ -89,19 +112,25 @@ bare_refusal at.Nobody = Some NotAttached
 bare_refusal session = None
 
 -- A session refuses the order for this reason, or does not refuse it; but for what is said of a worker that it asks for.
+abbrev pub RefusesWithin : Sizes → Session → Order → Option Refusal → Type 0
+RefusesWithin sizes session (Attach its) why = why ≡ attach_refusal_within sizes its.worker session
+RefusesWithin sizes session (Submit its) why = SubmitRefusesWithin sizes session its why
+RefusesWithin sizes session (Resume patience) why = why ≡ resume_refusal session
+RefusesWithin sizes session (Enter its) why = SubmitRefusesWithin sizes session its why
+RefusesWithin sizes session Commit why = why ≡ commit_refusal session
+RefusesWithin sizes session Withdraw why = why ≡ withdraw_refusal session
+RefusesWithin sizes session Last why = why ≡ last_refusal session
+RefusesWithin sizes session (CrashAfter steps) why = why ≡ bare_refusal session
+RefusesWithin sizes session Detach why = why ≡ bare_refusal session
+
 abbrev pub Refuses : Shape → Session → Order → Option Refusal → Type 0
-Refuses shape session (Attach its) why = why ≡ attach_refusal shape its.worker session
-Refuses shape session (Submit its) why = SubmitRefuses shape session its why
-Refuses shape session (Resume patience) why = why ≡ resume_refusal session
-Refuses shape session (Enter its) why = SubmitRefuses shape session its why
-Refuses shape session Commit why = why ≡ commit_refusal session
-Refuses shape session Withdraw why = why ≡ withdraw_refusal session
-Refuses shape session Last why = why ≡ last_refusal session
-Refuses shape session (CrashAfter steps) why = why ≡ bare_refusal session
-Refuses shape session Detach why = why ≡ bare_refusal session
+Refuses shape = RefusesWithin (sizes_of shape)
 
 -- A worker that a session may attach is not to be had: another session has it, or the server has none of that number.
+abbrev pub IsMissedWithin : Sizes → Session → Order → Refusal → Type 0
+IsMissedWithin sizes session (Attach its) Taken = attach_refusal_within sizes its.worker session ≡ None
+IsMissedWithin sizes session (Attach its) NoWorker = attach_refusal_within sizes its.worker session ≡ None
+IsMissedWithin sizes session its why = ⊥
+
 abbrev pub IsMissed : Shape → Session → Order → Refusal → Type 0
-IsMissed shape session (Attach its) Taken = attach_refusal shape its.worker session ≡ None
-IsMissed shape session (Attach its) NoWorker = attach_refusal shape its.worker session ≡ None
-IsMissed shape session its why = ⊥
+IsMissed shape = IsMissedWithin (sizes_of shape)
