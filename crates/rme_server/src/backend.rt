@@ -41,6 +41,9 @@ pub trait Backend {
     /// By which lines and answers name the locks.
     fn names(&self) -> &Names;
 
+    /// Whether it answers nothing any more, so that its server comes to an end. Once it does not, it never does again.
+    fn is_over<R: Wait>(&self, rt: &R) -> bool;
+
     /// A session that has nothing yet.
     fn begin(&self) -> Self::Stand
         ensures nobody { result ≡ nobody self.now }

@@ -38,6 +38,12 @@ impl Connection {
     pub fn end_answers(&self) {
         let _ = self.stream.shutdown(Shutdown::Write);
     }
+
+    /// Ends it, from any thread: whoever reads or writes it, or waits to, goes on with what there was and then finds its
+    /// end.
+    pub(crate) fn end(&self) {
+        let _ = self.stream.shutdown(Shutdown::Both);
+    }
 }
 
 /// While there are bytes to read, a client that has closed its end is not found to be gone; one that has reset it is.

@@ -55,6 +55,10 @@ impl<K: Tag, H: Reach> Backend for Host<'_, K, H> {
         self.names
     }
 
+    fn is_over<R: Wait>(&self, _rt: &R) -> bool {
+        false
+    }
+
     fn begin(&self) -> Stand {
         Stand::empty()
     }

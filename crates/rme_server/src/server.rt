@@ -3,6 +3,7 @@
 use crate::backend::Backend;
 use crate::buffers::push_line;
 use crate::connection::{Closer, Connection, Listener};
+use crate::guests::Guests;
 use crate::talk::session;
 use rme_lines::ServeFault;
 use rme_reasons::{Reason, Teller, Told, Vocabulary};
@@ -47,11 +48,13 @@ pub trait Trouble {
 }
 
 /// Takes the connections of a door, from one listener or from two, and makes a session of each in a thread of its own.
-/// It answers when all have ended; the listeners are closed as soon as the last connection was taken.
+/// It answers when all have ended; the listeners are closed as soon as the last connection was taken. Once the backend is
+/// over, no more are taken, and all connections are ended.
 ///
-/// What ends one session ends no other. A connection that can't be accepted, or have a thread, ends nothing either:
-/// `trouble` is told, and the next one is taken. An error is the first such trouble, and comes when all is over; where
-/// two listeners can't be listened on at once, it comes before any connection was taken.
+/// What ends one session ends no other, unless the backend is over then. A connection that can't be accepted, or have a
+/// thread, ends nothing either: `trouble` is told, and the next one is taken. An error is the first such trouble, and
+/// comes when all is over; where a listener could not be closed, or two can't be listened on at once, it comes before any
+/// connection was taken.
 pub fn serve<
     B: Backend<Handle = Closer> + Sync,
     R: Threads + Wait + Clock + Sync,
@@ -66,15 +69,12 @@ pub fn serve<
     requires fits { B.fits backend.now }
 {
     let (listener, other) = listeners;
-    let closers = match &other {
-        None => None,
-        Some(other) => Some(closers_of(&listener, other)?),
-    };
     let entrance = Entrance {
         door,
         taken: AtomicU64::new(0),
         running: AtomicU64::new(0),
-        closers,
+        guests: Guests::new(backend.alloc()),
+        closers: closers_of(&listener, &other)?,
     };
     let shared = &entrance;
     thread::scope(
@@ -98,15 +98,27 @@ pub fn serve<
     )
 }
 
-/// What closes these two listeners.
-fn closers_of(listener: &Listener, other: &Listener) -> Result<(Closer, Closer), ServeFault> {
-    match (listener.closer(), other.closer()) {
-        (Ok(first), Ok(second)) => Ok((first, second)),
-        _ => Err(ServeFault::SocketFailed),
+/// What closes these listeners.
+fn closers_of(
+    listener: &Listener,
+    other: &Option<Listener>,
+) -> Result<(Closer, Option<Closer>), ServeFault> {
+    let closer = closer_of(listener)?;
+    match other {
+        Some(other) => Ok((closer, Some(closer_of(other)?))),
+        None => Ok((closer, None)),
     }
 }
 
-/// Takes the connections of a listener, until those of the door are taken, and answers when their sessions have ended.
+fn closer_of(listener: &Listener) -> Result<Closer, ServeFault> {
+    match listener.closer() {
+        Ok(closer) => Ok(closer),
+        Err(_) => Err(ServeFault::SocketFailed),
+    }
+}
+
+/// Takes the connections of a listener, until those of the door are taken or the backend is over, and answers when their
+/// sessions have ended.
 fn receive<B: Backend<Handle = Closer> + Sync, R: Threads + Wait + Clock + Sync, T: Trouble + Sync>(
     rt: &R,
     listener: Listener,
@@ -125,19 +137,15 @@ fn receive<B: Backend<Handle = Closer> + Sync, R: Threads + Wait + Clock + Sync,
             let listener = listener;
             let mut ended = Ok(());
             for _ in rt.forever() {
-                match entrance.next(&listener) {
+                match entrance.next(rt, &listener) {
                     Arrival::Over => break,
                     Arrival::GivenUp => {}
                     Arrival::Early(client) => turn_away(backend.alloc(), &client, backend.names()),
                     Arrival::Failed(why) => ended = ended.and(Err(not_accepted(trouble, why))),
                     Arrival::Client(number, client) => {
-                        let teller = entrance.teller(trouble, number);
                         let talk = move ||
                             requires fits { B.fits backend.now }
-                        {
-                            welcome(rt, &client, teller, backend);
-                            entrance.running.fetch_sub(1, Ordering::SeqCst);
-                        };
+                        { attend(rt, number, client, entrance, trouble, backend) };
                         let thread = Builder::new().stack_size(STACK).spawn_scoped(scope, talk);
                         if thread.is_err() {
                             ended = ended.and(Err(no_thread(trouble, &entrance.running)));
@@ -161,7 +169,7 @@ enum Arrival {
     GivenUp,
     /// None: it could not be accepted.
     Failed(Error),
-    /// None: all were taken.
+    /// None: no more are taken.
     Over,
 }
 
@@ -173,19 +181,21 @@ struct Entrance {
     taken: AtomicU64,
     /// How many sessions run.
     running: AtomicU64,
-    /// What closes the listeners, where there are two. One is closed as it is dropped.
-    closers: Option<(Closer, Closer)>,
+    /// Their connections, until the backend is over.
+    guests: Guests,
+    /// What closes the listeners.
+    closers: (Closer, Option<Closer>),
 }
 
 impl Entrance {
     /// Waits for the next connection of a listener.
-    fn next(&self, listener: &Listener) -> Arrival {
-        if self.is_over() {
+    fn next<R: Wait>(&self, rt: &R, listener: &Listener) -> Arrival {
+        if self.is_over(rt) {
             return Arrival::Over;
         }
         let client = match listener.accept() {
             Ok(client) => client,
-            Err(why) => return self.missed(why),
+            Err(why) => return self.missed(rt, why),
         };
         let Some(number) = self.number_of_next() else {
             return Arrival::Over;
@@ -198,11 +208,11 @@ impl Entrance {
         Arrival::Client(number, client)
     }
 
-    /// Whether all connections were taken.
-    fn is_over(&self) -> bool {
+    /// Whether all connections were taken, or the backend is over.
+    fn is_over<R: Wait>(&self, rt: &R) -> bool {
         match self.door.connections {
-            None => false,
-            Some(most) => self.taken.load(Ordering::SeqCst) >= u64::from(most),
+            Some(most) if self.taken.load(Ordering::SeqCst) >= u64::from(most) => true,
+            _ => self.guests.is_over(rt),
         }
     }
 
@@ -218,11 +228,20 @@ impl Entrance {
         Some(number)
     }
 
-    /// Closes two listeners, so that the one on which nobody came wakes up.
+    /// Closes the listeners, so that one on which nobody came wakes up.
     fn close(&self) {
-        if let Some((first, second)) = &self.closers {
-            first.close();
-            second.close();
+        let (closer, other) = &self.closers;
+        closer.close();
+        if let Some(other) = other {
+            other.close();
+        }
+    }
+
+    /// Takes no more connections, and ends all that there are. A client that is sent away so finds nobody who listens.
+    fn end<R: Wait>(&self, rt: &R) {
+        if self.guests.let_nobody_in(rt) {
+            self.close();
+            self.guests.send_away(rt);
         }
     }
 
@@ -235,8 +254,8 @@ impl Entrance {
     }
 
     /// What came in where no connection could be accepted.
-    fn missed(&self, why: Error) -> Arrival {
-        if self.is_over() {
+    fn missed<R: Wait>(&self, rt: &R, why: Error) -> Arrival {
+        if self.is_over(rt) {
             return Arrival::Over;
         }
         match why.kind() {
@@ -284,6 +303,29 @@ struct TellerOf<'a, T> {
 impl<T: Trouble> Teller for TellerOf<'_, T> {
     fn tell(&self, line: u64, why: &Reason) {
         self.trouble.bad_line(self.number, line, why);
+    }
+}
+
+/// A connection's session and its end, in a thread of its own. Where the backend is over then, all others are ended too.
+fn attend<B: Backend<Handle = Closer>, R: Wait + Clock, T: Trouble>(
+    rt: &R,
+    number: u64,
+    client: Connection,
+    entrance: &Entrance,
+    trouble: &T,
+    backend: &B,
+)
+    requires fits { B.fits backend.now }
+{
+    // It is closed when all is done here: a session whose client sees that is counted no more.
+    let client = entrance.guests.let_in(rt, backend.alloc(), number, client);
+    if let Some(client) = &client {
+        welcome(rt, client, entrance.teller(trouble, number), backend);
+        entrance.guests.let_out(rt, number);
+    }
+    entrance.running.fetch_sub(1, Ordering::SeqCst);
+    if backend.is_over(rt) {
+        entrance.end(rt);
     }
 }
 
