@@ -167,12 +167,47 @@ pub(crate) fn header_of(
     let Some(places) = places_of(alloc, items_of(value, "places", locks))? else {
         return Ok(None);
     };
+    if !are_last_words(last.as_slice(), numbers.as_slice()) {
+        return Ok(None);
+    }
+    if epoch == 0 && !is_beginning(numbers.as_slice(), places.as_slice()) {
+        return Ok(None);
+    }
     Ok(Some(Header {
         epoch,
         last,
         numbers,
         places,
     }))
+}
+
+/// Whether each worker may have its last word, where they had so many numbers.
+fn are_last_words(words: &[LastWord], numbers: &[u64]) -> bool {
+    let mut worker: u32 = 0;
+    for (word, number) in words.iter().zip(numbers) {
+        if !is_last_word(worker, *word, *number) {
+            return false;
+        }
+        worker = worker.saturating_add(1);
+    }
+    true
+}
+
+/// Whether this may have become of a worker's last number, where it had so many: something became of each number, and a receipt
+/// is the worker's own, of its last one.
+fn is_last_word(worker: u32, word: LastWord, number: u64) -> bool {
+    match word {
+        LastWord::Nothing => number == 0,
+        LastWord::Withdrawn => number != 0,
+        LastWord::Receipt(receipt) => {
+            number != 0 && receipt.worker == worker && receipt.number == number
+        }
+    }
+}
+
+/// Whether no worker had a number and no lock a section, as before the first epoch.
+fn is_beginning(numbers: &[u64], places: &[i64]) -> bool {
+    numbers.iter().all(|number| *number == 0) && places.iter().all(|place| *place == 0)
 }
 
 /// The items of a member, a list of so many.
@@ -219,11 +254,17 @@ fn last_word_of(names: &Names, value: &Value) -> Option<LastWord> {
     }
     Some(LastWord::Receipt(KeptReceipt {
         worker: small(value.get("worker")?)?,
-        lock: lock_of(names, value)?,
+        lock: lock_in(names, value)?,
         number: whole(value.get("number")?)?,
         place: whole(value.get("place")?)?,
         reply: value.get("reply")?.as_u64()?,
     }))
+}
+
+/// The lock of a receipt, which has one of these names.
+fn lock_in(names: &Names, value: &Value) -> Option<u32> {
+    let lock = lock_of(names, value)?;
+    if lock < names.len() { Some(lock) } else { None }
 }
 
 /// A whole number that a number or a place may come to.

@@ -211,7 +211,7 @@ fn serve_command<'a>(alloc: Global) -> Result<Command<'a>, AllocError> {
         ),
         sized(
             "jobs",
-            "How many jobs each worker may make, 1 to 1000000; with --state all of them without it",
+            "How many jobs each worker may make, 1 to 1000000; with --state 10000 without it, after which FILE is renewed",
         ),
         Word {
             value: Value::Port,
@@ -239,6 +239,14 @@ fn serve_command<'a>(alloc: Global) -> Result<Command<'a>, AllocError> {
                 "sync",
                 Kind::Option("WHEN"),
                 "always: the disk has it before each answer; never, without it: the system has",
+            )
+        },
+        Word {
+            needs: &["state"],
+            ..counted(
+                "sections",
+                "N",
+                "FILE is renewed after so many finished jobs, 1 to 1000000; 100000 without it",
             )
         },
         Word {

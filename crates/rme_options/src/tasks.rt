@@ -105,6 +105,8 @@ pub struct KeepTask {
     pub workers: Option<u32>,
     pub cells: Option<u32>,
     pub jobs: Option<u32>,
+    /// After so many finished jobs a new file takes the place of the state's.
+    pub sections: u32,
     pub places: Places,
     /// So many sessions at a time.
     pub at_once: u32,

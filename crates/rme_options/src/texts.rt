@@ -251,11 +251,14 @@ service held is gone.
 With --state FILE it keeps what it did in FILE before it answers, and goes on from there when it is started
 again with the same words, however it ended. What is no longer so:
 
-  - it serves until it is killed; there are no closing lines and no --connections
-  - sizes and LOCKs may be left out: they are those of FILE, or 8 workers, 1 cell and 1000000 jobs
+  - it serves until it is killed, or ends with status 4 where it can't keep what it did; there are no closing
+    lines and no --connections
+  - sizes and LOCKs may be left out: they are those of FILE, or 8 workers, 1 cell and 10000 jobs
   - further lines, in any stance: {\"do\":\"owner\",\"lock\":NAME} and {\"do\":\"cells\",\"lock\":NAME}, as for
     `rme run`, and {\"do\":\"status\"}, all of it at once; `rme look FILE` prints the same of a file
   - --sync always: what is answered survives the machine too; without it it survives the process
+  - FILE is renewed when a worker has made its --jobs, and after --sections finished jobs of all: a new file with
+    what they came to takes its place. Clients see no difference: numbers and places go on, without end
 
 FILE is a first line and then lines of `rme run`: `tail -n +2 FILE | rme run` shows its state. A last piece
 without its newline is cut off at the start. A line that is none or is refused ends the start with `fault: bad
@@ -264,7 +267,7 @@ state` and its number, and leaves FILE as it was.
 Status: 0 after the closing lines, 1 with none of them where a worker was not given back, 2 for words that
 are refused (also 0 or more than 256 workers, 16 locks, 16 cells or 1000000 jobs, and a name that is none
 or stands twice; a socket that is listened on, and another file in its place; a FILE that another server
-has, that is no state, or that the words contradict), 3 where FILE can't be read, 4 where writing failed, 5 where memory ran out, 6 where it can't listen on the port or the socket. After
+has, that is no state, or that the words contradict), 3 where FILE can't be read, 4 where writing failed, FILE included, 5 where memory ran out, 6 where it can't listen on the port or the socket. After
 the closing lines it is 5, 6 or 7 where a connection found no memory, could not be accepted or had no thread."
 }
 

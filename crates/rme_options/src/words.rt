@@ -14,6 +14,9 @@ const USUAL_PORT: u16 = 7000;
 /// How many sessions a server runs at a time, where nothing else is asked for.
 const AT_ONCE: u32 = 1000;
 
+/// After how many finished jobs the file of a state is renewed, where nothing else is asked for.
+const USUAL_SECTIONS: u32 = 100_000;
+
 /// What the words ask for, the first of which is the program's own name.
 ///
 /// An error holds what is to be printed: help, the version or what is wrong; or its kind is `OutOfMemory`.
@@ -167,6 +170,7 @@ fn keep_task(alloc: Global, found: &ArgMatches<'_>, state: String) -> Result<Kee
         workers: found.get_one("workers"),
         cells: found.get_one("cells"),
         jobs: found.get_one("jobs"),
+        sections: found.get_one("sections").unwrap_or(USUAL_SECTIONS),
         places: places_of(alloc, found, USUAL_PORT)?,
         at_once: found.get_one("at-once").unwrap_or(AT_ONCE),
         idle: found.get_one("idle"),
