@@ -3,11 +3,12 @@
 use crate::hearing::listen;
 use crate::trouble::Complaints;
 use rme_desk::Desk;
+use rme_epochs::{Earlier, EpochDesk};
 use rme_faults::{BadArgument, Fault, shown, why_not_locks, why_not_sizes};
 use rme_journal::{Header, Started, push_falls, push_header, whole_lines};
 use rme_kept::{Kept, clients_of};
 use rme_options::{KeepTask, Remarks, Synced};
-use rme_server::{Closer, Door, serve};
+use rme_server::{Backend, Closer, Door, serve};
 use rme_state::{StateFile, make_state, read_state};
 use rme_texts::push_opening;
 use rme_wire::{GivenNames, Names};
@@ -23,7 +24,7 @@ const USUAL_WORKERS: u32 = 8;
 const USUAL_CELLS: u32 = 1;
 
 /// So many jobs each worker may make, where nothing else is asked for.
-const USUAL_JOBS: u32 = 1_000_000;
+const USUAL_JOBS: u32 = 10_000;
 
 /// The most workers of a state beside the keeper.
 const MOST_WORKERS: u32 = 255;
@@ -39,7 +40,8 @@ struct Asked {
     syncs: bool,
 }
 
-/// Serves a state until the process is killed, and makes it first where it is not there. It answers where it can't begin.
+/// Serves a state until the process is killed, and makes it first where it is not there. It answers where it can't begin,
+/// and where what was done can't be kept, which was told already.
 pub fn run_keep<R: Threads + Wait + Clock + Sync>(
     rt: &HostRuntime,
     threads: &R,
@@ -50,6 +52,7 @@ pub fn run_keep<R: Threads + Wait + Clock + Sync>(
         workers,
         cells,
         jobs,
+        sections,
         places,
         at_once,
         idle,
@@ -71,11 +74,14 @@ pub fn run_keep<R: Threads + Wait + Clock + Sync>(
         idle,
         tells_why: remarks == Remarks::Why,
     };
-    let kept = begin(rt, asked)?;
+    let kept = begin(rt, asked, sections)?;
     let (listeners, hearing) = listen(rt, places)?;
     hearing.print(rt)?;
     let served = serve(threads, listeners, door, &Complaints { rt }, &kept);
     hearing.clear(rt);
+    if kept.is_over(threads) {
+        return Ok(Fault::WriteFailed.status());
+    }
     match served {
         Ok(()) => Ok(0),
         Err(fault) => Err(Fault::of_serving(fault, hearing.text(rt.alloc())?)),
@@ -83,7 +89,11 @@ pub fn run_keep<R: Threads + Wait + Clock + Sync>(
 }
 
 /// The state that is asked for, where all workers are down.
-fn begin(rt: &HostRuntime, asked: Asked) -> Result<Kept<StateFile<'_>, Closer>, Fault> {
+fn begin(
+    rt: &HostRuntime,
+    asked: Asked,
+    sections: u32,
+) -> Result<Kept<StateFile<'_>, Closer>, Fault> {
     let mut file = open(rt, &asked)?;
     let bytes = file.bytes()?;
     let started = read_state(rt, asked.path.as_str(), bytes.as_slice())?;
@@ -103,8 +113,13 @@ fn begin(rt: &HostRuntime, asked: Asked) -> Result<Kept<StateFile<'_>, Closer>, 
         return Err(Fault::NoMemory);
     }
     file.write(falls.as_bytes())?;
+    let Some(earlier) = Earlier::of_header(rt.alloc(), &header)? else {
+        return Err(Fault::BadState(shown(rt.alloc(), asked.path.as_str())?, 1));
+    };
     let desk = Desk::new(rt.alloc(), world)?;
-    Ok(Kept::new(rt.alloc(), names, header.epoch, desk, file)?)
+    let length = whole.saturating_add(falls.len()) as u64;
+    let desk = EpochDesk::new(rt.alloc(), desk, earlier, header.epoch, length);
+    Ok(Kept::new(rt.alloc(), names, desk, sections, file)?)
 }
 
 /// The file of the state, which is made where it is not there.

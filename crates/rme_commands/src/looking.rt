@@ -1,10 +1,12 @@
 //! `rme look`: what a state's file says, whether a server has the file or not.
 
+use rme_epochs::{Earlier, Sections};
 use rme_faults::{BadArgument, Fault, shown};
 use rme_journal::{BadState, Progress, Started, start, whole_lines};
-use rme_kept::{Sections, clients_of, lock_status, push_row, push_status, worker_status};
+use rme_kept::{Told, clients_of, lock_status, push_row, push_status, worker_status};
 use rme_options::{Form, LookTask};
 use rme_texts::name_of;
+use rme_wire::Names;
 use std::alloc::AllocError;
 use std::io::{ErrorKind, Write};
 use std::{fs, io};
@@ -19,48 +21,13 @@ impl Progress for Silent {
 /// Prints what a state's file says, and answers the status.
 pub fn run_look(rt: &HostRuntime, task: LookTask) -> Result<u8, Fault> {
     let LookTask { state, form } = task;
-    if state.is_empty() {
-        return Err(Fault::BadArguments(BadArgument::NoFile("FILE")));
-    }
-    let bytes = match fs::read(rt, state.as_str()) {
-        Ok(bytes) => bytes,
-        Err(error) => {
-            let kind = error.kind();
-            let path = shown(rt.alloc(), state.as_str())?;
-            return Err(Fault::on_file(kind, Fault::StateUnread(path, error)));
-        }
-    };
+    let bytes = bytes_of(rt, state.as_str())?;
     let read = start(rt.alloc(), whole_lines(bytes.as_slice()), &Silent);
     let mut text = String::new(rt.alloc());
-    let status = match (read, form) {
-        (Err(BadState::NoMemory), _) => return Err(Fault::NoMemory),
-        (Err(BadState::Line(line)), Form::Check) => {
-            write!(text, "no {line}\n")?;
-            1
-        }
-        (Err(BadState::Line(line)), _) => {
-            let path = shown(rt.alloc(), state.as_str())?;
-            return Err(Fault::BadState(path, line));
-        }
-        (Ok(_), Form::Check) => {
-            text.push_str("yes\n")?;
-            0
-        }
-        (Ok(started), Form::Json) => {
-            let Started {
-                header,
-                names,
-                world,
-                ..
-            } = &started;
-            push_status(&mut text, names, header.epoch, world)?;
-            text.push_str("\n")?;
-            0
-        }
-        (Ok(started), Form::Text) => {
-            push_text(&mut text, &started)?;
-            0
-        }
+    let status = match form {
+        Form::Check => push_verdict(&mut text, &read)?,
+        Form::Json => push_json(&mut text, &started_of(rt, state.as_str(), read)?)?,
+        Form::Text => push_text(&mut text, &started_of(rt, state.as_str(), read)?)?,
     };
     match io::writer(rt).write_all(text.as_bytes()) {
         Ok(()) => Ok(status),
@@ -68,21 +35,87 @@ pub fn run_look(rt: &HostRuntime, task: LookTask) -> Result<u8, Fault> {
     }
 }
 
-/// Appends a line for the epoch, for each lock and for each worker.
-fn push_text(out: &mut String, started: &Started) -> Result<(), AllocError> {
-    let epoch = started.header.epoch;
-    write!(out, "epoch {epoch}\n")?;
-    push_locks(out, started)?;
-    push_workers(out, started)
+/// All bytes of the file.
+fn bytes_of(rt: &HostRuntime, path: &str) -> Result<Vec<u8>, Fault> {
+    if path.is_empty() {
+        return Err(Fault::BadArguments(BadArgument::NoFile("FILE")));
+    }
+    match fs::read(rt, path) {
+        Ok(bytes) => Ok(bytes),
+        Err(error) => {
+            let kind = error.kind();
+            let path = shown(rt.alloc(), path)?;
+            Err(Fault::on_file(kind, Fault::StateUnread(path, error)))
+        }
+    }
 }
 
-fn push_locks(out: &mut String, started: &Started) -> Result<(), AllocError> {
-    let sections = Sections::of(&started.world);
-    for lock in 0..started.names.len() {
-        let Some(status) = lock_status(&started.world, lock) else {
+/// What the file says, with what earlier epochs left.
+fn started_of(
+    rt: &HostRuntime,
+    path: &str,
+    read: Result<Started, BadState>,
+) -> Result<(Started, Earlier), Fault> {
+    let line = match read {
+        Ok(started) => match Earlier::of_header(rt.alloc(), &started.header)? {
+            Some(earlier) => return Ok((started, earlier)),
+            None => 1,
+        },
+        Err(BadState::NoMemory) => return Err(Fault::NoMemory),
+        Err(BadState::Line(line)) => line,
+    };
+    Err(Fault::BadState(shown(rt.alloc(), path)?, line))
+}
+
+/// Appends whether a start takes the file, or which of its lines it does not take, and answers the status.
+fn push_verdict(out: &mut String, read: &Result<Started, BadState>) -> Result<u8, Fault> {
+    match read {
+        Ok(_) => {
+            out.push_str("yes\n")?;
+            Ok(0)
+        }
+        Err(BadState::NoMemory) => Err(Fault::NoMemory),
+        Err(BadState::Line(line)) => {
+            write!(out, "no {line}\n")?;
+            Ok(1)
+        }
+    }
+}
+
+/// What the status is told of.
+fn told<'a>(started: &'a (Started, Earlier)) -> Told<'a> {
+    let (started, earlier) = started;
+    Told {
+        epoch: started.header.epoch,
+        world: &started.world,
+        earlier,
+    }
+}
+
+/// Appends what the order `status` answers, and answers the status of the process.
+fn push_json(out: &mut String, started: &(Started, Earlier)) -> Result<u8, AllocError> {
+    push_status(out, &started.0.names, &told(started))?;
+    out.push_str("\n")?;
+    Ok(0)
+}
+
+/// Appends a line for the epoch, for each lock and for each worker, and answers the status of the process.
+fn push_text(out: &mut String, started: &(Started, Earlier)) -> Result<u8, AllocError> {
+    let told = told(started);
+    let epoch = told.epoch;
+    write!(out, "epoch {epoch}\n")?;
+    push_locks(out, &started.0.names, &told)?;
+    push_workers(out, &started.0.names, &told)?;
+    Ok(0)
+}
+
+fn push_locks(out: &mut String, names: &Names, told: &Told<'_>) -> Result<(), AllocError> {
+    let sections = Sections::of(told.world);
+    for lock in 0..names.len() {
+        let Some(status) = lock_status(told, lock, &sections) else {
             continue;
         };
-        let name = name_of(&started.names, lock);
+        let name = name_of(names, lock);
         write!(out, "lock {name} owner ")?;
         match status.owner {
             Some(owner) => write!(out, "{owner}")?,
@@ -90,23 +123,23 @@ fn push_locks(out: &mut String, started: &Started) -> Result<(), AllocError> {
         }
         out.push_str(" cells ")?;
         push_row(out, &status.cells)?;
-        let count = sections.at(lock);
+        let count = status.sections;
         let unsettled = if status.settled { "" } else { " unsettled" };
         write!(out, "{unsettled} sections {count}\n")?;
     }
     Ok(())
 }
 
-fn push_workers(out: &mut String, started: &Started) -> Result<(), AllocError> {
-    for worker in 0..clients_of(&started.world) {
-        let Some(status) = worker_status(&started.world, worker) else {
+fn push_workers(out: &mut String, names: &Names, told: &Told<'_>) -> Result<(), AllocError> {
+    for worker in 0..clients_of(told.world) {
+        let Some(status) = worker_status(told, worker) else {
             continue;
         };
         let had = if status.attached { "attached" } else { "down" };
         let stance = status.stance.word();
         write!(out, "worker {worker} {had} {stance} ")?;
         if let Some(lock) = status.stance.lock() {
-            let name = name_of(&started.names, lock);
+            let name = name_of(names, lock);
             write!(out, "{name} ")?;
         }
         let number = status.number;

@@ -1,14 +1,15 @@
 //! The file of a kept world: what was written is read again, and what was not is refused.
 
 use rme_desk::{Desk, Stand};
+use rme_epochs::{Earlier, EpochDesk};
 use rme_journal::{BadState, Header, Progress, push_falls, push_header, start, whole_lines};
-use rme_kept::{Look, WrittenDesk, look_of, push_status};
+use rme_kept::{Look, Told, look_of, push_status};
 use rme_program::Receipt;
 use rme_script::{Job, Op, Script};
-use rme_session_lines::{Attachment, Order, Patience, Submission};
+use rme_session_lines::{Attachment, Order, Outcome, Patience, SessionReply, Submission};
 use rme_texts::push_opening;
 use rme_wire::Names;
-use rme_words::Shape;
+use rme_words::{NoMemory, Shape};
 use rme_world::World;
 use std::alloc::Global;
 use std::process::Abort;
@@ -42,27 +43,44 @@ fn after_one_job(
     alloc: Global,
     names: &Names,
     text: &mut String,
-) -> Result<(WrittenDesk, Stand), Fail> {
-    let world = World::new(alloc, Shape::new(2, 1, 1, 10)?)?;
+) -> Result<(EpochDesk, Stand), Fail> {
+    let shape = Shape::new(2, 1, 1, 10)?;
+    let world = World::new(alloc, shape)?;
     push_falls(text, alloc, names, &world)?;
-    let mut desk = WrittenDesk::new(alloc, Desk::new(alloc, world)?);
+    let earlier = Earlier::of_header(alloc, &Header::first(alloc, shape)?)?.ok_or(NoMemory)?;
+    let mut desk = EpochDesk::new(alloc, Desk::new(alloc, world)?, earlier, 0, 0);
     let mut stand = Stand::new(1);
     let attach = Order::Attach(Attachment {
         worker: 0,
         take: false,
     });
-    let submit = Order::Submit(Submission {
-        number: 1,
+    for order in [attach, submission(1)] {
+        let _ = desk.obey(alloc, names, &mut stand, &order)?;
+    }
+    Ok((desk, stand))
+}
+
+/// A job of this number, which adds 5 to the only cell.
+fn submission(number: u32) -> Order {
+    Order::Submit(Submission {
+        number,
         job: Job {
             lock: 0,
             script: Script::of(&[Op::Add(0, 5), Op::Get(0)]),
         },
         patience: Patience::Tries(1),
-    });
-    for order in [attach, submit] {
-        let _ = desk.obey(alloc, names, &mut stand, &order)?;
+    })
+}
+
+/// The receipt of the job of this number, behind so many others.
+fn receipt(number: u32, place: u32, reply: u64) -> Receipt {
+    Receipt {
+        worker: 0,
+        lock: 0,
+        number,
+        place,
+        reply,
     }
-    Ok((desk, stand))
 }
 
 /// What was written is read again, and leads to the same.
@@ -73,28 +91,52 @@ fn written_and_read(rt: HostRuntime) -> Result<(), Fail> {
     let mut text = beginning(alloc, &names, Shape::new(2, 1, 1, 10)?)?;
     let (mut desk, mut stand) = after_one_job(alloc, &names, &mut text)?;
     let end = desk.let_go(alloc, &names, &mut stand)?;
-    let (lines, taken) = desk.take_lines(String::new(alloc));
+    let (lines, taken) = desk.take_lines(String::new(alloc)).ok_or(NoMemory)?;
     assert!(&rt; end == taken && desk.end() == end);
     text.push_str(lines.as_str())?;
     let started = start(alloc, text.as_bytes(), &Silent)?;
-    let receipt = Receipt {
-        worker: 0,
-        lock: 0,
-        number: 1,
-        place: 0,
-        reply: 5,
-    };
     assert!(&rt; started.header.epoch == 0);
     assert!(&rt; started.names.number("bank") == Some(0));
-    assert!(&rt; started.world.last(0)? == Some(receipt));
+    assert!(&rt; started.world.last(0)? == Some(receipt(1, 0, 5)));
     assert!(&rt; started.world.known(0).is_none());
     let (row, settled) = started.world.cells(0)?;
     assert!(&rt; settled && row.len() == 1 && row.get(0) == 5);
     Ok(())
 }
 
-const STATUS: &str =
-    "{\"epoch\":0,\"locks\":[{\"cells\":[5],\"name\":\"bank\",\"owner\":null,\"sections\":1,\"settled\":true}],\"ok\":\"status\",\"workers\":[{\"attached\":true,\"number\":1,\"stance\":\"ready\"}]}";
+/// A new epoch begins where the one before was, and goes on with its numbers and places.
+#[test]
+fn renewed(rt: HostRuntime) -> Result<(), Fail> {
+    let alloc = rt.alloc();
+    let names = bank(alloc)?;
+    let mut text = String::new(alloc);
+    let (desk, mut stand) = after_one_job(alloc, &names, &mut text)?;
+    let renewed = desk.renewed(alloc, &names)?;
+    let mut after = renewed.desk;
+    assert!(&rt; after.epoch() == 1 && after.end() == desk.end());
+    assert!(&rt; after.bytes() == renewed.bytes.len() as u64);
+    assert!(&rt; after.sections() == 0 && !after.is_spent(Some(0)));
+    assert!(&rt; after.fallen_behind().is_none());
+    assert!(&rt;
+        start(alloc, renewed.bytes.as_bytes(), &Silent)?
+            .header
+            .numbers
+            .as_slice()
+            == [1u64].as_slice()
+    );
+    let told = after.obey(alloc, &names, &mut stand, &Order::Last)?;
+    assert!(&rt; told.reply == SessionReply::Last(Some(receipt(1, 0, 5))));
+    let again = after.obey(alloc, &names, &mut stand, &submission(1))?;
+    assert!(&rt; again.reply == SessionReply::Submitted(Outcome::Receipt(receipt(1, 0, 5))));
+    let next = after.obey(alloc, &names, &mut stand, &submission(2))?;
+    assert!(&rt; next.reply == SessionReply::Submitted(Outcome::Receipt(receipt(2, 1, 10))));
+    Ok(())
+}
+
+/// The status of a world after one job.
+fn status() -> &'static str {
+    "{\"epoch\":0,\"locks\":[{\"cells\":[5],\"name\":\"bank\",\"owner\":null,\"sections\":1,\"settled\":true}],\"ok\":\"status\",\"workers\":[{\"attached\":true,\"number\":1,\"stance\":\"ready\"}]}"
+}
 
 /// What is looked up, and what all of it is.
 #[test]
@@ -107,8 +149,8 @@ fn looked_up(rt: HostRuntime) -> Result<(), Fail> {
     let mut text = String::new(alloc);
     let (desk, _) = after_one_job(alloc, &names, &mut text)?;
     text.clear();
-    push_status(&mut text, &names, 0, desk.world())?;
-    assert!(&rt; text.as_str() == STATUS);
+    push_status(&mut text, &names, &Told::of(&desk))?;
+    assert!(&rt; text.as_str() == status());
     Ok(())
 }
 
@@ -129,11 +171,14 @@ fn is_refused_at(alloc: Global, lines: &str, number: u64) -> bool {
     }
 }
 
-const HEADER: &str =
-    "{\"epoch\":0,\"last\":[null],\"numbers\":[0],\"places\":[-3],\"rme\":\"kept\",\"version\":1}\n";
+/// A header behind one epoch, in which the keeper made three sections.
+fn header() -> &'static str {
+    "{\"epoch\":1,\"last\":[null],\"numbers\":[0],\"places\":[-3],\"rme\":\"kept\",\"version\":1}\n"
+}
 
-const OPENING: &str =
-    "{\"cells\":1,\"do\":\"open\",\"jobs\":10,\"locks\":[\"bank\"],\"workers\":2}\n";
+fn opening() -> &'static str {
+    "{\"cells\":1,\"do\":\"open\",\"jobs\":10,\"locks\":[\"bank\"],\"workers\":2}\n"
+}
 
 /// Lines that no file holds.
 #[test]
@@ -141,15 +186,15 @@ fn damaged(rt: HostRuntime) -> Result<(), Fail> {
     let alloc = rt.alloc();
     let refused = [
         ("", 1),
-        (OPENING, 1),
-        (HEADER, 2),
+        (opening(), 1),
+        (header(), 2),
         ("{\"do\":\"restart\",\"worker\":0}\n", 2),
         ("{\"do\":\"open\"}\n", 2),
     ];
     for (line, number) in refused {
         let mut lines = String::new(alloc);
         if number > 1 {
-            lines.push_str(HEADER)?;
+            lines.push_str(header())?;
         }
         lines.push_str(line)?;
         assert!(&rt; is_refused_at(alloc, lines.as_str(), number));
@@ -160,12 +205,12 @@ fn damaged(rt: HostRuntime) -> Result<(), Fail> {
         "{\"do\":\"save\"}\n",
         "{\"do\":\"restart\",\"worker\":2}\n",
         "\n",
-        OPENING,
+        opening(),
     ];
     for line in later {
         let mut lines = String::new(alloc);
-        lines.push_str(HEADER)?;
-        lines.push_str(OPENING)?;
+        lines.push_str(header())?;
+        lines.push_str(opening())?;
         lines.push_str(line)?;
         assert!(&rt; is_refused_at(alloc, lines.as_str(), 3));
     }

@@ -1,6 +1,6 @@
 -- Orders that are served try by try.
 use Rattle.std.proofs.Common.{◌≡◌, ℕ, List, suc, sym, subst}
-use Rattle.std.specs.Prelude.{IfErr, OnOk, Option, Result, Ok, Err, []}
+use Rattle.std.specs.Prelude.{IfErr, IfOk, OnOk, Option, Result, Ok, Err, []}
 use Rattle.rme_lines.proofs.PutLemmas.{gathers_none}
 use Rattle.rme_lines.specs.Puts.{Gathers}
 use Rattle.rme_lines.specs.Traffic.{Event}
@@ -8,11 +8,21 @@ use Rattle.rme_lines.specs.declared.fault.EngineFault.{EngineFault}
 use Rattle.rme_lines.specs.declared.fault.EngineFault.TheVariants.{NoMemory}
 use Rattle.rme_server.specs.Sessions.{Breaks}
 use Rattle.rme_orders.specs.Sessions.{session_line}
+use Rattle.rme_desk.specs.Offices.{Office}
 use Rattle.rme_desk.specs.declared.desk.Stand.{Stand}
+use Rattle.rme_epochs.specs.Epochs.{ObeysOver}
+use Rattle.rme_epochs.specs.declared.earlier.Earlier.{Earlier}
+use Rattle.rme_epochs.specs.declared.written.Acted.{Acted}
+use Rattle.rme_epochs.specs.declared.written.Lost.{Lost}
 use Rattle.rme_orders.specs.Parts.{answer_as, once_more}
 use Rattle.rme_session_lines.specs.declared.order.Order.{Order}
 use Rattle.rme_session_lines.specs.declared.session.SessionReply.{SessionReply}
 use Rattle.rme_kept.specs.Serving.{AnswersTo, CanGoOn, Extends, Served, ServesOrder, Tries}
+
+-- An order that was obeyed in some epoch was tried.
+pub tries_by : (result : Result Acted Lost) (earlier : Earlier) (before after : Office) (old now : Stand) (its : Order) → IfOk result (λ acted. ObeysOver earlier before old its after now acted.reply) → IfOk result (λ acted. Tries old its now acted.reply)
+tries_by (Ok acted) earlier before after old now its obeys = record { earlier = earlier; before = before; after = after; obeys = obeys }
+tries_by (Err why) earlier before after old now its obeys = tt
 
 pub served_once : (old : Stand) (its : Order) (now : Stand) (answer : SessionReply) → Tries old its now answer → Served old its now answer
 served_once old its now answer tries = (0, tries)

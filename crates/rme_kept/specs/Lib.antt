@@ -1,3 +1,2 @@
--- What a desk and its lines come to; how an order of a session is answered, and a line.
-pub mod Records
+-- How an order of a session is answered, and a line.
 pub mod Serving

@@ -1,11 +1,11 @@
 -- How the lines of a session over a kept world are answered.
 use Rattle.std.specs.Prelude.{◌≡◌, ◌⊎◌, ℕ, zero, suc, nat_le, Bool, true, false, List, Option, Some, None, Result, Ok, Err}
-use Rattle.rme_desk.specs.Desks.{view_of}
 use Rattle.rme_desk.specs.Offices.{Office}
 use Rattle.rme_desk.specs.declared.desk.Stand.{Stand}
 use Rattle.rme_lines.specs.Pieces.{InputLine}
-use Rattle.rme_orders.specs.Obeyed.{Obeys}
-use Rattle.rme_orders.specs.Parts.{answer_as, once_more, still_waits, with_tries}
+use Rattle.rme_epochs.specs.Epochs.{ObeysOver}
+use Rattle.rme_epochs.specs.declared.earlier.Earlier.{Earlier}
+use Rattle.rme_orders.specs.Parts.{answer_as, once_more, still_waits}
 use Rattle.rme_orders.specs.Sessions.{session_line}
 use Rattle.rme_orders.specs.declared.planned.Planned.TheVariants.{Nothing}
 use Rattle.rme_server.specs.Sessions.{asked_by}
@@ -16,11 +16,13 @@ use Rattle.rme_session_lines.specs.declared.session.SessionReply.TheVariants.{Re
 use Rattle.rme_words.specs.declared.refusal.Refusal.{Refusal}
 use Rattle.rme_words.specs.declared.refusal.Refusal.TheVariants.{BadLine, NoWorker, Taken}
 
--- One try: between two moments of the desk, at which no other session does anything, the session obeyed the order with it.
+-- One try: in some epoch, between two moments of the desk, at which no other session does anything, the session obeyed the
+-- order with it, as its client sees it over all epochs.
 pub record Tries (old : Stand) (its : Order) (now : Stand) (answer : SessionReply) : Type 0 where
+  pub earlier : Earlier
   pub before : Office
   pub after : Office
-  pub obeys : Obeys before.world.shape (view_of before old) (with_tries 1 its) (view_of after now) answer
+  pub obeys : ObeysOver earlier before old its after now answer
 
 -- An order that was answered so is gone on with: its job waits, or another session has the worker that it would take over.
 abbrev pub CanGoOn : SessionReply → Type 0
@@ -44,8 +46,9 @@ abbrev pub is_keepers : ℕ → Order → Bool
 is_keepers clients (Attach asked) = nat_le clients asked.worker
 is_keepers clients its = false
 
+-- Who asks for the keeper is refused as if there were no such worker.
 abbrev pub ServesOrder : ℕ → Stand → Order → Stand → SessionReply → Type 0
-ServesOrder clients old its now answer = ((answer ≡ Refused NoWorker) × (now ≡ old)) ⊎ Served old its now answer
+ServesOrder clients old its now answer = ((is_keepers clients its ≡ true) × (answer ≡ Refused NoWorker) × (now ≡ old)) ⊎ Served old its now answer
 
 -- A session has no worker before its first line.
 abbrev pub IsBegun : Option Stand → Stand → Type 0

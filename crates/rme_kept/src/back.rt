@@ -6,6 +6,11 @@ pub trait Ledger: Drop {
     /// becomes of the process. After an error nothing more is kept.
     fn keep(&mut self, lines: &[u8]) -> Result<(), NotKept>;
 
+    /// Puts these bytes in the place of all that is kept: whoever starts from there reads either all that was kept before or these
+    /// bytes, whatever becomes of the process or the machine. After an error what was kept before is still kept, and lines can
+    /// still be kept behind it.
+    fn replace(&mut self, bytes: &[u8]) -> Result<(), NotKept>;
+
     /// Some of what was done could not be written as lines.
     fn lose(&mut self);
 }
@@ -23,6 +28,4 @@ pub(crate) struct Back<L> {
     pub(crate) spare: String,
     /// How many bytes of lines are kept.
     pub(crate) kept: u64,
-    /// Whether it has failed.
-    pub(crate) is_broken: bool,
 }

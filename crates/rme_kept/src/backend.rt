@@ -4,8 +4,8 @@ use crate::back::Ledger;
 use crate::kept::Kept;
 use crate::look::{Look, look_of};
 use crate::waiting::goes_on;
-use crate::written::Acted;
 use rme_desk::Stand;
+use rme_epochs::Acted;
 use rme_server::{Backend, Buffers, Client, Reach};
 use rme_session_lines::{Order, SessionReply};
 use rme_wire::{Cut, EngineFault, Names, Sink};
@@ -39,6 +39,11 @@ impl<L: Ledger, H: Reach> Backend for Kept<L, H> {
 
     fn names(&self) -> &Names {
         &self.names
+    }
+
+    /// Once some of what was done could not be kept.
+    fn is_over<R: Wait>(&self, _rt: &R) -> bool {
+        self.is_broken()
     }
 
     fn begin(&self) -> Option<Stand> {

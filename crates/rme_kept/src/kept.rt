@@ -2,16 +2,17 @@
 
 use crate::back::{Back, Ledger, NotKept};
 use crate::look::{Look, push_cells, push_owner};
-use crate::status::{clients_of, push_status};
-use crate::written::{Acted, Lost, WrittenDesk};
-use rme_desk::{Desk, Stand};
+use crate::renewing::Due;
+use crate::status::{Told, clients_of, push_status};
+use rme_desk::Stand;
+use rme_epochs::{Acted, EpochDesk, Lost};
 use rme_server::{Client, Hall, Reach, note};
-use rme_session_lines::Order;
+use rme_session_lines::{Order, SessionReply};
 use rme_wire::Names;
-use rme_words::NoMemory;
+use rme_words::{NoMemory, Refusal};
 use std::alloc::{AllocError, Global};
 use std::mem::replace;
-use std::sync::atomic::{AtomicU64, Ordering};
+use std::sync::atomic::{AtomicBool, AtomicU64, Ordering};
 use std::sync::{Condvar, Mutex, Wait};
 
 /// A world that sessions share, and the ledger in which what was done to it is kept.
@@ -19,12 +20,14 @@ use std::sync::{Condvar, Mutex, Wait};
 pub struct Kept<L: Ledger, H: Reach> {
     pub(crate) alloc: Global,
     pub(crate) names: Names,
-    epoch: u64,
     /// How many workers sessions may have.
     clients: u32,
     hall: Hall<H>,
-    front: Mutex<WrittenDesk>,
+    pub(crate) due: Due,
+    pub(crate) front: Mutex<EpochDesk>,
     back: Mutex<Back<L>>,
+    /// Whether some of what was done could not be kept. It is set under the lock of `back`.
+    is_broken: AtomicBool,
     /// Lines were written, or could not be.
     written: Condvar,
     /// How many sessions began.
@@ -35,28 +38,29 @@ impl<L: Ledger, H: Reach> Kept<L, H> {
     ghost use Rattle.std.specs.Prelude.{◌≡◌, IfOk, None, true};
     ghost use Rattle.rme_kept.specs.Serving.{IsBegun, Tries, is_keepers};
 
-    /// A desk over a world, of which all is kept in the ledger, and the names of its locks.
+    /// A desk of which all is kept in the ledger, and the names of its locks. A new epoch begins once so many sections are
+    /// finished in one, and once a worker has made all jobs of one.
     pub fn new(
         alloc: Global,
         names: Names,
-        epoch: u64,
-        desk: Desk,
+        desk: EpochDesk,
+        sections: u32,
         ledger: L,
     ) -> Result<Kept<L, H>, NoMemory> {
-        let hall = Hall::new(alloc, desk.world().shape())?;
+        let hall = Hall::new(alloc, desk.desk().world().shape())?;
         Ok(Kept {
             alloc,
             names,
-            epoch,
-            clients: clients_of(desk.world()),
+            clients: clients_of(desk.desk().world()),
             hall,
-            front: Mutex::new(WrittenDesk::new(alloc, desk)),
+            due: Due::after(sections),
+            front: Mutex::new(desk),
             back: Mutex::new(Back {
                 ledger: Some(ledger),
                 spare: String::new(alloc),
                 kept: 0,
-                is_broken: false,
             }),
+            is_broken: AtomicBool::new(false),
             written: Condvar::new(),
             sessions: AtomicU64::new(0),
         })
@@ -84,8 +88,31 @@ impl<L: Ledger, H: Reach> Kept<L, H> {
         Stand::new(self.sessions.fetch_add(1, Ordering::SeqCst))
     }
 
-    /// Obeys an order with one try, and notes who has the worker then, whom nobody else can reach meanwhile.
+    /// Obeys an order with one try. A new epoch begins before it where one is due, and where the worker has made all jobs of
+    /// this one.
     pub(crate) fn obey_once<R: Wait, C: Client<Handle = H>>(
+        &self,
+        rt: &R,
+        stand: &mut Stand,
+        order: &Order,
+        client: &C,
+    ) -> Result<Acted, Lost>
+        ensures { IfOk result (λ acted. Tries stand.old order.now stand.new acted.reply) }
+    {
+        if self.due.is_long() {
+            self.renew(rt, None);
+        }
+        let mut tried = *stand;
+        let acted = self.obey_now(rt, &mut tried, order, client);
+        if is_spent(&acted) && self.renew(rt, stand.worker) {
+            return self.obey_now(rt, stand, order, client);
+        }
+        *stand = tried;
+        acted
+    }
+
+    /// Obeys an order in this epoch, and notes who has the worker then, whom nobody else can reach meanwhile.
+    fn obey_now<R: Wait, C: Client<Handle = H>>(
         &self,
         rt: &R,
         stand: &mut Stand,
@@ -96,14 +123,21 @@ impl<L: Ledger, H: Reach> Kept<L, H> {
     {
         let had = stand.worker.is_some();
         let seat = self.hall.seat(rt, asked_of(stand, order));
-        let acted = self
-            .front
-            .lock(rt)
-            .obey(self.alloc, &self.names, stand, order);
+        let acted = self.act(rt, stand, order);
         note(seat, client, had, stand.worker.is_some());
         if let Ok(acted) = acted {
             self.hall.ring_for(rt, acted.reply);
         }
+        acted
+    }
+
+    /// Obeys an order in this epoch.
+    fn act<R: Wait>(&self, rt: &R, stand: &mut Stand, order: &Order) -> Result<Acted, Lost>
+        ensures { IfOk result (λ acted. Tries stand.old order.now stand.new acted.reply) }
+    {
+        let mut front = self.front.lock(rt);
+        let acted = front.obey(self.alloc, &self.names, stand, order);
+        self.due.see(&front);
         acted
     }
 
@@ -130,50 +164,92 @@ impl<L: Ledger, H: Reach> Kept<L, H> {
     pub(crate) fn keep<R: Wait>(&self, rt: &R, end: u64) -> Result<(), NotKept> {
         let mut back = self.back.lock(rt);
         for _ in rt.forever() {
+            if self.is_broken() {
+                return Err(NotKept);
+            }
             if back.kept >= end {
                 return Ok(());
             }
             if let Some(ledger) = back.ledger.take() {
                 let spare = replace(&mut back.spare, String::new(self.alloc));
                 drop(back);
-                return self.write(rt, ledger, spare);
+                self.write(rt, ledger, spare);
+                back = self.back.lock(rt);
+            } else {
+                back = self.written.wait(rt, back);
             }
-            if back.is_broken {
-                return Err(NotKept);
+        }
+        unreachable!()
+    }
+
+    /// Writes all lines so far, and gives the ledger back.
+    fn write<R: Wait>(&self, rt: &R, ledger: L, spare: String) {
+        let mut ledger = ledger;
+        let taken = self.front.lock(rt).take_lines(spare);
+        let Some((mut lines, end)) = taken else {
+            ledger.lose();
+            return self.lose(rt);
+        };
+        let kept = ledger.keep(lines.as_bytes());
+        lines.clear();
+        self.give_back(rt, ledger, lines, kept.map(|()| end));
+    }
+
+    /// Takes the ledger, once nobody else has it; `None` once lines could not be kept.
+    pub(crate) fn take_ledger<R: Wait>(&self, rt: &R) -> Option<(L, String)> {
+        let mut back = self.back.lock(rt);
+        for _ in rt.forever() {
+            if self.is_broken() {
+                return None;
+            }
+            if let Some(ledger) = back.ledger.take() {
+                let spare = replace(&mut back.spare, String::new(self.alloc));
+                return Some((ledger, spare));
             }
             back = self.written.wait(rt, back);
         }
         unreachable!()
     }
 
-    /// Writes all lines so far.
-    fn write<R: Wait>(&self, rt: &R, ledger: L, spare: String) -> Result<(), NotKept> {
+    /// Gives the ledger back, in which so many bytes of lines are kept then, and an empty text; or says that they could not be.
+    pub(crate) fn give_back<R: Wait>(
+        &self,
+        rt: &R,
+        ledger: L,
+        spare: String,
+        kept: Result<u64, NotKept>,
+    ) {
         let mut ledger = ledger;
-        let (mut lines, end) = self.front.lock(rt).take_lines(spare);
-        let kept = ledger.keep(lines.as_bytes());
-        lines.clear();
         let mut back = self.back.lock(rt);
-        back.spare = lines;
+        back.spare = spare;
         match kept {
-            Ok(()) => {
+            // Meanwhile something was done that could not be written.
+            Ok(_) if self.is_broken() => ledger.lose(),
+            Ok(end) => {
                 back.kept = end;
                 back.ledger = Some(ledger);
             }
-            Err(_) => back.is_broken = true,
+            Err(_) => self.is_broken.store(true, Ordering::SeqCst),
         }
         drop(back);
         self.written.notify_all();
-        kept
     }
 
     /// What was done can't be written any more.
     pub(crate) fn lose<R: Wait>(&self, rt: &R) {
         let mut back = self.back.lock(rt);
-        back.is_broken = true;
+        self.is_broken.store(true, Ordering::SeqCst);
         if let Some(ledger) = &mut back.ledger {
             ledger.lose();
         }
         back.ledger = None;
+        drop(back);
+        self.written.notify_all();
+    }
+
+    /// Whether some of what was done could not be kept. Then nothing more is.
+    pub(crate) fn is_broken(&self) -> bool {
+        self.is_broken.load(Ordering::SeqCst)
     }
 
     /// Appends what is looked up, and answers where the lines end that tell of it.
@@ -184,12 +260,21 @@ impl<L: Ledger, H: Reach> Kept<L, H> {
         out: &mut String,
     ) -> Result<u64, AllocError> {
         let front = self.front.lock(rt);
+        let world = front.desk().world();
         match look {
-            Look::Owner(lock) => push_owner(out, &self.names, front.world(), lock)?,
-            Look::Cells(lock) => push_cells(out, &self.names, front.world(), lock)?,
-            Look::Status => push_status(out, &self.names, self.epoch, front.world())?,
+            Look::Owner(lock) => push_owner(out, &self.names, world, lock)?,
+            Look::Cells(lock) => push_cells(out, &self.names, world, lock)?,
+            Look::Status => push_status(out, &self.names, &Told::of(&front))?,
         }
         Ok(front.end())
+    }
+}
+
+/// Whether a job was refused since its worker has made all jobs of the epoch.
+fn is_spent(acted: &Result<Acted, Lost>) -> bool {
+    match acted {
+        Ok(acted) => acted.reply == SessionReply::Refused(Refusal::TooManyJobs),
+        Err(_) => false,
     }
 }
 

@@ -2,10 +2,10 @@
 
 ghost use Rattle.std.specs.Prelude.{◌<◌};
 
+use rme_epochs::{Earlier, EpochDesk, Sections};
 use rme_script::Row;
 use rme_texts::name_of;
 use rme_wire::Names;
-use rme_words::MOST_LOCKS;
 use rme_world::World;
 use std::alloc::AllocError;
 
@@ -55,29 +55,27 @@ pub struct LockStatus {
     /// Whether no section is begun and not finished.
     pub settled: bool,
     pub owner: Option<u32>,
+    /// How many sections are finished, over all epochs.
+    pub sections: u64,
 }
 
-/// How many sections of each lock are finished.
+/// A world, and what earlier epochs left, of which the status is told.
 #[derive(Clone, Copy)]
-pub struct Sections {
-    counts: [u64; MOST_LOCKS as usize],
+pub struct Told<'a> {
+    /// How many epochs were before.
+    pub epoch: u64,
+    pub world: &'a World,
+    pub earlier: &'a Earlier,
 }
 
-impl Sections {
-    /// Those of a world.
-    pub fn of(world: &World) -> Sections {
-        let mut counts = [0u64; MOST_LOCKS as usize];
-        for entry in world.history() {
-            if let Some(count) = counts.get_mut(entry.receipt.lock as usize) {
-                *count = count.saturating_add(1);
-            }
+impl<'a> Told<'a> {
+    /// What a desk over epochs is at.
+    pub fn of(desk: &'a EpochDesk) -> Told<'a> {
+        Told {
+            epoch: desk.epoch(),
+            world: desk.desk().world(),
+            earlier: desk.earlier(),
         }
-        Sections { counts }
-    }
-
-    /// Those of a lock.
-    pub fn at(&self, lock: u32) -> u64 {
-        self.counts.get(lock as usize).copied().unwrap_or(0)
     }
 }
 
@@ -86,25 +84,28 @@ pub fn clients_of(world: &World) -> u32 {
     world.shape().workers().saturating_sub(1)
 }
 
-/// What a lock of a world is at, if it has the lock.
-pub fn lock_status(world: &World, lock: u32) -> Option<LockStatus> {
-    let (cells, settled) = world.cells(lock).ok()?;
+/// What a lock is at, if the world has it and has finished so many sections of it.
+pub fn lock_status(told: &Told<'_>, lock: u32, sections: &Sections) -> Option<LockStatus> {
+    let (cells, settled) = told.world.cells(lock).ok()?;
+    let before = told.earlier.places_before(lock, sections.at(lock))?;
     Some(LockStatus {
         cells,
         settled,
-        owner: world.owner(lock).ok()?,
+        owner: told.world.owner(lock).ok()?,
+        sections: u64::from(before),
     })
 }
 
-/// What a worker of a world is at, if it has the worker.
-pub fn worker_status(world: &World, worker: u32) -> Option<WorkerStatus> {
-    if worker >= world.shape().workers() {
+/// What a worker is at, if the world has it.
+pub fn worker_status(told: &Told<'_>, worker: u32) -> Option<WorkerStatus> {
+    if worker >= told.world.shape().workers() {
         return None;
     }
+    let before = u64::from(told.earlier.past(worker).numbers);
     Some(WorkerStatus {
-        attached: world.known(worker).is_some(),
-        number: world.number(worker),
-        stance: stance_of(world, worker),
+        attached: told.world.known(worker).is_some(),
+        number: before.saturating_add(told.world.number(worker)),
+        stance: stance_of(told.world, worker),
     })
 }
 
@@ -120,40 +121,32 @@ fn stance_of(world: &World, worker: u32) -> Stance
     }
 }
 
-/// Appends the answer to the order `status` in an epoch, without a newline.
-pub fn push_status(
-    out: &mut String,
-    names: &Names,
-    epoch: u64,
-    world: &World,
-) -> Result<(), AllocError> {
+/// Appends the answer to the order `status`, without a newline.
+pub fn push_status(out: &mut String, names: &Names, told: &Told<'_>) -> Result<(), AllocError> {
+    let epoch = told.epoch;
     write!(out, "{{\"epoch\":{epoch},\"locks\":[")?;
-    push_locks(out, names, world)?;
+    push_locks(out, names, told)?;
     out.push_str("],\"ok\":\"status\",\"workers\":[")?;
-    push_workers(out, names, world)?;
+    push_workers(out, names, told)?;
     out.push_str("]}")
 }
 
-fn push_locks(out: &mut String, names: &Names, world: &World) -> Result<(), AllocError> {
-    let sections = Sections::of(world);
+fn push_locks(out: &mut String, names: &Names, told: &Told<'_>) -> Result<(), AllocError> {
+    let sections = Sections::of(told.world);
     let mut comma = "";
     for lock in 0..names.len() {
-        if let Some(status) = lock_status(world, lock) {
+        if let Some(status) = lock_status(told, lock, &sections) {
             out.push_str(comma)?;
-            push_lock(out, name_of(names, lock), &status, sections.at(lock))?;
+            push_lock(out, name_of(names, lock), &status)?;
             comma = ",";
         }
     }
     Ok(())
 }
 
-fn push_lock(
-    out: &mut String,
-    name: &str,
-    status: &LockStatus,
-    sections: u64,
-) -> Result<(), AllocError> {
+fn push_lock(out: &mut String, name: &str, status: &LockStatus) -> Result<(), AllocError> {
     let settled = status.settled;
+    let sections = status.sections;
     out.push_str("{\"cells\":[")?;
     push_row(out, &status.cells)?;
     write!(out, "],\"name\":\"{name}\",\"owner\":")?;
@@ -175,10 +168,10 @@ pub fn push_row(out: &mut String, row: &Row) -> Result<(), AllocError> {
     Ok(())
 }
 
-fn push_workers(out: &mut String, names: &Names, world: &World) -> Result<(), AllocError> {
+fn push_workers(out: &mut String, names: &Names, told: &Told<'_>) -> Result<(), AllocError> {
     let mut comma = "";
-    for worker in 0..clients_of(world) {
-        if let Some(status) = worker_status(world, worker) {
+    for worker in 0..clients_of(told.world) {
+        if let Some(status) = worker_status(told, worker) {
             out.push_str(comma)?;
             push_worker(out, names, status)?;
             comma = ",";

@@ -7,8 +7,8 @@ ghost use Rattle.rme_words.specs.declared.refusal.Refusal.TheVariants.{Taken};
 
 use crate::back::Ledger;
 use crate::kept::Kept;
-use crate::written::{Acted, Lost};
 use rme_desk::Stand;
+use rme_epochs::{Acted, Lost};
 use rme_orders::{answer_as, once_more, patience_of, still_waits};
 use rme_server::{Client, LONGEST, Pauses, Reach};
 use rme_session_lines::{Attachment, Order, Patience, SessionReply};
@@ -43,7 +43,8 @@ impl<L: Ledger, H: Reach> Kept<L, H> {
         }
     }
 
-    /// Obeys an order with one try. What can't be written down ends the server.
+    /// Obeys an order with one try. What can't be written down ends the server; nothing is obeyed after that, so that nobody
+    /// waits in vain.
     pub(crate) fn obey_or_end<R: Wait, C: Client<Handle = H>>(
         &self,
         rt: &R,
@@ -53,6 +54,9 @@ impl<L: Ledger, H: Reach> Kept<L, H> {
     ) -> Result<Acted, NoMemory>
         ensures { IfOk result (λ acted. Tries stand.old order.now stand.new acted.reply) }
     {
+        if self.is_broken() {
+            return Err(NoMemory);
+        }
         match self.obey_once(rt, stand, order, client) {
             Ok(acted) => Ok(acted),
             Err(Lost::NoMemory) => Err(NoMemory),

@@ -1,11 +1,15 @@
 //! A file that one server has, to which lines are appended.
 
-use crate::making::put_new;
+use crate::making::{put_new, sync_folder};
+use crate::replacing::{Replaced, clear_beside, is_named, put_in_place};
 use rme_faults::{BadArgument, Fault, shown};
 use rme_kept::{Ledger, NotKept};
 use std::fs::{File, OpenOptions, TryLockError};
 use std::io::{ErrorKind, Read, Write};
 use std::{fs, io};
+
+/// So often a file is opened again that lost its name to another.
+const TURNS: u32 = 10;
 
 /// A state's file, which no other server has while this value is there. Its lines are appended.
 ///
@@ -18,6 +22,18 @@ pub struct StateFile<'a> {
     file: File,
     /// Whether the disk is waited for.
     syncs: bool,
+    /// Whether the disk may not have the file under its name, and after a stop of the machine one that was there before.
+    is_unsure: bool,
+}
+
+/// What became of one try to have a file.
+#[derive(Drop)]
+enum Opened {
+    /// It is there, and locked.
+    Had(File),
+    NotThere,
+    /// It had lost its name to another before it was locked.
+    Replaced,
 }
 
 /// Makes the file with these bytes, where nothing is under its name yet: beside it first, with the disk, and then in its place.
@@ -33,40 +49,33 @@ pub fn make_state(rt: &HostRuntime, path: &str, bytes: &[u8]) -> Result<(), Faul
 impl<'a> StateFile<'a> {
     /// Opens the file for this server alone; `None` where it is not there. What is no regular file is refused, as is a file that
     /// another server has.
+    ///
+    /// A server puts new files in the place of its own, and each is locked before it has the name. So who opens one just before
+    /// it is replaced, and has its lock once the server has let it go, has a file that nobody finds again: it is let go, and
+    /// opened again.
     pub fn open(
         rt: &'a HostRuntime,
         path: &str,
         syncs: bool,
     ) -> Result<Option<StateFile<'a>>, Fault> {
-        match fs::symlink_metadata(rt, path) {
-            Err(error) if error.kind() == ErrorKind::NotFound => return Ok(None),
-            Err(error) => return Err(unread(rt, path, error)?),
-            Ok(found) if !found.is_file() => {
-                let path = shown(rt.alloc(), path)?;
-                return Err(Fault::BadArguments(BadArgument::NoState(path)));
+        for _ in 0..TURNS {
+            match open_once(rt, path)? {
+                Opened::NotThere => return Ok(None),
+                Opened::Replaced => {}
+                Opened::Had(file) => {
+                    settle(rt, path, syncs)?;
+                    return Ok(Some(StateFile {
+                        rt,
+                        path: String::from_str(rt.alloc(), path)?,
+                        file,
+                        syncs,
+                        is_unsure: false,
+                    }));
+                }
             }
-            Ok(_) => {}
         }
-        let mut options = OpenOptions::new();
-        options.read(true).append(true);
-        let file = match options.open(rt, path) {
-            Ok(file) => file,
-            Err(error) => return Err(unread(rt, path, error)?),
-        };
-        match file.try_lock() {
-            Ok(()) => {}
-            Err(TryLockError::WouldBlock) => {
-                let path = shown(rt.alloc(), path)?;
-                return Err(Fault::BadArguments(BadArgument::StateServed(path)));
-            }
-            Err(TryLockError::Error(error)) => return Err(unread(rt, path, error)?),
-        }
-        Ok(Some(StateFile {
-            rt,
-            path: String::from_str(rt.alloc(), path)?,
-            file,
-            syncs,
-        }))
+        // Who replaces it so often has it.
+        Err(served(rt, path)?)
     }
 
     /// All bytes of the file.
@@ -96,6 +105,9 @@ impl<'a> StateFile<'a> {
 
     /// Appends lines, and waits for the disk where that is asked for.
     fn append(&mut self, lines: &[u8]) -> io::Result<()> {
+        if self.syncs && self.is_unsure {
+            return Err(io::Error::new(ErrorKind::Other, "the disk may not have its name"));
+        }
         self.file.write_all(lines)?;
         if self.syncs {
             self.file.sync_data()?;
@@ -103,9 +115,66 @@ impl<'a> StateFile<'a> {
         Ok(())
     }
 
+    /// Puts a file with these bytes in the place of this one, and goes on with it. After an error this one is as it was.
+    ///
+    /// Where the new file has the name, and the disk says that it could not take it, that is told on the standard error and is
+    /// no error: whoever starts reads these bytes, or, after a stop of the machine, maybe what was there before. Nothing is lost
+    /// by that, but lines behind these bytes would be, so that where the disk is waited for none can be kept any more.
+    pub fn replace(&mut self, bytes: &[u8]) -> io::Result<()> {
+        let Replaced { file, unsure } = put_in_place(
+            self.rt,
+            self.path.as_str(),
+            &self.file,
+            bytes,
+        )?;
+        self.file = file;
+        self.is_unsure = unsure.is_some();
+        if let Some(why) = unsure {
+            self.tell_unrenewed("has its name, and the disk may not have it", &why);
+        }
+        Ok(())
+    }
+
     /// Says on the standard error what went wrong.
     fn tell(&self, fault: &Fault) {
         let _ = eprintln!(self.rt; "fault: {fault}");
+    }
+
+    /// Says on the standard error what became of a file that was to take this one's place.
+    fn tell_unrenewed(&self, what: &str, why: &io::Error) {
+        let Ok(path) = shown(self.rt.alloc(), self.path.as_str()) else {
+            return;
+        };
+        let _ = eprintln!(self.rt; "rme: the new state {path} {what}: {why}");
+    }
+}
+
+/// Tries to have the file under a name for this server alone.
+fn open_once(rt: &HostRuntime, path: &str) -> Result<Opened, Fault> {
+    match fs::symlink_metadata(rt, path) {
+        Err(error) if error.kind() == ErrorKind::NotFound => return Ok(Opened::NotThere),
+        Err(error) => return Err(unread(rt, path, error)?),
+        Ok(found) if !found.is_file() => {
+            let path = shown(rt.alloc(), path)?;
+            return Err(Fault::BadArguments(BadArgument::NoState(path)));
+        }
+        Ok(_) => {}
+    }
+    let mut options = OpenOptions::new();
+    options.read(true).append(true);
+    let file = match options.open(rt, path) {
+        Ok(file) => file,
+        Err(error) => return Err(unread(rt, path, error)?),
+    };
+    match file.try_lock() {
+        Ok(()) => {}
+        Err(TryLockError::WouldBlock) => return Err(served(rt, path)?),
+        Err(TryLockError::Error(error)) => return Err(unread(rt, path, error)?),
+    }
+    match is_named(rt, path, &file) {
+        Ok(true) => Ok(Opened::Had(file)),
+        Ok(false) => Ok(Opened::Replaced),
+        Err(error) => Err(unread(rt, path, error)?),
     }
 }
 
@@ -120,9 +189,38 @@ impl Ledger for StateFile<'_> {
         }
     }
 
+    fn replace(&mut self, bytes: &[u8]) -> Result<(), NotKept> {
+        match StateFile::replace(self, bytes) {
+            Ok(()) => Ok(()),
+            Err(why) => {
+                self.tell_unrenewed("can't be put in its place", &why);
+                Err(NotKept)
+            }
+        }
+    }
+
     fn lose(&mut self) {
         self.tell(&Fault::NoMemory);
     }
+}
+
+/// Removes what a server left beside the file that was killed while it replaced it, and has the disk take the file's name where
+/// the disk is waited for: that server may not have come so far.
+fn settle(rt: &HostRuntime, path: &str, syncs: bool) -> Result<(), Fault> {
+    clear_beside(rt, path)?;
+    if !syncs {
+        return Ok(());
+    }
+    match sync_folder(rt, path) {
+        Ok(()) => Ok(()),
+        Err(error) => Err(unwritten(rt, path, error)?),
+    }
+}
+
+/// The fault where another server has the file.
+fn served(rt: &HostRuntime, path: &str) -> Result<Fault, Fault> {
+    let path = shown(rt.alloc(), path)?;
+    Ok(Fault::BadArguments(BadArgument::StateServed(path)))
 }
 
 /// The fault where the file can't be read for this reason.

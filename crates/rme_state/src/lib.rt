@@ -1,4 +1,4 @@
-//! The file of a kept world on the disk: made, opened for one server alone, read, and appended to.
+//! The file of a kept world on the disk: made, opened for one server alone, read, appended to, and replaced by another.
 //!
 //! The crate stands on rme_journal for what the file holds, on rme_kept, whose `Ledger` it is, and on rme_faults for what goes
 //! wrong with it. What those above use are `StateFile::open`, `make_state` and `read_state`. Begin with `file.rt`.
@@ -7,6 +7,7 @@
 mod file;
 mod making;
 mod reading;
+mod replacing;
 
 pub use file::{StateFile, make_state};
 pub use reading::read_state;

@@ -14,7 +14,7 @@ const UNFINISHED: &str = ".new";
 const MOST_NAMES: u32 = 1000;
 
 /// The mode of a new file: its user alone reads and writes it.
-const PRIVATE: u32 = 0o600;
+pub(crate) const PRIVATE: u32 = 0o600;
 
 /// Makes a file with these bytes, and waits until the disk has it and its name. `AlreadyExists` where something has the name.
 pub(crate) fn put_new(rt: &HostRuntime, path: &str, bytes: &[u8]) -> io::Result<()> {
@@ -53,16 +53,22 @@ fn name_beside(alloc: Global, path: &str, number: u32) -> Result<String, AllocEr
     format!(in alloc; "{path}.{number}{UNFINISHED}")
 }
 
-fn write_synced(file: &mut File, bytes: &[u8]) -> io::Result<()> {
+/// Writes bytes to a file, and waits until the disk has them.
+pub(crate) fn write_synced(file: &mut File, bytes: &[u8]) -> io::Result<()> {
     file.write_all(bytes)?;
     file.sync_all()
 }
 
 /// Waits until the disk has the names in a file's folder.
-fn sync_folder(rt: &HostRuntime, path: &str) -> io::Result<()> {
+pub(crate) fn sync_folder(rt: &HostRuntime, path: &str) -> io::Result<()> {
+    folder_of(rt, path)?.sync_all()
+}
+
+/// A file's folder, whose names it syncs.
+pub(crate) fn folder_of(rt: &HostRuntime, path: &str) -> io::Result<File> {
     let folder = match Path::new(path).parent() {
         Some(parent) if !parent.as_str().is_empty() => parent.as_str(),
         _ => ".",
     };
-    File::open(rt, folder)?.sync_all()
+    File::open(rt, folder)
 }

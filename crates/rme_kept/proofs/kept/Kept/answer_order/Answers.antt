@@ -1,4 +1,4 @@
-use Rattle.std.proofs.Common.{ap, inl, inr, refl}
+use Rattle.std.proofs.Common.{ap, inl, inr, refl, sym, ◌∙◌}
 use Rattle.rme_lines.specs.declared.exchange.Exchange.{Exchange}
 use Rattle.std.specs.Prelude.{string_bytes}
 use Rattle.rme_session_lines.specs.declared.session.SessionReply.TheVariants.{Refused}
@@ -8,7 +8,7 @@ use Rattle.rme_kept.proofs.kept.Kept.answer_order.Goals as goal
 
 pub returns-then-is_keepers-clause-answers : goal.returns-then-is_keepers-clause-answers
 returns-then-is_keepers-clause-answers g c =
-    says_it c.say.result c.args.self.now.clients c.args.self.now.names c.args.stand.now c.args.order (Refused NoWorker) (string_bytes c.say.new.self.text) c.args.stand.now (inl (refl, refl)) c.say.ensures.says
+    says_it c.say.result c.args.self.now.clients c.args.self.now.names c.args.stand.now c.args.order (Refused NoWorker) (string_bytes c.say.new.self.text) c.args.stand.now (inl (sym c.is_keepers.ensures ∙ c.if-is_keepers.true, refl, refl)) c.say.ensures.says
 
 pub returns-then-not-goes_on-clause-answers : goal.returns-then-not-goes_on-clause-answers
 returns-then-not-goes_on-clause-answers g c =

@@ -7,7 +7,7 @@ use Rattle.rme_session_lines.specs.declared.order.Order.TheVariants as word
 use Rattle.rme_session_lines.specs.declared.session.SessionReply.{SessionReply}
 use Rattle.rme_session_lines.specs.declared.session.SessionReply.TheVariants as answer
 use Rattle.rme_words.specs.declared.refusal.Refusal.TheVariants.{Taken}
-use Rattle.rme_kept.specs.declared.written.Acted.{Acted}
+use Rattle.rme_epochs.specs.declared.written.Acted.{Acted}
 use Rattle.rme_kept.proofs.kept.Kept.go_on.Goals as goal
 
 pub returns-in-Attach : goal.returns-in-Attach

@@ -2,7 +2,7 @@
 
 ghost use Rattle.std.specs.Prelude.{◌≡◌, IfErr, OnOk, string_bytes};
 ghost use Rattle.rme_desk.specs.declared.deed.Deed.{Deed};
-ghost use Rattle.rme_kept.specs.declared.written.Lost.TheVariants as lost;
+ghost use Rattle.rme_epochs.specs.declared.written.Lost.TheVariants as lost;
 ghost use Rattle.rme_journal.specs.Deeds.{commands_done};
 ghost use Rattle.rme_journal.specs.Lines.{WritesAll};
 
@@ -11,7 +11,6 @@ use rme_journal::push_deed;
 use rme_orders::still_waits;
 use rme_session_lines::{Order, SessionReply};
 use rme_wire::Names;
-use rme_world::World;
 use std::alloc::Global;
 use std::marker::Model;
 use std::mem::replace;
@@ -26,11 +25,13 @@ pub struct WrittenDesk {
     lines: String,
     /// How many bytes of lines were taken.
     taken: u64,
+    /// Whether something was done that could not be written down. Nothing more is then.
+    is_lost: bool,
 }
 
 impl Model for WrittenDesk {
     ghost use Rattle.std.specs.Prelude.{string_bytes};
-    ghost use Rattle.rme_kept.specs.Records.{Record};
+    ghost use Rattle.rme_epochs.specs.Records.{Record};
 
     ghost Value = { Record };
 
@@ -57,10 +58,10 @@ pub enum Lost {
 }
 
 impl WrittenDesk {
-    ghost use Rattle.std.specs.Prelude.{◌≡◌, [], IfOk, IfErr, OnOk, string_bytes};
+    ghost use Rattle.std.specs.Prelude.{◌≡◌, [], IfOk, IfErr, IfSome, OnOk, OnSome, string_bytes};
     ghost use Rattle.rme_desk.specs.Desks.{view_of};
-    ghost use Rattle.rme_kept.specs.Records.{IsWritten};
-    ghost use Rattle.rme_kept.specs.declared.written.Lost.TheVariants as lost;
+    ghost use Rattle.rme_epochs.specs.Records.{IsWritten};
+    ghost use Rattle.rme_epochs.specs.declared.written.Lost.TheVariants as lost;
     ghost use Rattle.rme_orders.specs.Obeyed.{Obeys};
     ghost use Rattle.rme_orders.specs.Parts.{with_tries};
 
@@ -73,14 +74,33 @@ impl WrittenDesk {
             desk,
             lines: String::new(alloc),
             taken: 0,
+            is_lost: false,
         }
     }
 
-    /// The world, to look at.
-    pub fn world(&self) -> &World
-        ensures { result.now ≡ self.now.office.world }
+    /// A desk of which nothing is to be written down yet, whose lines come behind so many bytes.
+    pub fn behind(alloc: Global, desk: Desk, taken: u64) -> WrittenDesk
+        ensures office { result.office ≡ desk }
+        ensures lines { result.lines ≡ [] }
     {
-        self.desk.world()
+        WrittenDesk {
+            desk,
+            lines: String::new(alloc),
+            taken,
+            is_lost: false,
+        }
+    }
+
+    /// The desk, to look at.
+    pub fn desk(&self) -> &Desk
+        ensures { result.now ≡ self.now.office }
+    {
+        &self.desk
+    }
+
+    /// Whether something was done that could not be written down.
+    pub fn is_lost(&self) -> bool {
+        self.is_lost
     }
 
     /// Once so many bytes of lines are kept, all that was done is.
@@ -90,7 +110,7 @@ impl WrittenDesk {
 
     /// Obeys an order of a session with one try, and writes down what was done.
     ///
-    /// After `NoMemory` nothing was done.
+    /// After `NoMemory` nothing was done. After `Unwritten` no order is obeyed any more.
     pub fn obey(
         &mut self,
         alloc: Global,
@@ -102,6 +122,9 @@ impl WrittenDesk {
         ensures written { OnOk result (IsWritten names.now self.old self.new) }
         ensures unchanged { IfErr result (λ why. why ≡ lost.NoMemory → (self.new ≡ self.old) × (stand.new ≡ stand.old)) }
     {
+        if self.is_lost {
+            return Err(Lost::Unwritten);
+        }
         if self.lines.reserve(ROOM).is_err() {
             return Err(Lost::NoMemory);
         }
@@ -109,7 +132,9 @@ impl WrittenDesk {
             Ok(done) => done,
             Err(_) => return Err(Lost::NoMemory),
         };
-        write_down(&mut self.lines, alloc, names, done.deed)?;
+        if write_down(&mut self.lines, alloc, names, done.deed).is_err() {
+            return Err(self.lose());
+        }
         let reply = done.reply;
         Ok(Acted {
             reply,
@@ -123,19 +148,36 @@ impl WrittenDesk {
         ensures written { OnOk result (IsWritten names.now self.old self.new) }
     {
         let deed = self.desk.let_go(stand);
-        write_down(&mut self.lines, alloc, names, deed)?;
+        if self.is_lost || write_down(&mut self.lines, alloc, names, deed).is_err() {
+            return Err(self.lose());
+        }
         Ok(self.end())
     }
 
-    /// Takes the lines that nobody has taken, and leaves this empty text in their place. Answers where they end.
-    pub fn take_lines(&mut self, empty: String) -> (String, u64)
-        ensures taken { string_bytes result.0 ≡ self.old.lines }
-        ensures left { self.new.lines ≡ string_bytes empty }
+    /// Takes the lines that nobody has taken, and leaves this empty text in their place. Answers where they end. `None`
+    /// after what was done could not be written down: lines behind that would be of another world.
+    pub fn take_lines(&mut self, empty: String) -> Option<(String, u64)>
+        ensures taken { IfSome result (λ took. string_bytes took.0 ≡ self.old.lines) }
+        ensures left { OnSome result (self.new.lines ≡ string_bytes empty) }
         ensures office { self.new.office ≡ self.old.office }
     {
+        if self.is_lost {
+            return None;
+        }
         let end = self.end();
         self.taken = end;
-        (replace(&mut self.lines, empty), end)
+        Some((replace(&mut self.lines, empty), end))
+    }
+
+    /// What was done can't be written down: no line that could be of only a part of it is kept, and nothing is done any
+    /// more.
+    pub(crate) fn lose(&mut self) -> Lost
+        ensures why { result ≡ lost.Unwritten }
+        ensures office { self.new.office ≡ self.old.office }
+    {
+        self.lines.clear();
+        self.is_lost = true;
+        Lost::Unwritten
     }
 
     /// The lock of a session's job, where it is answered that the job waits.

@@ -1,0 +1,71 @@
+//! How many sections of each lock a world has finished, and the last of each worker.
+
+use crate::epoch::EpochDesk;
+use rme_program::Receipt;
+use rme_words::MOST_LOCKS;
+use rme_world::World;
+use std::alloc::{AllocError, Global};
+
+/// How many sections of each lock are finished.
+#[derive(Clone, Copy)]
+pub struct Sections {
+    counts: [u64; MOST_LOCKS as usize],
+}
+
+impl Sections {
+    /// Those of a world.
+    pub fn of(world: &World) -> Sections {
+        let mut counts = [0u64; MOST_LOCKS as usize];
+        for entry in world.history() {
+            if let Some(count) = counts.get_mut(entry.receipt.lock as usize) {
+                *count = count.saturating_add(1);
+            }
+        }
+        Sections { counts }
+    }
+
+    /// Those of a lock.
+    pub fn at(&self, lock: u32) -> u64 {
+        self.counts.get(lock as usize).copied().unwrap_or(0)
+    }
+}
+
+/// The receipt of the last section that each worker of a world finished, if it finished any.
+pub(crate) fn last_receipts(
+    alloc: Global,
+    world: &World,
+) -> Result<Vec<Option<Receipt>>, AllocError> {
+    let mut last = vec![in alloc; None; world.shape().workers() as usize]?;
+    for entry in world.history() {
+        if let Some(receipt) = last.get_mut(entry.receipt.worker as usize) {
+            *receipt = Some(entry.receipt);
+        }
+    }
+    Ok(last)
+}
+
+impl EpochDesk {
+    /// How many sections this epoch has finished, those aside by which the keeper set the cells.
+    pub fn sections(&self) -> u64 {
+        let world = self.desk().world();
+        let all = world.history().len() as u64;
+        all.saturating_sub(number_of(world, world.shape().workers.saturating_sub(1)))
+    }
+
+    /// Whether a worker has made all jobs that it may make in this epoch.
+    pub fn is_spent(&self, worker: Option<u32>) -> bool {
+        let world = self.desk().world();
+        match worker {
+            Some(worker) => number_of(world, worker) >= u64::from(world.shape().jobs),
+            None => false,
+        }
+    }
+}
+
+/// How many jobs a worker was handed, if it is there.
+fn number_of(world: &World, worker: u32) -> u64 {
+    if worker >= world.shape().workers {
+        return 0;
+    }
+    world.number(worker)
+}

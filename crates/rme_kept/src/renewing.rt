@@ -1,0 +1,146 @@
+//! A new epoch, once one has grown long.
+
+use crate::back::{Ledger, NotKept};
+use crate::kept::Kept;
+use rme_desk::Stand;
+use rme_epochs::{EpochDesk, Renewed};
+use rme_server::Reach;
+use rme_session_lines::{Attachment, Order};
+use std::sync::Wait;
+use std::sync::atomic::{AtomicBool, AtomicU64, Ordering};
+
+/// A section takes fewer bytes of lines than that, with all that a session does for it. So who attaches and detaches alone does
+/// not let the lines grow for ever.
+const MOST_BYTES: u64 = 1_024;
+
+/// When a new epoch is due.
+#[derive(Drop)]
+pub(crate) struct Due {
+    /// Once so many sections were finished in one, those of the keeper aside, or the bytes are there that so many may take.
+    sections: u64,
+    /// No new epoch could be begun before so many bytes were.
+    not_before: AtomicU64,
+    /// Whether one is due, as far as was seen.
+    is_long: AtomicBool,
+}
+
+impl Due {
+    /// Once so many sections were finished in one.
+    pub(crate) fn after(sections: u32) -> Due {
+        Due {
+            sections: u64::from(sections),
+            not_before: AtomicU64::new(0),
+            is_long: AtomicBool::new(false),
+        }
+    }
+
+    /// Whether a new epoch is due, as far as was seen.
+    pub(crate) fn is_long(&self) -> bool {
+        self.is_long.load(Ordering::Relaxed)
+    }
+
+    /// Looks whether a new epoch is due.
+    pub(crate) fn see(&self, desk: &EpochDesk) {
+        if self.is_due(desk) {
+            self.is_long.store(true, Ordering::Relaxed);
+        }
+    }
+
+    fn is_due(&self, desk: &EpochDesk) -> bool {
+        let bytes = desk.bytes();
+        let is_long = desk.sections() >= self.sections || bytes >= self.most_bytes();
+        is_long && bytes >= self.not_before.load(Ordering::Relaxed)
+    }
+
+    /// As many bytes as so many sections may take.
+    fn most_bytes(&self) -> u64 {
+        self.sections.saturating_mul(MOST_BYTES)
+    }
+
+    /// A new epoch was begun, or could not be: then it is tried again after as many bytes more, and so it is where the new one
+    /// is as long at its beginning.
+    fn tried(&self, desk: &EpochDesk, is_new: bool) {
+        let wait = if is_new && desk.bytes() < self.most_bytes() {
+            0
+        } else {
+            desk.bytes().saturating_add(self.most_bytes())
+        };
+        self.not_before.store(wait, Ordering::Relaxed);
+        self.is_long.store(false, Ordering::Relaxed);
+    }
+}
+
+impl<L: Ledger, H: Reach> Kept<L, H> {
+    /// Begins a new epoch, if one is due still, or this worker has made all jobs of this one. Meanwhile no other session does anything.
+    /// Answers whether there is a new one.
+    pub(crate) fn renew<R: Wait>(&self, rt: &R, spent: Option<u32>) -> bool {
+        let Some((ledger, spare)) = self.take_ledger(rt) else {
+            return false;
+        };
+        let mut ledger = ledger;
+        let mut front = self.front.lock(rt);
+        let is_due = self.due.is_due(&front) || front.is_spent(spent);
+        let renewed = if is_due {
+            self.new_epoch(&mut front)
+        } else {
+            None
+        };
+        let Some((mut lines, end)) = front.take_lines(spare) else {
+            drop(front);
+            ledger.lose();
+            self.lose(rt);
+            return false;
+        };
+        let kept = ledger.keep(lines.as_bytes());
+        lines.clear();
+        let is_new = is_due && put_in_place(&mut front, &mut ledger, renewed, &kept);
+        if is_due {
+            self.due.tried(&front, is_new);
+        }
+        drop(front);
+        self.give_back(rt, ledger, lines, kept.map(|()| end));
+        is_new || !is_due
+    }
+
+    /// The epoch that follows, if it comes out alike.
+    fn new_epoch(&self, front: &mut EpochDesk) -> Option<Renewed> {
+        for _ in 0..self.names.len() {
+            match front.fallen_behind() {
+                Some(worker) => self.walk_out(front, worker)?,
+                None => break,
+            }
+        }
+        front.renewed(self.alloc, &self.names).ok()
+    }
+
+    /// Lets a worker that is down walk out of the lock of its finished job, and fall again.
+    fn walk_out(&self, front: &mut EpochDesk, worker: u32) -> Option<()> {
+        let mut stand = self.new_stand();
+        let order = Order::Attach(Attachment {
+            worker,
+            take: false,
+        });
+        front
+            .obey(self.alloc, &self.names, &mut stand, &order)
+            .ok()?;
+        front.let_go(self.alloc, &self.names, &mut stand).ok()?;
+        Some(())
+    }
+}
+
+/// Puts a new epoch in the place of the one before, once that is kept whole, in the ledger first. Answers whether it did.
+fn put_in_place<L: Ledger>(
+    front: &mut EpochDesk,
+    ledger: &mut L,
+    renewed: Option<Renewed>,
+    kept: &Result<(), NotKept>,
+) -> bool {
+    let Some(Renewed { bytes, desk }) = renewed else {
+        return false;
+    };
+    if kept.is_err() || ledger.replace(bytes.as_bytes()).is_err() {
+        return false;
+    }
+    *front = desk;
+    true
+}
