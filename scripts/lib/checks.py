@@ -1,6 +1,10 @@
 """Checks that are counted. A script makes all of its checks, whatever fails, and its last line is `N checks, M failed`."""
 
+import os
+import signal
 import sys
+import tempfile
+import time
 import traceback
 
 made = 0
@@ -54,3 +58,26 @@ def main(*parts):
             fail(getattr(part, "__name__", "a part"), traceback.format_exc())
     print(f"{made} checks, {failed} failed", flush=True)
     sys.exit(1 if failed or not made else 0)
+
+
+def main_in_folders(*parts, minutes):
+    """Makes the parts as `main` does, each in a folder of its own, within so many minutes, and says how long each took."""
+
+    def too_long(*_):
+        raise TimeoutError(f"no end after {minutes} minutes")
+
+    def in_folder(part):
+        def call():
+            folder = os.path.join(all_of_them, part.__name__)
+            os.mkdir(folder)
+            began = time.monotonic()
+            part(folder)
+            note(f"{part.__name__}: {time.monotonic() - began:.1f} seconds")
+
+        call.__name__ = part.__name__
+        return call
+
+    signal.signal(signal.SIGALRM, too_long)
+    signal.alarm(60 * minutes)
+    with tempfile.TemporaryDirectory() as all_of_them:
+        main(*map(in_folder, parts))

@@ -6,27 +6,62 @@ from lib.kept import whole_lines
 from lib.programs import run
 
 
+MOST = 2**53
+
+
 def opened_by(line):
-    """How many workers and locks a line opens."""
+    """How many workers a line opens, and the names of its locks."""
     try:
         order = json.loads(line)
-        return order["workers"], len(order["locks"])
+        return order["workers"], order["locks"]
     except (ValueError, TypeError, KeyError):
-        return 0, 0
+        return 0, []
+
+
+def int_of(digits):
+    """A whole number; a zero below zero is none."""
+    return float(digits) if digits == "-0" else int(digits)
+
+
+def is_whole(value, least=0, most=MOST):
+    return type(value) is int and least <= value <= most
+
+
+def is_last(word, worker, number, locks):
+    """Whether this may have become of a worker's last number, where it had so many: a receipt is its own, of that number."""
+    if not isinstance(word, dict):
+        return word is None and number == 0
+    if set(word) == {"withdrawn"}:
+        return word["withdrawn"] is True and number > 0
+    if set(word) != {"lock", "number", "place", "reply", "worker"} or word["lock"] not in locks:
+        return False
+    own = [word["worker"], word["number"]] == [worker, number] and number > 0
+    kinds = type(word["worker"]), type(word["number"])
+    return own and kinds == (int, int) and is_whole(word["place"]) and is_whole(word["reply"], most=2**64 - 1)
 
 
 def header_fits(line, opening):
     """Whether a line is a header, and one for the world that another line opens; None where it is no header."""
     try:
-        header = json.loads(line.decode())
+        header = json.loads(line.decode(), parse_int=int_of)
     except ValueError:
         return None
     keys = {"epoch", "last", "numbers", "places", "rme", "version"}
     if not isinstance(header, dict) or set(header) != keys or (header["rme"], header["version"]) != ("kept", 1):
         return None
     workers, locks = opened_by(opening)
-    lists = [header[name] for name in ("last", "numbers", "places")]
-    return all(isinstance(it, list) for it in lists) and [len(it) for it in lists] == [workers - 1, workers - 1, locks]
+    last, numbers, places = lists = [header[name] for name in ("last", "numbers", "places")]
+    if not all(isinstance(it, list) for it in lists):
+        return False
+    if [len(it) for it in lists] != [workers - 1, workers - 1, len(locks)]:
+        return False
+    if not is_whole(header["epoch"], most=2**64 - 1) or not all(map(is_whole, numbers)):
+        return False
+    if not all(is_whole(place, -MOST) for place in places):
+        return False
+    if header["epoch"] == 0 and any(numbers + places):
+        return False
+    return all(is_last(word, worker, numbers[worker], locks) for worker, word in enumerate(last))
 
 
 def verdicts_on(held):

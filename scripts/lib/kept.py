@@ -2,6 +2,7 @@
 
 import collections
 import json
+import re
 
 from lib.programs import run
 from lib.servers import Server, line_of
@@ -32,6 +33,17 @@ def kill(server):
 def read(path):
     with open(path, "rb") as file:
         return file.read()
+
+
+def written(path, held):
+    with open(path, "wb") as file:
+        file.write(held)
+    return path
+
+
+def without_count(told):
+    """What is on the standard error behind the line that tells how many lines were read."""
+    return re.sub(rb"\A(rme: \d+ lines are read\n)*rme: \d+ lines read in \d+ ms\n", b"", told)
 
 
 # ---- what a file says
@@ -74,10 +86,11 @@ class Told:
         return status
 
 
-def status_of(lines):
-    """The answer to `status` to which the lines of a file lead, but for its header: by what `rme run` answers to them,
-    and to look-ups behind them."""
+def status_of(lines, header=None):
+    """The answer to `status` to which the lines of a file lead behind this header, or behind a first one: by what `rme run`
+    answers to them, and to look-ups behind them."""
     opening = json.loads(lines[0])
+    header = header or first_header(opening)
     locks = opening["locks"]
     looks = [line_of(do=look, lock=lock) for look in ("owner", "cells") for lock in locks]
     answers = answers_to([*lines, *looks, line_of(do="history")])
@@ -89,14 +102,35 @@ def status_of(lines):
         order = json.loads(line)
         workers[order["worker"]].hear(order, answer)
     rows = [{"cells": answer["cells"], "settled": answer["settled"]} for answer in looked[len(locks) :]]
-    return {
-        "epoch": 0,
+    status = {
+        "epoch": header["epoch"],
         "locks": [
-            {**row, "name": lock, "owner": owners[lock], "sections": sections[lock]} for lock, row in zip(locks, rows)
+            {**row, "name": lock, "owner": owners[lock], "sections": sections[lock] + before}
+            for lock, row, before in zip(locks, rows, header["places"])
         ],
         "ok": "status",
         "workers": [worker.status(number, owners) for number, worker in enumerate(workers[:-1])],  # but the keeper
     }
+    for worker, before in zip(status["workers"], header["numbers"]):
+        worker["number"] += before
+    return status
+
+
+def status_in(held):
+    """The answer to `status` to which a file's bytes lead."""
+    header, *lines = whole_lines(held)
+    return status_of(lines, json.loads(header))
+
+
+def first_header(opening):
+    """What the header says of a new file whose first line behind it is this one."""
+    clients = opening["workers"] - 1
+    return {"epoch": 0, "last": [None] * clients, "numbers": [0] * clients, "places": [0] * len(opening["locks"])}
+
+
+def epoch_of(held):
+    """How often a file was renewed."""
+    return json.loads(held[: held.index(b"\n")])["epoch"]
 
 
 def look(path, *words):

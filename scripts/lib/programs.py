@@ -5,6 +5,7 @@ import glob
 import os
 import shutil
 import subprocess
+import time
 
 from lib.checks import skip
 
@@ -39,6 +40,25 @@ def examples():
         if not path.endswith(".expected.jsonl"):
             with open(path, "rb") as file:
                 yield os.path.basename(path)[: -len(".jsonl")], file.read()
+
+
+@functools.lru_cache(maxsize=None)
+def has_strace():
+    """Whether `strace` is there and may look at another program."""
+    if not shutil.which("strace"):
+        return False
+    return subprocess.run(["strace", "-o", "/dev/null", "true"], capture_output=True).returncode == 0
+
+
+def lines_traced(log):
+    """The lines that `strace` wrote of a program that was killed, once it has written all."""
+    for _ in range(200):
+        with open(log, "rb") as file:
+            told = file.read()
+        if b"+++ killed" in told:
+            break
+        time.sleep(0.05)
+    return told.splitlines()
 
 
 def growth_refuser(folder):

@@ -1,5 +1,6 @@
 """Storms: clients of a server that keeps its state, which is killed again and again and started on the same file."""
 
+import json
 import os
 import random
 import signal
@@ -9,7 +10,7 @@ import sys
 import threading
 import time
 
-from lib.kept import TORN, answers_to, faults_of, kill, look, looked, read, state_words, status_of, whole_lines
+from lib.kept import TORN, answers_to, epoch_of, faults_of, kill, look, looked, read, state_words, status_in, whole_lines
 from lib.programs import TOP, built
 from lib.servers import HOST, Server, line_of
 
@@ -34,40 +35,45 @@ class Storm:
     """Clients with numbered jobs, and their server, which is killed again and again and started on the same file.
 
     Each job adds 1 to the second cell of a lock, and an amount to the first. Some are entered and committed, and nobody
-    else may be inside meanwhile. Half of the clients come by the port, and half by the socket.
+    else may be inside meanwhile. Half of the clients come by the port, and half by the socket. In a storm that renews the
+    file of the state has few jobs of each worker, and few of all.
     """
 
     WORKERS, LOCKS = 8, ("bank", "shop")
 
-    def __init__(self, folder, seed):
-        self.seed, self.numbers = seed, random.Random(seed)
+    def __init__(self, folder, seed, renews=False):
+        self.seed, self.numbers, self.renews = seed, random.Random(seed), renews
         self.state, self.socket = os.path.join(folder, "state"), os.path.join(folder, "socket")
         self.port = free_port()
         self.receipts = [[] for _ in range(self.WORKERS)]  # of each client, with the lock and the amount of its job
         self.inside = {}
         self.kept = b""  # the whole lines of the file when a server was killed last
-        self.wrong, self.kills, self.torn, self.over = [], 0, 0, threading.Event()
+        self.wrong, self.kills, self.torn, self.epoch, self.over = [], 0, 0, 0, threading.Event()
 
     def words(self):
-        """When the disk has the lines may change with each start."""
+        """When the disk has the lines may change with each start, and after how many jobs the file is renewed."""
         options = {"workers": self.WORKERS, "cells": 2, "port": self.port, "socket": self.socket}
+        if self.renews:
+            options.update(jobs=20, sections=self.numbers.choice((1, 3, 10, 40)))
         return state_words(self.state, *self.LOCKS, sync=self.numbers.choice(("always", "never", "never")), **options)
 
-    def run(self, kills):
-        """Kills so many servers, and answers what is wrong at the end."""
+    def run(self, kills, epochs=0):
+        """Kills so many servers, has the last one renew the file until it is of such an epoch, and answers what is wrong at
+        the end."""
         clients = [threading.Thread(target=self.client, args=(worker,), daemon=True) for worker in range(self.WORKERS)]
         for client in clients:
             client.start()
         while self.kills < kills and not self.wrong:
             self.live()
         if not self.wrong:
-            self.end(clients)
+            self.end(clients, epochs)
         return self.wrong
 
-    def end(self, clients):
+    def end(self, clients, epochs):
         """The last server, with which each client comes to its end."""
         server = Server(words=self.words())
         time.sleep(0.3)
+        self.wait_for_epoch(epochs)
         self.over.set()
         latest = time.monotonic() + 60
         for client in clients:
@@ -77,6 +83,12 @@ class Storm:
         else:
             self.compare(self.status())
         kill(server)
+
+    def wait_for_epoch(self, epoch):
+        """Waits until the file was renewed so often, and looks at it meanwhile."""
+        latest = time.monotonic() + 120
+        while epoch_of(held := read(self.state)) < epoch and time.monotonic() < latest and not self.wrong:
+            self.wrong += faults_of(held)
 
     def status(self):
         """What all are at once the server has seen the end of each client."""
@@ -117,18 +129,31 @@ class Storm:
         time.sleep(0.02 * self.numbers.random() ** 2)
 
     def look_at_file(self):
-        """What was in the file stays there. Then bytes of a line that was not finished are appended, or none."""
+        """What was in the file stays there until it is renewed. Then bytes of a line that was not finished are appended, or
+        none."""
+        answered = [len(receipts) for receipts in self.receipts]
         if not os.path.exists(self.state):  # it was killed before it had made the file
             return
         held = read(self.state)
-        if not held.startswith(self.kept):
+        is_renewed = self.kept and epoch_of(held) > epoch_of(self.kept)
+        if not is_renewed and not held.startswith(self.kept):
             self.wrong.append("a line that was kept is not there any more")
         self.kept = held[: held.rfind(b"\n") + 1]
         self.torn += len(self.kept) < len(held)
+        if self.renews:
+            self.look_at_numbers(answered)
         if self.numbers.random() < 0.5:
             with open(self.state, "ab") as file:
                 file.write(self.numbers.choice(TORN))
             self.torn += 1
+
+    def look_at_numbers(self, answered):
+        """What was answered is in the file, whose lines are a run."""
+        self.wrong += faults_of(self.kept)
+        told = looked(self.state)
+        numbers = [worker["number"] for worker in told["workers"]] if isinstance(told, dict) else told
+        if not isinstance(told, dict) or any(number < count for number, count in zip(numbers, answered)):
+            self.wrong.append(("a job that was answered is not in the file", numbers, answered))
 
     # -- the clients
 
@@ -163,22 +188,37 @@ class Storm:
 
     def compare(self, status):
         """Each job counted once: by its receipt, by the history of the file's lines, and by the cells."""
-        lines = whole_lines(read(self.state))[1:]
-        self.wrong += faults_of(read(self.state))
-        if not {**status, "ok": "status"} == looked(self.state) == status_of(lines):
-            self.wrong.append(("status, look and run differ", status, looked(self.state), status_of(lines)))
-        history = answers_to([*lines, line_of(do="history")])[-1]["entries"]
-        for entry in history:
-            del entry["script"]
+        held = read(self.state)
+        header, *lines = whole_lines(held)
+        header = json.loads(header)
+        self.epoch = header["epoch"]
+        self.wrong += faults_of(held)
+        if not {**status, "ok": "status"} == looked(self.state) == status_in(held):
+            self.wrong.append(("status, look and run differ", status, looked(self.state), status_in(held)))
+        history = self.history_of(header, lines)
         for worker, receipts in enumerate(self.receipts):
-            own = [receipt for receipt, _, _ in receipts]
+            own, before = [receipt for receipt, _, _ in receipts], header["numbers"][worker]
             entries = [entry for entry in history if entry["worker"] == worker]
-            if own != entries or [entry["number"] for entry in entries] != list(range(1, len(own) + 1)):
+            if own[before:] != entries or [receipt["number"] for receipt in own] != list(range(1, len(own) + 1)):
                 self.wrong.append((f"the receipts of client {worker} are not its entries", own[-2:], entries[-2:]))
-        for lock in status["locks"]:
-            self.compare_lock(lock, history)
+            last = header["last"][worker]
+            if last != (own[before - 1] if before else None):
+                self.wrong.append((f"the header has another receipt of client {worker}", last, own[before - 1 : before]))
+        for place, lock in enumerate(status["locks"]):
+            self.compare_lock(lock, history, header["places"][place])
 
-    def compare_lock(self, status, history):
+    def history_of(self, header, lines):
+        """The history of the file's lines as clients know it: without the keeper's, and behind that of earlier epochs."""
+        history = [entry for entry in answers_to([*lines, line_of(do="history")])[-1]["entries"]]
+        places = dict(zip(self.LOCKS, header["places"]))
+        own = [entry for entry in history if entry["worker"] < self.WORKERS]
+        for entry in own:
+            del entry["script"]
+            entry["number"] += header["numbers"][entry["worker"]]
+            entry["place"] += places[entry["lock"]]
+        return own
+
+    def compare_lock(self, status, history, before):
         """The receipts are the lock's whole history: each place once, and each reply the sum up to there."""
         jobs = [job for receipts in self.receipts for job in receipts if job[1] == status["name"]]
         total = 0
@@ -188,7 +228,8 @@ class Storm:
                 self.wrong.append(("a receipt that does not follow those before", receipt, place, total))
         places = [entry["place"] for entry in history if entry["lock"] == status["name"]]
         count = len(jobs)
-        if (places, status["cells"], status["sections"]) != (list(range(count)), [total, count], count):
+        told = places, status["cells"], status["sections"]
+        if told != (list(range(count - len(places), count)), [total, count], count) or (self.epoch == 0 and before):
             self.wrong.append(("a lock that has not counted each job once", status, total, count))
 
     def jobs(self):
