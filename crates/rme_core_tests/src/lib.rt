@@ -13,7 +13,6 @@ mod checker;
 mod desk;
 #[cfg(test)]
 mod images;
-mod journal;
 #[cfg(test)]
 mod parts;
 #[cfg(test)]
