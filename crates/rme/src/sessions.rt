@@ -10,6 +10,7 @@ pub use rme_server::{
     Present, Reach, ServeFault, Slots, Stand, Trouble, Unreached, obey, serve, session,
 };
 pub use rme_session_lines::{
-    Attachment, Order, Outcome, Patience, SessionReply, Standing, Submission, order_of,
-    push_session_reply,
+    Attachment, Order, Outcome, Patience, SERVICE_NUMBERS, SessionReply, Standing, Submission,
+    ToldOutcome, ToldReply, WORLD_NUMBERS, order_of, push_session_reply,
 };
+pub use rme_texts::ToldReceipt;

@@ -236,7 +236,7 @@ fn hand(
     ensures carries { IfOk result (λ carried. Carries world.old (Some worker) planned (order_for aim its.now) carried world.new) }
     ensures unchanged { OnErr result (world.new ≡ world.old) }
 {
-    if its.number == ready.number {
+    if its.number == ready.number as u64 {
         return Ok(kept(worker, planned, aim.reply(told(ready.last))));
     }
     look(world, worker);

@@ -54,13 +54,13 @@ fn posting_refusal(shape: Shape, ready: &ReadyWorker, its: &Submission) -> Optio
 {
     let _most = shape.jobs();
     let next = ready.number + 1;
-    if its.number == next {
+    if its.number == u64::from(next) {
         return job_refusal(shape, ready.number, its);
     }
-    if its.number > 0 && its.number == ready.number {
+    if its.number > 0 && its.number == u64::from(ready.number) {
         return None;
     }
-    Some(Refusal::WrongNumber(next))
+    Some(Refusal::WrongNumber(u64::from(next)))
 }
 
 /// Why a job is none that a worker with this last number can be handed.
@@ -85,8 +85,8 @@ fn differs(pending: &PendingWorker, its: &Submission) -> Option<Refusal>
 {
     match &pending.draft {
         Some(job) => pending_refusal(pending.number, job, its),
-        None if its.number == pending.number => Some(Refusal::Differs),
-        None => Some(Refusal::WrongNumber(pending.number)),
+        None if its.number == u64::from(pending.number) => Some(Refusal::Differs),
+        None => Some(Refusal::WrongNumber(u64::from(pending.number))),
     }
 }
 

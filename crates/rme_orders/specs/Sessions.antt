@@ -22,11 +22,12 @@ module _ {S : Type 0} (obeys : Obedience S) where
   RepliesTo old None reply now = (reply ≡ Refused BadLine) × (now ≡ old)
   RepliesTo old (Some its) reply now = obeys old its now reply
 
-  -- The reply to a line, where the service's locks have these names. A line that is too long leaves the session as it was.
-  abbrev pub Replies : List (List ℕ) → S → InputLine → SessionReply → S → Type 0
-  Replies names old too_long reply now = (reply ≡ Refused LineTooLong) × (now ≡ old)
-  Replies names old (text bytes) reply now = RepliesTo old (order_of_line names bytes) reply now
+  -- The reply to a line, where the service's locks have these names and a job's number is at most so large. A line that is too
+  -- long leaves the session as it was.
+  abbrev pub Replies : List (List ℕ) → ℕ → S → InputLine → SessionReply → S → Type 0
+  Replies names most old too_long reply now = (reply ≡ Refused LineTooLong) × (now ≡ old)
+  Replies names most old (text bytes) reply now = RepliesTo old (order_of_line names most bytes) reply now
 
   -- A line is answered by the text of its reply and a newline.
-  abbrev pub IsAnswered : List (List ℕ) → S → InputLine → List ℕ → S → Type 0
-  IsAnswered names old line bytes now = (reply : SessionReply) × Replies names old line reply now × (bytes ≡ session_line names reply)
+  abbrev pub IsAnswered : List (List ℕ) → ℕ → S → InputLine → List ℕ → S → Type 0
+  IsAnswered names most old line bytes now = (reply : SessionReply) × Replies names most old line reply now × (bytes ≡ session_line names reply)

@@ -14,7 +14,9 @@ mod planned;
 mod refusal;
 mod view;
 
-pub use parts::{answer_as, once_more, patience_of, still_waits, with_tries};
+pub use parts::{
+    answer_as, once_more, patience_of, still_waits, told_as, told_still_waits, with_tries,
+};
 pub use planned::{Countdown, Planned};
 pub use refusal::{Asked, asked_of_ready, pending_refusal};
 pub use view::{PendingWorker, ReadyWorker, Session, View};

@@ -5,8 +5,11 @@
 
 ghost use Rattle.std.specs.Prelude.{◌≡◌};
 ghost use Rattle.rme_orders.specs.Parts as spec;
+ghost use Rattle.rme_session_lines.specs.Told.{reply_told};
 
-use rme_session_lines::{Order, Outcome, Patience, SessionReply, Submission};
+use rme_session_lines::{
+    Order, Outcome, Patience, SessionReply, Submission, ToldOutcome, ToldReply,
+};
 
 /// How long an order goes on to try; `None` for one that does not wait.
 pub fn patience_of(order: &Order) -> Option<Patience>
@@ -68,6 +71,28 @@ pub fn answer_as(first: SessionReply, last: SessionReply) -> SessionReply
         (SessionReply::Submitted(_), SessionReply::Resumed(outcome)) => {
             SessionReply::Submitted(outcome)
         }
+        (_, last) => last,
+    }
+}
+
+/// Whether a client is told that its job waits for its lock still.
+pub fn told_still_waits(told: ToldReply) -> bool
+    ensures { result ≡ spec.still_waits (reply_told told) }
+{
+    match told {
+        ToldReply::Submitted(ToldOutcome::Waiting)
+        | ToldReply::Resumed(ToldOutcome::Waiting)
+        | ToldReply::Entered(ToldOutcome::Waiting) => true,
+        _ => false,
+    }
+}
+
+/// What a client is told that a further part came to, as an answer to the order.
+pub fn told_as(first: ToldReply, last: ToldReply) -> ToldReply
+    ensures { reply_told result ≡ spec.answer_as (reply_told first) (reply_told last) }
+{
+    match (first, last) {
+        (ToldReply::Submitted(_), ToldReply::Resumed(outcome)) => ToldReply::Submitted(outcome),
         (_, last) => last,
     }
 }

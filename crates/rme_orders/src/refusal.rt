@@ -27,13 +27,13 @@ pub fn asked_of_ready(last: u32, submission: &Submission, shape: Shape) -> Resul
     ensures refused { IfErr result (λ refusal. spec.number_refusal last submission.now.number ≡ Some refusal) }
 {
     let next = next_after(last, shape);
-    if submission.number == next {
+    if submission.number == u64::from(next) {
         return Ok(Asked::Post);
     }
-    if submission.number > 0 && submission.number == last {
+    if submission.number > 0 && submission.number == u64::from(last) {
         return Ok(Asked::Repeat);
     }
-    Err(Refusal::WrongNumber(next))
+    Err(Refusal::WrongNumber(u64::from(next)))
 }
 
 /// The number after one of a job, which is at most as many as there are.
@@ -49,8 +49,8 @@ fn next_after(last: u32, shape: Shape) -> u32
 pub fn pending_refusal(number: u32, job: &Job, submission: &Submission) -> Option<Refusal>
     ensures { spec.PendingRefuses number (Some job.now) submission.now result }
 {
-    if submission.number != number {
-        return Some(Refusal::WrongNumber(number));
+    if submission.number != u64::from(number) {
+        return Some(Refusal::WrongNumber(u64::from(number)));
     }
     if submission.job.lock != job.lock || !submission.job.script.same(&job.script) {
         return Some(Refusal::Differs);

@@ -13,14 +13,14 @@ use Rattle.rme_words.specs.declared.refusal.Refusal.{Refusal}
 use Rattle.rme_words.specs.declared.refusal.Refusal.TheVariants.{BadLine}
 use Rattle.rme_server.specs.Sessions.{asked_by}
 
-module _ {S : Type 0} (obeys : Obedience S) (names : List (List ℕ)) (old : S) where
+module _ {S : Type 0} (obeys : Obedience S) (names : List (List ℕ)) (most : ℕ) (old : S) where
   refused_text : (asked : Option Order) (why : Refusal) → ok_or asked BadLine ≡ Err why → RepliesTo obeys old asked (Refused why) old
   refused_text None why is = (cc, refl)
   refused_text (Some its) why is = cc
 
-  pub refused : (line : InputLine) (why : Refusal) → asked_by names line ≡ Err why → Replies obeys names old line (Refused why) old
+  pub refused : (line : InputLine) (why : Refusal) → asked_by names most line ≡ Err why → Replies obeys names most old line (Refused why) old
   refused too_long why is = (cc, refl)
-  refused (text bytes) why is = refused_text (order_of_line names bytes) why is
+  refused (text bytes) why is = refused_text (order_of_line names most bytes) why is
 
   obeyed_text : (asked : Option Order) (its : Order) (reply : SessionReply) (now : S) → ok_or asked BadLine ≡ Ok its → obeys old its now reply → RepliesTo obeys old asked reply now
   obeyed_text None its reply now is does = cc
@@ -28,10 +28,10 @@ module _ {S : Type 0} (obeys : Obedience S) (names : List (List ℕ)) (old : S) 
       let same : its ≡ order = cc in
       let P : Order → Type 0 = λ o. obeys old o now reply in subst P same does
 
-  pub obeyed : (line : InputLine) (its : Order) (reply : SessionReply) (now : S) → asked_by names line ≡ Ok its → obeys old its now reply → Replies obeys names old line reply now
+  pub obeyed : (line : InputLine) (its : Order) (reply : SessionReply) (now : S) → asked_by names most line ≡ Ok its → obeys old its now reply → Replies obeys names most old line reply now
   obeyed too_long its reply now is does = cc
-  obeyed (text bytes) its reply now is does = obeyed_text (order_of_line names bytes) its reply now is does
+  obeyed (text bytes) its reply now is does = obeyed_text (order_of_line names most bytes) its reply now is does
 
-  pub answered : {T E : Type 0} (result : Result T E) (line : InputLine) (reply : SessionReply) (now : S) (bytes : List ℕ) → Replies obeys names old line reply now
-      → OnOk result (bytes ≡ session_line names reply) → OnOk result (IsAnswered obeys names old line bytes now)
+  pub answered : {T E : Type 0} (result : Result T E) (line : InputLine) (reply : SessionReply) (now : S) (bytes : List ℕ) → Replies obeys names most old line reply now
+      → OnOk result (bytes ≡ session_line names reply) → OnOk result (IsAnswered obeys names most old line bytes now)
   answered result line reply now bytes replies = on_ok_weaker result (λ says. (reply, replies, says))

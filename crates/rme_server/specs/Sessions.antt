@@ -18,10 +18,10 @@ use Rattle.rme_lines.specs.Pieces.{InputLine, text, too_long}
 use Rattle.rme_lines.specs.Puts.{AppendsFront, Gathers}
 use Rattle.rme_lines.specs.Traffic.{Event, LastWriteFails}
 
--- The order that a line is, where the locks have these names, or why it is refused.
-abbrev pub asked_by : List (List ℕ) → InputLine → Result Order Refusal
-asked_by names too_long = Err LineTooLong
-asked_by names (text bytes) = ok_or (order_of_line names bytes) BadLine
+-- The order that a line is, where the locks have these names and a job's number is at most so large, or why it is refused.
+abbrev pub asked_by : List (List ℕ) → ℕ → InputLine → Result Order Refusal
+asked_by names most too_long = Err LineTooLong
+asked_by names most (text bytes) = ok_or (order_of_line names most bytes) BadLine
 
 -- What was written of the answers that were kept back where a line has none, and what the writes came to: for want of memory
 -- the others are kept back still, and where the writer failed a front of them was written.

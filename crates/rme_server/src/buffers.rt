@@ -2,8 +2,9 @@
 
 ghost use Rattle.std.specs.Prelude.{◌≡◌, ◌++◌, OnOk, string_bytes};
 ghost use Rattle.rme_orders.specs.Sessions.{session_line};
+ghost use Rattle.rme_session_lines.specs.Told.{reply_told};
 
-use rme_session_lines::{Order, SessionReply, order_of, push_session_reply};
+use rme_session_lines::{Order, SessionReply, ToldReply, order_of, push_session_reply};
 use rme_wire::{Cut, EngineFault, Exchange, Names};
 use rme_words::{NoMemory, Refusal};
 use std::alloc::{AllocError, Global};
@@ -23,6 +24,7 @@ impl Buffers {
     ghost use Rattle.rme_lines.specs.Cuts.{line_read};
     ghost use Rattle.rme_orders.specs.Sessions.{session_line};
     ghost use Rattle.rme_server.specs.Sessions.{asked_by};
+    ghost use Rattle.rme_session_lines.specs.Told.{reply_told};
 
     /// No line was taken, and no answer is kept back.
     pub(crate) fn new(alloc: Global) -> Result<Buffers, AllocError>
@@ -34,19 +36,20 @@ impl Buffers {
         })
     }
 
-    /// The order of the line that was taken last, or why it is refused.
+    /// The order of the line that was taken last, or why it is refused. A job's number is at most `most`.
     pub fn order(
         &self,
         cut: Cut,
         alloc: Global,
         names: &Names,
+        most: u64,
     ) -> Result<Result<Order, Refusal>, NoMemory>
-        ensures { IfOk result (λ asked. asked ≡ asked_by names.now (line_read cut self.now.exchange.line.items)) }
+        ensures { IfOk result (λ asked. asked ≡ asked_by names.now most (line_read cut self.now.exchange.line.items)) }
     {
         if cut == Cut::TooLong {
             return Ok(Err(Refusal::LineTooLong));
         }
-        match order_of(alloc, names, self.exchange.line()) {
+        match order_of(alloc, names, most, self.exchange.line()) {
             Ok(order) => Ok(order.ok_or(Refusal::BadLine)),
             Err(_) => Err(NoMemory),
         }
@@ -58,8 +61,17 @@ impl Buffers {
         ensures err { IfErr result (λ fault. fault ≡ EngineFault.NoMemory) }
         ensures same { self.new.exchange ≡ self.old.exchange }
     {
+        self.tell(names, ToldReply::from(reply))
+    }
+
+    /// Puts what a client is told, and a newline, in the place of the text. After an error the text is of no use.
+    pub fn tell(&mut self, names: &Names, told: ToldReply) -> Result<(), EngineFault>
+        ensures says { OnOk result (string_bytes self.new.text ≡ session_line names.now (reply_told told)) }
+        ensures err { IfErr result (λ fault. fault ≡ EngineFault.NoMemory) }
+        ensures same { self.new.exchange ≡ self.old.exchange }
+    {
         self.text.clear();
-        push_line(&mut self.text, names, reply)?;
+        push_told(&mut self.text, names, told)?;
         Ok(())
     }
 }
@@ -72,6 +84,13 @@ pub(crate) fn push_line(
 ) -> Result<(), AllocError>
     ensures { OnOk result (string_bytes text.new ≡ string_bytes text.old ++ session_line names.now reply) }
 {
-    push_session_reply(text, names, reply)?;
+    push_told(text, names, ToldReply::from(reply))
+}
+
+/// Appends what a client is told, and a newline.
+fn push_told(text: &mut String, names: &Names, told: ToldReply) -> Result<(), AllocError>
+    ensures { OnOk result (string_bytes text.new ≡ string_bytes text.old ++ session_line names.now (reply_told told)) }
+{
+    push_session_reply(text, names, told)?;
     text.push_str("\n")
 }

@@ -2,7 +2,7 @@
 
 use crate::bell::{Bell, Listening};
 use crate::client::{Client, Reach};
-use rme_session_lines::{Outcome, SessionReply, Standing};
+use rme_session_lines::{Standing, ToldOutcome, ToldReply};
 use rme_words::{NoMemory, Shape};
 use std::alloc::Global;
 use std::sync::{Mutex, MutexGuard, Wait};
@@ -70,29 +70,29 @@ impl<H: Reach> Hall<H> {
     }
 
     /// Rings for what an order did that was answered so: it may have left a lock, or given a worker back.
-    pub fn ring_for<R: Wait>(&self, rt: &R, reply: SessionReply) {
+    pub fn ring_for<R: Wait>(&self, rt: &R, reply: ToldReply) {
         match reply {
-            SessionReply::Submitted(outcome)
-            | SessionReply::Resumed(outcome)
-            | SessionReply::Entered(outcome)
-            | SessionReply::Committed(outcome) => self.ring_after(rt, outcome),
-            SessionReply::Attached(_, Standing::Ready) | SessionReply::Withdrew(_) => {
+            ToldReply::Submitted(outcome)
+            | ToldReply::Resumed(outcome)
+            | ToldReply::Entered(outcome)
+            | ToldReply::Committed(outcome) => self.ring_after(rt, outcome),
+            ToldReply::Attached(_, Standing::Ready) | ToldReply::Withdrew(_) => {
                 self.ring_at_all(rt);
             }
-            SessionReply::WithdrawFell | SessionReply::Detached => self.ring_for_worker(rt),
+            ToldReply::WithdrawFell | ToldReply::Detached => self.ring_for_worker(rt),
             _ => {}
         }
     }
 
-    fn ring_after<R: Wait>(&self, rt: &R, outcome: Outcome) {
+    fn ring_after<R: Wait>(&self, rt: &R, outcome: ToldOutcome) {
         match outcome {
-            Outcome::Receipt(receipt) => {
+            ToldOutcome::Receipt(receipt) => {
                 if let Some(bell) = self.left.get(receipt.lock as usize) {
                     bell.ring(rt);
                 }
             }
-            Outcome::Fell => self.ring_for_worker(rt),
-            Outcome::Withdrawn | Outcome::Waiting | Outcome::Inside(_) => {}
+            ToldOutcome::Fell => self.ring_for_worker(rt),
+            ToldOutcome::Withdrawn | ToldOutcome::Waiting | ToldOutcome::Inside(_) => {}
         }
     }
 

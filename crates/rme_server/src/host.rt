@@ -5,7 +5,7 @@ use crate::buffers::Buffers;
 use crate::client::{Client, Reach};
 use crate::hall::Hall;
 use crate::waiting::obey_in_time;
-use rme_session_lines::SessionReply;
+use rme_session_lines::{SessionReply, WORLD_NUMBERS};
 use rme_sessions::{Stand, let_go};
 use rme_slots::Slots;
 use rme_table::{Service, Tag};
@@ -33,6 +33,7 @@ impl<K: Tag, H: Reach> Backend for Host<'_, K, H> {
     ghost use Rattle.std.specs.Prelude.{◌≡◌};
     ghost use Rattle.rme_orders.specs.Sessions.{IsAnswered};
     ghost use Rattle.rme_server.specs.Sessions.{ObeysFor};
+    ghost use Rattle.rme_session_lines.specs.Orders.{world_numbers};
     ghost use Rattle.rme_sessions.specs.Stands as stands;
 
     type Stand = Stand;
@@ -45,7 +46,7 @@ impl<K: Tag, H: Reach> Backend for Host<'_, K, H> {
 
     ghost nobody = { λ _. stands.nobody };
 
-    ghost answers = { λ host gone. IsAnswered (ObeysFor gone K.ident host.slots.now) host.names.now };
+    ghost answers = { λ host gone. IsAnswered (ObeysFor gone K.ident host.slots.now) host.names.now world_numbers };
 
     fn alloc(&self) -> Global {
         self.alloc
@@ -72,7 +73,7 @@ impl<K: Tag, H: Reach> Backend for Host<'_, K, H> {
         writer: &mut O,
         client: &C,
     ) -> (Stand, Result<(), EngineFault>) {
-        let order = match buffers.order(cut, self.alloc, self.names) {
+        let order = match buffers.order(cut, self.alloc, self.names, WORLD_NUMBERS) {
             Ok(Ok(order)) => order,
             Ok(Err(why)) => return (stand, buffers.say(self.names, SessionReply::Refused(why))),
             Err(_) => return (stand, Err(EngineFault::NoMemory)),

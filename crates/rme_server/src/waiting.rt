@@ -17,7 +17,7 @@ use crate::hall::note;
 use crate::host::Host;
 use crate::pauses::{LONGEST, Pauses};
 use rme_orders::{answer_as, once_more, patience_of, still_waits, with_tries};
-use rme_session_lines::{Attachment, Order, Patience, SessionReply};
+use rme_session_lines::{Attachment, Order, Patience, SessionReply, ToldReply};
 use rme_sessions::{Holding, Stand, obey};
 use rme_table::Tag;
 use rme_wire::{EngineFault, Exchange, Sink};
@@ -112,7 +112,7 @@ fn obey_here<K: Tag, R: Wait, C: Client>(
     let (stand, reply) = obey(rt, stand, order, host.service, host.slots);
     drop(turn);
     note(seat, client, had, stand.worker().is_some());
-    host.hall.ring_for(rt, reply);
+    host.hall.ring_for(rt, ToldReply::from(reply));
     (stand, reply)
 }
 

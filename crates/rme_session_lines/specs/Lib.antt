@@ -1,4 +1,5 @@
--- In reading order: how long an order tries, what a session's line orders, and the texts of the answers.
+-- In reading order: how long an order tries, what a session's line orders, what a client is told, and the texts of the answers.
 pub mod Patience
 pub mod Orders
+pub mod Told
 pub mod Sessions

@@ -1,4 +1,4 @@
--- The order of a session's line. The names are those of the service's locks.
+-- The order of a session's line. The names are those of the service's locks, and a job's number is at most so large.
 use Rattle.std.specs.Prelude.{ℕ, Bool, false, ◌+◌, ◌==◌, ◌&&◌, nat_le, List, bytes_eq, codes, if◌then◌else◌, Option, Some, None, option_map, option_and_then}
 use Rattle.serde_json.specs.Data.{Data}
 use Rattle.serde_json.specs.Events.{members_len}
@@ -11,7 +11,15 @@ use Rattle.rme_session_lines.specs.declared.order.Patience.TheVariants.{Tries, W
 use Rattle.rme_session_lines.specs.declared.order.Submission.{Submission}
 use Rattle.rme_wire.specs.Commands.{counted, lock_of, worker_of}
 use Rattle.rme_wire.specs.Operations.{script_of}
-use Rattle.rme_wire.specs.Values.{small, value_of, word_of}
+use Rattle.rme_wire.specs.Values.{small, up_to, value_of, word_of}
+
+-- The largest number of a job that the client of one world may give, and that the client of a service may whose worlds follow
+-- one another.
+abbrev pub world_numbers : ℕ
+world_numbers = 4294967295
+
+abbrev pub service_numbers : ℕ
+service_numbers = 9007199254740992
 
 -- the member `take`, false where it is absent
 abbrev pub take_or_not : Option Data → Option Bool
@@ -47,11 +55,11 @@ unfoldable pub patience_keys : Data → ℕ
 patience_keys d = counted (get (codes "tries") d) + counted (get (codes "wait") d)
 
 -- `{"do":WORD,"lock":..,"number":..,"script":..,"tries":..}`, of which the last may be absent, or be `wait`
-unfoldable pub submission_of : List (List ℕ) → ℕ → Data → Option Submission
-submission_of names count d =
+unfoldable pub submission_of : List (List ℕ) → ℕ → ℕ → Data → Option Submission
+submission_of names most count d =
     option_and_then (λ number. option_and_then (λ lock. option_and_then (λ script. option_and_then (λ patience.
     if count == 4 + patience_keys d then Some (record { number = number; job = record { lock = lock; script = script }; patience = patience }) else None)
-    (patience_of d)) (option_and_then script_of (get (codes "script") d))) (lock_of names d)) (option_and_then small (get (codes "number") d))
+    (patience_of d)) (option_and_then script_of (get (codes "script") d))) (lock_of names d)) (option_and_then (up_to most) (get (codes "number") d))
 
 -- `{"do":"resume","tries":..}`, of which the last may be absent, or be `wait`
 unfoldable pub resume_of : ℕ → Data → Option Order
@@ -78,18 +86,18 @@ unfoldable pub bare_order : List ℕ → ℕ → Option Order
 bare_order word count = if count == 1 then order_by word else None
 
 -- the order of an object with so many keys, whose `do` is this word
-unfoldable pub order_named : List (List ℕ) → List ℕ → ℕ → Data → Option Order
-order_named names word count d =
+unfoldable pub order_named : List (List ℕ) → ℕ → List ℕ → ℕ → Data → Option Order
+order_named names most word count d =
     if bytes_eq word (codes "attach") then attach_of count d
-    else (if bytes_eq word (codes "submit") then option_map Submit (submission_of names count d)
-    else (if bytes_eq word (codes "enter") then option_map Enter (submission_of names count d)
+    else (if bytes_eq word (codes "submit") then option_map Submit (submission_of names most count d)
+    else (if bytes_eq word (codes "enter") then option_map Enter (submission_of names most count d)
     else (if bytes_eq word (codes "resume") then resume_of count d
     else (if bytes_eq word (codes "crash_after") then crash_after_of count d
     else bare_order word count))))
 
 -- the order of a value, an object with a member `do`
-unfoldable pub order_of : List (List ℕ) → Data → Option Order
-order_of names d = option_and_then (λ members. option_and_then (λ word. order_named names word (members_len members) d) (word_of d)) (as_object d)
+unfoldable pub order_of : List (List ℕ) → ℕ → Data → Option Order
+order_of names most d = option_and_then (λ members. option_and_then (λ word. order_named names most word (members_len members) d) (word_of d)) (as_object d)
 
-abbrev pub order_of_line : List (List ℕ) → List ℕ → Option Order
-order_of_line names bytes = option_and_then (order_of names) (value_of bytes)
+abbrev pub order_of_line : List (List ℕ) → ℕ → List ℕ → Option Order
+order_of_line names most bytes = option_and_then (order_of names most) (value_of bytes)

@@ -5,7 +5,9 @@ ghost use Rattle.serde_json.specs.View.{view};
 ghost use Rattle.rme_session_lines.specs.Orders as spec;
 
 use rme_script::Job;
-use rme_wire::{Names, key_count, lock_of, read_value, script_of, small, word_of, worker_of};
+use rme_wire::{
+    Names, key_count, lock_of, read_value, script_of, small, up_to, word_of, worker_of,
+};
 use rme_words::NoMemory;
 use serde_json::Value;
 use std::alloc::Global;
@@ -18,6 +20,13 @@ const MOST_TRIES: u32 = 1_000_000;
 
 /// The most milliseconds that a line may wait: an hour.
 const MOST_WAIT: u32 = 3_600_000;
+
+/// The largest number that the client of one world may give a job.
+pub const WORLD_NUMBERS: u64 = 4_294_967_295;
+
+/// The largest number that a client may give a job of a service whose worlds follow one another: 2^53. A JSON number of more is
+/// not exact everywhere.
+pub const SERVICE_NUMBERS: u64 = 9_007_199_254_740_992;
 
 /// The most own steps after which a line may plan a crash.
 const MOST_STEPS: u32 = 1_000_000;
@@ -49,7 +58,8 @@ impl Patience {
 /// A job with the number that its client gave it.
 #[derive(Clone, Copy, PartialEq, Eq)]
 pub struct Submission {
-    pub number: u32,
+    /// Beyond those of one world where the service had worlds before.
+    pub number: u64,
     pub job: Job,
     pub patience: Patience,
 }
@@ -91,34 +101,40 @@ pub enum Order {
 
 /// The order of a session's line, or `None` where the line is none.
 ///
-/// The names are those of the service's locks. `NoMemory` says that there was no room for the line's value.
-pub fn order_of(alloc: Global, names: &Names, line: &[u8]) -> Result<Option<Order>, NoMemory>
-    ensures { IfOk result (λ order. order ≡ spec.order_of_line names.now line.now) }
+/// The names are those of the service's locks, and `most` is the largest number that a job of its may have. `NoMemory` says
+/// that there was no room for the line's value.
+pub fn order_of(
+    alloc: Global,
+    names: &Names,
+    most: u64,
+    line: &[u8],
+) -> Result<Option<Order>, NoMemory>
+    ensures { IfOk result (λ order. order ≡ spec.order_of_line names.now most line.now) }
 {
     match read_value(alloc, line)? {
         None => Ok(None),
-        Some(value) => Ok(order_of_value(names, &value)),
+        Some(value) => Ok(order_of_value(names, most, &value)),
     }
 }
 
 #[tactic(auto, unfolding(crate::specs::Orders::order_of))]
-fn order_of_value(names: &Names, value: &Value) -> Option<Order>
-    ensures { result ≡ spec.order_of names.now (view value.now) }
+fn order_of_value(names: &Names, most: u64, value: &Value) -> Option<Order>
+    ensures { result ≡ spec.order_of names.now most (view value.now) }
 {
     let count = key_count(value)?;
     let word = word_of(value)?;
-    order_named(names, word, count, value)
+    order_named(names, most, word, count, value)
 }
 
 /// The order that a value is, where its member `do` is a word and it has so many members.
 #[tactic(auto, unfolding(crate::specs::Orders::order_named))]
-fn order_named(names: &Names, word: &str, count: usize, value: &Value) -> Option<Order>
-    ensures { result ≡ spec.order_named names.now word.now count (view value.now) }
+fn order_named(names: &Names, most: u64, word: &str, count: usize, value: &Value) -> Option<Order>
+    ensures { result ≡ spec.order_named names.now most word.now count (view value.now) }
 {
     match word {
         "attach" => attach_of(count, value),
-        "submit" => submission_of(names, count, value).map(Order::Submit),
-        "enter" => submission_of(names, count, value).map(Order::Enter),
+        "submit" => submission_of(names, most, count, value).map(Order::Submit),
+        "enter" => submission_of(names, most, count, value).map(Order::Enter),
         "resume" => resume_of(count, value),
         "crash_after" => crash_after_of(count, value),
         _ => bare_order(word, count),
@@ -190,10 +206,10 @@ fn patience_keys(value: &Value) -> usize
 
 /// A submission whose optional member is there or not.
 #[tactic(auto, unfolding(crate::specs::Orders::submission_of))]
-fn submission_of(names: &Names, count: usize, value: &Value) -> Option<Submission>
-    ensures { result ≡ spec.submission_of names.now count (view value.now) }
+fn submission_of(names: &Names, most: u64, count: usize, value: &Value) -> Option<Submission>
+    ensures { result ≡ spec.submission_of names.now most count (view value.now) }
 {
-    let number = small(value.get("number")?)?;
+    let number = up_to(most, value.get("number")?)?;
     let lock = lock_of(names, value)?;
     let script = script_of(value.get("script")?)?;
     let patience = patience_of(value)?;

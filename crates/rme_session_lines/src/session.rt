@@ -2,9 +2,12 @@
 
 ghost use Rattle.std.specs.Prelude.{◌≡◌, ◌++◌, OnOk, string_bytes};
 ghost use Rattle.rme_session_lines.specs.Sessions as spec;
+ghost use Rattle.rme_session_lines.specs.Told.{outcome_told, reply_told};
+ghost use Rattle.rme_texts.specs.Told.{receipt_told};
 
+use crate::told::{ToldOutcome, ToldReply};
 use rme_program::Receipt;
-use rme_texts::{Names, push_last, push_receipt, push_refusal};
+use rme_texts::{Names, ToldReceipt, push_last, push_receipt, push_refusal};
 use rme_words::Refusal;
 use std::alloc::AllocError;
 
@@ -71,34 +74,31 @@ pub enum SessionReply {
 pub fn push_session_reply(
     out: &mut String,
     names: &Names,
-    reply: SessionReply,
+    reply: ToldReply,
 ) -> Result<(), AllocError>
-    ensures { OnOk result (string_bytes out.new ≡ string_bytes out.old ++ spec.session_text names.now reply) }
+    ensures { OnOk result (string_bytes out.new ≡ string_bytes out.old ++ spec.session_text names.now (reply_told reply)) }
 {
     match reply {
-        SessionReply::Attached(number, standing) => {
+        ToldReply::Attached(number, standing) => {
             push_standing(out, number, "attach", standing.word())
         }
-        SessionReply::Submitted(outcome) => push_outcome(out, names, "submit", outcome),
-        SessionReply::Resumed(outcome) => push_outcome(out, names, "resume", outcome),
-        SessionReply::Entered(outcome) => push_outcome(out, names, "enter", outcome),
-        SessionReply::Committed(outcome) => push_outcome(out, names, "commit", outcome),
-        SessionReply::Withdrew(number) => write!(
-            out,
-            "{{\"number\":{number},\"ok\":\"withdraw\"}}"
-        ),
-        SessionReply::WithdrawFell => push_fell(out, "withdraw"),
-        SessionReply::Last(last) => push_last(out, names, last),
-        SessionReply::CrashPlanned => out.push_str("{\"ok\":\"crash_after\"}"),
-        SessionReply::Detached => out.push_str("{\"ok\":\"detach\"}"),
-        SessionReply::Refused(refusal) => push_refusal(out, refusal),
+        ToldReply::Submitted(outcome) => push_outcome(out, names, "submit", outcome),
+        ToldReply::Resumed(outcome) => push_outcome(out, names, "resume", outcome),
+        ToldReply::Entered(outcome) => push_outcome(out, names, "enter", outcome),
+        ToldReply::Committed(outcome) => push_outcome(out, names, "commit", outcome),
+        ToldReply::Withdrew(number) => write!(out, "{{\"number\":{number},\"ok\":\"withdraw\"}}"),
+        ToldReply::WithdrawFell => push_fell(out, "withdraw"),
+        ToldReply::Last(last) => push_last(out, names, last),
+        ToldReply::CrashPlanned => out.push_str("{\"ok\":\"crash_after\"}"),
+        ToldReply::Detached => out.push_str("{\"ok\":\"detach\"}"),
+        ToldReply::Refused(refusal) => push_refusal(out, refusal),
     }
 }
 
 /// Appends what a worker is at, with the word of the line that asked.
 fn push_standing(
     out: &mut String,
-    number: u32,
+    number: u64,
     word: &str,
     standing: &str,
 ) -> Result<(), AllocError>
@@ -115,16 +115,16 @@ fn push_outcome(
     out: &mut String,
     names: &Names,
     word: &str,
-    outcome: Outcome,
+    outcome: ToldOutcome,
 ) -> Result<(), AllocError>
-    ensures { OnOk result (string_bytes out.new ≡ string_bytes out.old ++ spec.outcome_text names.now word.now outcome) }
+    ensures { OnOk result (string_bytes out.new ≡ string_bytes out.old ++ spec.outcome_text names.now word.now (outcome_told outcome)) }
 {
     match outcome {
-        Outcome::Receipt(receipt) => push_receipt_outcome(out, names, word, receipt),
-        Outcome::Withdrawn => write!(out, "{{\"ok\":\"{word}\",\"withdrawn\":true}}"),
-        Outcome::Waiting => write!(out, "{{\"ok\":\"{word}\",\"waiting\":true}}"),
-        Outcome::Fell => push_fell(out, word),
-        Outcome::Inside(number) => push_standing(out, number, word, Standing::Held.word()),
+        ToldOutcome::Receipt(receipt) => push_receipt_outcome(out, names, word, receipt),
+        ToldOutcome::Withdrawn => write!(out, "{{\"ok\":\"{word}\",\"withdrawn\":true}}"),
+        ToldOutcome::Waiting => write!(out, "{{\"ok\":\"{word}\",\"waiting\":true}}"),
+        ToldOutcome::Fell => push_fell(out, word),
+        ToldOutcome::Inside(number) => push_standing(out, number, word, Standing::Held.word()),
     }
 }
 
@@ -138,9 +138,9 @@ fn push_receipt_outcome(
     out: &mut String,
     names: &Names,
     word: &str,
-    receipt: Receipt,
+    receipt: ToldReceipt,
 ) -> Result<(), AllocError>
-    ensures { OnOk result (string_bytes out.new ≡ string_bytes out.old ++ spec.receipt_outcome_text names.now word.now receipt) }
+    ensures { OnOk result (string_bytes out.new ≡ string_bytes out.old ++ spec.receipt_outcome_text names.now word.now (receipt_told receipt)) }
 {
     push_receipt_front(out, word)?;
     push_receipt(out, names, receipt)?;

@@ -1,13 +1,15 @@
 //! The texts of single answers, without their newline.
 
-ghost use Rattle.std.specs.Prelude.{◌≡◌, ◌++◌, OnOk, string_bytes, slice_index};
+ghost use Rattle.std.specs.Prelude.{◌≡◌, ◌++◌, OnOk, option_map, string_bytes, slice_index};
 ghost use Rattle.rme_texts.specs.Texts as text;
 ghost use Rattle.rme_texts.specs.Replies as spec;
+ghost use Rattle.rme_texts.specs.Told.{receipt_told};
 
 use crate::texts::{push_cells, push_entries, push_note, push_notes, push_receipt};
+use crate::told::ToldReceipt;
 use crate::walked::Walked;
 use rme_names::{Image, Names};
-use rme_program::{Entry, Note, Receipt};
+use rme_program::{Entry, Note};
 use rme_script::Row;
 use rme_words::Refusal;
 use std::alloc::AllocError;
@@ -99,8 +101,12 @@ fn push_settled(out: &mut String, settled: bool) -> Result<(), AllocError>
 }
 
 /// Appends the answer of `last`. An error is want of memory, and leaves a text that is of no use.
-pub fn push_last(out: &mut String, names: &Names, last: Option<Receipt>) -> Result<(), AllocError>
-    ensures { OnOk result (string_bytes out.new ≡ string_bytes out.old ++ spec.last_text names.now last) }
+pub fn push_last(
+    out: &mut String,
+    names: &Names,
+    last: Option<ToldReceipt>,
+) -> Result<(), AllocError>
+    ensures { OnOk result (string_bytes out.new ≡ string_bytes out.old ++ spec.last_text names.now (option_map receipt_told last)) }
 {
     match last {
         Some(receipt) => push_last_receipt(out, names, receipt),
@@ -108,8 +114,12 @@ pub fn push_last(out: &mut String, names: &Names, last: Option<Receipt>) -> Resu
     }
 }
 
-fn push_last_receipt(out: &mut String, names: &Names, receipt: Receipt) -> Result<(), AllocError>
-    ensures { OnOk result (string_bytes out.new ≡ string_bytes out.old ++ spec.last_receipt_text names.now receipt) }
+fn push_last_receipt(
+    out: &mut String,
+    names: &Names,
+    receipt: ToldReceipt,
+) -> Result<(), AllocError>
+    ensures { OnOk result (string_bytes out.new ≡ string_bytes out.old ++ spec.last_receipt_text names.now (receipt_told receipt)) }
 {
     out.push_str("{\"last\":")?;
     push_receipt(out, names, receipt)?;

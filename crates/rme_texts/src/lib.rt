@@ -10,6 +10,7 @@ mod answer;
 mod event;
 mod reply;
 mod texts;
+mod told;
 mod walked;
 
 pub use answer::{Done, Report, push_last, push_refusal};
@@ -17,4 +18,5 @@ pub use event::{EventLine, Handed, push_event, push_opening};
 pub use reply::{Reply, push_reply};
 pub use rme_names::{Image, Names, is_name};
 pub use texts::{name_of, push_note, push_receipt};
+pub use told::{ToldReceipt, told_last};
 pub use walked::{WalkEnd, WalkNotes, Walked};

@@ -7,6 +7,7 @@ use crate::answer::{
     Done, Report, push_done, push_history, push_image, push_last, push_number, push_owner,
     push_refusal, push_report, push_row, push_stepped, push_walked,
 };
+use crate::told::told_last;
 use crate::walked::Walked;
 use rme_names::{Image, Names};
 use rme_program::{Entry, Note, Receipt};
@@ -63,7 +64,7 @@ pub fn push_reply(
         Reply::Walked(walked) => push_walked(out, names, walked),
         Reply::Owner(owner) => push_owner(out, *owner),
         Reply::Cells(row, settled) => push_row(out, row, *settled),
-        Reply::Last(last) => push_last(out, names, *last),
+        Reply::Last(last) => push_last(out, names, told_last(*last)),
         Reply::History => push_history(out, names, history),
         Reply::Report(report) => push_report(out, *report),
         Reply::Image(image) => push_image(out, image),

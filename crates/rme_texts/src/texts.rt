@@ -2,7 +2,9 @@
 
 ghost use Rattle.std.specs.Prelude.{◌≡◌, ◌++◌, OnOk, codes, decimal, string_bytes};
 ghost use Rattle.rme_texts.specs.Texts as spec;
+ghost use Rattle.rme_texts.specs.Told.{receipt_told};
 
+use crate::told::ToldReceipt;
 use rme_names::Names;
 use rme_program::{Entry, Note, Receipt};
 use rme_script::{Op, Row, Script};
@@ -58,11 +60,11 @@ fn push_finished(out: &mut String, names: &Names, receipt: Receipt) -> Result<()
 
 /// Appends a receipt, as `{"lock":"bank","number":1,"place":0,"reply":5,"worker":0}`. An error is want of memory, and leaves
 /// a text that is of no use.
-pub fn push_receipt(out: &mut String, names: &Names, receipt: Receipt) -> Result<(), AllocError>
-    ensures { OnOk result (string_bytes out.new ≡ string_bytes out.old ++ spec.receipt_text names.now receipt) }
+pub fn push_receipt(out: &mut String, names: &Names, receipt: ToldReceipt) -> Result<(), AllocError>
+    ensures { OnOk result (string_bytes out.new ≡ string_bytes out.old ++ spec.receipt_text names.now (receipt_told receipt)) }
 {
     let name = name_of(names, receipt.lock);
-    let Receipt {
+    let ToldReceipt {
         worker,
         lock: _,
         number,

@@ -1,5 +1,5 @@
 -- The JSON value of a line, and the words and whole numbers in it.
-use Rattle.std.specs.Prelude.{ℕ, ◌^◌, nat_lt, List, codes, if◌then◌else◌, Option, Some, None, option_and_then}
+use Rattle.std.specs.Prelude.{ℕ, ◌^◌, nat_le, nat_lt, List, codes, if◌then◌else◌, Option, Some, None, option_and_then}
 use Rattle.std.specs.Str.{is_utf8}
 use Rattle.serde_json.specs.Data.{Data}
 use Rattle.serde_json.specs.Find.{as_number, as_str, as_u64, get}
@@ -16,6 +16,10 @@ word_of d = option_and_then as_str (get (codes "do") d)
 -- a whole number below 2^64
 abbrev pub whole : Data → Option ℕ
 whole d = option_and_then as_u64 (as_number d)
+
+-- a whole number that is at most so large
+unfoldable pub up_to : ℕ → Data → Option ℕ
+up_to most d = option_and_then (λ n. if nat_le n most then Some n else None) (whole d)
 
 -- a whole number below 2^32
 unfoldable pub small : Data → Option ℕ

@@ -22,4 +22,4 @@ pub use request::{Request, request_of};
 pub use rme_lines::{Cut, EngineFault, Exchange, LineReader, Pending, Sink, Source, put_all};
 pub use rme_names::{Image, Names, is_name};
 pub use shaped::names_and_shape;
-pub use value::{item_count, key_count, read_value, small, word_of};
+pub use value::{item_count, key_count, read_value, small, up_to, word_of};

@@ -49,6 +49,15 @@ pub fn item_count(value: &Value) -> Option<usize>
     Some(items.len())
 }
 
+/// A whole number that is at most so large; `None` where the value is none.
+#[tactic(auto, unfolding(crate::specs::Values::up_to))]
+pub fn up_to(most: u64, value: &Value) -> Option<u64>
+    ensures { result ≡ spec.up_to most (view value.now) }
+{
+    let number = value.as_u64()?;
+    if number > most { None } else { Some(number) }
+}
+
 /// A whole number below 2^32; `None` where the value is none.
 #[tactic(auto, unfolding(crate::specs::Values::small))]
 pub fn small(value: &Value) -> Option<u32>

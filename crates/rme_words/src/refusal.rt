@@ -37,7 +37,7 @@ pub enum Refusal {
     /// The image is no good image.
     BadImage,
     /// A session's number is neither the last nor the next; the next one is given.
-    WrongNumber(u32),
+    WrongNumber(u64),
     /// Another lock or script came under a pending number.
     Differs,
     /// The worker's slot is empty.

@@ -2,7 +2,9 @@
 
 use crate::texts::lock_names;
 use rme_script::{Job, Op, Script};
-use rme_session_lines::{Attachment, Order, Patience, Submission, order_of};
+use rme_session_lines::{
+    Attachment, Order, Patience, SERVICE_NUMBERS, Submission, WORLD_NUMBERS, order_of,
+};
 use rme_wire::Names;
 use std::alloc::Global;
 use std::process::Abort;
@@ -10,7 +12,7 @@ use std::test::Fail;
 
 /// Lines that submit the job that adds 5, with its number, its lock and its tries. A lock that the service doesn't have
 /// is the number of its locks.
-const SUBMISSIONS: &[(&str, u32, u32, u32)] = &[
+const SUBMISSIONS: &[(&str, u64, u32, u32)] = &[
     (
         r#"{"do":"submit","lock":"a","number":1,"script":[["add",0,5]]}"#,
         1,
@@ -43,7 +45,7 @@ fn check_order(
     line: &str,
     wanted: Order,
 ) -> Result<(), Fail> {
-    let order = order_of(alloc, names, line.as_bytes())?;
+    let order = order_of(alloc, names, WORLD_NUMBERS, line.as_bytes())?;
     assert!(rt; order == Some(wanted));
     Ok(())
 }
@@ -127,8 +129,9 @@ fn no_orders(rt: HostRuntime) -> Result<(), Fail> {
         r#"{"do":"resume","wait":-1}"#,
         r#"{"do":"attach","take":1,"worker":0}"#,
         r#"{"do":"attach","take":true}"#,
+        r#"{"do":"submit","lock":"a","number":4294967296,"script":[]}"#,
     ] {
-        assert!(rt; order_of(rt.alloc(), &names, line.as_bytes())?.is_none());
+        assert!(rt; order_of(rt.alloc(), &names, WORLD_NUMBERS, line.as_bytes())?.is_none());
     }
     Ok(())
 }
@@ -147,6 +150,30 @@ fn submissions(rt: HostRuntime) -> Result<(), Fail> {
             patience: Patience::Tries(*tries),
         };
         check_order(&rt, rt.alloc(), &names, line, Order::Submit(submission))?;
+    }
+    Ok(())
+}
+
+/// The client of a service whose worlds follow one another gives its jobs numbers up to 2^53.
+#[test]
+fn large_numbers(rt: HostRuntime) -> Result<(), Fail> {
+    let names = lock_names(&rt, rt.alloc());
+    for (line, number) in [
+        (
+            r#"{"do":"submit","lock":"a","number":9007199254740992,"script":[]}"#,
+            Some(9_007_199_254_740_992),
+        ),
+        (
+            r#"{"do":"submit","lock":"a","number":9007199254740993,"script":[]}"#,
+            None,
+        ),
+    ] {
+        let order = order_of(rt.alloc(), &names, SERVICE_NUMBERS, line.as_bytes())?;
+        let given = match order {
+            Some(Order::Submit(its)) => Some(its.number),
+            _ => None,
+        };
+        assert!(rt; given == number);
     }
     Ok(())
 }
