@@ -17,6 +17,7 @@ use Rattle.rme_orders.specs.declared.view.ReadyWorker.{ReadyWorker}
 use Rattle.rme_orders.specs.declared.view.Session.{Session}
 use Rattle.rme_orders.specs.declared.view.Session.TheVariants.{Nobody, Ready, Climb, Held}
 use Rattle.rme_orders.specs.declared.view.View.{View}
+use Rattle.rme_texts.specs.Told.{receipt_told}
 use Rattle.rme_epochs.specs.declared.earlier.Earlier.{Earlier}
 use Rattle.rme_epochs.specs.declared.earlier.Past.{Past}
 use Rattle.rme_epochs.specs.declared.earlier.PlaceShift.{PlaceShift}
@@ -50,7 +51,7 @@ receipt_over earlier numbers receipt = record {
 -- What became of a worker's last number: one of this epoch, or the last of earlier ones.
 abbrev pub last_over : Earlier → Past → ℕ → Option Receipt → Option Receipt
 last_over earlier past number (Some receipt) = Some (receipt_over earlier past.numbers receipt)
-last_over earlier past zero None = past.last
+last_over earlier past zero None = option_map receipt_told past.last
 last_over earlier past (suc number) None = None
 
 -- What a session shows.

@@ -2,24 +2,24 @@
 
 ghost use Rattle.std.specs.Prelude.{◌≡◌, IsTrue};
 
-use rme_orders::{PendingWorker, ReadyWorker, Session};
-use rme_program::Receipt;
+use crate::over::{PendingOver, ReadyOver, SessionOver};
 use rme_script::{Job, Row};
+use rme_texts::ToldReceipt;
 
 /// Whether two sessions show the same.
-pub(crate) fn same_session(one: &Session, other: &Session) -> bool
+pub(crate) fn same_session(one: &SessionOver, other: &SessionOver) -> bool
     ensures { IsTrue result → one.now ≡ other.now }
 {
     match (one, other) {
-        (Session::Nobody, Session::Nobody) => true,
-        (Session::Ready(one), Session::Ready(other)) => same_ready(one, other),
-        (Session::Climb(one), Session::Climb(other)) => same_pending(one, other),
-        (Session::Held(one), Session::Held(other)) => same_pending(one, other),
+        (SessionOver::Nobody, SessionOver::Nobody) => true,
+        (SessionOver::Ready(one), SessionOver::Ready(other)) => same_ready(one, other),
+        (SessionOver::Climb(one), SessionOver::Climb(other)) => same_pending(one, other),
+        (SessionOver::Held(one), SessionOver::Held(other)) => same_pending(one, other),
         _ => false,
     }
 }
 
-fn same_ready(one: &ReadyWorker, other: &ReadyWorker) -> bool
+fn same_ready(one: &ReadyOver, other: &ReadyOver) -> bool
     ensures { IsTrue result → one.now ≡ other.now }
 {
     if one.worker != other.worker || one.number != other.number {
@@ -28,7 +28,7 @@ fn same_ready(one: &ReadyWorker, other: &ReadyWorker) -> bool
     same_last(one.last, other.last)
 }
 
-fn same_pending(one: &PendingWorker, other: &PendingWorker) -> bool
+fn same_pending(one: &PendingOver, other: &PendingOver) -> bool
     ensures { IsTrue result → one.now ≡ other.now }
 {
     if one.worker != other.worker || one.number != other.number {
@@ -38,7 +38,7 @@ fn same_pending(one: &PendingWorker, other: &PendingWorker) -> bool
 }
 
 /// Whether the same became of two numbers.
-pub(crate) fn same_last(one: Option<Receipt>, other: Option<Receipt>) -> bool
+pub(crate) fn same_last(one: Option<ToldReceipt>, other: Option<ToldReceipt>) -> bool
     ensures { IsTrue result → one ≡ other }
 {
     match (one, other) {
@@ -48,7 +48,7 @@ pub(crate) fn same_last(one: Option<Receipt>, other: Option<Receipt>) -> bool
     }
 }
 
-fn same_receipt(one: Receipt, other: Receipt) -> bool
+fn same_receipt(one: ToldReceipt, other: ToldReceipt) -> bool
     ensures { IsTrue result → one ≡ other }
 {
     one == other

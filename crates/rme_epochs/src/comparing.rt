@@ -1,11 +1,12 @@
 //! Whether a world shows what another showed.
 
-ghost use Rattle.std.specs.Prelude.{◌≡◌, ◌<◌, ◌+◌, ℕ, IfOk, IfSome, IsTrue, Ok, Option};
+ghost use Rattle.std.specs.Prelude.{◌≡◌, ◌<◌, ◌+◌, ℕ, IfOk, IfSome, IsTrue, Ok, Option, option_map};
 ghost use Rattle.rme_program.specs.declared.note.Receipt.{Receipt};
 ghost use Rattle.rme_desk.specs.Desks.{shown_by_holder};
 ghost use Rattle.rme_epochs.specs.Over.{session_over};
 ghost use Rattle.rme_history.specs.Legal.{rows_of_locks};
 ghost use Rattle.rme_tree.specs.Nodes.{owner_in};
+ghost use Rattle.rme_texts.specs.Told.{receipt_told};
 ghost use Rattle.rme_world.specs.Calls.{ShowsLast};
 ghost use Rattle.rme_world.specs.Looks.{words_seen};
 ghost use Rattle.rme_world.specs.Seen.{memory_seen};
@@ -14,8 +15,8 @@ ghost use Rattle.rme_epochs.specs.Renewals as spec;
 use crate::alike::{same_job, same_last, same_rows, same_session};
 use crate::earlier::Earlier;
 use rme_desk::Desk;
-use rme_program::Receipt;
 use rme_script::Row;
+use rme_texts::ToldReceipt;
 use rme_world::World;
 
 /// A desk, what earlier epochs left, and what the finished scripts left of each lock.
@@ -136,7 +137,7 @@ fn number_over(shown: &Shown<'_>, worker: u32) -> Option<u64>
     ensures { IfSome result (λ number. number ≡ spec.number_over shown.now.earlier.now shown.now.desk.now.world worker) }
 {
     let numbers = shown.earlier.past(worker).numbers;
-    u64::from(numbers).checked_add(shown.desk.world().number(worker))
+    numbers.checked_add(shown.desk.world().number(worker))
 }
 
 /// Whether clients are told that the same became of a worker's last number.
@@ -152,9 +153,9 @@ fn is_last_alike(before: &Shown<'_>, after: &Shown<'_>, worker: u32) -> bool
 }
 
 /// What became of a worker's last number, as clients are told it.
-fn last_over(shown: &Shown<'_>, worker: u32) -> Option<Option<Receipt>>
+fn last_over(shown: &Shown<'_>, worker: u32) -> Option<Option<ToldReceipt>>
     requires { worker < shown.now.desk.now.world.shape.workers }
-    ensures { IfSome result (spec.IsToldLast shown.now.earlier.now shown.now.desk.now.world worker) }
+    ensures { IfSome result (λ told. spec.IsToldLast shown.now.earlier.now shown.now.desk.now.world worker (option_map receipt_told told)) }
 {
     let world = shown.desk.world();
     let number = u32::try_from(world.number(worker)).ok()?;

@@ -4,13 +4,23 @@ ghost use Rattle.std.specs.Prelude.{◌≡◌, IfOk};
 
 use crate::earlier::{Earlier, order_within};
 use crate::told::told_of;
-use crate::written::{Acted, Lost, WrittenDesk};
+use crate::written::{Lost, WrittenDesk};
 use rme_desk::{Desk, Stand};
 use rme_orders::Session;
-use rme_session_lines::{Order, SessionReply};
+use rme_session_lines::{Order, ToldReply};
 use rme_wire::Names;
 use std::alloc::Global;
 use std::marker::Model;
+
+/// What became of an order, as the client of its session is told it.
+#[derive(Clone, Copy)]
+pub struct Answered {
+    pub reply: ToldReply,
+    /// The lock that the session's job waits for, if it waits.
+    pub waits_for: Option<u32>,
+    /// Once so many bytes of lines are kept, the order's are.
+    pub end: u64,
+}
 
 /// A desk of which all that is done is written down, and what the epochs before left.
 #[derive(Drop)]
@@ -33,12 +43,13 @@ impl Model for EpochDesk {
 }
 
 impl EpochDesk {
-    ghost use Rattle.std.specs.Prelude.{◌≡◌, [], IfOk, IfErr, IfSome, OnOk, OnSome, string_bytes};
+    ghost use Rattle.std.specs.Prelude.{◌≡◌, [], IfOk, IfErr, IfSome, OnOk, OnSome, option_map, string_bytes};
     ghost use Rattle.rme_desk.specs.Desks.{view_of};
     ghost use Rattle.rme_epochs.specs.Epochs.{ObeysOver};
     ghost use Rattle.rme_epochs.specs.Over.{session_over};
     ghost use Rattle.rme_epochs.specs.Records.{IsWritten, record_of};
     ghost use Rattle.rme_epochs.specs.Told.{told_of};
+    ghost use Rattle.rme_session_lines.specs.Told.{reply_told};
     ghost use Rattle.rme_epochs.specs.declared.written.Lost.TheVariants as lost;
 
     /// A desk behind these epochs, of which nothing is to be written down yet. So many bytes of lines led to it.
@@ -123,15 +134,15 @@ impl EpochDesk {
         names: &Names,
         stand: &mut Stand,
         order: &Order,
-    ) -> Result<Acted, Lost>
-        ensures obeys { IfOk result (λ acted. ObeysOver self.old.earlier self.old.office stand.old order.now self.new.office stand.new acted.reply) }
+    ) -> Result<Answered, Lost>
+        ensures obeys { IfOk result (λ answered. ObeysOver self.old.earlier self.old.office stand.old order.now self.new.office stand.new (reply_told answered.reply)) }
         ensures written { OnOk result (IsWritten names.now (record_of self.old.office self.old.lines) (record_of self.new.office self.new.lines)) }
         ensures earlier { self.new.earlier ≡ self.old.earlier }
         ensures unchanged { IfErr result (λ why. why ≡ lost.NoMemory → (self.new ≡ self.old) × (stand.new ≡ stand.old)) }
     {
         let session = self.written.desk().session(stand);
         if let Some(reply) = self.told(&session, order)? {
-            return Ok(Acted {
+            return Ok(Answered {
                 reply,
                 waits_for: None,
                 end: self.end(),
@@ -141,14 +152,18 @@ impl EpochDesk {
         let its = order_within(numbers, order);
         let acted = self.written.obey(alloc, names, stand, &its)?;
         match self.earlier.reply(numbers, acted.reply) {
-            Some(reply) => Ok(Acted { reply, ..acted }),
+            Some(reply) => Ok(Answered {
+                reply,
+                waits_for: acted.waits_for,
+                end: acted.end,
+            }),
             None => Err(self.written.lose()),
         }
     }
 
     /// What a session is told at once, of which this is shown in the world. (No number is too large: that is looked at as an epoch begins.)
-    fn told(&self, session: &Session, order: &Order) -> Result<Option<SessionReply>, Lost>
-        ensures told { IfOk result (λ reply. reply ≡ told_of (session_over self.now.earlier session.now) order.now) }
+    fn told(&self, session: &Session, order: &Order) -> Result<Option<ToldReply>, Lost>
+        ensures told { IfOk result (λ reply. option_map reply_told reply ≡ told_of (session_over self.now.earlier session.now) order.now) }
         ensures why { IfErr result (λ why. why ≡ lost.NoMemory) }
     {
         match self.earlier.session(session) {

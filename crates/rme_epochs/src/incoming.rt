@@ -1,19 +1,19 @@
 //! What an epoch has from those before: its header, as numbers and places that are told by it.
 
 use crate::earlier::{Earlier, Past, PlaceShift};
-use rme_journal::{Header, KeptReceipt, LastWord};
-use rme_program::Receipt;
+use rme_journal::{Header, LastWord};
+use rme_session_lines::SERVICE_NUMBERS;
 use rme_words::{MOST_JOBS, MOST_WORKERS};
 use std::alloc::{AllocError, Global};
 
-/// The most numbers that a worker may have had, so that each of an epoch's is one of 32 bits.
-const MOST_NUMBERS: u32 = u32::MAX - MOST_JOBS;
+/// The most numbers that a worker may have had, so that a client may give each of an epoch's.
+const MOST_NUMBERS: u64 = SERVICE_NUMBERS - MOST_JOBS as u64;
 
 /// The most sections that a lock may have had.
-const MOST_SECTIONS: u32 = u32::MAX - MOST_JOBS * MOST_WORKERS;
+const MOST_SECTIONS: u64 = SERVICE_NUMBERS - (MOST_JOBS * MOST_WORKERS) as u64;
 
 impl Earlier {
-    /// What a header says; `None` where a number of it is none of 32 bits, or would not go on as one.
+    /// What a header says; `None` where a number of it would not go on.
     pub fn of_header(alloc: Global, header: &Header) -> Result<Option<Earlier>, AllocError> {
         let Some(workers) = workers_of(alloc, header)? else {
             return Ok(None);
@@ -25,12 +25,12 @@ impl Earlier {
     }
 
     /// How many sections a lock had before, with so many of this epoch, those of the keeper aside.
-    pub fn places_before(&self, lock: u32, sections: u64) -> Option<u32> {
+    pub fn places_before(&self, lock: u32, sections: u64) -> Option<u64> {
         let Some(shift) = self.places.get(lock as usize) else {
-            return u32::try_from(sections).ok();
+            return Some(sections);
         };
-        let over = u64::from(shift.more).checked_add(sections)?;
-        u32::try_from(over.checked_sub(u64::from(shift.less))?).ok()
+        let over = shift.more.checked_add(sections)?;
+        over.checked_sub(shift.less)
     }
 }
 
@@ -52,25 +52,14 @@ fn workers_of(alloc: Global, header: &Header) -> Result<Option<Vec<Past>>, Alloc
 }
 
 fn past_of(numbers: u64, word: LastWord) -> Option<Past> {
-    let numbers = u32::try_from(numbers).ok()?;
     if numbers > MOST_NUMBERS {
         return None;
     }
     let last = match word {
         LastWord::Nothing | LastWord::Withdrawn => None,
-        LastWord::Receipt(kept) => Some(receipt_of(kept)?),
+        LastWord::Receipt(receipt) => Some(receipt),
     };
     Some(Past { numbers, last })
-}
-
-fn receipt_of(kept: KeptReceipt) -> Option<Receipt> {
-    Some(Receipt {
-        worker: kept.worker,
-        lock: kept.lock,
-        number: u32::try_from(kept.number).ok()?,
-        place: u32::try_from(kept.place).ok()?,
-        reply: kept.reply,
-    })
 }
 
 fn places_of(alloc: Global, header: &Header) -> Result<Option<Vec<PlaceShift>>, AllocError> {
@@ -86,7 +75,7 @@ fn places_of(alloc: Global, header: &Header) -> Result<Option<Vec<PlaceShift>>, 
 
 /// How places go on that are more by this, or less, where it is below 0.
 fn shift_of(place: i64) -> Option<PlaceShift> {
-    let apart = u32::try_from(place.unsigned_abs()).ok()?;
+    let apart = place.unsigned_abs();
     if apart > MOST_SECTIONS {
         return None;
     }

@@ -17,6 +17,7 @@ mod earlier;
 mod epoch;
 mod incoming;
 mod outgoing;
+mod over;
 mod renewal;
 mod sections;
 mod setting;
@@ -25,7 +26,8 @@ mod written;
 
 pub use draft::NotRenewed;
 pub use earlier::{Earlier, Past, PlaceShift};
-pub use epoch::EpochDesk;
+pub use epoch::{Answered, EpochDesk};
+pub use over::{PendingOver, ReadyOver, SessionOver};
 pub use renewal::Renewed;
 pub use sections::Sections;
 pub use written::{Acted, Lost, WrittenDesk};

@@ -4,8 +4,9 @@ use crate::draft::NotRenewed;
 use crate::earlier::Earlier;
 use crate::epoch::EpochDesk;
 use crate::sections::{Sections, last_receipts};
-use rme_journal::{Header, KeptReceipt, LastWord};
+use rme_journal::{Header, LastWord};
 use rme_program::Receipt;
+use rme_texts::ToldReceipt;
 use rme_world::World;
 use std::alloc::Global;
 
@@ -37,7 +38,10 @@ fn put_places(header: &mut Header, old: &EpochDesk, keepers: &[u32]) -> Result<(
         let Some(next) = old.earlier().places_before(lock, sections.at(lock)) else {
             return Err(NotRenewed);
         };
-        *place = i64::from(next) - i64::from(keepers);
+        let Ok(next) = i64::try_from(next) else {
+            return Err(NotRenewed);
+        };
+        *place = next.saturating_sub(i64::from(keepers));
         lock = lock.saturating_add(1);
     }
     Ok(())
@@ -54,7 +58,7 @@ fn put_workers(alloc: Global, header: &mut Header, old: &EpochDesk) -> Result<()
         let last = receipts.get(place).copied().unwrap_or(None);
         let (numbers, word) = worker_after(world, old.earlier(), worker, last)?;
         if let Some(number) = header.numbers.get_mut(place) {
-            *number = u64::from(numbers);
+            *number = numbers;
         }
         if let Some(last) = header.last.get_mut(place) {
             *last = word;
@@ -70,7 +74,7 @@ fn worker_after(
     earlier: &Earlier,
     worker: u32,
     receipt: Option<Receipt>,
-) -> Result<(u32, LastWord), NotRenewed> {
+) -> Result<(u64, LastWord), NotRenewed> {
     if worker >= world.shape().workers {
         return Err(NotRenewed);
     }
@@ -84,7 +88,7 @@ fn worker_after(
     let past = earlier.past(worker);
     let last = receipt.filter(|receipt| receipt.number == over);
     match (
-        past.numbers.checked_add(over),
+        past.numbers.checked_add(u64::from(over)),
         earlier.last(past, over, last),
     ) {
         (Some(numbers), Some(last)) => Ok((numbers, last_word(numbers, last))),
@@ -93,15 +97,9 @@ fn worker_after(
 }
 
 /// What became of the last of so many numbers.
-fn last_word(numbers: u32, last: Option<Receipt>) -> LastWord {
+fn last_word(numbers: u64, last: Option<ToldReceipt>) -> LastWord {
     match last {
-        Some(receipt) => LastWord::Receipt(KeptReceipt {
-            worker: receipt.worker,
-            lock: receipt.lock,
-            number: u64::from(receipt.number),
-            place: u64::from(receipt.place),
-            reply: receipt.reply,
-        }),
+        Some(receipt) => LastWord::Receipt(receipt),
         None if numbers == 0 => LastWord::Nothing,
         None => LastWord::Withdrawn,
     }

@@ -1,23 +1,11 @@
 //! Line 1 of a file: what earlier epochs left.
 
-use rme_texts::name_of;
-use rme_wire::{Names, key_count, lock_of, read_value, small};
+use rme_session_lines::SERVICE_NUMBERS;
+use rme_texts::{ToldReceipt, push_receipt};
+use rme_wire::{Names, key_count, lock_of, read_value, small, up_to};
 use rme_words::{NoMemory, Shape};
 use serde_json::Value;
 use std::alloc::{AllocError, Global};
-
-/// The most that a number or a place may come to: a JSON number of more is not exact everywhere.
-const MOST: u64 = 9_007_199_254_740_992;
-
-/// A receipt as it was answered: its number and its place are those of all epochs together.
-#[derive(Clone, Copy, Debug, PartialEq, Eq)]
-pub struct KeptReceipt {
-    pub worker: u32,
-    pub lock: u32,
-    pub number: u64,
-    pub place: u64,
-    pub reply: u64,
-}
 
 /// What became of a worker's last number in earlier epochs.
 #[derive(Clone, Copy, Debug, PartialEq, Eq)]
@@ -25,7 +13,8 @@ pub enum LastWord {
     /// It had none.
     Nothing,
     Withdrawn,
-    Receipt(KeptReceipt),
+    /// Its number and its place are those of all epochs together.
+    Receipt(ToldReceipt),
 }
 
 /// What earlier epochs left.
@@ -85,28 +74,8 @@ pub fn push_last_word(out: &mut String, names: &Names, word: LastWord) -> Result
     match word {
         LastWord::Nothing => out.push_str("null"),
         LastWord::Withdrawn => out.push_str("{\"withdrawn\":true}"),
-        LastWord::Receipt(receipt) => push_kept_receipt(out, names, receipt),
+        LastWord::Receipt(receipt) => push_receipt(out, names, receipt),
     }
-}
-
-/// Appends a receipt, as `{"lock":"bank","number":1,"place":0,"reply":5,"worker":0}`.
-pub fn push_kept_receipt(
-    out: &mut String,
-    names: &Names,
-    receipt: KeptReceipt,
-) -> Result<(), AllocError> {
-    let name = name_of(names, receipt.lock);
-    let KeptReceipt {
-        worker,
-        lock: _,
-        number,
-        place,
-        reply,
-    } = receipt;
-    write!(
-        out,
-        "{{\"lock\":\"{name}\",\"number\":{number},\"place\":{place},\"reply\":{reply},\"worker\":{worker}}}"
-    )
 }
 
 fn push_numbers(out: &mut String, numbers: &[u64]) -> Result<(), AllocError> {
@@ -252,7 +221,7 @@ fn last_word_of(names: &Names, value: &Value) -> Option<LastWord> {
     if key_count(value)? != 5 {
         return None;
     }
-    Some(LastWord::Receipt(KeptReceipt {
+    Some(LastWord::Receipt(ToldReceipt {
         worker: small(value.get("worker")?)?,
         lock: lock_in(names, value)?,
         number: whole(value.get("number")?)?,
@@ -269,8 +238,7 @@ fn lock_in(names: &Names, value: &Value) -> Option<u32> {
 
 /// A whole number that a number or a place may come to.
 fn whole(value: &Value) -> Option<u64> {
-    let number = value.as_u64()?;
-    if number > MOST { None } else { Some(number) }
+    up_to(SERVICE_NUMBERS, value)
 }
 
 fn numbers_of(alloc: Global, items: Option<&[Value]>) -> Result<Option<Vec<u64>>, AllocError> {
@@ -304,7 +272,7 @@ fn places_of(alloc: Global, items: Option<&[Value]>) -> Result<Option<Vec<i64>>,
 /// The places of a lock that earlier epochs had, which may be below 0.
 fn place_of(value: &Value) -> Option<i64> {
     let place = value.as_i64()?;
-    if place.unsigned_abs() > MOST {
+    if place.unsigned_abs() > SERVICE_NUMBERS {
         return None;
     }
     Some(place)

@@ -18,5 +18,5 @@ mod value;
 pub use command_line::push_command;
 pub use deed_lines::{push_deed, push_falls};
 pub use fault::{BadState, LineFault};
-pub use header::{Header, KeptReceipt, LastWord, push_header, push_kept_receipt, push_last_word};
+pub use header::{Header, LastWord, push_header, push_last_word};
 pub use starting::{Progress, Started, start, whole_lines};

@@ -12,15 +12,16 @@ use Rattle.rme_desk.specs.Offices.{Office}
 use Rattle.rme_desk.specs.declared.desk.Stand.{Stand}
 use Rattle.rme_epochs.specs.Epochs.{ObeysOver}
 use Rattle.rme_epochs.specs.declared.earlier.Earlier.{Earlier}
-use Rattle.rme_epochs.specs.declared.written.Acted.{Acted}
+use Rattle.rme_epochs.specs.declared.epoch.Answered.{Answered}
 use Rattle.rme_epochs.specs.declared.written.Lost.{Lost}
 use Rattle.rme_orders.specs.Parts.{answer_as, once_more}
+use Rattle.rme_session_lines.specs.Told.{reply_told}
 use Rattle.rme_session_lines.specs.declared.order.Order.{Order}
 use Rattle.rme_session_lines.specs.declared.session.SessionReply.{SessionReply}
 use Rattle.rme_kept.specs.Serving.{AnswersTo, CanGoOn, Extends, Served, ServesOrder, Tries}
 
 -- An order that was obeyed in some epoch was tried.
-pub tries_by : (result : Result Acted Lost) (earlier : Earlier) (before after : Office) (old now : Stand) (its : Order) → IfOk result (λ acted. ObeysOver earlier before old its after now acted.reply) → IfOk result (λ acted. Tries old its now acted.reply)
+pub tries_by : (result : Result Answered Lost) (earlier : Earlier) (before after : Office) (old now : Stand) (its : Order) → IfOk result (λ acted. ObeysOver earlier before old its after now (reply_told acted.reply)) → IfOk result (λ acted. Tries old its now (reply_told acted.reply))
 tries_by (Ok acted) earlier before after old now its obeys = record { earlier = earlier; before = before; after = after; obeys = obeys }
 tries_by (Err why) earlier before after old now its obeys = tt
 

@@ -9,6 +9,7 @@ use Rattle.rme_orders.specs.Parts.{answer_as, once_more, still_waits}
 use Rattle.rme_orders.specs.Sessions.{session_line}
 use Rattle.rme_orders.specs.declared.planned.Planned.TheVariants.{Nothing}
 use Rattle.rme_server.specs.Sessions.{asked_by}
+use Rattle.rme_session_lines.specs.Orders.{service_numbers}
 use Rattle.rme_session_lines.specs.declared.order.Order.{Order}
 use Rattle.rme_session_lines.specs.declared.order.Order.TheVariants.{Attach}
 use Rattle.rme_session_lines.specs.declared.session.SessionReply.{SessionReply}
@@ -67,4 +68,4 @@ pub record Answers (clients : ℕ) (names : List (List ℕ)) (old : Option Stand
   pub end : Stand
   pub begun : IsBegun old start
   pub is : now ≡ Some end
-  pub answers : AnswersTo clients names start (asked_by names line) bytes end
+  pub answers : AnswersTo clients names start (asked_by names service_numbers line) bytes end

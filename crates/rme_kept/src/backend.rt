@@ -5,9 +5,9 @@ use crate::kept::Kept;
 use crate::look::{Look, look_of};
 use crate::waiting::goes_on;
 use rme_desk::Stand;
-use rme_epochs::Acted;
+use rme_epochs::Answered;
 use rme_server::{Backend, Buffers, Client, Reach};
-use rme_session_lines::{Order, SessionReply};
+use rme_session_lines::{Order, SERVICE_NUMBERS, SessionReply};
 use rme_wire::{Cut, EngineFault, Names, Sink};
 use rme_words::Refusal;
 use std::alloc::Global;
@@ -60,7 +60,7 @@ impl<L: Ledger, H: Reach> Backend for Kept<L, H> {
         client: &C,
     ) -> (Option<Stand>, Result<(), EngineFault>) {
         let mut stand = self.stand_or_new(stand);
-        let order = match buffers.order(cut, self.alloc, &self.names) {
+        let order = match buffers.order(cut, self.alloc, &self.names, SERVICE_NUMBERS) {
             Ok(Ok(order)) => order,
             Ok(Err(why)) => return (Some(stand), self.answer_other(rt, why, buffers)),
             Err(_) => return (Some(stand), Err(EngineFault::NoMemory)),
@@ -84,6 +84,7 @@ impl<L: Ledger, H: Reach> Kept<L, H> {
     ghost use Rattle.rme_lines.specs.Puts.{Gathers};
     ghost use Rattle.rme_lines.specs.Traffic.{MakesWrites};
     ghost use Rattle.rme_server.specs.Sessions.{Breaks};
+    ghost use Rattle.rme_session_lines.specs.Told.{reply_told};
 
     /// Obeys an order, and answers it once its lines are kept. Where its job waits for its lock, all answers that were kept back
     /// are written before it goes on to try, so that no client waits for an answer that is there.
@@ -120,15 +121,15 @@ impl<L: Ledger, H: Reach> Kept<L, H> {
     fn answer_kept<R: Wait>(
         &self,
         rt: &R,
-        acted: Acted,
+        answered: Answered,
         buffers: &mut Buffers,
     ) -> Result<(), EngineFault>
-        ensures says { OnOk result (string_bytes buffers.new.text ≡ session_line self.now.names acted.reply) }
+        ensures says { OnOk result (string_bytes buffers.new.text ≡ session_line self.now.names (reply_told answered.reply)) }
         ensures same { buffers.new.exchange ≡ buffers.old.exchange }
         ensures err { IfErr result (λ fault. fault ≡ EngineFault.NoMemory) }
     {
-        match self.keep(rt, acted.end) {
-            Ok(()) => buffers.say(&self.names, acted.reply),
+        match self.keep(rt, answered.end) {
+            Ok(()) => buffers.tell(&self.names, answered.reply),
             Err(_) => Err(EngineFault::NoMemory),
         }
     }

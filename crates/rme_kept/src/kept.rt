@@ -3,11 +3,12 @@
 use crate::back::{Back, Ledger, NotKept};
 use crate::look::{Look, push_cells, push_owner};
 use crate::renewing::Due;
+use crate::spinning::{Marks, lock_soon};
 use crate::status::{Told, clients_of, push_status};
 use rme_desk::Stand;
-use rme_epochs::{Acted, EpochDesk, Lost};
+use rme_epochs::{Answered, EpochDesk, Lost};
 use rme_server::{Client, Hall, Reach, note};
-use rme_session_lines::{Order, SessionReply};
+use rme_session_lines::{Order, ToldReply};
 use rme_wire::Names;
 use rme_words::{NoMemory, Refusal};
 use std::alloc::{AllocError, Global};
@@ -26,6 +27,7 @@ pub struct Kept<L: Ledger, H: Reach> {
     pub(crate) due: Due,
     pub(crate) front: Mutex<EpochDesk>,
     back: Mutex<Back<L>>,
+    marks: Marks,
     /// Whether some of what was done could not be kept. It is set under the lock of `back`.
     is_broken: AtomicBool,
     /// Lines were written, or could not be.
@@ -37,6 +39,7 @@ pub struct Kept<L: Ledger, H: Reach> {
 impl<L: Ledger, H: Reach> Kept<L, H> {
     ghost use Rattle.std.specs.Prelude.{◌≡◌, IfOk, None, true};
     ghost use Rattle.rme_kept.specs.Serving.{IsBegun, Tries, is_keepers};
+    ghost use Rattle.rme_session_lines.specs.Told.{reply_told};
 
     /// A desk of which all is kept in the ledger, and the names of its locks. A new epoch begins once so many sections are
     /// finished in one, and once a worker has made all jobs of one.
@@ -60,6 +63,7 @@ impl<L: Ledger, H: Reach> Kept<L, H> {
                 spare: String::new(alloc),
                 kept: 0,
             }),
+            marks: Marks::new(),
             is_broken: AtomicBool::new(false),
             written: Condvar::new(),
             sessions: AtomicU64::new(0),
@@ -96,8 +100,8 @@ impl<L: Ledger, H: Reach> Kept<L, H> {
         stand: &mut Stand,
         order: &Order,
         client: &C,
-    ) -> Result<Acted, Lost>
-        ensures { IfOk result (λ acted. Tries stand.old order.now stand.new acted.reply) }
+    ) -> Result<Answered, Lost>
+        ensures { IfOk result (λ acted. Tries stand.old order.now stand.new (reply_told acted.reply)) }
     {
         if self.due.is_long() {
             self.renew(rt, None);
@@ -118,8 +122,8 @@ impl<L: Ledger, H: Reach> Kept<L, H> {
         stand: &mut Stand,
         order: &Order,
         client: &C,
-    ) -> Result<Acted, Lost>
-        ensures { IfOk result (λ acted. Tries stand.old order.now stand.new acted.reply) }
+    ) -> Result<Answered, Lost>
+        ensures { IfOk result (λ acted. Tries stand.old order.now stand.new (reply_told acted.reply)) }
     {
         let had = stand.worker.is_some();
         let seat = self.hall.seat(rt, asked_of(stand, order));
@@ -132,10 +136,10 @@ impl<L: Ledger, H: Reach> Kept<L, H> {
     }
 
     /// Obeys an order in this epoch.
-    fn act<R: Wait>(&self, rt: &R, stand: &mut Stand, order: &Order) -> Result<Acted, Lost>
-        ensures { IfOk result (λ acted. Tries stand.old order.now stand.new acted.reply) }
+    fn act<R: Wait>(&self, rt: &R, stand: &mut Stand, order: &Order) -> Result<Answered, Lost>
+        ensures { IfOk result (λ acted. Tries stand.old order.now stand.new (reply_told acted.reply)) }
     {
-        let mut front = self.front.lock(rt);
+        let mut front = lock_soon(rt, &self.front);
         let acted = front.obey(self.alloc, &self.names, stand, order);
         self.due.see(&front);
         acted
@@ -145,10 +149,7 @@ impl<L: Ledger, H: Reach> Kept<L, H> {
     pub(crate) fn let_go<R: Wait>(&self, rt: &R, stand: Stand) {
         let mut stand = stand;
         let seat = self.hall.seat(rt, stand.worker);
-        let gone = self
-            .front
-            .lock(rt)
-            .let_go(self.alloc, &self.names, &mut stand);
+        let gone = lock_soon(rt, &self.front).let_go(self.alloc, &self.names, &mut stand);
         if let Some(mut seat) = seat {
             *seat = None;
         }
@@ -162,8 +163,12 @@ impl<L: Ledger, H: Reach> Kept<L, H> {
 
     /// Waits until so many bytes of lines are kept, and writes them itself where nobody else does.
     pub(crate) fn keep<R: Wait>(&self, rt: &R, end: u64) -> Result<(), NotKept> {
-        let mut back = self.back.lock(rt);
         for _ in rt.forever() {
+            let is_behind = self.marks.is_behind(end);
+            if self.marks.has_kept(end) {
+                return Ok(());
+            }
+            let mut back = lock_soon(rt, &self.back);
             if self.is_broken() {
                 return Err(NotKept);
             }
@@ -171,12 +176,12 @@ impl<L: Ledger, H: Reach> Kept<L, H> {
                 return Ok(());
             }
             if let Some(ledger) = back.ledger.take() {
+                self.marks.write();
                 let spare = replace(&mut back.spare, String::new(self.alloc));
                 drop(back);
                 self.write(rt, ledger, spare);
-                back = self.back.lock(rt);
-            } else {
-                back = self.written.wait(rt, back);
+            } else if is_behind {
+                drop(self.written.wait(rt, back));
             }
         }
         unreachable!()
@@ -185,7 +190,7 @@ impl<L: Ledger, H: Reach> Kept<L, H> {
     /// Writes all lines so far, and gives the ledger back.
     fn write<R: Wait>(&self, rt: &R, ledger: L, spare: String) {
         let mut ledger = ledger;
-        let taken = self.front.lock(rt).take_lines(spare);
+        let taken = lock_soon(rt, &self.front).take_lines(spare);
         let Some((mut lines, end)) = taken else {
             ledger.lose();
             return self.lose(rt);
@@ -203,6 +208,7 @@ impl<L: Ledger, H: Reach> Kept<L, H> {
                 return None;
             }
             if let Some(ledger) = back.ledger.take() {
+                self.marks.write();
                 let spare = replace(&mut back.spare, String::new(self.alloc));
                 return Some((ledger, spare));
             }
@@ -228,8 +234,12 @@ impl<L: Ledger, H: Reach> Kept<L, H> {
             Ok(end) => {
                 back.kept = end;
                 back.ledger = Some(ledger);
+                self.marks.wrote(end);
             }
             Err(_) => self.is_broken.store(true, Ordering::SeqCst),
+        }
+        if self.is_broken() {
+            self.marks.stop();
         }
         drop(back);
         self.written.notify_all();
@@ -243,6 +253,7 @@ impl<L: Ledger, H: Reach> Kept<L, H> {
             ledger.lose();
         }
         back.ledger = None;
+        self.marks.stop();
         drop(back);
         self.written.notify_all();
     }
@@ -271,9 +282,9 @@ impl<L: Ledger, H: Reach> Kept<L, H> {
 }
 
 /// Whether a job was refused since its worker has made all jobs of the epoch.
-fn is_spent(acted: &Result<Acted, Lost>) -> bool {
+fn is_spent(acted: &Result<Answered, Lost>) -> bool {
     match acted {
-        Ok(acted) => acted.reply == SessionReply::Refused(Refusal::TooManyJobs),
+        Ok(acted) => acted.reply == ToldReply::Refused(Refusal::TooManyJobs),
         Err(_) => false,
     }
 }

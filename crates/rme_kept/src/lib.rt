@@ -13,6 +13,7 @@ mod backend;
 mod kept;
 mod look;
 mod renewing;
+mod spinning;
 mod status;
 mod waiting;
 

@@ -92,7 +92,7 @@ pub fn lock_status(told: &Told<'_>, lock: u32, sections: &Sections) -> Option<Lo
         cells,
         settled,
         owner: told.world.owner(lock).ok()?,
-        sections: u64::from(before),
+        sections: before,
     })
 }
 
@@ -101,7 +101,7 @@ pub fn worker_status(told: &Told<'_>, worker: u32) -> Option<WorkerStatus> {
     if worker >= told.world.shape().workers() {
         return None;
     }
-    let before = u64::from(told.earlier.past(worker).numbers);
+    let before = told.earlier.past(worker).numbers;
     Some(WorkerStatus {
         attached: told.world.known(worker).is_some(),
         number: before.saturating_add(told.world.number(worker)),

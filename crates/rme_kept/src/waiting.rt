@@ -2,16 +2,17 @@
 
 ghost use Rattle.std.specs.Prelude.{◌≡◌, IsTrue};
 ghost use Rattle.rme_server.specs.Sessions.{MayGoOn};
+ghost use Rattle.rme_session_lines.specs.Told.{reply_told};
 ghost use Rattle.rme_session_lines.specs.declared.session.SessionReply.TheVariants as answer;
 ghost use Rattle.rme_words.specs.declared.refusal.Refusal.TheVariants.{Taken};
 
 use crate::back::Ledger;
 use crate::kept::Kept;
 use rme_desk::Stand;
-use rme_epochs::{Acted, Lost};
-use rme_orders::{answer_as, once_more, patience_of, still_waits};
+use rme_epochs::{Answered, Lost};
+use rme_orders::{once_more, patience_of, told_as, told_still_waits};
 use rme_server::{Client, LONGEST, Pauses, Reach};
-use rme_session_lines::{Attachment, Order, Patience, SessionReply};
+use rme_session_lines::{Attachment, Order, Patience, ToldReply};
 use rme_words::{NoMemory, Refusal};
 use std::sync::Wait;
 use std::time::{Clock, Duration};
@@ -21,6 +22,7 @@ impl<L: Ledger, H: Reach> Kept<L, H> {
     ghost use Rattle.rme_kept.specs.Serving.{Extends, Tries};
     ghost use Rattle.rme_orders.specs.Parts.{still_waits};
     ghost use Rattle.rme_server.specs.Sessions.{MayGoOn};
+    ghost use Rattle.rme_session_lines.specs.Told.{reply_told};
     ghost use Rattle.rme_session_lines.specs.declared.order.Order.TheVariants as word;
     ghost use Rattle.rme_session_lines.specs.declared.session.SessionReply.TheVariants as answer;
     ghost use Rattle.rme_words.specs.declared.refusal.Refusal.TheVariants.{Taken};
@@ -31,11 +33,11 @@ impl<L: Ledger, H: Reach> Kept<L, H> {
         rt: &R,
         stand: &mut Stand,
         order: Order,
-        first: Acted,
+        first: Answered,
         client: &C,
-    ) -> Result<Acted, NoMemory>
-        requires may { MayGoOn order first.reply }
-        ensures { IfOk result (λ acted. Extends order stand.old first.reply stand.new acted.reply) }
+    ) -> Result<Answered, NoMemory>
+        requires may { MayGoOn order (reply_told first.reply) }
+        ensures { IfOk result (λ acted. Extends order stand.old (reply_told first.reply) stand.new (reply_told acted.reply)) }
     {
         match order {
             Order::Attach(asked) => self.take_over(rt, stand, asked, client),
@@ -51,8 +53,8 @@ impl<L: Ledger, H: Reach> Kept<L, H> {
         stand: &mut Stand,
         order: &Order,
         client: &C,
-    ) -> Result<Acted, NoMemory>
-        ensures { IfOk result (λ acted. Tries stand.old order.now stand.new acted.reply) }
+    ) -> Result<Answered, NoMemory>
+        ensures { IfOk result (λ acted. Tries stand.old order.now stand.new (reply_told acted.reply)) }
     {
         if self.is_broken() {
             return Err(NoMemory);
@@ -75,8 +77,8 @@ impl<L: Ledger, H: Reach> Kept<L, H> {
         stand: &mut Stand,
         asked: Attachment,
         client: &C,
-    ) -> Result<Acted, NoMemory>
-        ensures { IfOk result (λ acted. Extends (word.Attach asked) stand.old (answer.Refused Taken) stand.new acted.reply) }
+    ) -> Result<Answered, NoMemory>
+        ensures { IfOk result (λ acted. Extends (word.Attach asked) stand.old (answer.Refused Taken) stand.new (reply_told acted.reply)) }
     {
         let mut returned = self.hall().listen_for_workers(rt);
         for _ in rt.forever() {
@@ -96,22 +98,22 @@ impl<L: Ledger, H: Reach> Kept<L, H> {
         rt: &R,
         stand: &mut Stand,
         order: Order,
-        first: Acted,
+        first: Answered,
         client: &C,
-    ) -> Result<Acted, NoMemory>
-        requires waits { still_waits first.reply ≡ true }
-        ensures { IfOk result (λ acted. Extends order stand.old first.reply stand.new acted.reply) }
+    ) -> Result<Answered, NoMemory>
+        requires waits { still_waits (reply_told first.reply) ≡ true }
+        ensures { IfOk result (λ acted. Extends order stand.old (reply_told first.reply) stand.new (reply_told acted.reply)) }
     {
         let mut pauses = Pauses::new(rt, first.waits_for, self.hall());
         let mut acted = first;
         for _ in 1..most_tries(&order) {
             pauses.pause(rt, &order);
             let next = self.obey_or_end(rt, stand, &once_more(order), client)?;
-            acted = Acted {
-                reply: answer_as(acted.reply, next.reply),
+            acted = Answered {
+                reply: told_as(acted.reply, next.reply),
                 ..next
             };
-            if !still_waits(acted.reply) {
+            if !told_still_waits(acted.reply) {
                 return Ok(acted);
             }
             pauses.pass_on();
@@ -124,13 +126,13 @@ impl<L: Ledger, H: Reach> Kept<L, H> {
 }
 
 /// Whether an order is gone on with that was answered so after its first try.
-pub(crate) fn goes_on(order: &Order, reply: SessionReply) -> bool
-    ensures { IsTrue result → MayGoOn order.now reply }
+pub(crate) fn goes_on(order: &Order, reply: ToldReply) -> bool
+    ensures { IsTrue result → MayGoOn order.now (reply_told reply) }
 {
     if let Order::Attach(asked) = order {
         return asked.take && is_taken(reply);
     }
-    if !still_waits(reply) {
+    if !told_still_waits(reply) {
         return false;
     }
     match patience_of(order) {
@@ -141,10 +143,10 @@ pub(crate) fn goes_on(order: &Order, reply: SessionReply) -> bool
 }
 
 /// Whether another session has the worker that was asked for.
-fn is_taken(reply: SessionReply) -> bool
-    ensures { IsTrue result → reply ≡ answer.Refused Taken }
+fn is_taken(reply: ToldReply) -> bool
+    ensures { IsTrue result → reply_told reply ≡ answer.Refused Taken }
 {
-    reply == SessionReply::Refused(Refusal::Taken)
+    reply == ToldReply::Refused(Refusal::Taken)
 }
 
 /// The most tries that an order makes.

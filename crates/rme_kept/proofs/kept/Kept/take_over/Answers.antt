@@ -5,12 +5,13 @@ use Rattle.rme_session_lines.specs.declared.session.SessionReply.{SessionReply}
 use Rattle.rme_session_lines.specs.declared.session.SessionReply.TheVariants as answer
 use Rattle.rme_words.specs.declared.refusal.Refusal.TheVariants.{Taken}
 use Rattle.rme_kept.proofs.Extending.{extends_on}
+use Rattle.rme_session_lines.specs.Told.{reply_told}
 use Rattle.rme_kept.proofs.kept.Kept.take_over.Goals as goal
 
 pub returns-then-not-is_taken : goal.returns-then-not-is_taken
 returns-then-not-is_taken g c =
     let its = word.Attach c.args.asked in
-    extends_on its its c.args.stand.now c.loop.stand c.obey_or_end.new.stand (answer.Refused Taken) (answer.Refused Taken) c.in_ok-acted.acted.reply c.in_ok-acted.acted.reply c.loop.invariant.extends (inr refl) refl
+    extends_on its its c.args.stand.now c.loop.stand c.obey_or_end.new.stand (answer.Refused Taken) (answer.Refused Taken) (reply_told c.in_ok-acted.acted.reply) (reply_told c.in_ok-acted.acted.reply) c.loop.invariant.extends (inr refl) refl
     c.in_ok-acted.ensures refl
 
 pub loop-preserved : goal.loop-preserved
@@ -19,6 +20,6 @@ loop-preserved g c =
     let E : SessionReply → Type 0 = λ (reply : SessionReply). Extends its c.args.stand.now (answer.Refused Taken) c.obey_or_end.new.stand reply in
     record {
       extends = subst E (c.is_taken.ensures c.if-not-is_taken.false)
-          (extends_on its its c.args.stand.now c.loop.stand c.obey_or_end.new.stand (answer.Refused Taken) (answer.Refused Taken) c.in_ok-acted.acted.reply c.in_ok-acted.acted.reply c.loop.invariant.extends (inr refl) refl
+          (extends_on its its c.args.stand.now c.loop.stand c.obey_or_end.new.stand (answer.Refused Taken) (answer.Refused Taken) (reply_told c.in_ok-acted.acted.reply) (reply_told c.in_ok-acted.acted.reply) c.loop.invariant.extends (inr refl) refl
           c.in_ok-acted.ensures refl);
     }

@@ -1,20 +1,21 @@
 use Rattle.std.proofs.Common.{inl, sym, ◌∙◌}
 use Rattle.rme_kept.proofs.Extending.{extends_on}
+use Rattle.rme_session_lines.specs.Told.{reply_told}
 use Rattle.rme_kept.proofs.kept.Kept.try_on.Goals as goal
 
-pub returns-then-not-still_waits : goal.returns-then-not-still_waits
-returns-then-not-still_waits g c =
-    extends_on c.args.order c.once_more.result c.args.stand.now c.loop.stand c.obey_or_end.new.stand c.args.first.reply c.loop.acted.reply c.in_ok-next.next.reply c.answer_as.result c.loop.invariant.extends
-    (inl c.loop.invariant.waits) c.once_more.ensures c.in_ok-next.ensures c.answer_as.ensures
+pub returns-then-not-told_still_waits : goal.returns-then-not-told_still_waits
+returns-then-not-told_still_waits g c =
+    extends_on c.args.order c.once_more.result c.args.stand.now c.loop.stand c.obey_or_end.new.stand (reply_told c.args.first.reply) (reply_told c.loop.acted.reply) (reply_told c.in_ok-next.next.reply) (reply_told c.told_as.result) c.loop.invariant.extends
+    (inl c.loop.invariant.waits) c.once_more.ensures c.in_ok-next.ensures c.told_as.ensures
 
 pub returns-then-are_over : goal.returns-then-are_over
 returns-then-are_over g c =
-    extends_on c.args.order c.once_more.result c.args.stand.now c.loop.stand c.obey_or_end.new.stand c.args.first.reply c.loop.acted.reply c.in_ok-next.next.reply c.answer_as.result c.loop.invariant.extends
-    (inl c.loop.invariant.waits) c.once_more.ensures c.in_ok-next.ensures c.answer_as.ensures
+    extends_on c.args.order c.once_more.result c.args.stand.now c.loop.stand c.obey_or_end.new.stand (reply_told c.args.first.reply) (reply_told c.loop.acted.reply) (reply_told c.in_ok-next.next.reply) (reply_told c.told_as.result) c.loop.invariant.extends
+    (inl c.loop.invariant.waits) c.once_more.ensures c.in_ok-next.ensures c.told_as.ensures
 
 pub loop-preserved : goal.loop-preserved
 loop-preserved g c = record {
-  extends = extends_on c.args.order c.once_more.result c.args.stand.now c.loop.stand c.obey_or_end.new.stand c.args.first.reply c.loop.acted.reply c.in_ok-next.next.reply c.answer_as.result c.loop.invariant.extends
-      (inl c.loop.invariant.waits) c.once_more.ensures c.in_ok-next.ensures c.answer_as.ensures;
-  waits = sym c.still_waits.ensures ∙ c.if-not-still_waits.false;
+  extends = extends_on c.args.order c.once_more.result c.args.stand.now c.loop.stand c.obey_or_end.new.stand (reply_told c.args.first.reply) (reply_told c.loop.acted.reply) (reply_told c.in_ok-next.next.reply) (reply_told c.told_as.result) c.loop.invariant.extends
+      (inl c.loop.invariant.waits) c.once_more.ensures c.in_ok-next.ensures c.told_as.ensures;
+  waits = sym c.told_still_waits.ensures ∙ c.if-not-told_still_waits.false;
 }

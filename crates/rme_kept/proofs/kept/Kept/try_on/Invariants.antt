@@ -2,10 +2,11 @@
 use Rattle.std.proofs.Common.{◌≡◌, true}
 use Rattle.rme_kept.specs.Serving.{Extends}
 use Rattle.rme_orders.specs.Parts.{still_waits}
+use Rattle.rme_session_lines.specs.Told.{reply_told}
 use Rattle.rme_kept.proofs.kept.Kept.try_on.Given as goal
 
 abbrev pub invariant-loop : goal.invariant-loop
 invariant-loop g l = record {
-  extends : Extends l.fn.order l.fn.stand l.fn.first.reply l.stand l.acted.reply;
-  waits : still_waits l.acted.reply ≡ true;
+  extends : Extends l.fn.order l.fn.stand (reply_told l.fn.first.reply) l.stand (reply_told l.acted.reply);
+  waits : still_waits (reply_told l.acted.reply) ≡ true;
 }
