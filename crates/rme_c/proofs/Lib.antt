@@ -1,0 +1,5 @@
+mod Folding
+mod Telling
+mod Running
+pub mod LooseValues
+pub mod HandleValues

@@ -1,0 +1,31 @@
+-- A handle, and what making one answers.
+use Rattle.std.specs.Prelude.{◌≡◌, ◌≢◌, ◌⊎◌, ℕ, ◌<◌, ◌≤◌, true}
+use Rattle.rme_words.specs.declared.shape.Shape.{Shape}
+use Rattle.rme_words.specs.Shapes.{IsWithinLimits}
+use Rattle.rme_c.specs.declared.handle.Handle.{Handle}
+use Rattle.rme_c.specs.Workers.{IsWorker, restarted_worker}
+
+-- There is a worker behind it.
+pub record IsLive (handle : Handle) : Type 0 where
+  pub live : handle.live ≡ true
+  pub worker : IsWorker handle.value
+
+-- A shape of these numbers.
+pub record HasNumbers (workers locks cells jobs : ℕ) (shape : Shape) : Type 0 where
+  pub has_workers : shape.workers ≡ workers
+  pub has_locks : shape.locks ≡ locks
+  pub has_cells : shape.cells ≡ cells
+  pub has_jobs : shape.jobs ≡ jobs
+
+-- NEW: a worker of the shape of these numbers that comes up (0); or there is no such shape (5), no such worker (6), or
+-- no memory (20).
+pub record Opened (workers locks cells jobs worker : ℕ) (before : Handle) (result : ℕ) (after : Handle) : Type 0 where
+  pub answers : (result ≡ 0) ⊎ ((result ≡ 5) ⊎ ((result ≡ 6) ⊎ (result ≡ 20)))
+  pub live : result ≡ 0 → IsLive after
+  pub numbers : result ≡ 0 → HasNumbers workers locks cells jobs after.value.shape
+  pub restarted : result ≡ 0 → after.value ≡ restarted_worker after.value.shape worker
+  pub bad_shape : result ≡ 5 → IsWithinLimits workers locks cells jobs → ⊥
+  pub good_shape : result ≢ 5 → IsWithinLimits workers locks cells jobs
+  pub no_worker : result ≡ 6 → workers ≤ worker
+  pub some_worker : result ≢ 5 → result ≢ 6 → worker < workers
+  pub unchanged : result ≢ 0 → after ≡ before

@@ -1,0 +1,57 @@
+-- Which jobs a worker takes, and why it refuses others, in order.
+use Rattle.std.specs.Prelude.{ℕ, Option, Some, None, Result, Ok, Err, nat_lt, if◌then◌else◌}
+use Rattle.rme_words.specs.declared.shape.Shape.{Shape}
+use Rattle.rme_words.specs.declared.refusal.Refusal.{Refusal}
+use Rattle.rme_words.specs.declared.refusal.Refusal.TheVariants.{Busy, Idle, NoLock, BadScript, TooManyJobs, NotWaiting}
+use Rattle.rme_script.specs.declared.job.Job.{Job}
+use Rattle.rme_script.specs.Programs.{Program}
+use Rattle.rme_script.specs.Scripts.{check_of}
+use Rattle.rme_program.specs.declared.private.Private.{Private}
+use Rattle.rme_program.specs.declared.stage.Stage.{Stage}
+use Rattle.rme_program.specs.declared.stage.Stage.TheVariants.{Resting, Recovering, Posting, Climbing, Logging, Copying, Leaving}
+
+abbrev pub unless_checked : Result (Unit {0}) Refusal → Result Job Refusal → Result Job Refusal
+unless_checked (Ok tt) rest = rest
+unless_checked (Err refusal) rest = Err refusal
+
+-- The script is one of the shape's cells, and there is a number left for the job.
+abbrev pub checked_job : Shape → ℕ → ℕ → Option Program → Result Job Refusal
+checked_job shape begun lock None = Err BadScript
+checked_job shape begun lock (Some script) =
+    unless_checked (check_of shape.cells script) (if nat_lt begun shape.jobs then Ok record { lock = lock; script = script } else Err TooManyJobs)
+
+abbrev pub ready_job : Shape → ℕ → ℕ → Option Program → Result Job Refusal
+ready_job shape begun lock script = if nat_lt lock shape.locks then checked_job shape begun lock script else Err NoLock
+
+-- The job that a worker is handed, or why it is not: it is not ready, or for the lock, the script or the number.
+abbrev pub job_at : Shape → ℕ → Stage → ℕ → Option Program → Result Job Refusal
+job_at shape begun Resting lock script = ready_job shape begun lock script
+job_at shape begun (Recovering recovery) lock script = Err Busy
+job_at shape begun (Posting slate) lock script = Err Busy
+job_at shape begun (Climbing ascent) lock script = Err Busy
+job_at shape begun (Logging log) lock script = Err Busy
+job_at shape begun (Copying redo) lock script = Err Busy
+job_at shape begun (Leaving departure) lock script = Err Busy
+
+abbrev pub job_of : Shape → Private → ℕ → Option Program → Result Job Refusal
+job_of shape private lock script = job_at shape private.begun private.stage lock script
+
+-- Why a worker does not give its job up.
+abbrev pub withdrawal_refusal : Stage → Option Refusal
+withdrawal_refusal Resting = Some Idle
+withdrawal_refusal (Climbing ascent) = None
+withdrawal_refusal (Recovering recovery) = Some NotWaiting
+withdrawal_refusal (Posting slate) = Some NotWaiting
+withdrawal_refusal (Logging log) = Some NotWaiting
+withdrawal_refusal (Copying redo) = Some NotWaiting
+withdrawal_refusal (Leaving departure) = Some NotWaiting
+
+-- A worker that is ready has no step to make.
+abbrev pub step_refusal : Stage → Option Refusal
+step_refusal Resting = Some Idle
+step_refusal (Recovering recovery) = None
+step_refusal (Posting slate) = None
+step_refusal (Climbing ascent) = None
+step_refusal (Logging log) = None
+step_refusal (Copying redo) = None
+step_refusal (Leaving departure) = None

@@ -1,0 +1,160 @@
+//! What C calls. Each call is a method of `Worker`, behind a handle.
+//!
+//! A handle that a call takes is one that `rme_core_new` wrote and `rme_core_free` has not had, and no other call has it
+//! at the same time: that is all that C must keep, and nothing checks it. All numbers may be any. An `alloc` takes no
+//! bytes, and C does not pass it.
+
+ghost use Rattle.std.specs.Prelude.{◌≡◌};
+ghost use Rattle.rme_c.specs.Handles.{IsLive, Opened};
+ghost use Rattle.rme_c.specs.Workers.{restarted_worker};
+ghost use Rattle.rme_c.specs.Calls.{Told, TookBack, Stood, Posted, Withdrew};
+
+use crate::flat::{Batch, FlatNote, Stance};
+use crate::handle::Handle;
+use crate::worker::Worker;
+use rme_script::SLATE_WORDS;
+use rme_words::{Refusal, Shape};
+use std::alloc::Global;
+
+/// Makes the private state of a worker that comes up after a crash, and writes its handle. It takes memory once.
+///
+/// Answers 0, 5 (`BadShape`), 6 (`NoWorker`) or 20 (`NoMemory`); a refusal leaves the handle as it was.
+#[unsafe(no_mangle)]
+pub extern "C" fn rme_core_new(
+    alloc: Global,
+    workers: u32,
+    locks: u32,
+    cells: u32,
+    jobs: u32,
+    worker: u32,
+    handle: &mut Handle,
+) -> u32
+    ensures { Opened workers locks cells jobs worker handle.old result handle.new }
+{
+    let shape = match Shape::new(workers, locks, cells, jobs) {
+        Ok(shape) => shape,
+        Err(refusal) => return refusal.code(),
+    };
+    if worker >= shape.workers {
+        return Refusal::NoWorker.code();
+    }
+    match Box::new(alloc, Worker::restarted(shape, worker)) {
+        Ok(made) => {
+            handle.close(made);
+            0
+        }
+        Err(_) => Refusal::NoMemory.code(),
+    }
+}
+
+/// Frees what a handle holds.
+#[unsafe(no_mangle)]
+pub extern "C" fn rme_core_free(handle: Handle)
+    requires { IsLive handle }
+{
+    drop(handle.into_box());
+}
+
+/// Fills the batch with the worker's next own steps, at least one and at most 32.
+///
+/// Answers 0, 102 while a batch is outstanding, or 10 (`Idle`) where the worker is ready; neither changes anything.
+#[unsafe(no_mangle)]
+pub extern "C" fn rme_core_next(alloc: Global, handle: &mut Handle, batch: &mut Batch) -> u32
+    requires { IsLive handle.old }
+    ensures told { Told handle.old.value batch.old result handle.new.value batch.new }
+    ensures live { IsLive handle.new }
+{
+    let mut worker = handle.open(alloc);
+    let answer = worker.tell(batch);
+    handle.close(worker);
+    answer
+}
+
+/// Takes back what the steps of a batch found, and writes what came of the last of them.
+///
+/// `count` is the count of the batch that is outstanding. Answers 0; 100 where a value is one that no world can have:
+/// the worker then is as after the steps before it, and the note is quiet; or 101 where no batch of this count is
+/// outstanding, which changes nothing. After 0 and 100 no batch is outstanding.
+#[unsafe(no_mangle)]
+pub extern "C" fn rme_core_after(
+    alloc: Global,
+    handle: &mut Handle,
+    batch: &Batch,
+    count: u32,
+    note: &mut FlatNote,
+) -> u32
+    requires { IsLive handle.old }
+    ensures took { TookBack handle.old.value batch.now count note.old result handle.new.value note.new }
+    ensures live { IsLive handle.new }
+{
+    let mut worker = handle.open(alloc);
+    let answer = worker.take_back(batch, count, note);
+    handle.close(worker);
+    answer
+}
+
+/// Writes where the worker is, and answers 0.
+#[unsafe(no_mangle)]
+pub extern "C" fn rme_core_stance(alloc: Global, handle: &mut Handle, stance: &mut Stance) -> u32
+    requires { IsLive handle.old }
+    ensures stood { Stood handle.old.value stance.new }
+    ensures answer { result ≡ 0 }
+    ensures unchanged { handle.new.value ≡ handle.old.value }
+    ensures live { IsLive handle.new }
+{
+    let worker = handle.open(alloc);
+    worker.stand(stance);
+    handle.close(worker);
+    0
+}
+
+/// Hands a job to a worker that is ready, and writes the number that it will have.
+///
+/// The script has three words for each of its operations; further words are not read. Refused, in this order, by 9
+/// (`Busy`), 11 (`NoLock`), 12 (`BadScript`), 13 (`NoCell`) and 14 (`TooManyJobs`), which changes nothing.
+#[unsafe(no_mangle)]
+pub extern "C" fn rme_core_submit(
+    alloc: Global,
+    handle: &mut Handle,
+    lock: u32,
+    operations: u32,
+    words: &[u64; SLATE_WORDS],
+    number: &mut u64,
+) -> u32
+    requires { IsLive handle.old }
+    ensures posted { Posted handle.old.value lock operations words.now number.old result handle.new.value number.new }
+    ensures live { IsLive handle.new }
+{
+    let mut worker = handle.open(alloc);
+    let answer = worker.post(lock, operations, words, number);
+    handle.close(worker);
+    answer
+}
+
+/// Has a worker that waits for a lock give its job up: its next steps withdraw it.
+///
+/// Answers 0, 102 while a batch is outstanding, 10 (`Idle`) where the worker is ready, or 21 (`NotWaiting`) where it is
+/// not in phase Enter; none of these changes anything.
+#[unsafe(no_mangle)]
+pub extern "C" fn rme_core_withdraw(alloc: Global, handle: &mut Handle) -> u32
+    requires { IsLive handle.old }
+    ensures withdrew { Withdrew handle.old.value result handle.new.value }
+    ensures live { IsLive handle.new }
+{
+    let mut worker = handle.open(alloc);
+    let answer = worker.withdraw();
+    handle.close(worker);
+    answer
+}
+
+/// Loses all that the worker knows but its number, and the batch that is outstanding: its recovery begins.
+#[unsafe(no_mangle)]
+pub extern "C" fn rme_core_restart(alloc: Global, handle: &mut Handle)
+    requires { IsLive handle.old }
+    ensures restarted { handle.new.value ≡ restarted_worker handle.old.value.shape handle.old.value.private.worker }
+    ensures live { IsLive handle.new }
+{
+    let mut worker = handle.open(alloc);
+    worker.restart();
+    handle.close(worker);
+}

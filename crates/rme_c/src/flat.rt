@@ -1,0 +1,52 @@
+//! What C reads and writes: structs of plain numbers.
+
+/// The most actions of one batch.
+pub const MOST_ACTIONS: u32 = 32;
+
+/// One own step of a worker: one operation on one shared word, of this number.
+#[repr(C)]
+#[derive(Clone, Copy)]
+pub struct FlatAction {
+    /// 1 loads the word, 2 stores `first` into it, 3 puts `second` into it exactly where it has `first`.
+    pub kind: u32,
+    pub word: u32,
+    pub first: u64,
+    pub second: u64,
+}
+
+/// The next own steps of a worker, and what each of them found.
+#[repr(C)]
+#[derive(Drop)]
+pub struct Batch {
+    /// How many of the actions count, and of the values.
+    pub count: u32,
+    pub actions: [FlatAction; 32],
+    /// What each load read, and what each swap met; for a store it may be any number.
+    pub values: [u64; 32],
+}
+
+/// What the last step of a batch brought about.
+#[repr(C)]
+#[derive(Clone, Copy)]
+pub struct FlatNote {
+    /// 0 nothing that another can see, 1 asked, 2 blocked, 3 entered, 4 reentered, 5 finished, 6 left, 7 ready,
+    /// 8 withdrew. What a note of this kind does not say is 0 below.
+    pub kind: u32,
+    pub worker: u32,
+    pub lock: u32,
+    pub number: u64,
+    pub place: u64,
+    pub reply: u64,
+}
+
+/// Where a worker is.
+#[repr(C)]
+#[derive(Clone, Copy)]
+pub struct Stance {
+    /// 0 recover, 1 post, 2 enter, 3 section, 4 exit, 5 ready.
+    pub phase: u32,
+    /// The lock that the worker is at, or 4294967295 where it knows of none.
+    pub lock: u32,
+    /// How many jobs it has begun, as far as it knows.
+    pub number: u64,
+}
