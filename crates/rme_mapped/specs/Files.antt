@@ -1,0 +1,85 @@
+-- The bytes of a file of words that processes map: the page before the words, and the words.
+use Rattle.std.specs.Prelude.{◌≡◌, ℕ, zero, suc, ◌+◌, ◌*◌, ◌≤◌, Bool, true, ◌==◌, ◌&&◌, List, [], ◌∷◌, ◌++◌, length, take, drop, slice_range, map, position, unwrap_or, codes, Option, Some, None, if◌then◌else◌}
+use Rattle.std.specs.List.{list_all, range_with_len}
+use Rattle.std.specs.Int.{w64, from_le_bytes}
+use Rattle.rme_words.specs.declared.shape.Shape.{Shape}
+use Rattle.rme_words.specs.declared.address.Address.{Address}
+use Rattle.rme_words.specs.Words.{word_count, read}
+use Rattle.rme_script.specs.Cells.{bit_of}
+use Rattle.rme_names.specs.Names.{may_add}
+
+-- What a file holds: its shape, the names of its locks, whether it was renewed, the boot of the machine that it was made
+-- in, and its words.
+pub record File : Type 0 where
+  pub shape : Shape
+  pub names : List (List ℕ)
+  pub moved : Bool
+  pub boot : List ℕ
+  pub words : List ℕ
+
+-- The words, as a function of the address.
+abbrev pub memory_in : File → Address → ℕ
+memory_in file = read file.shape file.words
+
+-- The number in the eight bytes from byte 8 i on, the least byte first.
+unfoldable pub number_at : List ℕ → ℕ → ℕ
+number_at bytes i = from_le_bytes w64 (take 8 (drop (8 * i) bytes))
+
+-- All of some bytes are 0.
+abbrev pub are_zero : List ℕ → Bool
+are_zero bytes = list_all (λ (byte : ℕ). byte == 0) bytes
+
+-- The 32 bytes for the name of a lock, and the text in them: what stands before the first 0.
+abbrev pub field_of : List ℕ → ℕ → List ℕ
+field_of bytes lock = slice_range bytes (112 + 32 * lock) (112 + 32 * lock + 32)
+
+abbrev pub text_length : List ℕ → ℕ
+text_length field = unwrap_or (position (λ (byte : ℕ). byte == 0) field) (length field)
+
+abbrev pub text_in : List ℕ → List ℕ
+text_in field = take (text_length field) field
+
+-- Nothing but zeros follows the text.
+abbrev pub is_padded : List ℕ → Bool
+is_padded field = are_zero (drop (text_length field) field)
+
+-- The names with that of a field, where it is padded and the name may be added.
+abbrev pub with_name : List (List ℕ) → List ℕ → Option (List (List ℕ))
+with_name names field = if is_padded field && may_add names (text_in field) then Some (names ++ text_in field ∷ []) else None
+
+-- The names with those of so many fields from that of a lock on, added one after another.
+abbrev pub then_names : (List (List ℕ) → Option (List (List ℕ))) → Option (List (List ℕ)) → Option (List (List ℕ))
+then_names more None = None
+then_names more (Some names) = more names
+
+abbrev pub with_names : List ℕ → ℕ → ℕ → List (List ℕ) → Option (List (List ℕ))
+with_names bytes zero lock names = Some names
+with_names bytes (suc count) lock names = then_names (with_names bytes count (lock + 1)) (with_name names (field_of bytes lock))
+
+-- The sizes that the page says are those of a shape.
+pub record HasSizes (bytes : List ℕ) (shape : Shape) : Type 0 where
+  pub workers : number_at bytes 8 ≡ shape.workers
+  pub locks : number_at bytes 9 ≡ shape.locks
+  pub cells : number_at bytes 10 ≡ shape.cells
+  pub jobs : number_at bytes 11 ≡ shape.jobs
+
+-- The page of 4096 bytes before the words: it begins with "rmewords", says version 1, that the least byte stands first,
+-- the sizes of a shape, how many words that has and whether the file was renewed, and has 0 behind the names of the locks;
+-- and there are as many words behind it.
+pub record IsPage (bytes : List ℕ) (shape : Shape) : Type 0 where
+  pub magic : take 8 bytes ≡ codes "rmewords"
+  pub version : number_at bytes 1 ≡ 1
+  pub order : number_at bytes 2 ≡ 0x0102030405060708
+  pub sizes : HasSizes bytes shape
+  pub counted : number_at bytes 12 ≡ word_count shape
+  pub size : length bytes ≡ 4096 + 8 * word_count shape
+  pub rest : are_zero (slice_range bytes (112 + 32 * shape.locks) 4096) ≡ true
+  pub mark : number_at bytes 13 ≤ 1
+
+-- THE BYTES ARE THIS FILE: such a page, which has a name for each lock, and the words behind it, each in eight bytes.
+pub record IsFile (bytes : List ℕ) (file : File) : Type 0 where
+  pub page : IsPage bytes file.shape
+  pub boot : file.boot ≡ take 40 (drop 24 bytes)
+  pub moved : number_at bytes 13 ≡ bit_of file.moved
+  pub names : with_names bytes file.shape.locks 0 [] ≡ Some file.names
+  pub words : file.words ≡ map (λ (i : ℕ). number_at bytes (512 + i)) (range_with_len 0 (word_count file.shape))

@@ -1,0 +1,87 @@
+-- What the words of every world meet, also between any two steps, as far as words alone can tell it.
+use Rattle.std.specs.Prelude.{◌≡◌, ℕ, ◌+◌, ◌%◌, ◌^◌, ◌<◌, ◌≤◌, true, false, List, None}
+use Rattle.rme_words.specs.declared.shape.Shape.{Shape}
+use Rattle.rme_words.specs.declared.address.Address.{Address}
+use Rattle.rme_words.specs.declared.address.Address.TheVariants.{Turn, Mask}
+use Rattle.rme_tree.specs.Rooted.{IsLocal, IsLocalAt}
+use Rattle.rme_tree.specs.Nodes.{nodes_of, held_in, owner_in}
+use Rattle.rme_script.specs.Cells.{has}
+use Rattle.rme_program.specs.declared.note.Entry.{Entry}
+use Rattle.rme_program.specs.Steps.{withdrawn_place}
+use Rattle.rme_machine.specs.Views.{WorkerWords, worker_words, is_pending}
+use Rattle.rme_machine.specs.Fact.{Fact}
+use Rattle.rme_machine.specs.Histories.{place_of}
+use Rattle.rme_machine.specs.Shown.{Privates, shown}
+use Rattle.rme_machine.specs.ShownCells.{is_settled}
+use Rattle.rme_good.specs.Accounts.{HasOwnNumbers, HasStake, HasStakes, HasPending, IsBlank}
+use Rattle.rme_mapped.specs.declared.damage.Damage.{Damage}
+use Rattle.rme_mapped.specs.declared.damage.Damage.TheVariants as damage
+use Rattle.rme_mapped.specs.Saying.{settled_by, sections_by}
+
+-- The receipt words, which may be any while a job is pending: all 0 before the first job; else those of a lock, and without a
+-- reply where the number was withdrawn.
+pub record SaysReceipt (shape : Shape) (own : WorkerWords) : Type 0 where
+  pub blank : own.begun ≡ 0 → IsBlank own
+  pub lock : is_pending own ≡ false → 0 < own.begun → own.at < shape.locks
+  pub withdrawn : is_pending own ≡ false → 0 < own.begun → own.place ≡ withdrawn_place → own.reply ≡ 0
+
+-- The words of a worker, by the nodes that it holds: no more jobs are begun than the shape has and at most one is not done; it
+-- holds nodes of no lock but the one that it is at; the slate of a pending job has one of the shape; its receipt. The slate may
+-- be any while no job is pending, since the next one is being written there.
+pub record IsSoundWorker (shape : Shape) (own : WorkerWords) (held : ℕ → ℕ) : Type 0 where
+  pub numbers : HasOwnNumbers shape own
+  pub stakes : HasStakes shape own held
+  pub pending : HasPending shape own
+  pub receipt : SaysReceipt shape own
+
+-- The turn of a lock is below 2^32, and even where nobody owns the lock.
+pub record HasTurn (shape : Shape) (memory : Address → ℕ) (lock : ℕ) : Type 0 where
+  pub few : memory (Turn lock) < 2 ^ 32
+  pub even : owner_in shape memory lock ≡ None → memory (Turn lock) % 2 ≡ 0
+
+-- While the turn is odd the mask has cells of the lock alone. It may be any before.
+abbrev pub HasMask : Shape → (Address → ℕ) → ℕ → Type 0
+HasMask shape memory lock = memory (Turn lock) % 2 ≡ 1 → (cell : ℕ) → cell < 64 → has (memory (Mask lock)) cell ≡ true → cell < shape.cells
+
+-- The words of a lock: each node is 0 or a side that somebody holds; its turn; its mask.
+pub record IsSoundLock (shape : Shape) (memory : Address → ℕ) (lock : ℕ) : Type 0 where
+  pub nodes : IsLocal (nodes_of memory lock) shape.leaves shape.workers
+  pub turn : HasTurn shape memory lock
+  pub mask : HasMask shape memory lock
+
+-- ALL THIS, of all workers and locks.
+pub record IsSound (shape : Shape) (memory : Address → ℕ) : Type 0 where
+  pub workers : (worker : ℕ) → worker < shape.workers → IsSoundWorker shape (worker_words memory worker) (held_in shape memory worker)
+  pub locks : (lock : ℕ) → lock < shape.locks → IsSoundLock shape memory lock
+
+-- Words of a worker that do not meet it, and words of a lock.
+pub record Fails (count number : ℕ) (P : Type 0) : Type 0 where
+  pub there : number < count
+  pub not : P → ⊥
+
+-- What a damage says of the words.
+abbrev pub Harms : Shape → (Address → ℕ) → Damage → Type 0
+Harms shape memory (damage.Begun worker) = Fails shape.workers worker ((worker_words memory worker).begun ≤ shape.jobs)
+Harms shape memory (damage.Done worker) =
+    Fails shape.workers worker (((worker_words memory worker).done ≤ (worker_words memory worker).begun) × ((worker_words memory worker).begun ≤ (worker_words memory worker).done + 1))
+Harms shape memory (damage.Stake worker lock) =
+    Fails shape.workers worker (lock < shape.locks → HasStake (worker_words memory worker) (held_in shape memory worker) lock)
+Harms shape memory (damage.Slate worker) = Fails shape.workers worker (HasPending shape (worker_words memory worker))
+Harms shape memory (damage.Receipt worker) = Fails shape.workers worker (SaysReceipt shape (worker_words memory worker))
+Harms shape memory (damage.Node lock node) = Fails shape.locks lock (1 ≤ node → node < shape.leaves → IsLocalAt (nodes_of memory lock) shape.leaves shape.workers node)
+Harms shape memory (damage.Turn lock) = Fails shape.locks lock (HasTurn shape memory lock)
+Harms shape memory (damage.Mask lock) = Fails shape.locks lock (HasMask shape memory lock)
+
+-- The words of every world are sound, whatever its workers know and however far each is in its step table.
+abbrev pub SoundLaw : Type 0
+SoundLaw = (shape : Shape) (memory : Address → ℕ) (privates : Privates) (history : List Entry) → Fact shape memory privates history → IsSound shape memory
+
+-- In a world the cells are settled exactly where the state that it shows says so, and as many sections are finished as its
+-- history has of the lock.
+abbrev pub SettledLaw : Type 0
+SettledLaw = (shape : Shape) (memory : Address → ℕ) (privates : Privates) (history : List Entry) (lock : ℕ) → Fact shape memory privates history → lock < shape.locks
+    → settled_by (worker_words memory) (owner_in shape memory lock) ≡ is_settled (shown shape memory privates history) lock
+
+abbrev pub SectionsLaw : Type 0
+SectionsLaw = (shape : Shape) (memory : Address → ℕ) (privates : Privates) (history : List Entry) (lock : ℕ) → Fact shape memory privates history → lock < shape.locks
+    → sections_by (memory (Turn lock)) (settled_by (worker_words memory) (owner_in shape memory lock)) ≡ place_of history lock
