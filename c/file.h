@@ -1,0 +1,69 @@
+/* file.h: the file of the words, and the claims on its workers' numbers; for rme.c alone. */
+#ifndef RME_FILE_H
+#define RME_FILE_H
+
+#include "rme.h"
+
+#include <limits.h>
+#include <stdatomic.h>
+#include <stddef.h>
+
+enum { RME_PAGE = 4096 };
+
+/* The file begins with this page, in the machine's byte order; the words follow, word i at byte 4096 + 8 i, and end the
+   file. What is not named here is 0. */
+struct rme_page {
+    unsigned char magic[8];                             /*   0: "rmewords" */
+    uint64_t version;                                   /*   8: 1 */
+    uint64_t order;                                     /*  16: 0x0102030405060708 */
+    unsigned char boot[40];                             /*  24: /proc/sys/kernel/random/boot_id, 36 bytes */
+    uint64_t workers;                                   /*  64 */
+    uint64_t locks;                                     /*  72 */
+    uint64_t cells;                                     /*  80 */
+    uint64_t jobs;                                      /*  88 */
+    uint64_t words;                                     /*  96: how many words there are */
+    _Atomic uint64_t moved;                             /* 104: 1 once the file was renewed */
+    unsigned char names[RME_MOST_LOCKS][RME_MOST_NAME]; /* 112: of the locks */
+    unsigned char rest[RME_PAGE - 112 - RME_MOST_LOCKS * RME_MOST_NAME];
+};
+
+/* An open file. Nothing is mapped while `words` is NULL. */
+struct rme_file {
+    int number;
+    struct rme_page page;
+    struct rme_shape shape;
+    struct rme_page *front;
+    _Atomic uint64_t *words;
+};
+
+/* Notes what rme_why answers, and passes the error on. */
+int rme_say(int error, const char *why);
+
+/* Checks the limits and names, and fills a page in. RME_BAD_SHAPE, RME_SYSTEM. */
+int rme_page_fill(struct rme_page *page, const struct rme_shape *shape, const char *const *names);
+
+/* Makes a whole file with this page and words that are 0, beside this path and under the name that it answers. */
+int rme_file_make(const struct rme_page *page, const char *path, char beside[PATH_MAX], struct rme_file *file);
+
+/* Takes the name away that the file was made under, and gives it this path where `keep`, and nothing is there. */
+int rme_file_publish(const char *beside, const char *path, int keep);
+
+/* Opens a file and checks each field of its page. Nothing is open where it answers an error. */
+int rme_file_open(const char *path, int writable, struct rme_file *file);
+
+/* Whether the file was renewed meanwhile: 0, RME_MOVED or RME_SYSTEM. */
+int rme_file_moved(const struct rme_file *file);
+
+/* Claims so many workers' numbers from `first` on until the file is closed, or none: RME_TAKEN. */
+int rme_file_claim(const struct rme_file *file, uint32_t first, uint32_t count);
+
+/* Whether another open file has this worker's claim. */
+int rme_file_claimed(const struct rme_file *file, uint32_t worker, int *claimed);
+
+/* Maps the file; a forked child does not have the mapping. */
+int rme_file_map(struct rme_file *file, int writable);
+
+/* Unmaps the file where it is mapped, and closes it, which ends its claims. */
+void rme_file_close(struct rme_file *file);
+
+#endif

@@ -1,0 +1,109 @@
+"""librme.so by ctypes: the calls of rme.h, each of which raises its refusal."""
+
+from __future__ import annotations
+
+import ctypes
+import functools
+import os
+from typing import Any, Callable, Dict, List, Union
+
+from .errors import BY_CODE, Fault, RmeError, SystemFailed
+
+NOBODY = 2**32 - 1
+MOST_WORKERS, MOST_CELLS, MOST_OPERATIONS, MOST_NAME = 256, 16, 8, 32
+U32 = ctypes.c_uint32
+U64 = ctypes.c_uint64
+INT = ctypes.c_int
+TEXT = ctypes.c_char_p
+HANDLE = ctypes.c_void_p
+
+
+class Operation(ctypes.Structure):
+    _fields_ = [("kind", U32), ("cell", U32), ("value", U64)]
+
+
+class ReceiptOf(ctypes.Structure):
+    _fields_ = [("worker", U32), ("lock", U32), ("number", U64), ("place", U64), ("reply", U64)]
+
+
+class StanceOf(ctypes.Structure):
+    _fields_ = [("where", U32), ("lock", U32), ("number", U64)]
+
+
+class ShapeOf(ctypes.Structure):
+    _fields_ = [("workers", U32), ("locks", U32), ("cells", U32), ("jobs", U32)]
+
+
+AT = ctypes.POINTER
+CALLS: Dict[str, List[Any]] = {
+    "rme_create": [TEXT, U32, U32, U32, U32, AT(TEXT)],
+    "rme_renew": [TEXT, TEXT],
+    "rme_living": [TEXT, AT(U64)],
+    "rme_attach": [TEXT, U32, AT(HANDLE)],
+    "rme_observe": [TEXT, AT(HANDLE)],
+    "rme_detach": [HANDLE],
+    "rme_shape": [HANDLE, AT(ShapeOf)],
+    "rme_lock_number": [HANDLE, TEXT, AT(U32)],
+    "rme_lock_name": [HANDLE, U32, TEXT],
+    "rme_recover": [HANDLE, AT(StanceOf)],
+    "rme_standing": [HANDLE, AT(StanceOf)],
+    "rme_pending": [HANDLE, AT(U32), AT(Operation), AT(U32)],
+    "rme_submit": [HANDLE, U32, AT(Operation), U32, AT(U64)],
+    "rme_enter": [HANDLE, U32],
+    "rme_commit": [HANDLE, AT(ReceiptOf)],
+    "rme_withdraw": [HANDLE, AT(U64)],
+    "rme_last": [HANDLE, AT(ReceiptOf), AT(INT)],
+    "rme_owner": [HANDLE, U32, AT(U32)],
+    "rme_cells": [HANDLE, U32, AT(U64), AT(INT)],
+}
+
+
+Path = Union[str, "os.PathLike[str]"]
+
+
+def encoded(path: Path) -> bytes:
+    """A path for C, where a byte 0 would end it."""
+    found = os.fsencode(path)
+    if b"\0" in found:
+        raise ValueError("embedded null byte")
+    return found
+
+
+def path_of_library() -> str:
+    """RME_LIBRARY, or librme.so beside this file."""
+    return os.environ.get("RME_LIBRARY") or os.path.join(os.path.dirname(os.path.abspath(__file__)), "librme.so")
+
+
+@functools.lru_cache(maxsize=None)
+def library() -> ctypes.CDLL:
+    path = path_of_library()
+    try:
+        loaded = ctypes.CDLL(path, use_errno=True)
+    except OSError as error:
+        raise ImportError(f"{path}: {error}; scripts/build-c makes c/out/librme.so, and RME_LIBRARY names it") from error
+    for name, arguments in CALLS.items():
+        function = getattr(loaded, name)
+        function.argtypes, function.restype = arguments, INT
+    loaded.rme_error_text.argtypes, loaded.rme_error_text.restype = [INT], TEXT
+    loaded.rme_why.argtypes, loaded.rme_why.restype = [], TEXT
+    return loaded
+
+
+def call(name: str, *words: Any) -> None:
+    """Makes a call, and raises its refusal."""
+    function: Callable[..., int] = getattr(library(), name)
+    error = function(*words)
+    if error != 0:
+        raise refusal(error)
+
+
+def refusal(error: int) -> RmeError:
+    """The exception of a number that a call answered."""
+    text: str = library().rme_error_text(error).decode()
+    kind = BY_CODE.get(error, Fault)
+    if kind is SystemFailed:
+        number = ctypes.get_errno()
+        return SystemFailed(f"{library().rme_why().decode()}: {os.strerror(number)}", number)
+    if kind.__name__ == "NotRme":
+        text = f"{text[: text.index(':')]}: {library().rme_why().decode()}"
+    return kind(text)
