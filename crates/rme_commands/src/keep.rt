@@ -29,6 +29,9 @@ const USUAL_JOBS: u32 = 10_000;
 /// The most workers of a state beside the keeper.
 const MOST_WORKERS: u32 = 255;
 
+/// So many cells one job of the keeper sets.
+const MOST_SET: u32 = 8;
+
 /// What is asked of a state.
 #[derive(Drop)]
 struct Asked {
@@ -176,7 +179,7 @@ fn new_shape(asked: &Asked, locks: u32) -> Result<Shape, Fault> {
         let why = BadArgument::OutOfRange("--workers", workers, MOST_WORKERS);
         return Err(Fault::BadArguments(why));
     }
-    match Shape::new(workers + 1, locks, cells, jobs) {
+    match Shape::new(workers + 1, locks, cells, jobs_for(jobs, locks, cells)) {
         Ok(shape) => Ok(shape),
         Err(_) => Err(Fault::BadArguments(why_not_sizes(
             ("--workers", workers),
@@ -186,13 +189,22 @@ fn new_shape(asked: &Asked, locks: u32) -> Result<Shape, Fault> {
     }
 }
 
+/// So many jobs each worker makes at least where so many are asked for: as many as the keeper may need, which at the beginning of
+/// an epoch sets the cells of each lock, eight in a job. Clients don't see it: their numbers go on.
+fn jobs_for(jobs: u32, locks: u32, cells: u32) -> u32 {
+    if jobs == 0 {
+        return jobs;
+    }
+    jobs.max(locks.saturating_mul(cells.saturating_add(MOST_SET - 1) / MOST_SET))
+}
+
 /// Refuses what is asked for and is not as the state has it.
 fn refuse_others(rt: &HostRuntime, asked: &Asked, started: &Started) -> Result<(), Fault> {
     let shape = started.world.shape();
     let sizes = [
         ("--workers", asked.workers, clients_of(&started.world)),
         ("--cells", asked.cells, shape.cells()),
-        ("--jobs", asked.jobs, shape.jobs()),
+        ("--jobs", jobs_asked(asked, shape), shape.jobs()),
     ];
     for (option, asked, has) in sizes {
         if let Some(number) = asked {
@@ -207,6 +219,15 @@ fn refuse_others(rt: &HostRuntime, asked: &Asked, started: &Started) -> Result<(
         return Err(Fault::BadArguments(BadArgument::OtherNames(path)));
     }
     Ok(())
+}
+
+/// The jobs that are asked for, or those that a state has that was made for so many.
+fn jobs_asked(asked: &Asked, shape: Shape) -> Option<u32> {
+    let jobs = asked.jobs?;
+    if jobs_for(jobs, shape.locks(), shape.cells()) == shape.jobs() {
+        return Some(shape.jobs());
+    }
+    Some(jobs)
 }
 
 /// Whether locks are asked for that are not these.

@@ -92,7 +92,7 @@ impl Ending {
                 "The standard input, or the file of --image, can't be read. What came before was obeyed and answered whole. Mend the input and run again; a world that --save would have saved is not saved."
             }
             Ending::WriteFailed => {
-                "The standard output, or the file of --save, took no more; a front of the output was written. Look for a full disk or a reader that went away, and run again."
+                "The standard output, the file of --save or that of --state took no more; a front of the output was written, and nothing was answered that --state does not keep. Look for a full disk or a reader that went away, and run again."
             }
             Ending::NoMemory => {
                 "There was no room for a line, an answer or the world itself. All answers to the lines before were written whole. Give the program more memory, or give it less to hold."

@@ -3,7 +3,7 @@ use Rattle.std.specs.Prelude.{ℕ, List, ◌++◌, codes, decimal, string_bytes,
 use Rattle.rme_faults.specs.declared.argument.BadArgument.{BadArgument}
 use Rattle.rme_faults.specs.declared.argument.BadArgument.TheVariants.{NoText, NoFile, NoName, Twice, ManyLocks, OutOfRange, FallsBack, NoSocket, ServedAlready, NoState, StateServed, OtherSize, OtherNames, NoNames}
 use Rattle.rme_faults.specs.declared.fault.Fault.{Fault}
-use Rattle.rme_faults.specs.declared.fault.Fault.TheVariants.{BadArguments, ReadFailed, WriteFailed, NoMemory, BadNames, ImageUnread, BadImage, OtherLocks, Unsavable, ImageUnwritten, FolderUnsynced, ListenFailed, AcceptFailed, NoThread, BadState, StateUnread, StateUnwritten, Unexplained, NothingAsked}
+use Rattle.rme_faults.specs.declared.fault.Fault.TheVariants.{BadArguments, ReadFailed, WriteFailed, NoMemory, BadNames, ImageUnread, BadImage, OtherLocks, Unsavable, ImageUnwritten, FolderUnsynced, ListenFailed, AcceptFailed, NoThread, BadState, BadWords, StateUnread, StateUnwritten, Unexplained, NothingAsked}
 use Rattle.rme_faults.specs.declared.fault.Hindrance.{Hindrance}
 use Rattle.rme_faults.specs.declared.fault.Hindrance.TheVariants.{Irregular, Unwritable}
 
@@ -46,6 +46,7 @@ fault_text (ListenFailed place why) = None
 fault_text (AcceptFailed place) = Some (codes "socket failed\n  " ++ (string_bytes place ++ codes ": a connection could not be accepted"))
 fault_text NoThread = Some (codes "no thread")
 fault_text (BadState file line) = Some (codes "bad state\n  " ++ (string_bytes file ++ (codes ": line " ++ decimal line)))
+fault_text (BadWords file why) = Some (codes "bad words\n  " ++ (string_bytes file ++ (codes ": " ++ string_bytes why)))
 fault_text (StateUnread file why) = None
 fault_text (StateUnwritten file why) = None
 fault_text (Unexplained asked) = Some (codes "no refusal and no status is called " ++ (string_bytes asked ++ codes ": rme explain names each"))

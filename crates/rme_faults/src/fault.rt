@@ -64,6 +64,8 @@ pub enum Fault {
     NoThread,
     /// This line of the file of a state, counted from 1, is none that it may hold, or is refused.
     BadState(String, u64),
+    /// A file begins as one of words that processes map, and is none, for this reason.
+    BadWords(String, String),
     /// The file of a state is there and can't be read.
     StateUnread(String, io::Error),
     /// The file of a state can't be written.
@@ -113,6 +115,7 @@ impl fmt::Display for Fault {
             ),
             Fault::NoThread => f.write_str("no thread"),
             Fault::BadState(file, line) => write!(f, "bad state\n  {file}: line {line}"),
+            Fault::BadWords(file, why) => write!(f, "bad words\n  {file}: {why}"),
             Fault::StateUnread(file, why) => write!(f, "the state {file} can't be read: {why}"),
             Fault::StateUnwritten(file, why) => write!(
                 f,
@@ -154,6 +157,7 @@ impl Fault {
             Fault::AcceptFailed(_) => 6,
             Fault::NoThread => 7,
             Fault::BadState(_, _) => 2,
+            Fault::BadWords(_, _) => 2,
             Fault::StateUnread(_, _) => 3,
             Fault::StateUnwritten(_, _) => 4,
             Fault::Unexplained(_) => 2,

@@ -258,7 +258,7 @@ again with the same words, however it ended. What is no longer so:
     `rme run`, and {\"do\":\"status\"}, all of it at once; `rme look FILE` prints the same of a file
   - --sync always: what is answered survives the machine too; without it it survives the process
   - FILE is renewed when a worker has made its --jobs, and after --sections finished jobs of all: a new file with
-    what they came to takes its place. Clients see no difference: numbers and places go on, without end
+    what they came to takes its place. Clients see no difference: numbers and places go on, up to 9007199254740992 (2^53)
 
 FILE is a first line and then lines of `rme run`: `tail -n +2 FILE | rme run` shows its state. A last piece
 without its newline is cut off at the start. A line that is none or is refused ends the start with `fault: bad
@@ -272,7 +272,7 @@ the closing lines it is 5, 6 or 7 where a connection found no memory, could not 
 }
 
 pub fn look_about<'a>() -> &'a str {
-    "Looks at the file that `rme serve --state` keeps, whether a server has it or not"
+    "Looks at the file of a state, or of words that processes map, whether somebody has it or not"
 }
 
 pub fn look_lines<'a>() -> &'a str {
@@ -290,6 +290,11 @@ session has the worker; and what the worker is at, with its last number. --json 
 order `status`. --check prints yes, or `no LINE` for the first line that a server would not accept. A last
 piece without its newline, which a server cuts off, is left out.
 
-Status: 0, 1 after no, 2 for words that are refused and for a file that a server would not accept, 3 where
+Of a file that `rme_create` made for processes it prints the same lines, with `living` or `dead` for whether a
+process has the worker, and first `moved` or `old boot` where nobody may go on with it. --check prints yes, or
+`no: ` and why the words are those of no world: of words alone, since the file has no history. Where processes
+step meanwhile, they are of no one moment.
+
+Status: 0, 1 after no, 2 for words that are refused and for a file that nobody would accept, 3 where
 reading failed, 4 where writing failed, 5 where memory ran out."
 }

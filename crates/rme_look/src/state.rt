@@ -1,15 +1,13 @@
-//! `rme look`: what a state's file says, whether a server has the file or not.
+//! What the file of a state says, whether a server has it or not.
 
 use rme_epochs::{Earlier, Sections};
-use rme_faults::{BadArgument, Fault, shown};
+use rme_faults::{Fault, shown};
 use rme_journal::{BadState, Progress, Started, start, whole_lines};
 use rme_kept::{Told, clients_of, lock_status, push_row, push_status, worker_status};
-use rme_options::{Form, LookTask};
+use rme_options::Form;
 use rme_texts::name_of;
 use rme_wire::Names;
 use std::alloc::AllocError;
-use std::io::{ErrorKind, Write};
-use std::{fs, io};
 
 /// Nobody is told how far the reading has come.
 struct Silent;
@@ -18,35 +16,19 @@ impl Progress for Silent {
     fn read(&self, _lines: u64) {}
 }
 
-/// Prints what a state's file says, and answers the status.
-pub fn run_look(rt: &HostRuntime, task: LookTask) -> Result<u8, Fault> {
-    let LookTask { state, form } = task;
-    let bytes = bytes_of(rt, state.as_str())?;
-    let read = start(rt.alloc(), whole_lines(bytes.as_slice()), &Silent);
-    let mut text = String::new(rt.alloc());
-    let status = match form {
-        Form::Check => push_verdict(&mut text, &read)?,
-        Form::Json => push_json(&mut text, &started_of(rt, state.as_str(), read)?)?,
-        Form::Text => push_text(&mut text, &started_of(rt, state.as_str(), read)?)?,
-    };
-    match io::writer(rt).write_all(text.as_bytes()) {
-        Ok(()) => Ok(status),
-        Err(_) => Err(Fault::WriteFailed),
-    }
-}
-
-/// All bytes of the file.
-fn bytes_of(rt: &HostRuntime, path: &str) -> Result<Vec<u8>, Fault> {
-    if path.is_empty() {
-        return Err(Fault::BadArguments(BadArgument::NoFile("FILE")));
-    }
-    match fs::read(rt, path) {
-        Ok(bytes) => Ok(bytes),
-        Err(error) => {
-            let kind = error.kind();
-            let path = shown(rt.alloc(), path)?;
-            Err(Fault::on_file(kind, Fault::StateUnread(path, error)))
-        }
+/// Appends what the bytes of a state say, and answers the status of the process.
+pub(crate) fn push_state(
+    out: &mut String,
+    rt: &HostRuntime,
+    path: &str,
+    bytes: &[u8],
+    form: Form,
+) -> Result<u8, Fault> {
+    let read = start(rt.alloc(), whole_lines(bytes), &Silent);
+    match form {
+        Form::Check => push_verdict(out, &read),
+        Form::Json => Ok(push_json(out, &started_of(rt, path, read)?)?),
+        Form::Text => Ok(push_text(out, &started_of(rt, path, read)?)?),
     }
 }
 

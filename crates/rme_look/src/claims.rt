@@ -1,0 +1,111 @@
+//! Which workers of a mapped file have a process that lives.
+//!
+//! A process claims a worker by a lock of the kernel on the byte of the worker's number, and `/proc/locks` tells of all locks
+//! (`proc_locks(5)`). That file is read and no lock is tried, since a try could refuse a process that begins just then.
+
+use rme_faults::{Fault, shown};
+use std::alloc::{AllocError, Global};
+use std::fs;
+use std::os::unix::fs::MetadataExt;
+
+/// Where the kernel tells of all locks.
+const LOCKS: &str = "/proc/locks";
+
+/// A file, by its device and by its number there.
+#[derive(Clone, Copy, PartialEq, Eq)]
+struct FileNumber {
+    major: u64,
+    minor: u64,
+    inode: u64,
+}
+
+impl FileNumber {
+    /// That of a file of this device, whose two parts are spread over its number (`makedev(3)`).
+    fn of(device: u64, inode: u64) -> FileNumber {
+        FileNumber {
+            major: ((device >> 8) & 0xfff) | ((device >> 32) & !0xfff),
+            minor: (device & 0xff) | ((device >> 12) & !0xff),
+            inode,
+        }
+    }
+
+    /// That of a text as `fe:00:11032259`.
+    fn of_text(text: &str) -> Option<FileNumber> {
+        let mut parts = text.split(':');
+        let major = u64::from_str_radix(parts.next()?, 16).ok()?;
+        let minor = u64::from_str_radix(parts.next()?, 16).ok()?;
+        let inode = parts.next()?.parse::<u64>().ok()?;
+        Some(FileNumber {
+            major,
+            minor,
+            inode,
+        })
+    }
+}
+
+/// Whether each of so many workers of a file has a process that lives; no answers where the system does not tell.
+pub(crate) fn living(rt: &HostRuntime, path: &str, workers: u32) -> Result<Vec<bool>, Fault> {
+    let alloc = rt.alloc();
+    let Ok(text) = fs::read_to_string(rt, LOCKS) else {
+        return Ok(Vec::new(alloc));
+    };
+    let file = match fs::metadata(rt, path) {
+        Ok(data) => FileNumber::of(data.dev(), data.ino()),
+        Err(error) => {
+            let kind = error.kind();
+            return Err(Fault::on_file(kind, Fault::StateUnread(shown(alloc, path)?, error)));
+        }
+    };
+    Ok(claimed(alloc, text.as_str(), file, workers)?)
+}
+
+/// Which workers are claimed, by what the kernel tells of all locks.
+fn claimed(
+    alloc: Global,
+    text: &str,
+    file: FileNumber,
+    workers: u32,
+) -> Result<Vec<bool>, AllocError> {
+    let mut living = vec![in alloc; false; workers as usize]?;
+    for line in text.lines() {
+        if let Some((first, last)) = claim_in(line, file) {
+            mark(living.as_mut_slice(), first, last);
+        }
+    }
+    Ok(living)
+}
+
+/// Marks the workers from the first of these to the last.
+fn mark(living: &mut [bool], first: u64, last: u64) {
+    let mut worker: u64 = 0;
+    for is_living in living {
+        if worker >= first && worker <= last {
+            *is_living = true;
+        }
+        worker = worker.saturating_add(1);
+    }
+}
+
+/// The first and the last byte that a line tells to be locked in a file; `None` where it tells of another lock.
+fn claim_in(line: &str, file: FileNumber) -> Option<(u64, u64)> {
+    let mut words = line.split_whitespace();
+    let _number = words.next()?;
+    // Who waits for a lock has an arrow here.
+    if words.next()? != "OFDLCK" {
+        return None;
+    }
+    let _advisory = words.next()?;
+    if words.next()? != "WRITE" {
+        return None;
+    }
+    let _process = words.next()?;
+    if FileNumber::of_text(words.next()?)? != file {
+        return None;
+    }
+    let first = words.next()?.parse::<u64>().ok()?;
+    let last = match words.next()? {
+        "EOF" => u64::MAX,
+        text => text.parse::<u64>().ok()?,
+    };
+    Some((first, last))
+}

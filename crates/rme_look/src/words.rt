@@ -1,0 +1,92 @@
+//! What a file of words says that processes map.
+
+use crate::claims::living;
+use rme_faults::{Fault, shown};
+use rme_mapped::{Mapped, Unread, push_damage, push_json, push_text};
+use rme_options::Form;
+use std::alloc::AllocError;
+use std::fs;
+
+/// Where the machine tells which of its boots this is.
+const BOOT: &str = "/proc/sys/kernel/random/boot_id";
+
+/// So many bytes it tells, before a newline.
+const BOOT_LENGTH: usize = 36;
+
+/// Appends what the bytes of a file of words say, and answers the status of the process.
+pub(crate) fn push_words(
+    out: &mut String,
+    rt: &HostRuntime,
+    path: &str,
+    bytes: &[u8],
+    form: Form,
+) -> Result<u8, Fault> {
+    let read = Mapped::read(rt.alloc(), bytes);
+    if form == Form::Check {
+        return push_verdict(out, &read);
+    }
+    let mapped = match read {
+        Ok(mapped) => mapped,
+        Err(why) => return Err(unread(rt, path, why)?),
+    };
+    let living = living(rt, path, mapped.shape().workers())?;
+    if form == Form::Json {
+        push_json(out, &mapped, living.as_slice())?;
+        out.push_str("\n")?;
+    } else {
+        push_state(out, rt, &mapped)?;
+        push_text(out, &mapped, living.as_slice())?;
+    }
+    Ok(0)
+}
+
+/// Appends whether the words could be those of a world, or why they could not, and answers the status.
+fn push_verdict(out: &mut String, read: &Result<Mapped, Unread>) -> Result<u8, Fault> {
+    match read {
+        Err(Unread::NoMemory) => return Err(Fault::NoMemory),
+        Err(why) => write!(out, "no: {why}\n")?,
+        Ok(mapped) => match mapped.first_fault() {
+            Some(damage) => {
+                out.push_str("no: ")?;
+                push_damage(out, mapped.names(), damage)?;
+                out.push_str("\n")?;
+            }
+            None => {
+                out.push_str("yes\n")?;
+                return Ok(0);
+            }
+        },
+    }
+    Ok(1)
+}
+
+/// Why a file of words can't be told of.
+fn unread(rt: &HostRuntime, path: &str, why: Unread) -> Result<Fault, AllocError> {
+    if why == Unread::NoMemory {
+        return Ok(Fault::NoMemory);
+    }
+    let text = format!(in rt.alloc(); "{why}")?;
+    Ok(Fault::BadWords(shown(rt.alloc(), path)?, text))
+}
+
+/// Appends a line where nobody may go on with the file.
+fn push_state(out: &mut String, rt: &HostRuntime, mapped: &Mapped) -> Result<(), AllocError> {
+    if mapped.moved() {
+        return out.push_str("moved: another file has the cells since\n");
+    }
+    if is_old(rt, mapped) {
+        return out.push_str("old boot: the machine was started again since\n");
+    }
+    Ok(())
+}
+
+/// Whether the file was made before the machine's last start, as far as that tells.
+fn is_old(rt: &HostRuntime, mapped: &Mapped) -> bool {
+    let Ok(boot) = fs::read(rt, BOOT) else {
+        return false;
+    };
+    let text = boot.as_slice();
+    !mapped
+        .boot()
+        .starts_with(&text[..text.len().min(BOOT_LENGTH)])
+}
