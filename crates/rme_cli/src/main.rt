@@ -4,7 +4,7 @@
 //! by rme_look. It is small, since what stands here is checked against all the crates of the program.
 #![tactic(auto)]
 
-use rme_commands::{draw, run_keep, run_serve, run_threads};
+use rme_commands::{run_draw, run_keep, run_serve, run_threads};
 use rme_faults::Fault;
 use rme_line_commands::{Asked, end, perform_lines, read_words};
 use rme_look::run_look;
@@ -36,7 +36,7 @@ fn perform<R: Threads + Wait + Clock + Sync>(
 ) -> Result<u8, Fault> {
     match task {
         Task::Lines(task) => perform_lines(rt, task),
-        Task::Draw => draw(rt),
+        Task::Draw => run_draw(rt),
         Task::Threads(task) => run_threads(rt, threads, &task),
         Task::Serve(task) => run_serve(rt, threads, task),
         Task::Keep(task) => run_keep(rt, threads, task),

@@ -17,7 +17,7 @@ use std::io::{Read, Write};
 
 /// Draws the transcript on the standard input, and answers the status. Of one that the machine does not have it prints
 /// the verdict on the standard error, and no picture.
-pub fn draw(rt: &HostRuntime) -> Result<u8, Fault> {
+pub fn run_draw(rt: &HostRuntime) -> Result<u8, Fault> {
     let mut lines = LineReader::new(rt.alloc(), rt.stdin())?;
     draw_stream(
         rt.alloc(),

@@ -16,7 +16,7 @@ mod socket;
 mod threads;
 mod trouble;
 
-pub use draw::draw;
+pub use draw::run_draw;
 pub use keep::run_keep;
 pub use serve::run_serve;
 pub use threads::run_threads;
