@@ -165,6 +165,10 @@ impl<L: Ledger, H: Reach> Kept<L, H> {
     pub(crate) fn keep<R: Wait>(&self, rt: &R, end: u64) -> Result<(), NotKept> {
         for _ in rt.forever() {
             let is_behind = self.marks.is_behind(end);
+            // What was lost may end where what is kept does, so that this comes first.
+            if self.is_broken() {
+                return Err(NotKept);
+            }
             if self.marks.has_kept(end) {
                 return Ok(());
             }
