@@ -15,7 +15,7 @@ ghost use Rattle.rme_c.specs.Batches.{Foretells, LoadsCells, LoadsSlate, actions
 
 use crate::flat::{Batch, FlatAction, MOST_ACTIONS};
 use crate::runs::{tell_post, tell_receipt};
-use rme_program::{Action, Log, Note, Private, Redo, Stage, after, first_cell, next};
+use rme_program::{Action, Log, Note, Private, Slate, Stage, after, first_cell, next};
 use rme_words::{Address, Shape};
 
 /// Fills the batch with the next own steps of a worker that is not ready: the loads of a slate or of the named cells,
@@ -29,6 +29,8 @@ pub fn tell(shape: Shape, private: &Private, batch: &mut Batch)
 {
     batch.count = 0;
     match &private.stage {
+        Stage::Posting(slate) => tell_posting(shape, private, slate, batch),
+        Stage::Copying(_) => tell_receipt(shape, private, batch),
         Stage::Logging(
             Log::LoadSlate {
                 operations,
@@ -46,6 +48,21 @@ pub fn tell(shape: Shape, private: &Private, batch: &mut Batch)
         ) => tell_cells(shape, *lock, *named, *cell, batch),
         _ => tell_stores(shape, private, batch),
     }
+}
+
+/// The stores of a post from where it is on.
+fn tell_posting(shape: Shape, private: &Private, slate: &Slate, batch: &mut Batch)
+    requires private { IsPrivate shape private.now }
+    requires here { private.now.stage ≡ Stage.Posting slate.now }
+    requires fresh { batch.old.count ≡ 0 }
+    ensures foretells { Foretells shape private.now (actions_told batch.new) }
+    ensures some { 1 ≤ batch.new.count }
+    ensures few { batch.new.count ≤ 32 }
+{
+    if slate.stored == 0 {
+        return tell_post(shape, private, slate, batch);
+    }
+    tell_stores(shape, private, batch)
 }
 
 /// The loads of the words of a slate from `loaded` on.
