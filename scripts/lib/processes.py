@@ -105,9 +105,9 @@ def has(program_name):
 
 
 def shared():
-    """The package of clients/shared, by the library that was built."""
+    """The package of clients/processes, by the library that was built."""
     os.environ["RME_LIBRARY"] = os.path.join(libraries(), "librme.so")
-    folder = os.path.join(TOP, "clients", "shared")
+    folder = os.path.join(TOP, "clients", "processes")
     os.environ["PYTHONPATH"] = folder
     if folder not in sys.path:
         sys.path.insert(0, folder)
