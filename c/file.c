@@ -139,6 +139,18 @@ static const char *fault_of(const struct rme_page *page, off_t size) {
     return page->moved > 1 ? "its mark of a renewal is none" : NULL;
 }
 
+/* The open file under a number that is none of the standard streams'. In a process that has closed one of these, what
+   it prints would be written over the file. -1 where that fails. */
+static int beyond_streams(int file) {
+    if (file < 0 || file > STDERR_FILENO) {
+        return file;
+    }
+    int other = fcntl(file, F_DUPFD_CLOEXEC, STDERR_FILENO + 1), kept = errno;
+    close(file);
+    errno = kept;
+    return other;
+}
+
 /* MAKING */
 
 static int write_all(int file, const void *bytes, size_t size) {
@@ -174,7 +186,8 @@ int rme_file_make(const struct rme_page *page, const char *path, char beside[PAT
     if (file->number < 0) {
         return errno == ENOENT || errno == ENOTDIR ? RME_NO_FILE : rme_say(RME_SYSTEM, "mkostemp");
     }
-    int error = write_file(file->number, page);
+    file->number = beyond_streams(file->number);
+    int error = file->number < 0 ? rme_say(RME_SYSTEM, "fcntl") : write_file(file->number, page);
     if (error != 0) {
         int kept = errno;
         rme_file_close(file);
@@ -240,7 +253,7 @@ static int check_page(struct rme_file *file) {
 int rme_file_open(const char *path, int writable, struct rme_file *file) {
     /* O_NONBLOCK: a pipe of this name does not hold the caller up. */
     int flags = (writable ? O_RDWR : O_RDONLY) | O_CLOEXEC | O_NOCTTY | O_NONBLOCK;
-    *file = (struct rme_file){.number = open(path, flags)};
+    *file = (struct rme_file){.number = beyond_streams(open(path, flags))};
     if (file->number < 0) {
         return open_error();
     }

@@ -146,6 +146,34 @@ static void try_making(void) {
     heading("making and opening files");
 }
 
+/* A process whose standard streams are closed: what it prints while it has the file is not written over it. */
+static void try_closed_streams(void) {
+    const char *path = fresh("streams", 1, 1, 1, 5);
+    fflush(stdout);
+    pid_t child = fork();
+    if (child == 0) {
+        struct rme_handle *handle;
+        int written = 0;
+        close(STDIN_FILENO);
+        close(STDOUT_FILENO);
+        close(STDERR_FILENO);
+        if (rme_create(at("streams-made"), 1, 1, 1, 5, all_names) != 0 || rme_attach(path, 0, &handle) != 0) {
+            _exit(2);
+        }
+        for (int stream = STDIN_FILENO; stream <= STDERR_FILENO; stream++) {
+            written |= write(stream, "printed", 7) == 7;
+        }
+        int error = rme_recover(handle, NULL);
+        error = error != 0 ? error : rme_run(handle, 0, add_5, 1, 0, NULL);
+        error = error != 0 ? error : rme_detach(handle);
+        _exit(error != 0 ? error : written);
+    }
+    answers("a process without streams", status_of(child), 0);
+    answers("what it printed is not in the file", attach_only(path, 0), 0);
+    answers("nor in the one that it made", attach_only(at("streams-made"), 0), 0);
+    heading("closed streams");
+}
+
 /* A file that there is no room for leaves nothing. */
 static void try_no_room(void) {
     char room[4096], made[4200];
@@ -860,6 +888,7 @@ int main(int count, char **words) {
     try_shapes();
     try_names();
     try_making();
+    try_closed_streams();
     try_no_room();
     try_beginnings();
     try_jobs();
