@@ -243,9 +243,10 @@ class Worker:
 
     def _enter_with(self, lock: str, script: Script, number: Optional[int], end: Optional[float]) -> Union[int, Receipt]:
         """The number of the job, once the worker is inside with it; or its receipt, where it counted already."""
-        if number is None:
-            number = self._unfinished
         stance = self._stands()
+        # One that an exception ended behind its commit is not pending any more, and what comes now is another job.
+        if number is None and stance.where != 0 and stance.number == self._unfinished:
+            number = self._unfinished
         if number is None and stance.where != 0:
             self._enter_until(end)
             self.commit()
