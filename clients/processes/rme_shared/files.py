@@ -4,7 +4,7 @@ from __future__ import annotations
 
 import ctypes
 from dataclasses import dataclass
-from typing import FrozenSet, List, Optional, Sequence, Tuple
+from typing import Any, Callable, FrozenSet, List, Optional, Sequence, Tuple
 
 from .errors import BadShape
 from .library import HANDLE, INT, MOST_CELLS, MOST_NAME, MOST_WORKERS, NOBODY, TEXT, U32, U64, Path, ShapeOf, call, encoded
@@ -64,26 +64,31 @@ def living(path: Path) -> FrozenSet[int]:
 def look(path: Path) -> Look:
     """What a file shows, without a worker."""
     handle, shape, name = HANDLE(), ShapeOf(), ctypes.create_string_buffer(MOST_NAME + 1)
+
+    def with_handle(asked: str, *words: Any) -> None:
+        call(asked, handle, *words)
+
     call("rme_observe", encoded(path), ctypes.byref(handle))
     try:
         call("rme_shape", handle, ctypes.byref(shape))
         locks = []
         for lock in range(shape.locks):
             call("rme_lock_name", handle, lock, name)
-            cells, settled = cells_of(handle, lock, shape.cells)
-            locks.append(LockLook(name.value.decode(), owner_of(handle, lock), cells, settled))
+            cells, settled = cells_of(with_handle, lock, shape.cells)
+            locks.append(LockLook(name.value.decode(), owner_of(with_handle, lock), cells, settled))
     finally:
         call("rme_detach", handle)
     return Look(shape.workers, shape.jobs, locks, living(path))
 
 
-def owner_of(handle: HANDLE, lock: int) -> Optional[int]:
+def owner_of(asked: Callable[..., None], lock: int) -> Optional[int]:
+    """The owner of a lock, by what makes a call with a handle."""
     owner = U32()
-    call("rme_owner", handle, lock, ctypes.byref(owner))
+    asked("rme_owner", lock, ctypes.byref(owner))
     return None if owner.value == NOBODY else owner.value
 
 
-def cells_of(handle: HANDLE, lock: int, count: int) -> Tuple[List[int], bool]:
+def cells_of(asked: Callable[..., None], lock: int, count: int) -> Tuple[List[int], bool]:
     cells, settled = (U64 * MOST_CELLS)(), INT()
-    call("rme_cells", handle, lock, cells, ctypes.byref(settled))
+    asked("rme_cells", lock, cells, ctypes.byref(settled))
     return list(cells[:count]), bool(settled.value)

@@ -3,13 +3,15 @@
 from __future__ import annotations
 
 import ctypes
+import os
+import threading
 import time
 from contextlib import contextmanager
 from dataclasses import dataclass
 from types import TracebackType
-from typing import Dict, Iterator, List, Optional, Sequence, Tuple, Type, Union
+from typing import Any, Dict, Iterator, List, Optional, Sequence, Tuple, Type, Union
 
-from .errors import BadScript, Blocked, Differs, Done, Forked, Idle, NoCell, NotAttached, Withdrawn, WrongNumber
+from .errors import BadScript, Blocked, Differs, Done, Forked, Idle, InUse, NoCell, NotAttached, Withdrawn, WrongNumber
 from .files import cells_of, owner_of
 from .library import HANDLE, INT, MOST_NAME, MOST_OPERATIONS, U32, U64, Operation, Path, ReceiptOf, ShapeOf, StanceOf
 from .library import call, encoded
@@ -62,15 +64,18 @@ class Worker:
         """Claims the number and recovers. `Taken` where a living process has it; `NoWorker`, `NoFile`, `NotRme`, `OldBoot`,
         `Moved`."""
         self.worker = worker
-        self._handle: Optional[HANDLE] = HANDLE()
+        self._handles = [HANDLE()]  # none once it is closed
+        self._callers: List[int] = []  # the threads that are in a call
+        self._closes = False  # once the call that this thread is in is over
+        self._process = os.getpid()
         self._is_inside = False  # in a block
         self._unfinished: Optional[int] = None  # the number of a job that a call of this object began and did not finish
         number = worker if 0 <= worker < 2**32 else 2**32 - 1
-        call("rme_attach", encoded(path), number, ctypes.byref(self._at()))
         try:
-            call("rme_recover", self._at(), None)
+            call("rme_attach", encoded(path), number, ctypes.byref(self._handles[0]))
+            self._call("rme_recover", None)
             shape = ShapeOf()
-            call("rme_shape", self._at(), ctypes.byref(shape))
+            self._call("rme_shape", ctypes.byref(shape))
             self._cells = shape.cells
             self._names = [self._name(lock) for lock in range(shape.locks)]
             self._numbers: Dict[str, int] = {name: lock for lock, name in enumerate(self._names)}
@@ -104,7 +109,7 @@ class Worker:
         if stance.where == 0:
             return None
         try:
-            call("rme_pending", self._at(), ctypes.byref(lock), operations, ctypes.byref(count))
+            self._call("rme_pending", ctypes.byref(lock), operations, ctypes.byref(count))
         except Idle:  # it is finished, and damage ended its way out: a commit goes on
             return None
         return Job(stance.number, self._names[lock.value], [words_of(it) for it in operations[: count.value]])
@@ -112,16 +117,16 @@ class Worker:
     def last(self) -> Optional[Receipt]:
         """The receipt of the last job; `None` where there was none, or it was withdrawn. `Busy` while one is pending."""
         receipt, there = ReceiptOf(), INT()
-        call("rme_last", self._at(), ctypes.byref(receipt), ctypes.byref(there))
+        self._call("rme_last", ctypes.byref(receipt), ctypes.byref(there))
         return self._receipt(receipt) if there.value else None
 
     def owner(self, lock: str) -> Optional[int]:
         """The worker that owns a lock, alive or dead."""
-        return owner_of(self._at(), self._lock(lock))
+        return owner_of(self._call, self._lock(lock))
 
     def cells(self, lock: str) -> Tuple[List[int], bool]:
         """The cells of a lock, and whether they are settled."""
-        return cells_of(self._at(), self._lock(lock), self._cells)
+        return cells_of(self._call, self._lock(lock), self._cells)
 
     # Jobs, in one call
 
@@ -168,7 +173,7 @@ class Worker:
         """Writes a job down, and answers its number: it is pending from then on, and survives the process."""
         self._may_not_be_in_a_block()
         operations, count, number = operations_of(script), len(script), U64()
-        call("rme_submit", self._at(), self._lock(lock), operations, count, ctypes.byref(number))
+        self._call("rme_submit", self._lock(lock), operations, count, ctypes.byref(number))
         self._unfinished = number.value
         return number.value
 
@@ -181,7 +186,7 @@ class Worker:
         """Does the job that the worker is inside with, and leaves. `Idle`, `NotInside`."""
         self._may_not_be_in_a_block()
         receipt = ReceiptOf()
-        call("rme_commit", self._at(), ctypes.byref(receipt))
+        self._call("rme_commit", ctypes.byref(receipt))
         self._unfinished = None
         return self._receipt(receipt)
 
@@ -189,15 +194,26 @@ class Worker:
         """Gives up the pending job, whose number never counts then. `Idle`; `NotWaiting` where it is inside."""
         self._may_not_be_in_a_block()
         number = U64()
-        call("rme_withdraw", self._at(), ctypes.byref(number))
+        self._call("rme_withdraw", ctypes.byref(number))
         self._unfinished = None
         return number.value
 
     def close(self) -> None:
-        """Ends the worker where it is: one that is inside stays the owner, one that waits keeps its job. In a forked child
-        only what the child has of it is let go."""
-        handle, self._handle = self._handle, None
-        if handle is not None and handle.value is not None:
+        """Ends the worker where it is: one that is inside stays the owner, one that waits keeps its job. `InUse` where
+        another thread is in a call: nothing is ended then. A signal's handler may close it in the midst of a call, which
+        is ended then. In a forked child only what the child has of it is let go."""
+        try:
+            handle = self._handles.pop()  # of two threads one has it
+        except IndexError:
+            return
+        callers, here = tuple(self._callers), threading.get_ident()
+        if callers and self._process == os.getpid():
+            self._closes = all(caller == here for caller in callers)
+            self._handles.append(handle)
+            if not self._closes:
+                raise InUse("another thread is in a call of this worker")
+            return
+        if handle.value is not None:
             try:
                 call("rme_detach", handle)
             except Forked:
@@ -205,19 +221,30 @@ class Worker:
 
     # Parts of these
 
-    def _at(self) -> HANDLE:
-        if self._handle is None:
-            raise NotAttached("the worker is closed")
-        return self._handle
+    def _call(self, name: str, *words: Any) -> None:
+        """Makes a call with the handle. The thread says so before it takes the handle, and `close` takes the handle away
+        before it looks who is there, and gives it back where somebody is: so C never has one that is let go."""
+        here = threading.get_ident()
+        self._callers.append(here)
+        try:
+            handles = tuple(self._handles)
+            if not handles:
+                raise NotAttached("the worker is closed")
+            call(name, handles[0], *words)
+        finally:
+            self._callers.remove(here)
+            if self._closes:
+                self._closes = False
+                self.close()
 
     def _stands(self) -> StanceOf:
         stance = StanceOf()
-        call("rme_standing", self._at(), ctypes.byref(stance))
+        self._call("rme_standing", ctypes.byref(stance))
         return stance
 
     def _name(self, lock: int) -> str:
         name = ctypes.create_string_buffer(MOST_NAME + 1)
-        call("rme_lock_name", self._at(), lock, name)
+        self._call("rme_lock_name", lock, name)
         return name.value.decode()
 
     def _lock(self, name: str) -> int:
@@ -235,7 +262,7 @@ class Worker:
         while True:
             left = SLICE if end is None else min(max(end - time.monotonic(), 0), SLICE)
             try:
-                call("rme_enter", self._at(), round(1000 * left))
+                self._call("rme_enter", round(1000 * left))
                 return
             except Blocked:
                 if end is not None and time.monotonic() >= end:
