@@ -177,6 +177,11 @@ static int write_file(int file, const struct rme_page *page) {
 }
 
 int rme_file_make(const struct rme_page *page, const char *path, char beside[PATH_MAX], struct rme_file *file) {
+    struct stat there;
+    /* A process that finds its file needs neither room for another one nor the right to make it. */
+    if (lstat(path, &there) == 0) {
+        return RME_EXISTS;
+    }
     int length = snprintf(beside, PATH_MAX, "%s.XXXXXX", path);
     if (length < 0 || length >= PATH_MAX) {
         errno = ENAMETOOLONG;

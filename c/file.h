@@ -42,7 +42,8 @@ int rme_say(int error, const char *why);
 /* Checks the limits and names, and fills a page in. RME_BAD_SHAPE, RME_SYSTEM. */
 int rme_page_fill(struct rme_page *page, const struct rme_shape *shape, const char *const *names);
 
-/* Makes a whole file with this page and words that are 0, beside this path and under the name that it answers. */
+/* Makes a whole file with this page and words that are 0, beside this path and under the name that it answers.
+   RME_EXISTS where something has this path already, RME_NO_FILE where there is no such folder, RME_SYSTEM. */
 int rme_file_make(const struct rme_page *page, const char *path, char beside[PATH_MAX], struct rme_file *file);
 
 /* Takes the name away that the file was made under, and gives it this path where `keep`, and nothing is there. */

@@ -121,8 +121,8 @@ struct rme_handle;
 
 /* Makes a file of so many workers, locks, cells of each lock and jobs of each worker, with a name for each lock. It
    is made beside, whole, with mode 0600, and then linked to its name, so that nobody sees a part of it, and no file
-   that is there is touched. RME_BAD_SHAPE (a limit above, or a name that is none or stands twice), RME_EXISTS,
-   RME_SYSTEM. */
+   that is there is touched. RME_BAD_SHAPE (a limit above, or a name that is none or stands twice), RME_EXISTS (also
+   where there would be no room for a new file), RME_NO_FILE (there is no such folder), RME_SYSTEM. */
 int rme_create(const char *path, uint32_t workers, uint32_t locks, uint32_t cells, uint32_t jobs,
                const char *const *names);
 

@@ -188,6 +188,7 @@ static void try_no_room(void) {
     setrlimit(RLIMIT_FSIZE, &small);
     answers("no room", rme_create(made, 256, 1, 1, 1, all_names), RME_SYSTEM);
     check(errno == EFBIG && strcmp(rme_why(), "write") == 0, "why there is no room: %d %s", errno, rme_why());
+    answers("a file that is there needs no room", rme_create(at("link"), 256, 1, 1, 1, all_names), RME_EXISTS);
     setrlimit(RLIMIT_FSIZE, &limit);
     check(entries_of(room) == 0, "and nothing is left of it");
     heading("no room");
@@ -849,6 +850,33 @@ static void try_killed_renewals(void) {
     heading("renewals that are killed");
 }
 
+/* Processes that make one file at once: one makes it, and nothing is beside it. */
+static void try_creators(void) {
+    char room[4096], made[4200];
+    snprintf(room, sizeof room, "%s", at("creators"));
+    mkdir(room, 0700);
+    for (unsigned round = 0; round < 50; round++) {
+        pid_t children[4];
+        int made_by = 0, refused = 0;
+        snprintf(made, sizeof made, "%s/%u", room, round);
+        for (int child = 0; child < 4; child++) {
+            children[child] = fork();
+            if (children[child] == 0) {
+                _exit(rme_create(made, 2, 1, 1, 1, all_names));
+            }
+        }
+        for (int child = 0; child < 4; child++) {
+            int status = status_of(children[child]);
+            made_by += status == 0;
+            refused += status == RME_EXISTS;
+        }
+        check(made_by == 1 && refused == 3, "round %u: made by %d, refused to %d", round, made_by, refused);
+        answers("the file", attach_only(made, 1), 0);
+    }
+    check(entries_of(room) == 50, "nothing is beside them");
+    heading("files made at once");
+}
+
 static void try_boot(void) {
     const char *path = fresh("boot", 1, 1, 1, 1);
     uint64_t bits[4];
@@ -907,6 +935,7 @@ int main(int count, char **words) {
     try_late_claims();
     try_races();
     try_killed_renewals();
+    try_creators();
     try_boot();
     try_texts();
     return ends();
