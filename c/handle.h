@@ -16,8 +16,8 @@ struct rme_handle {
     struct rme_core_batch batch;
 };
 
-/* What a call needs: any handle; one that may look, whose worker, if it has one, has recovered; one with a worker; one
-   with a worker that has recovered. */
+/* What a call needs: any handle; one that may look, whose worker, if it has one, has recovered, and whose file is not
+   moved, if it has none; one with a worker; one with a worker that has recovered. */
 enum rme_need { RME_A_HANDLE, RME_A_LOOK, RME_A_WORKER, RME_A_RECOVERED_WORKER };
 
 /* Begins a call, where the handle is what it needs; `rme_end` ends it, whatever it answers. */

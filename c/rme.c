@@ -197,7 +197,9 @@ int rme_begin(struct rme_handle *self, enum rme_need need) {
     int needs_recovery = need == RME_A_LOOK || need == RME_A_RECOVERED_WORKER;
     int error = 0;
     if (self->worker == RME_NOBODY) {
-        error = needs_worker ? RME_NOT_ATTACHED : 0;
+        /* Only a handle without a worker may be there when the file is renewed. */
+        int is_late = need == RME_A_LOOK && atomic_load(&self->file.front->moved) != 0;
+        error = needs_worker ? RME_NOT_ATTACHED : is_late ? RME_MOVED : 0;
     } else if (needs_recovery && !self->has_recovered) {
         error = RME_DOWN;
     }

@@ -148,7 +148,7 @@ int rme_living(const char *path, uint64_t *bits);
 int rme_attach(const char *path, uint32_t worker, struct rme_handle **handle);
 
 /* Maps the file for look-ups alone, with no worker: the calls under JOBS are RME_NOT_ATTACHED. Its refusals are
-   those of rme_attach for the file. */
+   those of rme_attach for the file. Once the file is renewed, those under LOOK-UPS are RME_MOVED. */
 int rme_observe(const char *path, struct rme_handle **handle);
 
 /* Ends a handle, and leaves the worker where it is: this is its crash. One that is inside stays the owner of its lock,

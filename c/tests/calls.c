@@ -681,9 +681,16 @@ static void try_renewal(void) {
     snprintf(next, sizeof next, "%s", at("renewed"));
     run_alone(path, 2, 1, sets, 8);
     run_alone(path, 2, 1, more, 2);
+    struct rme_handle *handle;
+    must("observe", rme_observe(path, &handle));
+    answers("a look before it", rme_owner(handle, 1, &owner), 0);
     answers("renew", rme_renew(path, next), 0);
     is_moved(path);
-    struct rme_handle *handle = attached(next, 2);
+    answers("a look after it", rme_owner(handle, 1, &owner), RME_MOVED);
+    answers("a look after it", rme_cells(handle, 1, cells, &settled), RME_MOVED);
+    answers("its shape", rme_shape(handle, NULL), 0);
+    must("detach", rme_detach(handle));
+    handle = attached(next, 2);
     check(rme_cells(handle, 0, cells, &settled) == 0 && settled && cells[0] == 0 && cells[11] == 0, "cells of lock 0");
     check(rme_cells(handle, 1, cells, &settled) == 0 && settled && memcmp(cells, set_cells, sizeof cells) == 0,
           "of lock 1");
