@@ -79,7 +79,7 @@ class WrongNumber(RmeError):
 
     code = 16
 
-    def __init__(self, text: str, expected: int):
+    def __init__(self, text: str, expected: int = 0):  # a copy for another process is made of the text alone at first
         super().__init__(text)
         self.expected = expected
 
