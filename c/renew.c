@@ -36,6 +36,18 @@ static int carry_over(const struct rme_file *from, struct rme_handle *to, uint32
     return error;
 }
 
+/* Behind these jobs one more is written down and given up, so that the worker's next process does not take a receipt of
+   theirs for one of its own. It is left out where none was made, and where the shape allows no more jobs. */
+static int give_up_one(struct rme_handle *to) {
+    struct rme_stance stance;
+    int error = rme_standing(to, &stance);
+    if (error != 0 || stance.number == 0 || stance.number == to->file.shape.jobs) {
+        return error;
+    }
+    error = rme_submit(to, 0, NULL, 0, NULL);
+    return error != 0 ? error : rme_withdraw(to, NULL);
+}
+
 /* Makes the new file whole, under the name beside that it answers. */
 static int make_next(const struct rme_file *from, const char *path, char beside[PATH_MAX]) {
     struct rme_page page = from->page;
@@ -51,6 +63,7 @@ static int make_next(const struct rme_file *from, const char *path, char beside[
         for (uint32_t lock = 0; lock < from->shape.locks && error == 0; lock++) {
             error = carry_over(from, to, lock);
         }
+        error = error != 0 ? error : give_up_one(to);
         rme_lower(to);
     }
     if (error != 0) {

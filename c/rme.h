@@ -128,11 +128,13 @@ int rme_create(const char *path, uint32_t workers, uint32_t locks, uint32_t cell
 
 /* Makes a new file of the same shape and names, in which jobs of worker 0 have set the cells to what they are in the
    old one, and marks the old one as moved: each call on it is RME_MOVED from then on. Numbers, places and receipts do
-   not carry over; worker 0 has used up to two jobs a lock. It is made at rest alone: RME_TAKEN where a worker has a
-   living process, RME_BUSY where one has a pending job. RME_EXISTS where `new_path` is there; RME_TOO_MANY_JOBS where
-   the shape allows less jobs than the cells need; RME_DAMAGED; those of rme_attach for the old file; RME_SYSTEM.
-   Whatever it answers but 0, the old file stands as it was, and no new one is there. Where the process is killed in it:
-   if the old file is not RME_MOVED, it is the one to use; remove the new one, if it is there, and renew again. */
+   not carry over. Worker 0 has used up to two jobs a lock there, and behind them, if the shape allows it, one that is
+   given up, so that it has no receipt: its own numbers go on from its stance, not from 1. It is made at rest alone:
+   RME_TAKEN where a worker has a living process, RME_BUSY where one has a pending job. RME_EXISTS where `new_path` is
+   there; RME_TOO_MANY_JOBS where the shape allows less jobs than the cells need; RME_DAMAGED; those of rme_attach for
+   the old file; RME_SYSTEM. Whatever it answers but 0, the old file stands as it was, and no new one is there. Where
+   the process is killed in it: if the old file is not RME_MOVED, it is the one to use; remove the new one, if it is
+   there, and renew again. */
 int rme_renew(const char *path, const char *new_path);
 
 /* Which workers have a living process: sets bit w % 64 of bits[w / 64] for worker w, and clears the others, of

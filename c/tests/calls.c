@@ -701,7 +701,8 @@ static void try_renewal(void) {
     same_receipt("run", &receipt, (struct rme_receipt){2, 1, 1, 2, 2});
     must("detach", rme_detach(handle));
     must("attach", rme_attach(next, 0, &handle));
-    check(rme_recover(handle, &stance) == 0 && stance.number == 2, "worker 0 has used two jobs");
+    check(rme_recover(handle, &stance) == 0 && stance.number == 3, "worker 0 has used two jobs, and given one up");
+    check(rme_last(handle, NULL, &there) == 0 && !there, "and has no receipt of them");
     must("detach", rme_detach(handle));
     answers("renew the new one", rme_renew(next, at("renewed-again")), 0);
     heading("renewal");

@@ -49,7 +49,7 @@ def renew(path: Path, new_path: Path) -> None:
     """Makes a new file of the same shape, whose cells are what they are in the old one, which is `Moved` from then on.
 
     At rest alone: `Taken` where a living process has a worker, `Busy` where one is inside or waits. Numbers, places and
-    receipts begin anew.
+    receipts begin anew; those of worker 0 behind the jobs that set the cells, so `next_number` says where.
     """
     call("rme_renew", encoded(path), encoded(new_path))
 
