@@ -240,6 +240,8 @@ static int check_page(struct rme_file *file) {
     if (!S_ISREG(stat.st_mode)) {
         return rme_say(RME_NOT_RME, "it is no regular file");
     }
+    file->device = stat.st_dev;
+    file->inode = stat.st_ino;
     ssize_t count = pread(file->number, &file->page, sizeof file->page, 0);
     if (count < 0) {
         return rme_say(RME_SYSTEM, "pread");
@@ -271,6 +273,7 @@ int rme_file_open(const char *path, int writable, struct rme_file *file) {
     }
     file->shape = (struct rme_shape){(uint32_t)file->page.workers, (uint32_t)file->page.locks,
                                      (uint32_t)file->page.cells, (uint32_t)file->page.jobs};
+    file->mark = lseek(file->number, getpid(), SEEK_SET);
     return 0;
 }
 
@@ -317,9 +320,24 @@ int rme_file_map(struct rme_file *file, int writable) {
     return madvise(at, size_of(file), MADV_DONTFORK) == 0 ? 0 : rme_say(RME_SYSTEM, "madvise");
 }
 
+/* Whether the number is the file's still: a process that closed all files may have given it to another one. */
+static int has_number(const struct rme_file *file) {
+    struct stat stat;
+    return file->mark == 0 ||
+           (fstat(file->number, &stat) == 0 && stat.st_dev == file->device && stat.st_ino == file->inode &&
+            lseek(file->number, 0, SEEK_CUR) == file->mark);
+}
+
+void rme_file_close_number(struct rme_file *file) {
+    if (has_number(file)) {
+        close(file->number);
+    }
+    file->number = -1;
+}
+
 void rme_file_close(struct rme_file *file) {
     if (file->words != NULL) {
         munmap(file->front, size_of(file));
     }
-    close(file->number);
+    rme_file_close_number(file);
 }

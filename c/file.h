@@ -7,6 +7,7 @@
 #include <limits.h>
 #include <stdatomic.h>
 #include <stddef.h>
+#include <sys/types.h>
 
 enum { RME_PAGE = 4096 };
 
@@ -30,6 +31,9 @@ struct rme_page {
 /* An open file. Nothing is mapped while `words` is NULL. */
 struct rme_file {
     int number;
+    dev_t device; /* which file it is, and a place in it that only this opening of it has; 0 of a file that is made */
+    ino_t inode;
+    off_t mark;
     struct rme_page page;
     struct rme_shape shape;
     struct rme_page *front;
@@ -66,5 +70,8 @@ int rme_file_map(struct rme_file *file, int writable);
 
 /* Unmaps the file where it is mapped, and closes it, which ends its claims. */
 void rme_file_close(struct rme_file *file);
+
+/* Closes the file, and unmaps nothing: a forked child does not have the mapping. */
+void rme_file_close_number(struct rme_file *file);
 
 #endif

@@ -393,8 +393,7 @@ int rme_detach(struct rme_handle *handle) {
     if (error == RME_FORKED && handle->file.number >= 0) {
         /* Of the child's copy, the open file is what counts. The mapping it never had, and a child of a process with
            threads may not free memory. */
-        close(handle->file.number);
-        handle->file.number = -1;
+        rme_file_close_number(&handle->file);
     } else if (error == 0) {
         rme_lower(handle);
     }

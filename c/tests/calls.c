@@ -519,7 +519,7 @@ static void try_orphans(void) {
 
 /* Children that do not keep their parent's number: one that let go of it, and one that runs another program. */
 static void try_lost_children(void) {
-    const char *path = fresh("children", 1, 1, 1, 100);
+    const char *path = fresh("children", 2, 1, 1, 100);
     struct rme_handle *handle = attached(path, 0);
     pid_t child = fork();
     if (child == 0) {
@@ -546,6 +546,41 @@ static void try_lost_children(void) {
     answers("another program does not keep it", attach_only(path, 0), 0);
     kill(child, SIGKILL);
     status_of(child);
+    handle = attached(path, 0);
+    child = fork();
+    if (child == 0) {
+        /* It closes all files and opens its own, which get their numbers. */
+        struct rme_handle *own = NULL;
+        for (int file = STDERR_FILENO + 1; file < 100; file++) {
+            close(file);
+        }
+        int other = open("/dev/null", O_RDONLY | O_CLOEXEC);
+        answers("let go", rme_detach(handle), RME_FORKED);
+        check(other > STDERR_FILENO && close(other) == 0, "its own file is open still");
+        must("attach", rme_attach(path, 1, &own));
+        for (int file = STDERR_FILENO + 1; file < 100; file++) {
+            close(file);
+        }
+        other = open("/dev/null", O_RDONLY | O_CLOEXEC);
+        answers("its own handle", rme_detach(own), 0);
+        check(other > STDERR_FILENO && close(other) == 0, "its own file is open after that too");
+        _exit(checks_failed != 0);
+    }
+    check(status_of(child) == 0, "a child with other files");
+    child = fork();
+    if (child == 0) {
+        /* The same, and one of them is the file. */
+        struct rme_handle *own = NULL;
+        for (int file = STDERR_FILENO + 1; file < 100; file++) {
+            close(file);
+        }
+        must("attach", rme_attach(path, 1, &own));
+        answers("let go", rme_detach(handle), RME_FORKED);
+        answers("its own claim stands", attach_only(path, 1), RME_TAKEN);
+        _exit(checks_failed != 0 || rme_detach(own) != 0);
+    }
+    check(status_of(child) == 0, "a child with a worker of its own");
+    must("detach", rme_detach(handle));
     heading("children that let go");
 }
 
