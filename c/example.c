@@ -8,7 +8,7 @@
 
 static void must(int error) {
     if (error != 0) {
-        fprintf(stderr, "%s %s\n", rme_error_text(error), error == RME_SYSTEM ? rme_why() : "");
+        fprintf(stderr, "%s %s\n", rme_error_text(error), error == RME_SYSTEM || error == RME_NOT_RME ? rme_why() : "");
         exit(1);
     }
 }

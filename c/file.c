@@ -44,6 +44,7 @@ static int boot_number(unsigned char boot[40]) {
     ssize_t count = read(file, text, sizeof text);
     close(file);
     if (count < 36) {
+        errno = count < 0 ? errno : ENODATA;
         return rme_say(RME_SYSTEM, "read of the machine's boot number");
     }
     memset(boot, 0, 40);
@@ -279,7 +280,9 @@ int rme_file_open(const char *path, int writable, struct rme_file *file) {
 
 int rme_file_moved(const struct rme_file *file) {
     uint64_t moved = 0;
-    if (pread(file->number, &moved, sizeof moved, offsetof(struct rme_page, moved)) != sizeof moved) {
+    ssize_t count = pread(file->number, &moved, sizeof moved, offsetof(struct rme_page, moved));
+    if (count != sizeof moved) {
+        errno = count < 0 ? errno : ENODATA;
         return rme_say(RME_SYSTEM, "pread");
     }
     return moved != 0 ? RME_MOVED : 0;

@@ -12,7 +12,7 @@
 
    Every call that can fail answers 0, or a number of `enum rme_error`. What it was to answer is stored only where it
    answers 0, unless its comment says more. A pointer that an answer is stored through may be NULL, where the caller
-   does not want to know it. A handle is used by one thread at a time.
+   does not want to know it, but for the one to a new handle. A handle is used by one thread at a time.
 
    Linux only: open-file-description locks (3.15) and MADV_WIPEONFORK (4.14) are asked for. */
 #ifndef RME_H

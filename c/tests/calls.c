@@ -934,6 +934,26 @@ static void try_boot(void) {
     heading("an earlier boot");
 }
 
+/* Whether nothing is read: the linker puts this around read, by --wrap. */
+static int reads_nothing;
+
+ssize_t __real_read(int file, void *bytes, size_t size);
+
+ssize_t __wrap_read(int file, void *bytes, size_t size) {
+    return reads_nothing ? 0 : __real_read(file, bytes, size);
+}
+
+/* A machine whose boot number is empty, as in some containers. */
+static void try_no_boot(void) {
+    const char *path = fresh("no-boot", 1, 1, 1, 1);
+    reads_nothing = 1;
+    errno = 0;
+    answers("no boot number", attach_only(path, 0), RME_SYSTEM);
+    check(errno == ENODATA && strstr(rme_why(), "boot number") != NULL, "why: %d %s", errno, rme_why());
+    reads_nothing = 0;
+    heading("no boot number");
+}
+
 static void try_texts(void) {
     const char *known[111];
     int count = 0;
@@ -980,6 +1000,7 @@ int main(int count, char **words) {
     try_killed_renewals();
     try_creators();
     try_boot();
+    try_no_boot();
     try_texts();
     return ends();
 }

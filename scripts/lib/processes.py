@@ -14,9 +14,9 @@ C = os.path.join(TOP, "c")
 TESTS = os.path.join(C, "tests")
 WARNINGS = ("-Wall", "-Wextra", "-Wpedantic", "-Werror")
 SANITIZERS = ("-fsanitize=address,undefined", "-fno-sanitize-recover=all", "-fno-omit-frame-pointer")
-# What tests put functions of their own around: a kill before an own step, and what comes just before a claim.
+# What tests put functions of their own around: a kill before an own step, what comes just before a claim, and a read.
 STEPS = ("-Wl,--wrap=rme_core_next", "-Wl,--wrap=rme_core_after")
-WRAPS = {"calls": ("-Wl,--wrap=fcntl",), "damage": STEPS, "points": STEPS}
+WRAPS = {"calls": ("-Wl,--wrap=fcntl", "-Wl,--wrap=read"), "damage": STEPS, "points": STEPS}
 SECONDS = 300
 
 
