@@ -1,9 +1,9 @@
-/* peak FIGURES PROGRAM WORD..: runs a program on the standard streams as they are, and writes the nanoseconds that it took and the
-   most KiB that it held into the file FIGURES. Its status is the program's, or 1 where that was killed.
+/* peak FIGURES PROGRAM WORD..: runs a program on the standard streams as they are, and writes the nanoseconds that it took and
+   the most KiB that it held into the file FIGURES. Its status is the program's, or 1 where that was killed.
 
-   The kernel counts for a process also what the one held that it was started by, until it became another program. So a program is
-   started by this one, which is small. With - for FIGURES it only becomes the program. The program is killed once the one that
-   started this is gone. */
+   The kernel counts for a process also what the one held that it was started by, until it became another program. So a program
+   is started by this one, which is small. With - for FIGURES it only becomes the program. The program is killed once the one
+   that started this is gone. */
 #define _GNU_SOURCE
 #include <signal.h>
 #include <stdio.h>

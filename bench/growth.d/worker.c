@@ -1,5 +1,5 @@
-/* worker PATH NUMBER JOBS: a process with a worker of one file, which is made where it is not there yet. It makes so many jobs that
-   add 1 to the one cell of the one lock, prints `ready`, and stays until its standard input ends. */
+/* worker PATH NUMBER JOBS: a process with a worker of one file, which is made where it is not there yet. It makes so many jobs
+   that add 1 to the one cell of the one lock, prints `ready`, and stays until its standard input ends. */
 #include "../../c/rme.h"
 
 #include <stdio.h>
