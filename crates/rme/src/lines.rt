@@ -8,5 +8,5 @@ pub use rme_engine::{Engine, answer_lines, run_lines, transcript_lines};
 pub use rme_texts::{Done, Reply, push_reply};
 pub use rme_wire::{
     Command, Cut, EngineFault, GivenNames, Image, LineReader, Loading, Names, Opening, Request,
-    Sink, Source, is_name, put_all, request_of,
+    Sink, Source, ValueReader, is_name, put_all, request_of,
 };

@@ -9,7 +9,9 @@ use crate::tallied::TalliedWorld;
 use crate::told::{push_events, push_opened};
 use rme_program::Entry;
 use rme_texts::{Done, Reply, push_reply};
-use rme_wire::{Cut, EngineFault, Image, Loading, Names, Opening, Request, request_of};
+use rme_wire::{
+    Cut, EngineFault, Image, Loading, Names, Opening, Request, ValueReader, request_of,
+};
 use rme_words::{NoMemory, Refusal};
 use std::alloc::{AllocError, Global};
 
@@ -29,6 +31,7 @@ pub enum Output {
 #[derive(Drop)]
 pub struct Engine {
     pub(crate) alloc: Global,
+    values: ValueReader,
     /// The names of the locks, each at its number; none where no world is open.
     names: Names,
     /// The world that is open, if one is.
@@ -54,6 +57,7 @@ impl Engine {
         let names = Names::new(alloc)?;
         Ok(Engine {
             alloc,
+            values: ValueReader::new(alloc),
             names,
             world: None,
         })
@@ -102,7 +106,7 @@ impl Engine {
         if cut == Cut::TooLong {
             return Ok(());
         }
-        let Ok(request) = request_of(self.alloc, &self.names, line) else {
+        let Ok(request) = request_of(self.alloc, &mut self.values, &self.names, line) else {
             return Err(EngineFault::NoMemory);
         };
         let request = unless_load(request);
@@ -155,7 +159,7 @@ impl Engine {
         if cut == Cut::TooLong {
             return Ok(Reply::Refused(Refusal::LineTooLong));
         }
-        match request_of(self.alloc, &self.names, line) {
+        match request_of(self.alloc, &mut self.values, &self.names, line) {
             Ok(request) => Ok(self.obey(&request)),
             Err(_) => Err(NoMemory),
         }

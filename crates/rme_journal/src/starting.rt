@@ -11,7 +11,7 @@ use crate::header::{Header, header_of, header_value};
 use memchr::memrchr;
 use rme_engine::{Engine, TalliedWorld};
 use rme_texts::Reply;
-use rme_wire::{Command, Cut, LineReader, Names, Request, Source, request_of};
+use rme_wire::{Command, Cut, LineReader, Names, Request, Source, ValueReader, request_of};
 use rme_words::{NoMemory, Refusal};
 use rme_world::World;
 use std::alloc::Global;
@@ -86,6 +86,7 @@ fn obey_lines<R: Source + Drop, P: Progress>(
 ) -> Result<u64, BadState>
     ensures { OnOk result (AcceptsAllOf (bytes_left R.remaining reader.old) (state_of engine.old) (state_of engine.new)) }
 {
+    let mut values = ValueReader::new(alloc);
     let mut line = Vec::new(alloc);
     let nobody = Vec::<u8>::new(alloc);
     let mut count: u64 = 1;
@@ -95,7 +96,7 @@ fn obey_lines<R: Source + Drop, P: Progress>(
             return Ok(count);
         }
         count = count.saturating_add(1);
-        if !obey_line(alloc, engine, cut, line.as_slice())? {
+        if !obey_line(alloc, &mut values, engine, cut, line.as_slice())? {
             return Err(BadState::Line(count));
         }
         if count % TELLING == 0 {
@@ -105,13 +106,19 @@ fn obey_lines<R: Source + Drop, P: Progress>(
 }
 
 /// Obeys a line, and says whether it was accepted.
-fn obey_line(alloc: Global, engine: &mut Engine, cut: Cut, line: &[u8]) -> Result<bool, NoMemory>
+fn obey_line(
+    alloc: Global,
+    values: &mut ValueReader,
+    engine: &mut Engine,
+    cut: Cut,
+    line: &[u8],
+) -> Result<bool, NoMemory>
     ensures { IfOk result (λ accepted. accepted ≡ true → Accepts (state_of engine.old) (line_read cut line.now) (state_of engine.new)) }
 {
     if cut == Cut::TooLong {
         return Ok(false);
     }
-    let Some(request) = request_of(alloc, engine.names(), line)? else {
+    let Some(request) = request_of(alloc, values, engine.names(), line)? else {
         return Ok(false);
     };
     if !is_kept(&request) {

@@ -60,7 +60,7 @@ impl<L: Ledger, H: Reach> Backend for Kept<L, H> {
         client: &C,
     ) -> (Option<Stand>, Result<(), EngineFault>) {
         let mut stand = self.stand_or_new(stand);
-        let order = match buffers.order(cut, self.alloc, &self.names, SERVICE_NUMBERS) {
+        let order = match buffers.order(cut, &self.names, SERVICE_NUMBERS) {
             Ok(Ok(order)) => order,
             Ok(Err(why)) => return (Some(stand), self.answer_other(rt, why, buffers)),
             Err(_) => return (Some(stand), Err(EngineFault::NoMemory)),

@@ -5,7 +5,7 @@ ghost use Rattle.rme_orders.specs.Sessions.{session_line};
 ghost use Rattle.rme_session_lines.specs.Told.{reply_told};
 
 use rme_session_lines::{Order, SessionReply, ToldReply, order_of, push_session_reply};
-use rme_wire::{Cut, EngineFault, Exchange, Names};
+use rme_wire::{Cut, EngineFault, Exchange, Names, ValueReader};
 use rme_words::{NoMemory, Refusal};
 use std::alloc::{AllocError, Global};
 
@@ -17,6 +17,7 @@ const USUAL_ROOM: usize = 256;
 pub struct Buffers {
     pub exchange: Exchange,
     pub text: String,
+    values: ValueReader,
 }
 
 impl Buffers {
@@ -33,23 +34,24 @@ impl Buffers {
         Ok(Buffers {
             text: String::with_capacity(alloc, USUAL_ROOM)?,
             exchange: Exchange::new(alloc)?,
+            values: ValueReader::new(alloc),
         })
     }
 
     /// The order of the line that was taken last, or why it is refused. A job's number is at most `most`.
     pub fn order(
-        &self,
+        &mut self,
         cut: Cut,
-        alloc: Global,
         names: &Names,
         most: u64,
     ) -> Result<Result<Order, Refusal>, NoMemory>
-        ensures { IfOk result (λ asked. asked ≡ asked_by names.now most (line_read cut self.now.exchange.line.items)) }
+        ensures asked { IfOk result (λ asked. asked ≡ asked_by names.now most (line_read cut self.old.exchange.line.items)) }
+        ensures same { self.new.exchange ≡ self.old.exchange }
     {
         if cut == Cut::TooLong {
             return Ok(Err(Refusal::LineTooLong));
         }
-        match order_of(alloc, names, most, self.exchange.line()) {
+        match order_of(&mut self.values, names, most, self.exchange.line()) {
             Ok(order) => Ok(order.ok_or(Refusal::BadLine)),
             Err(_) => Err(NoMemory),
         }

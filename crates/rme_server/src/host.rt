@@ -73,7 +73,7 @@ impl<K: Tag, H: Reach> Backend for Host<'_, K, H> {
         writer: &mut O,
         client: &C,
     ) -> (Stand, Result<(), EngineFault>) {
-        let order = match buffers.order(cut, self.alloc, self.names, WORLD_NUMBERS) {
+        let order = match buffers.order(cut, self.names, WORLD_NUMBERS) {
             Ok(Ok(order)) => order,
             Ok(Err(why)) => return (stand, buffers.say(self.names, SessionReply::Refused(why))),
             Err(_) => return (stand, Err(EngineFault::NoMemory)),

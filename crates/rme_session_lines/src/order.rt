@@ -6,7 +6,7 @@ ghost use Rattle.rme_session_lines.specs.Orders as spec;
 
 use rme_script::Job;
 use rme_wire::{
-    Names, key_count, lock_of, read_value, script_of, small, up_to, word_of, worker_of,
+    Names, ValueReader, key_count, lock_of, script_of, small, up_to, word_of, worker_of,
 };
 use rme_words::NoMemory;
 use serde_json::Value;
@@ -104,14 +104,14 @@ pub enum Order {
 /// The names are those of the service's locks, and `most` is the largest number that a job of its may have. `NoMemory` says
 /// that there was no room for the line's value.
 pub fn order_of(
-    alloc: Global,
+    values: &mut ValueReader,
     names: &Names,
     most: u64,
     line: &[u8],
 ) -> Result<Option<Order>, NoMemory>
     ensures { IfOk result (λ order. order ≡ spec.order_of_line names.now most line.now) }
 {
-    match read_value(alloc, line)? {
+    match values.read(line)? {
         None => Ok(None),
         Some(value) => Ok(order_of_value(names, most, &value)),
     }

@@ -7,19 +7,22 @@ ghost use Rattle.rme_verdicts.specs.EventLines as spec;
 use rme_program::{Note, Receipt};
 use rme_script::Job;
 use rme_texts::{EventLine, Handed, Names};
-use rme_wire::{item_count, key_count, read_value, script_of, small, word_of, worker_of};
+use rme_wire::{ValueReader, item_count, key_count, script_of, small, word_of, worker_of};
 use rme_words::NoMemory;
 use serde_json::Value;
-use std::alloc::Global;
 
 /// The event and the answer that a transcript's line tells, or `None` where it is no event line.
 ///
 /// The names are those of the transcript's first line; a lock of another name makes no event line. `NoMemory`
 /// says that there was no room for the line's value.
-pub fn event_of(alloc: Global, names: &Names, line: &[u8]) -> Result<Option<EventLine>, NoMemory>
+pub fn event_of(
+    values: &mut ValueReader,
+    names: &Names,
+    line: &[u8],
+) -> Result<Option<EventLine>, NoMemory>
     ensures { IfOk result (λ event. event ≡ spec.event_of_line names.now line.now) }
 {
-    match read_value(alloc, line)? {
+    match values.read(line)? {
         None => Ok(None),
         Some(value) => Ok(event_of_value(names, &value)),
     }

@@ -10,7 +10,7 @@ use crate::event::event_of;
 use crate::watch::Watch;
 use rme_checker::Machine;
 use rme_texts::EventLine;
-use rme_wire::{Cut, Names, Opening, Request, names_and_shape, request_of};
+use rme_wire::{Cut, Names, Opening, Request, ValueReader, names_and_shape, request_of};
 use rme_words::{NoMemory, Refusal};
 use std::alloc::Global;
 
@@ -28,7 +28,7 @@ pub enum Found {
 /// The machine that a transcript has opened, and the names of its locks.
 #[derive(Drop)]
 pub struct Judge {
-    alloc: Global,
+    values: ValueReader,
     pub names: Names,
     pub machine: Machine,
 }
@@ -42,21 +42,26 @@ impl Judge {
             return Ok(None);
         }
         let names = Names::new(alloc)?;
-        match request_of(alloc, &names, line)? {
-            Some(Request::Open(opening)) => Judge::of_opening(alloc, &opening),
+        let mut values = ValueReader::new(alloc);
+        match request_of(alloc, &mut values, &names, line)? {
+            Some(Request::Open(opening)) => Judge::of_opening(alloc, values, &opening),
             _ => Ok(None),
         }
     }
 
     /// The judge of an opening, if its shape is good.
-    fn of_opening(alloc: Global, opening: &Opening) -> Result<Option<Judge>, NoMemory>
+    fn of_opening(
+        alloc: Global,
+        values: ValueReader,
+        opening: &Opening,
+    ) -> Result<Option<Judge>, NoMemory>
         ensures { IfOk result (IsJudge opening.now) }
     {
         match names_and_shape(alloc, opening) {
             Ok((names, shape)) => {
                 let machine = Machine::new(alloc, shape)?;
                 Ok(Some(Judge {
-                    alloc,
+                    values,
                     names,
                     machine,
                 }))
@@ -80,7 +85,7 @@ impl Judge {
         if cut == Cut::TooLong {
             return Ok(Found::NoEvent);
         }
-        match event_of(self.alloc, &self.names, line)? {
+        match event_of(&mut self.values, &self.names, line)? {
             None => Ok(Found::NoEvent),
             Some(told) => self.decides(&told, watcher),
         }

@@ -1,3 +1,2 @@
 pub mod OperationLemmas
 pub mod OpeningLemmas
-pub mod ValueLemmas

@@ -1,13 +1,8 @@
 -- The JSON value of a line, and the words and whole numbers in it.
 use Rattle.std.specs.Prelude.{ℕ, ◌^◌, nat_le, nat_lt, List, codes, if◌then◌else◌, Option, Some, None, option_and_then}
-use Rattle.std.specs.Str.{is_utf8}
 use Rattle.serde_json.specs.Data.{Data}
 use Rattle.serde_json.specs.Find.{as_number, as_str, as_u64, get}
-use Rattle.serde_json.specs.Read.{read}
-
--- the value of a line's bytes
-unfoldable pub value_of : List ℕ → Option Data
-value_of bytes = if is_utf8 bytes then read bytes else None
+unfoldable pub use Rattle.rme_json.specs.Values.{value_of}
 
 -- the member `do`, a word
 unfoldable pub word_of : Data → Option (List ℕ)

@@ -7,7 +7,8 @@ ghost use Rattle.rme_wire.specs.Requests as spec;
 use crate::command::{Command, command_named};
 use crate::loading::{Loading, loading_of};
 use crate::opening::{Opening, opening_of};
-use crate::value::{key_count, read_value, word_of};
+use crate::value::{key_count, word_of};
+use rme_json::ValueReader;
 use rme_names::Names;
 use rme_words::NoMemory;
 use serde_json::Value;
@@ -28,10 +29,15 @@ pub enum Request {
 ///
 /// The names are those of the open world, and none where no world is open. `NoMemory` says that there was no
 /// room for the line's value or for a copy of the names and the image in it.
-pub fn request_of(alloc: Global, names: &Names, line: &[u8]) -> Result<Option<Request>, NoMemory>
+pub fn request_of(
+    alloc: Global,
+    values: &mut ValueReader,
+    names: &Names,
+    line: &[u8],
+) -> Result<Option<Request>, NoMemory>
     ensures { IfOk result (λ request. request ≡ spec.request_of_line names.now line.now) }
 {
-    match read_value(alloc, line)? {
+    match values.read(line)? {
         None => Ok(None),
         Some(value) => match request_of_value(alloc, names, &value) {
             Ok(request) => Ok(request),

@@ -1,29 +1,12 @@
-//! The JSON value of a line, and the numbers, counts and words in it.
+//! The numbers, counts and words in the JSON value of a line.
 
-ghost use Rattle.std.specs.Prelude.{◌≡◌, IfOk, option_map, option_and_then};
+ghost use Rattle.std.specs.Prelude.{◌≡◌, option_map, option_and_then};
 ghost use Rattle.serde_json.specs.Find.{as_array, as_object};
 ghost use Rattle.serde_json.specs.Events.{items_len, members_len};
 ghost use Rattle.serde_json.specs.View.{view};
 ghost use Rattle.rme_wire.specs.Values as spec;
 
-use rme_words::NoMemory;
 use serde_json::Value;
-use std::alloc::Global;
-
-/// The value of a line's bytes, or `None` where they are none. `NoMemory` says that there was no room for it.
-pub fn read_value(alloc: Global, line: &[u8]) -> Result<Option<Value>, NoMemory>
-    ensures { IfOk result (λ value. option_map view value ≡ spec.value_of line.now) }
-{
-    match Value::from_slice(alloc, line) {
-        Ok(value) => Ok(Some(value)),
-        Err(error) => {
-            if error.is_memory() {
-                return Err(NoMemory);
-            }
-            Ok(None)
-        }
-    }
-}
 
 /// The member `do`, a text; `None` where there is none.
 #[tactic(auto, unfolding(crate::specs::Values::word_of))]

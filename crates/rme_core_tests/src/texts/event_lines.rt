@@ -3,7 +3,7 @@
 use crate::texts::lock_names;
 use rme_texts::push_event;
 use rme_verdicts::event_of;
-use rme_wire::Names;
+use rme_wire::{Names, ValueReader};
 use std::alloc::Global;
 use std::test::Fail;
 
@@ -37,7 +37,7 @@ const LINES: &[&str] = &[
 /// The text of the event that a line tells, and no text where it tells none.
 fn written_again(alloc: Global, names: &Names, line: &str) -> Result<String, Fail> {
     let mut text = String::new(alloc);
-    if let Some(event) = event_of(alloc, names, line.as_bytes())? {
+    if let Some(event) = event_of(&mut ValueReader::new(alloc), names, line.as_bytes())? {
         push_event(&mut text, names, event)?;
     }
     Ok(text)

@@ -1,9 +1,10 @@
 //! Calls on single lines, of which the program prints nothing: the names of locks, what an event line or an order is
-//! read as, and that an event line is written back as it stood.
+//! read as, that an event line is written back as it stood, and the values of lines that one reader reads.
 
 mod event_lines;
 mod names;
 mod orders;
+mod values;
 
 use rme_wire::Names;
 use std::alloc::Global;

@@ -5,7 +5,7 @@ use rme_script::{Job, Op, Script};
 use rme_session_lines::{
     Attachment, Order, Patience, SERVICE_NUMBERS, Submission, WORLD_NUMBERS, order_of,
 };
-use rme_wire::Names;
+use rme_wire::{Names, ValueReader};
 use std::alloc::Global;
 use std::process::Abort;
 use std::test::Fail;
@@ -45,7 +45,12 @@ fn check_order(
     line: &str,
     wanted: Order,
 ) -> Result<(), Fail> {
-    let order = order_of(alloc, names, WORLD_NUMBERS, line.as_bytes())?;
+    let order = order_of(
+        &mut ValueReader::new(alloc),
+        names,
+        WORLD_NUMBERS,
+        line.as_bytes(),
+    )?;
     assert!(rt; order == Some(wanted));
     Ok(())
 }
@@ -131,7 +136,15 @@ fn no_orders(rt: HostRuntime) -> Result<(), Fail> {
         r#"{"do":"attach","take":true}"#,
         r#"{"do":"submit","lock":"a","number":4294967296,"script":[]}"#,
     ] {
-        assert!(rt; order_of(rt.alloc(), &names, WORLD_NUMBERS, line.as_bytes())?.is_none());
+        assert!(rt;
+            order_of(
+                &mut ValueReader::new(rt.alloc()),
+                &names,
+                WORLD_NUMBERS,
+                line.as_bytes()
+            )?
+            .is_none()
+        );
     }
     Ok(())
 }
@@ -168,7 +181,12 @@ fn large_numbers(rt: HostRuntime) -> Result<(), Fail> {
             None,
         ),
     ] {
-        let order = order_of(rt.alloc(), &names, SERVICE_NUMBERS, line.as_bytes())?;
+        let order = order_of(
+            &mut ValueReader::new(rt.alloc()),
+            &names,
+            SERVICE_NUMBERS,
+            line.as_bytes(),
+        )?;
         let given = match order {
             Some(Order::Submit(its)) => Some(its.number),
             _ => None,

@@ -1,0 +1,81 @@
+//! A value, token by token.
+
+ghost use Rattle.std.specs.Prelude.{◌<◌, length, IfSome, OnSome};
+ghost use Rattle.serde_json.specs.View.{view, items_view, members_view};
+ghost use Rattle.rme_json.specs.Trees.{IsValue, IsItems, IsMembers};
+
+use crate::number::whole_number;
+use json::{Reader, Token};
+use serde_json::{Map, Value};
+use std::alloc::Global;
+
+/// The next value, which is at most so deep. `None` where there is none, where memory runs out, and at a number that is not
+/// whole or has a sign.
+#[cycle(tree)]
+pub fn read_tree(alloc: Global, reader: &mut Reader<'_>, depth: usize) -> Option<Value>
+    ensures value { IfSome result (λ value. IsValue depth reader.old (view value) reader.new) }
+    ensures shorter { OnSome result (length reader.new < length reader.old) }
+{
+    let token = reader.next()?;
+    match token {
+        Token::String(text) => {
+            let text = String::from_str(alloc, text).ok()?;
+            Some(Value::String(text))
+        }
+        Token::Number(text) => {
+            let number = whole_number(text)?;
+            Some(Value::Number(number))
+        }
+        Token::Bool(is_true) => Some(Value::Bool(is_true)),
+        Token::Null => Some(Value::Null),
+        Token::BeginArray => {
+            if depth == 0 {
+                return None;
+            }
+            let items = read_items(alloc, reader, depth - 1)?;
+            Some(Value::Array(items))
+        }
+        Token::BeginObject => {
+            if depth == 0 {
+                return None;
+            }
+            let members = read_members(alloc, reader, depth - 1)?;
+            Some(Value::Object(members))
+        }
+        Token::EndObject | Token::EndArray | Token::Key(_) | Token::Bad => None,
+    }
+}
+
+/// The values up to the bracket that closes a list, each at most so deep.
+#[cycle(tree)]
+fn read_items(alloc: Global, reader: &mut Reader<'_>, depth: usize) -> Option<Vec<Value>>
+    ensures items { IfSome result (λ values. IsItems depth reader.old (items_view values.items) reader.new) }
+    ensures shorter { OnSome result (length reader.new < length reader.old) }
+{
+    let mut found = Vec::new(alloc);
+    'items: while !reader.take_end_array() {
+        let item = read_tree(alloc, reader, depth)?;
+        let Ok(()) = found.push(item) else {
+            return None;
+        };
+    }
+    Some(found)
+}
+
+/// The keys and values up to the brace that closes an object, each at most so deep. Of two with one key the last stays.
+#[cycle(tree)]
+fn read_members(alloc: Global, reader: &mut Reader<'_>, depth: usize) -> Option<Map<String, Value>>
+    ensures members { IfSome result (λ found. IsMembers depth reader.old (members_view found.entries) reader.new) }
+    ensures shorter { OnSome result (length reader.new < length reader.old) }
+{
+    let mut found = Map::new(alloc);
+    'members: while let Some(name) = reader.next_key().ok()? {
+        let key = String::from_str(alloc, name).ok()?;
+        let member = read_tree(alloc, reader, depth)?;
+        let Ok(before) = found.insert(key, member) else {
+            return None;
+        };
+        drop(before);
+    }
+    Some(found)
+}
