@@ -28,7 +28,7 @@ pub struct Kept<L: Ledger, H: Reach> {
     pub(crate) front: Mutex<EpochDesk>,
     back: Mutex<Back<L>>,
     marks: Marks,
-    /// Whether some of what was done could not be kept. It is set under the lock of `back`.
+    /// Whether some of what was done could not be kept, or written down. Who waits for lines is woken after it was set.
     is_broken: AtomicBool,
     /// Lines were written, or could not be.
     written: Condvar,
@@ -141,15 +141,27 @@ impl<L: Ledger, H: Reach> Kept<L, H> {
     {
         let mut front = lock_soon(rt, &self.front);
         let acted = front.obey(self.alloc, &self.names, stand, order);
-        self.due.see(&front);
+        self.see(&front);
         acted
+    }
+
+    /// Looks whether a new epoch is due, and whether what was done could not be written down. Nobody is told then of anything
+    /// that is seen of the desk after this.
+    pub(crate) fn see(&self, desk: &EpochDesk) {
+        self.due.see(desk);
+        if desk.is_lost() {
+            self.is_broken.store(true, Ordering::SeqCst);
+        }
     }
 
     /// Lets go of the worker of a session that is over.
     pub(crate) fn let_go<R: Wait>(&self, rt: &R, stand: Stand) {
         let mut stand = stand;
         let seat = self.hall.seat(rt, stand.worker);
-        let gone = lock_soon(rt, &self.front).let_go(self.alloc, &self.names, &mut stand);
+        let mut front = lock_soon(rt, &self.front);
+        let gone = front.let_go(self.alloc, &self.names, &mut stand);
+        self.see(&front);
+        drop(front);
         if let Some(mut seat) = seat {
             *seat = None;
         }

@@ -86,6 +86,7 @@ impl<L: Ledger, H: Reach> Kept<L, H> {
             None
         };
         let Some((mut lines, end)) = front.take_lines(spare) else {
+            self.see(&front);
             drop(front);
             ledger.lose();
             self.lose(rt);
