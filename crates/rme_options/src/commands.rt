@@ -116,7 +116,7 @@ fn command_named<'a>(alloc: Global, named: Named) -> Result<Command<'a>, AllocEr
 /// The program, with no command yet.
 fn program<'a>(alloc: Global) -> Result<Command<'a>, AllocError> {
     let program = asking(command_of(alloc, "rme", texts::about(), texts::example(), &[])?);
-    program.version("0.1.0").bin_name("rme")
+    program.version(texts::version()).bin_name("rme")
 }
 
 /// The program, which asks for a command.
@@ -305,7 +305,7 @@ fn look_command<'a>(alloc: Global) -> Result<Command<'a>, AllocError> {
             Kind::Argument,
             Value::Text,
             "FILE",
-            "The file that `rme serve --state` keeps",
+            "The file that `rme serve --state` keeps, or that `rme_create` made for processes",
         ),
     ];
     command_of(

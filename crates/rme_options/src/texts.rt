@@ -3,12 +3,21 @@
 //! They are functions and no constants: what a constant holds is known wherever it is used, and a long text is dear there.
 
 pub fn about<'a>() -> &'a str {
-    "A recoverable mutual exclusion lock service, over lines of JSON"
+    "A recoverable mutual exclusion lock service, for workers that may be killed at any moment"
+}
+
+/// The program's version, and below it what `rt version` says of the toolchain that proved it.
+pub fn version<'a>() -> &'a str {
+    "0.2.0\nrattle-kit-13f logic dac8208d650f15bf"
 }
 
 pub fn example<'a>() -> &'a str {
     "\
-Try it: a worker asks for a lock, enters, crashes inside, and goes on where it fell.
+A server that keeps what it did in a file, and goes on from it however it ended:
+
+  rme serve --state bank.state bank
+
+Or by hand: a worker asks for a lock, enters, crashes inside, and goes on where it fell.
 
   rme run <<'END'
   {\"do\":\"open\",\"workers\":2,\"locks\":[\"bank\"],\"cells\":1,\"jobs\":10}
@@ -21,7 +30,7 @@ Try it: a worker asks for a lock, enters, crashes inside, and goes on where it f
   {\"do\":\"cells\",\"lock\":\"bank\"}
   END
 
-`rme run --help` says what the lines mean."
+`rme serve --help` says what a client sends, `rme run --help` what the lines mean."
 }
 
 pub fn run_about<'a>() -> &'a str {
@@ -189,9 +198,15 @@ pub fn serve_about<'a>() -> &'a str {
 
 pub fn serve_lines<'a>() -> &'a str {
     "\
+The shortest start, of a server that keeps its state in FILE, with 8 workers, a lock `bank` of 1 cell, and the
+port 7000:
+
+  rme serve --state FILE bank
+
 It prints `listening PORT` as soon as clients can connect, and `listening PATH` where there is a socket. With
---connections it takes no more over both, and when all of these have ended it logs `served n` to the standard error, closes the service, and prints a line for each lock:
-`lock NAME cells V V .. entries E`, with what its cells hold and how many jobs they have seen.
+--connections it takes no more over both, and when all of these have ended it logs `served n` to the standard
+error, closes the service, and prints a line for each lock: `lock NAME cells V V .. entries E`, with what its
+cells hold and how many jobs they have seen.
 
 A connection for which there is no room (--at-once) is answered {\"code\":9,\"error\":\"Busy\"} and closed. One that
 can't be accepted or have a thread is told of on the standard error, and the server goes on.
@@ -200,11 +215,13 @@ Each line of a client is one JSON object, which is obeyed and answered by one li
 
   {\"do\":\"attach\",\"worker\":W}     takes a worker that no other session has, and recovers it:
                                  {\"number\":N,\"ok\":\"attach\",\"stance\":\"ready\"} with its last number, or the
-                                 stance climb or held with that of the job that it is in
+                                 stance climb or held with that of the job that it is in. With \"take\":true
+                                 also from a session that has it, which is ended
   {\"do\":\"submit\",\"number\":N,\"lock\":NAME,\"script\":[OP,..]}
                                  makes the job of the number after the last: {\"ok\":\"submit\",\"receipt\":{..}};
                                  {\"ok\":\"submit\",\"waiting\":true} where the lock was not had in 1000 tries, or
-                                 in \"tries\":N, 1 to 1000000; {\"fell\":true,\"ok\":\"submit\"} at a planned crash.
+                                 in \"tries\":N, 1 to 1000000, or in \"wait\":MS, milliseconds, 0 to 3600000;
+                                 {\"fell\":true,\"ok\":\"submit\"} at a planned crash.
                                  The same line again goes on with the job, or answers its receipt, or
                                  {\"ok\":\"submit\",\"withdrawn\":true}: a job counts once. The operations are
                                  those of `rme run --help`
@@ -212,7 +229,7 @@ Each line of a client is one JSON object, which is obeyed and answered by one li
                                  {\"number\":N,\"ok\":\"enter\",\"stance\":\"held\"}; nobody else enters before
   {\"do\":\"commit\"}                makes the section and leaves: {\"ok\":\"commit\",\"receipt\":{..}}
   {\"do\":\"resume\"}                goes on with the job that the worker is in, answered as submit is, with
-                                 \"ok\":\"resume\"; it takes \"tries\" too
+                                 \"ok\":\"resume\"; it takes \"tries\" and \"wait\" too
   {\"do\":\"withdraw\"}              gives up a job that waits: {\"number\":N,\"ok\":\"withdraw\"}, or with
                                  \"fell\":true in the number's place at a planned crash
   {\"do\":\"last\"}                  the receipt of the last job, or null: {\"last\":{..},\"ok\":\"last\"}
@@ -257,8 +274,9 @@ again with the same words, however it ended. What is no longer so:
   - further lines, in any stance: {\"do\":\"owner\",\"lock\":NAME} and {\"do\":\"cells\",\"lock\":NAME}, as for
     `rme run`, and {\"do\":\"status\"}, all of it at once; `rme look FILE` prints the same of a file
   - --sync always: what is answered survives the machine too; without it it survives the process
-  - FILE is renewed when a worker has made its --jobs, and after --sections finished jobs of all: a new file with
-    what they came to takes its place. Clients see no difference: numbers and places go on, up to 9007199254740992 (2^53)
+  - FILE is renewed when a worker has made its --jobs, and after --sections finished jobs of all: a new file
+    with what they came to takes its place. Clients see no difference: numbers and places go on, up to
+    9007199254740992 (2^53)
 
 FILE is a first line and then lines of `rme run`: `tail -n +2 FILE | rme run` shows its state. A last piece
 without its newline is cut off at the start. A line that is none or is refused ends the start with `fault: bad
@@ -267,8 +285,9 @@ state` and its number, and leaves FILE as it was.
 Status: 0 after the closing lines, 1 with none of them where a worker was not given back, 2 for words that
 are refused (also 0 or more than 256 workers, 16 locks, 16 cells or 1000000 jobs, and a name that is none
 or stands twice; a socket that is listened on, and another file in its place; a FILE that another server
-has, that is no state, or that the words contradict), 3 where FILE can't be read, 4 where writing failed, FILE included, 5 where memory ran out, 6 where it can't listen on the port or the socket. After
-the closing lines it is 5, 6 or 7 where a connection found no memory, could not be accepted or had no thread."
+has, that is no state, or that the words contradict), 3 where FILE can't be read, 4 where writing failed, FILE
+included, 5 where memory ran out, 6 where it can't listen on the port or the socket. After the closing lines
+it is 5, 6 or 7 where a connection found no memory, could not be accepted or had no thread."
 }
 
 pub fn look_about<'a>() -> &'a str {
