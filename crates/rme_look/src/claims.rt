@@ -29,6 +29,12 @@ impl FileNumber {
         }
     }
 
+    /// Whether it may be that of the same file by another device, as on overlayfs and btrfs, whose devices have no major
+    /// number of their own: `stat(2)` tells of one there, and `/proc/locks` of another.
+    fn may_be(self, file: FileNumber) -> bool {
+        self.inode == file.inode && self.major == 0 && file.major == 0 && self.minor != file.minor
+    }
+
     /// That of a text as `fe:00:11032259`.
     fn of_text(text: &str) -> Option<FileNumber> {
         let mut parts = text.split(':');
@@ -41,6 +47,14 @@ impl FileNumber {
             inode,
         })
     }
+}
+
+/// A lock of the kernel on the bytes of a file from the first of these to the last.
+#[derive(Clone, Copy)]
+struct Claim {
+    file: FileNumber,
+    first: u64,
+    last: u64,
 }
 
 /// Whether each of so many workers of a file has a process that lives; no answers where the system does not tell.
@@ -59,7 +73,8 @@ pub(crate) fn living(rt: &HostRuntime, path: &str, workers: u32) -> Result<Vec<b
     Ok(claimed(alloc, text.as_str(), file, workers)?)
 }
 
-/// Which workers are claimed, by what the kernel tells of all locks.
+/// Which workers are claimed, by what the kernel tells of all locks; no answers where that may tell of this file by another
+/// device.
 fn claimed(
     alloc: Global,
     text: &str,
@@ -67,10 +82,18 @@ fn claimed(
     workers: u32,
 ) -> Result<Vec<bool>, AllocError> {
     let mut living = vec![in alloc; false; workers as usize]?;
+    let mut is_elsewhere = false;
     for line in text.lines() {
-        if let Some((first, last)) = claim_in(line, file) {
-            mark(living.as_mut_slice(), first, last);
+        let Some(claim) = claim_in(line) else {
+            continue;
+        };
+        if claim.file == file {
+            mark(living.as_mut_slice(), claim.first, claim.last);
         }
+        is_elsewhere |= claim.file.may_be(file);
+    }
+    if is_elsewhere && !living.contains(&true) {
+        return Ok(Vec::new(alloc));
     }
     Ok(living)
 }
@@ -86,8 +109,8 @@ fn mark(living: &mut [bool], first: u64, last: u64) {
     }
 }
 
-/// The first and the last byte that a line tells to be locked in a file; `None` where it tells of another lock.
-fn claim_in(line: &str, file: FileNumber) -> Option<(u64, u64)> {
+/// The claim that a line tells of; `None` where it tells of another lock.
+fn claim_in(line: &str) -> Option<Claim> {
     let mut words = line.split_whitespace();
     let _number = words.next()?;
     // Who waits for a lock has an arrow here.
@@ -99,13 +122,11 @@ fn claim_in(line: &str, file: FileNumber) -> Option<(u64, u64)> {
         return None;
     }
     let _process = words.next()?;
-    if FileNumber::of_text(words.next()?)? != file {
-        return None;
-    }
+    let file = FileNumber::of_text(words.next()?)?;
     let first = words.next()?.parse::<u64>().ok()?;
     let last = match words.next()? {
         "EOF" => u64::MAX,
         text => text.parse::<u64>().ok()?,
     };
-    Some((first, last))
+    Some(Claim { file, first, last })
 }

@@ -56,12 +56,17 @@ fn push_verdict(out: &mut String, read: &Result<Started, BadState>) -> Result<u8
             out.push_str("yes\n")?;
             Ok(0)
         }
-        Err(BadState::NoMemory) => Err(Fault::NoMemory),
-        Err(BadState::Line(line)) => {
-            write!(out, "no {line}\n")?;
-            Ok(1)
-        }
+        Err(why) => push_why(out, *why),
     }
+}
+
+/// Appends which line a start does not take, and answers the status.
+fn push_why(out: &mut String, why: BadState) -> Result<u8, Fault> {
+    let BadState::Line(line) = why else {
+        return Err(Fault::NoMemory);
+    };
+    write!(out, "no {line}\n")?;
+    Ok(1)
 }
 
 /// What the status is told of.

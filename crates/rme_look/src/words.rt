@@ -42,21 +42,26 @@ pub(crate) fn push_words(
 
 /// Appends whether the words could be those of a world, or why they could not, and answers the status.
 fn push_verdict(out: &mut String, read: &Result<Mapped, Unread>) -> Result<u8, Fault> {
-    match read {
-        Err(Unread::NoMemory) => return Err(Fault::NoMemory),
-        Err(why) => write!(out, "no: {why}\n")?,
-        Ok(mapped) => match mapped.first_fault() {
-            Some(damage) => {
-                out.push_str("no: ")?;
-                push_damage(out, mapped.names(), damage)?;
-                out.push_str("\n")?;
-            }
-            None => {
-                out.push_str("yes\n")?;
-                return Ok(0);
-            }
-        },
+    let mapped = match read {
+        Ok(mapped) => mapped,
+        Err(why) => return push_why(out, why),
+    };
+    let Some(damage) = mapped.first_fault() else {
+        out.push_str("yes\n")?;
+        return Ok(0);
+    };
+    out.push_str("no: ")?;
+    push_damage(out, mapped.names(), damage)?;
+    out.push_str("\n")?;
+    Ok(1)
+}
+
+/// Appends why a file is none of words, and answers the status.
+fn push_why(out: &mut String, why: &Unread) -> Result<u8, Fault> {
+    if *why == Unread::NoMemory {
+        return Err(Fault::NoMemory);
     }
+    write!(out, "no: {why}\n")?;
     Ok(1)
 }
 
