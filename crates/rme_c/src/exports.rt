@@ -17,6 +17,7 @@ use rme_words::{Refusal, Shape};
 use std::alloc::Global;
 
 /// Makes the private state of a worker that comes up after a crash, and writes its handle. It takes memory once.
+/// A handle that is live already is written over, and what it held is never freed.
 ///
 /// Answers 0, 5 (`BadShape`), 6 (`NoWorker`) or 20 (`NoMemory`); a refusal leaves the handle as it was.
 #[unsafe(no_mangle)]
