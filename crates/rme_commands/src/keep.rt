@@ -195,7 +195,8 @@ fn jobs_for(jobs: u32, locks: u32, cells: u32) -> u32 {
     if jobs == 0 {
         return jobs;
     }
-    jobs.max(locks.saturating_mul(cells.saturating_add(MOST_SET - 1) / MOST_SET))
+    let of_a_lock = cells.div_ceil(MOST_SET);
+    jobs.max(locks.saturating_mul(of_a_lock))
 }
 
 /// Refuses what is asked for and is not as the state has it.
