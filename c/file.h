@@ -31,7 +31,7 @@ struct rme_page {
 /* An open file. Nothing is mapped while `words` is NULL. */
 struct rme_file {
     int number;
-    dev_t device; /* which file it is, and a place in it that only this opening of it has; 0 of a file that is made */
+    dev_t device; /* which file it is, and a place in it that no other process has; 0 of a file that is made */
     ino_t inode;
     off_t mark;
     struct rme_page page;
