@@ -6,7 +6,7 @@ ghost use Rattle.rme_journal.specs.Lines.{Writes, is_no_newline};
 
 use crate::fault::LineFault;
 use crate::value::{asks_for, value_of};
-use rme_wire::{Command, Names};
+use rme_wire::{Command, Names, lend};
 use std::alloc::Global;
 
 /// The most bytes of a line, without its newline.
@@ -27,7 +27,10 @@ pub fn push_command(
     let Ok(value) = value_of(alloc, names, &command) else {
         return Err(LineFault::NoMemory);
     };
-    if !asks_for(names, &value, command) {
+    let Some(lent) = lend(alloc, &value) else {
+        return Err(LineFault::NoMemory);
+    };
+    if !asks_for(names, &lent, command) {
         return Err(LineFault::NoLine);
     }
     let Ok(line) = value.to_string(alloc) else {

@@ -2,9 +2,8 @@
 
 use rme_session_lines::SERVICE_NUMBERS;
 use rme_texts::{ToldReceipt, push_receipt};
-use rme_wire::{Names, key_count, lock_of, read_value, small, up_to};
+use rme_wire::{Names, Value, ValueReader, lock_of, small, up_to};
 use rme_words::{NoMemory, Shape};
-use serde_json::Value;
 use std::alloc::{AllocError, Global};
 
 /// What became of a worker's last number in earlier epochs.
@@ -97,8 +96,11 @@ fn push_places(out: &mut String, places: &[i64]) -> Result<(), AllocError> {
 }
 
 /// The value of a header's line; `None` where the line is none of this version.
-pub(crate) fn header_value(alloc: Global, line: &[u8]) -> Result<Option<Value>, NoMemory> {
-    let Some(value) = read_value(alloc, line)? else {
+pub(crate) fn header_value<'a>(
+    values: &'a mut ValueReader,
+    line: &'a [u8],
+) -> Result<Option<Value<'a>>, NoMemory> {
+    let Some(value) = values.read(line)? else {
         return Ok(None);
     };
     if is_header(&value) {
@@ -109,10 +111,10 @@ pub(crate) fn header_value(alloc: Global, line: &[u8]) -> Result<Option<Value>, 
 }
 
 /// Whether a value has the members of a header, and says that it is one of this version.
-fn is_header(value: &Value) -> bool {
+fn is_header(value: &Value<'_>) -> bool {
     let says = value.get("rme").and_then(Value::as_str);
     let version = value.get("version").and_then(Value::as_u64);
-    key_count(value) == Some(6) && says == Some("kept") && version == Some(1)
+    value.key_count() == Some(6) && says == Some("kept") && version == Some(1)
 }
 
 /// The header of a world of this shape whose locks have these names; `None` where the value is none.
@@ -120,7 +122,7 @@ pub(crate) fn header_of(
     alloc: Global,
     names: &Names,
     shape: Shape,
-    value: &Value,
+    value: &Value<'_>,
 ) -> Result<Option<Header>, AllocError> {
     let Some(epoch) = value.get("epoch").and_then(Value::as_u64) else {
         return Ok(None);
@@ -180,7 +182,7 @@ fn is_beginning(numbers: &[u64], places: &[i64]) -> bool {
 }
 
 /// The items of a member, a list of so many.
-fn items_of<'a>(value: &'a Value, key: &str, count: usize) -> Option<&'a [Value]> {
+fn items_of<'v, 'a>(value: &'v Value<'a>, key: &str, count: usize) -> Option<&'v [Value<'a>]> {
     let items = value.get(key)?.as_array()?.as_slice();
     if items.len() == count {
         Some(items)
@@ -192,7 +194,7 @@ fn items_of<'a>(value: &'a Value, key: &str, count: usize) -> Option<&'a [Value]
 fn last_words_of(
     alloc: Global,
     names: &Names,
-    items: Option<&[Value]>,
+    items: Option<&[Value<'_>]>,
 ) -> Result<Option<Vec<LastWord>>, AllocError> {
     let Some(items) = items else {
         return Ok(None);
@@ -207,18 +209,18 @@ fn last_words_of(
     Ok(Some(words))
 }
 
-fn last_word_of(names: &Names, value: &Value) -> Option<LastWord> {
+fn last_word_of(names: &Names, value: &Value<'_>) -> Option<LastWord> {
     if value.is_null() {
         return Some(LastWord::Nothing);
     }
-    if key_count(value)? == 1 {
+    if value.key_count()? == 1 {
         return if value.get("withdrawn")?.as_bool()? {
             Some(LastWord::Withdrawn)
         } else {
             None
         };
     }
-    if key_count(value)? != 5 {
+    if value.key_count()? != 5 {
         return None;
     }
     Some(LastWord::Receipt(ToldReceipt {
@@ -231,17 +233,17 @@ fn last_word_of(names: &Names, value: &Value) -> Option<LastWord> {
 }
 
 /// The lock of a receipt, which has one of these names.
-fn lock_in(names: &Names, value: &Value) -> Option<u32> {
+fn lock_in(names: &Names, value: &Value<'_>) -> Option<u32> {
     let lock = lock_of(names, value)?;
     if lock < names.len() { Some(lock) } else { None }
 }
 
 /// A whole number that a number or a place may come to.
-fn whole(value: &Value) -> Option<u64> {
+fn whole(value: &Value<'_>) -> Option<u64> {
     up_to(SERVICE_NUMBERS, value)
 }
 
-fn numbers_of(alloc: Global, items: Option<&[Value]>) -> Result<Option<Vec<u64>>, AllocError> {
+fn numbers_of(alloc: Global, items: Option<&[Value<'_>]>) -> Result<Option<Vec<u64>>, AllocError> {
     let Some(items) = items else {
         return Ok(None);
     };
@@ -255,7 +257,7 @@ fn numbers_of(alloc: Global, items: Option<&[Value]>) -> Result<Option<Vec<u64>>
     Ok(Some(numbers))
 }
 
-fn places_of(alloc: Global, items: Option<&[Value]>) -> Result<Option<Vec<i64>>, AllocError> {
+fn places_of(alloc: Global, items: Option<&[Value<'_>]>) -> Result<Option<Vec<i64>>, AllocError> {
     let Some(items) = items else {
         return Ok(None);
     };
@@ -270,7 +272,7 @@ fn places_of(alloc: Global, items: Option<&[Value]>) -> Result<Option<Vec<i64>>,
 }
 
 /// The places of a lock that earlier epochs had, which may be below 0.
-fn place_of(value: &Value) -> Option<i64> {
+fn place_of(value: &Value<'_>) -> Option<i64> {
     let place = value.as_i64()?;
     if place.unsigned_abs() > SERVICE_NUMBERS {
         return None;

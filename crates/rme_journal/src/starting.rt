@@ -57,7 +57,8 @@ pub fn start<P: Progress>(alloc: Global, bytes: &[u8], progress: &P) -> Result<S
         Cut::Line => {}
         Cut::TooLong | Cut::End => return Err(BadState::Line(1)),
     }
-    let Some(header) = header_value(alloc, line.as_slice())? else {
+    let mut values = ValueReader::new(alloc);
+    let Some(header) = header_value(&mut values, line.as_slice())? else {
         return Err(BadState::Line(1));
     };
     let mut engine = Engine::new(alloc)?;

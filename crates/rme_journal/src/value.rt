@@ -3,13 +3,14 @@
 ghost use Rattle.std.specs.Prelude.{◌≡◌, ◌≤◌, IfOk, IfSome, IsTrue, Some};
 ghost use Rattle.serde_json.specs.Data.{depth, items_depth};
 ghost use Rattle.serde_json.specs.View.{items_view, view};
+ghost use Rattle.rme_json.specs.View as lent;
 ghost use Rattle.rme_wire.specs.Requests.{request_of};
 ghost use Rattle.rme_wire.specs.declared.command.Command.TheVariants as command;
 ghost use Rattle.rme_wire.specs.declared.request.Request.TheVariants.{World};
 
 use rme_script::{Job, Op, Script};
 use rme_texts::name_of;
-use rme_wire::{Command, Names, Walk, command_named, key_count, word_of};
+use rme_wire::{Command, Names, Value as Lent, Walk, command_named, word_of};
 use serde_json::{Value, json};
 use std::alloc::{AllocError, Global};
 
@@ -79,8 +80,8 @@ fn operation(alloc: Global, op: Op) -> Result<Value, AllocError>
 }
 
 /// Whether a value asks for the command, where the locks have these names.
-pub(crate) fn asks_for(names: &Names, value: &Value, command: Command) -> bool
-    ensures { IsTrue result → request_of names.now (view value.now) ≡ Some (World command) }
+pub(crate) fn asks_for(names: &Names, value: &Lent<'_>, command: Command) -> bool
+    ensures { IsTrue result → request_of names.now (lent.view value.now) ≡ Some (World command) }
 {
     match command_in(names, value) {
         Some(found) => is_same(found, command),
@@ -90,10 +91,10 @@ pub(crate) fn asks_for(names: &Names, value: &Value, command: Command) -> bool
 
 /// The command that a value asks for, if it is one to a world that is open.
 #[tactic(auto, unfolding(rme_wire::specs::Requests::request_of))]
-fn command_in(names: &Names, value: &Value) -> Option<Command>
-    ensures { IfSome result (λ found. request_of names.now (view value.now) ≡ Some (World found)) }
+fn command_in(names: &Names, value: &Lent<'_>) -> Option<Command>
+    ensures { IfSome result (λ found. request_of names.now (lent.view value.now) ≡ Some (World found)) }
 {
-    let count = key_count(value)?;
+    let count = value.key_count()?;
     let word = word_of(value)?;
     if word == "open" || word == "load" {
         return None;

@@ -1,3 +1,4 @@
 pub mod NumberLemmas
 pub mod Reading
 pub mod ValueLemmas
+pub mod Viewing

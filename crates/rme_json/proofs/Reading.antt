@@ -7,8 +7,8 @@ use Rattle.json.specs.Json.{Parse, parse_map, after_end_array, read_key, if_last
 use Rattle.json.proofs.Grammar.{items_end, items_more, members_end, members_more, value_is, value-begin_array, value-begin_object}
 use Rattle.serde_json.specs.Data.{Data, Num, null, boolean, number, string, array, object, Items, no_items, item, Members, no_members, put}
 use Rattle.serde_json.specs.Read.{of_json, of_items, of_members, number_of, read}
-use Rattle.serde_json.specs.View.{view, items_view}
-use Rattle.serde_json.specs.declared.value.Value.{Value}
+use Rattle.rme_json.specs.View.{view, items_view}
+use Rattle.rme_json.specs.declared.value.Value.{Value}
 use Rattle.rme_json.specs.Trees.{IsValue, IsItems, IsMembers}
 
 -- Values in front of others.

@@ -1,3 +1,4 @@
 -- In reading order.
 pub mod Values
+pub mod View
 pub mod Trees

@@ -2,13 +2,16 @@
 
 ghost use Rattle.std.specs.Prelude.{◌≡◌, Some, IfOk, IfSome, option_map};
 ghost use Rattle.serde_json.specs.Read.{read};
-ghost use Rattle.serde_json.specs.View.{view};
+ghost use Rattle.serde_json.specs.View as kit;
 ghost use Rattle.rme_json.specs.Values.{value_of};
+ghost use Rattle.rme_json.specs.View.{view};
 
+use crate::lent::lend;
 use crate::tree::read_tree;
+use crate::value::Value;
 use json::{Reader, Scratch};
 use rme_words::NoMemory;
-use serde_json::Value;
+use serde_json::Value as Owned;
 use std::alloc::Global;
 
 /// So deep may a value be, as serde_json has it.
@@ -19,6 +22,8 @@ const MOST_DEPTH: usize = 127;
 pub struct ValueReader {
     alloc: Global,
     scratch: Scratch,
+    /// The value of the last line that was not read at the first try.
+    owned: Owned,
 }
 
 impl ValueReader {
@@ -27,52 +32,64 @@ impl ValueReader {
         ValueReader {
             alloc,
             scratch: Scratch::new(alloc),
+            owned: Owned::Null,
         }
     }
 
     /// The value of a line's bytes, or `None` where they are none. `NoMemory` says that there was no room for it.
-    pub fn read(&mut self, line: &[u8]) -> Result<Option<Value>, NoMemory>
+    pub fn read<'a>(&'a mut self, line: &'a [u8]) -> Result<Option<Value<'a>>, NoMemory>
         ensures { IfOk result (λ value. option_map view value ≡ value_of line.now) }
     {
-        if let Some(value) = self.read_soon(line) {
+        let ValueReader {
+            alloc,
+            scratch,
+            owned,
+        } = self;
+        if let Some(value) = read_soon(*alloc, scratch, line) {
             return Ok(Some(value));
         }
-        read_value(self.alloc, line)
-    }
-
-    /// The value of a line's bytes, where it is found at the first try: its numbers are whole, and there is room.
-    fn read_soon(&mut self, line: &[u8]) -> Option<Value>
-        ensures { IfSome result (λ value. Some (view value) ≡ value_of line.now) }
-    {
-        let Ok(text) = simdutf8::compat::from_utf8(line) else {
-            return None;
+        let Some(value) = read_owned(*alloc, line)? else {
+            return Ok(None);
         };
-        let value = self.read_text(text)?;
-        Some(value)
-    }
-
-    /// The value that a text is, likewise.
-    fn read_text(&mut self, text: &str) -> Option<Value>
-        ensures { IfSome result (λ value. read text.now ≡ Some (view value)) }
-    {
-        let Ok(mut reader) = Reader::new(text, &mut self.scratch) else {
-            return None;
-        };
-        let value = read_tree(self.alloc, &mut reader, MOST_DEPTH)?;
-        if reader.next().is_some() {
-            return None;
+        *owned = value;
+        match lend(*alloc, owned) {
+            Some(value) => Ok(Some(value)),
+            None => Err(NoMemory),
         }
-        Some(value)
     }
 }
 
-/// The value of a line's bytes, or `None` where they are none. `NoMemory` says that there was no room for it.
-///
-/// Where many lines are read, a `ValueReader` is faster.
-pub fn read_value(alloc: Global, line: &[u8]) -> Result<Option<Value>, NoMemory>
-    ensures { IfOk result (λ value. option_map view value ≡ value_of line.now) }
+/// The value of a line's bytes, where it is found at the first try: its numbers are whole, its objects have few members, and
+/// there is room.
+fn read_soon<'a>(alloc: Global, scratch: &'a mut Scratch, line: &'a [u8]) -> Option<Value<'a>>
+    ensures { IfSome result (λ value. Some (view value) ≡ value_of line.now) }
 {
-    match Value::from_slice(alloc, line) {
+    let Ok(text) = simdutf8::compat::from_utf8(line) else {
+        return None;
+    };
+    let value = read_text(alloc, scratch, text)?;
+    Some(value)
+}
+
+/// The value that a text is, likewise.
+fn read_text<'a>(alloc: Global, scratch: &'a mut Scratch, text: &'a str) -> Option<Value<'a>>
+    ensures { IfSome result (λ value. read text.now ≡ Some (view value)) }
+{
+    let Ok(mut reader) = Reader::new(text, scratch) else {
+        return None;
+    };
+    let value = read_tree(alloc, &mut reader, MOST_DEPTH)?;
+    if reader.next().is_some() {
+        return None;
+    }
+    Some(value)
+}
+
+/// The value of a line's bytes, or `None` where they are none. `NoMemory` says that there was no room for it.
+fn read_owned(alloc: Global, line: &[u8]) -> Result<Option<Owned>, NoMemory>
+    ensures { IfOk result (λ value. option_map kit.view value ≡ value_of line.now) }
+{
+    match Owned::from_slice(alloc, line) {
         Ok(value) => Ok(Some(value)),
         Err(error) => {
             if error.is_memory() {

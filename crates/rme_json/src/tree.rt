@@ -1,27 +1,28 @@
 //! A value, token by token.
 
 ghost use Rattle.std.specs.Prelude.{◌<◌, length, IfSome, OnSome};
-ghost use Rattle.serde_json.specs.View.{view, items_view, members_view};
 ghost use Rattle.rme_json.specs.Trees.{IsValue, IsItems, IsMembers};
+ghost use Rattle.rme_json.specs.View.{view, items_view, members_view};
 
+use crate::members::put;
 use crate::number::whole_number;
+use crate::value::Value;
 use json::{Reader, Token};
-use serde_json::{Map, Value};
 use std::alloc::Global;
 
-/// The next value, which is at most so deep. `None` where there is none, where memory runs out, and at a number that is not
-/// whole or has a sign.
+/// So many members may an object have. Each is put into its place by looks at those before it.
+const MOST_MEMBERS: usize = 64;
+
+/// The next value, which is at most so deep. `None` where there is none, where memory runs out, at a number that is not
+/// whole or has a sign, and at an object of too many members.
 #[cycle(tree)]
-pub fn read_tree(alloc: Global, reader: &mut Reader<'_>, depth: usize) -> Option<Value>
+pub fn read_tree<'a>(alloc: Global, reader: &mut Reader<'a>, depth: usize) -> Option<Value<'a>>
     ensures value { IfSome result (λ value. IsValue depth reader.old (view value) reader.new) }
     ensures shorter { OnSome result (length reader.new < length reader.old) }
 {
     let token = reader.next()?;
     match token {
-        Token::String(text) => {
-            let text = String::from_str(alloc, text).ok()?;
-            Some(Value::String(text))
-        }
+        Token::String(text) => Some(Value::String(text)),
         Token::Number(text) => {
             let number = whole_number(text)?;
             Some(Value::Number(number))
@@ -48,7 +49,7 @@ pub fn read_tree(alloc: Global, reader: &mut Reader<'_>, depth: usize) -> Option
 
 /// The values up to the bracket that closes a list, each at most so deep.
 #[cycle(tree)]
-fn read_items(alloc: Global, reader: &mut Reader<'_>, depth: usize) -> Option<Vec<Value>>
+fn read_items<'a>(alloc: Global, reader: &mut Reader<'a>, depth: usize) -> Option<Vec<Value<'a>>>
     ensures items { IfSome result (λ values. IsItems depth reader.old (items_view values.items) reader.new) }
     ensures shorter { OnSome result (length reader.new < length reader.old) }
 {
@@ -64,18 +65,21 @@ fn read_items(alloc: Global, reader: &mut Reader<'_>, depth: usize) -> Option<Ve
 
 /// The keys and values up to the brace that closes an object, each at most so deep. Of two with one key the last stays.
 #[cycle(tree)]
-fn read_members(alloc: Global, reader: &mut Reader<'_>, depth: usize) -> Option<Map<String, Value>>
-    ensures members { IfSome result (λ found. IsMembers depth reader.old (members_view found.entries) reader.new) }
+fn read_members<'a>(
+    alloc: Global,
+    reader: &mut Reader<'a>,
+    depth: usize,
+) -> Option<Vec<(&'a str, Value<'a>)>>
+    ensures members { IfSome result (λ found. IsMembers depth reader.old (members_view found.items) reader.new) }
     ensures shorter { OnSome result (length reader.new < length reader.old) }
 {
-    let mut found = Map::new(alloc);
-    'members: while let Some(name) = reader.next_key().ok()? {
-        let key = String::from_str(alloc, name).ok()?;
+    let mut found = Vec::new(alloc);
+    'members: while let Some(key) = reader.next_key().ok()? {
         let member = read_tree(alloc, reader, depth)?;
-        let Ok(before) = found.insert(key, member) else {
+        if found.len() >= MOST_MEMBERS {
             return None;
-        };
-        drop(before);
+        }
+        put(&mut found, key, member)?;
     }
     Some(found)
 }

@@ -1,10 +1,9 @@
 //! Look-ups, which a session may ask for with or without a worker.
 
 use rme_texts::{Reply, push_reply};
-use rme_wire::{Names, key_count, lock_of, read_value, word_of};
+use rme_wire::{Names, Value, ValueReader, lock_of, word_of};
 use rme_words::NoMemory;
 use rme_world::World;
-use serde_json::Value;
 use std::alloc::{AllocError, Global};
 
 /// What is to be looked up. Locks are numbers; that of a lock which is not there is the number of locks.
@@ -20,14 +19,15 @@ pub enum Look {
 
 /// The look-up of a line; `None` where the line is none.
 pub fn look_of(alloc: Global, names: &Names, line: &[u8]) -> Result<Option<Look>, NoMemory> {
-    match read_value(alloc, line)? {
+    let mut values = ValueReader::new(alloc);
+    match values.read(line)? {
         None => Ok(None),
         Some(value) => Ok(look_in(names, &value)),
     }
 }
 
-fn look_in(names: &Names, value: &Value) -> Option<Look> {
-    let count = key_count(value)?;
+fn look_in(names: &Names, value: &Value<'_>) -> Option<Look> {
+    let count = value.key_count()?;
     match (word_of(value)?, count) {
         ("owner", 2) => Some(Look::Owner(lock_of(names, value)?)),
         ("cells", 2) => Some(Look::Cells(lock_of(names, value)?)),

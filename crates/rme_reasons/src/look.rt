@@ -2,8 +2,8 @@
 
 use crate::reasons::{Reason, shown};
 use crate::words::{Key, Kind, Vocabulary, keys_of};
-use rme_wire::{script_of, small, word_of};
-use serde_json::{Error, Map, Value};
+use rme_wire::{Value, lend, script_of, small, word_of};
+use serde_json::{Error, Map, Value as Owned};
 use std::alloc::{AllocError, Global};
 
 /// Why a line is answered `BadLine`, or `None` where it is not. It is not asked of a line that is too long.
@@ -12,7 +12,7 @@ pub fn reason(
     vocabulary: Vocabulary,
     line: &[u8],
 ) -> Result<Option<Reason>, AllocError> {
-    match Value::from_slice(alloc, line) {
+    match Owned::from_slice(alloc, line) {
         Ok(value) => reason_of_value(alloc, vocabulary, &value),
         Err(error) if error.is_memory() => Err(AllocError),
         Err(error) => Ok(Some(reason_of_text(line, &error))),
@@ -34,12 +34,13 @@ fn reason_of_text(line: &[u8], error: &Error) -> Reason {
 fn reason_of_value(
     alloc: Global,
     vocabulary: Vocabulary,
-    value: &Value,
+    value: &Owned,
 ) -> Result<Option<Reason>, AllocError> {
     let Some(members) = value.as_object() else {
         return Ok(Some(Reason::NoObject));
     };
-    let Some(word) = word_of(value) else {
+    let value = lend(alloc, value).ok_or(AllocError)?;
+    let Some(word) = word_of(&value) else {
         return Ok(Some(Reason::NoWord));
     };
     let Some(keys) = keys_of(vocabulary, word) else {
@@ -64,7 +65,7 @@ fn reason_of_value(
 }
 
 /// The first key that is none of these and not `do`.
-fn further_key<'a>(members: &'a Map<String, Value>, keys: &[Key]) -> Option<&'a str> {
+fn further_key<'a>(members: &'a Map<String, Owned>, keys: &[Key]) -> Option<&'a str> {
     members
         .keys()
         .map(|key| key.as_str())
@@ -77,24 +78,24 @@ fn is_known(keys: &[Key], name: &str) -> bool {
 }
 
 /// Whether a value is of this kind.
-fn fits(kind: Kind, value: &Value) -> bool {
+fn fits(kind: Kind, value: &Value<'_>) -> bool {
     match kind {
-        Kind::Text => value.is_string(),
-        Kind::Flag => value.is_boolean(),
+        Kind::Text => value.as_str().is_some(),
+        Kind::Flag => value.as_bool().is_some(),
         Kind::Number(least, most) => match small(value) {
             Some(number) => number >= least && number <= most,
             None => false,
         },
         Kind::Note => is_note(value),
         Kind::Texts => match value.as_array() {
-            Some(items) => items.iter().all(|item| item.is_string()),
+            Some(items) => items.iter().all(|item| item.as_str().is_some()),
             None => false,
         },
         Kind::Script => script_of(value).is_some(),
     }
 }
 
-fn is_note(value: &Value) -> bool {
+fn is_note(value: &Value<'_>) -> bool {
     matches!(
         value.as_str(),
         Some("asked" | "entered" | "reentered" | "finished" | "left" | "ready" | "withdrew")

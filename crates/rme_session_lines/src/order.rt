@@ -1,15 +1,12 @@
 //! The lines of a session.
 
 ghost use Rattle.std.specs.Prelude.{◌≡◌, ◌≤◌, IfOk, option_map, option_and_then};
-ghost use Rattle.serde_json.specs.View.{view};
+ghost use Rattle.rme_json.specs.View.{view};
 ghost use Rattle.rme_session_lines.specs.Orders as spec;
 
 use rme_script::Job;
-use rme_wire::{
-    Names, ValueReader, key_count, lock_of, script_of, small, up_to, word_of, worker_of,
-};
+use rme_wire::{Names, Value, ValueReader, lock_of, script_of, small, up_to, word_of, worker_of};
 use rme_words::NoMemory;
-use serde_json::Value;
 use std::alloc::Global;
 
 /// How often a session tries to enter where its line doesn't say.
@@ -118,17 +115,23 @@ pub fn order_of(
 }
 
 #[tactic(auto, unfolding(crate::specs::Orders::order_of))]
-fn order_of_value(names: &Names, most: u64, value: &Value) -> Option<Order>
+fn order_of_value(names: &Names, most: u64, value: &Value<'_>) -> Option<Order>
     ensures { result ≡ spec.order_of names.now most (view value.now) }
 {
-    let count = key_count(value)?;
+    let count = value.key_count()?;
     let word = word_of(value)?;
     order_named(names, most, word, count, value)
 }
 
 /// The order that a value is, where its member `do` is a word and it has so many members.
 #[tactic(auto, unfolding(crate::specs::Orders::order_named))]
-fn order_named(names: &Names, most: u64, word: &str, count: usize, value: &Value) -> Option<Order>
+fn order_named(
+    names: &Names,
+    most: u64,
+    word: &str,
+    count: usize,
+    value: &Value<'_>,
+) -> Option<Order>
     ensures { result ≡ spec.order_named names.now most word.now count (view value.now) }
 {
     match word {
@@ -142,7 +145,7 @@ fn order_named(names: &Names, most: u64, word: &str, count: usize, value: &Value
 }
 
 #[tactic(auto, unfolding(crate::specs::Orders::attach_of))]
-fn attach_of(count: usize, value: &Value) -> Option<Order>
+fn attach_of(count: usize, value: &Value<'_>) -> Option<Order>
     ensures { result ≡ spec.attach_of count (view value.now) }
 {
     let worker = worker_of(value)?;
@@ -160,7 +163,7 @@ fn attach_of(count: usize, value: &Value) -> Option<Order>
 
 /// How often to try: 1 to 1,000,000.
 #[tactic(auto, unfolding(crate::specs::Orders::tries_of))]
-fn tries_of(value: &Value) -> Option<u32>
+fn tries_of(value: &Value<'_>) -> Option<u32>
     ensures { result ≡ spec.tries_of (view value.now) }
 {
     let tries = small(value)?;
@@ -172,7 +175,7 @@ fn tries_of(value: &Value) -> Option<u32>
 
 /// How many milliseconds to wait: 0 to 3,600,000.
 #[tactic(auto, unfolding(crate::specs::Orders::wait_of))]
-fn wait_of(value: &Value) -> Option<u32>
+fn wait_of(value: &Value<'_>) -> Option<u32>
     ensures { result ≡ spec.wait_of (view value.now) }
 {
     let wait = small(value)?;
@@ -184,7 +187,7 @@ fn wait_of(value: &Value) -> Option<u32>
 
 /// How long to try, which one of two members may say, or none.
 #[tactic(auto, unfolding(crate::specs::Orders::patience_of))]
-fn patience_of(value: &Value) -> Option<Patience>
+fn patience_of(value: &Value<'_>) -> Option<Patience>
     ensures { result ≡ spec.patience_of (view value.now) }
 {
     match (value.get("tries"), value.get("wait")) {
@@ -197,7 +200,7 @@ fn patience_of(value: &Value) -> Option<Patience>
 
 /// How many members of a value say how long to try.
 #[tactic(auto, unfolding(crate::specs::Orders::patience_keys))]
-fn patience_keys(value: &Value) -> usize
+fn patience_keys(value: &Value<'_>) -> usize
     ensures keys { result ≡ spec.patience_keys (view value.now) }
     ensures few { result ≤ 2 }
 {
@@ -206,7 +209,7 @@ fn patience_keys(value: &Value) -> usize
 
 /// A submission whose optional member is there or not.
 #[tactic(auto, unfolding(crate::specs::Orders::submission_of))]
-fn submission_of(names: &Names, most: u64, count: usize, value: &Value) -> Option<Submission>
+fn submission_of(names: &Names, most: u64, count: usize, value: &Value<'_>) -> Option<Submission>
     ensures { result ≡ spec.submission_of names.now most count (view value.now) }
 {
     let number = up_to(most, value.get("number")?)?;
@@ -224,7 +227,7 @@ fn submission_of(names: &Names, most: u64, count: usize, value: &Value) -> Optio
 }
 
 #[tactic(auto, unfolding(crate::specs::Orders::resume_of))]
-fn resume_of(count: usize, value: &Value) -> Option<Order>
+fn resume_of(count: usize, value: &Value<'_>) -> Option<Order>
     ensures { result ≡ spec.resume_of count (view value.now) }
 {
     let patience = patience_of(value)?;
@@ -236,7 +239,7 @@ fn resume_of(count: usize, value: &Value) -> Option<Order>
 
 /// After how many own steps to crash: 0 to 1,000,000.
 #[tactic(auto, unfolding(crate::specs::Orders::steps_of))]
-fn steps_of(value: &Value) -> Option<u32>
+fn steps_of(value: &Value<'_>) -> Option<u32>
     ensures { result ≡ spec.steps_of (view value.now) }
 {
     let steps = small(value)?;
@@ -247,7 +250,7 @@ fn steps_of(value: &Value) -> Option<u32>
 }
 
 #[tactic(auto, unfolding(crate::specs::Orders::crash_after_of))]
-fn crash_after_of(count: usize, value: &Value) -> Option<Order>
+fn crash_after_of(count: usize, value: &Value<'_>) -> Option<Order>
     ensures { result ≡ spec.crash_after_of count (view value.now) }
 {
     if count != 2 {

@@ -1,15 +1,14 @@
 //! The lines of a transcript.
 
 ghost use Rattle.std.specs.Prelude.{◌≡◌, IfOk, option_map, option_and_then};
-ghost use Rattle.serde_json.specs.View.{view};
+ghost use Rattle.rme_json.specs.View.{view};
 ghost use Rattle.rme_verdicts.specs.EventLines as spec;
 
 use rme_program::{Note, Receipt};
 use rme_script::Job;
 use rme_texts::{EventLine, Handed, Names};
-use rme_wire::{ValueReader, item_count, key_count, script_of, small, word_of, worker_of};
+use rme_wire::{Value, ValueReader, script_of, small, word_of, worker_of};
 use rme_words::NoMemory;
-use serde_json::Value;
 
 /// The event and the answer that a transcript's line tells, or `None` where it is no event line.
 ///
@@ -29,17 +28,17 @@ pub fn event_of(
 }
 
 #[tactic(auto, unfolding(crate::specs::EventLines::event_of))]
-fn event_of_value(names: &Names, value: &Value) -> Option<EventLine>
+fn event_of_value(names: &Names, value: &Value<'_>) -> Option<EventLine>
     ensures { result ≡ spec.event_of names.now (view value.now) }
 {
-    let count = key_count(value)?;
+    let count = value.key_count()?;
     let word = word_of(value)?;
     event_named(names, word, count, value)
 }
 
 /// The event line that a value is, where its member `do` is a word and it has so many members.
 #[tactic(auto, unfolding(crate::specs::EventLines::event_named))]
-fn event_named(names: &Names, word: &str, count: usize, value: &Value) -> Option<EventLine>
+fn event_named(names: &Names, word: &str, count: usize, value: &Value<'_>) -> Option<EventLine>
     ensures { result ≡ spec.event_named names.now word.now count (view value.now) }
 {
     match word {
@@ -50,7 +49,7 @@ fn event_named(names: &Names, word: &str, count: usize, value: &Value) -> Option
 }
 
 /// A text that is the name of a lock.
-fn opened_lock(names: &Names, value: &Value) -> Option<u32>
+fn opened_lock(names: &Names, value: &Value<'_>) -> Option<u32>
     ensures { result ≡ spec.opened_lock names.now (view value.now) }
 {
     names.number(value.as_str()?)
@@ -58,7 +57,7 @@ fn opened_lock(names: &Names, value: &Value) -> Option<u32>
 
 /// A submission and its number.
 #[tactic(auto, unfolding(crate::specs::EventLines::handed_of))]
-fn handed_of(names: &Names, count: usize, value: &Value) -> Option<EventLine>
+fn handed_of(names: &Names, count: usize, value: &Value<'_>) -> Option<EventLine>
     ensures { result ≡ spec.handed_of names.now count (view value.now) }
 {
     if count != 5 {
@@ -77,7 +76,7 @@ fn handed_of(names: &Names, count: usize, value: &Value) -> Option<EventLine>
 
 /// An event that names a worker alone.
 #[tactic(auto, unfolding(crate::specs::EventLines::worker_event))]
-fn worker_event(word: &str, count: usize, value: &Value) -> Option<EventLine>
+fn worker_event(word: &str, count: usize, value: &Value<'_>) -> Option<EventLine>
     ensures { result ≡ spec.worker_event word.now count (view value.now) }
 {
     if count != 2 {
@@ -101,7 +100,7 @@ fn event_by(word: &str, worker: u32) -> Option<EventLine>
 
 /// A step, by its note.
 #[tactic(auto, unfolding(crate::specs::EventLines::noted_of))]
-fn noted_of(names: &Names, count: usize, value: &Value) -> Option<EventLine>
+fn noted_of(names: &Names, count: usize, value: &Value<'_>) -> Option<EventLine>
     ensures { result ≡ spec.noted_of names.now count (view value.now) }
 {
     if count != 3 {
@@ -114,16 +113,16 @@ fn noted_of(names: &Names, count: usize, value: &Value) -> Option<EventLine>
 
 /// A note of a worker: its name, and what it tells.
 #[tactic(auto, unfolding(crate::specs::EventLines::note_of))]
-fn note_of(names: &Names, worker: u32, value: &Value) -> Option<Note>
+fn note_of(names: &Names, worker: u32, value: &Value<'_>) -> Option<Note>
     ensures { result ≡ spec.note_of names.now worker (view value.now) }
 {
-    let count = item_count(value)?;
-    let word = value.get(0)?.as_str()?;
+    let count = value.item_count()?;
+    let word = value.at(0)?.as_str()?;
     if count == 1 {
         return bare_note(word);
     }
     if count == 2 {
-        return telling_note(names, word, value.get(1)?);
+        return telling_note(names, word, value.at(1)?);
     }
     if count == 5 && word == "finished" {
         return finished_of(names, worker, value);
@@ -146,7 +145,7 @@ fn bare_note(word: &str) -> Option<Note>
 
 /// A note of a job's number or of a lock.
 #[tactic(auto, unfolding(crate::specs::EventLines::telling_note))]
-fn telling_note(names: &Names, word: &str, value: &Value) -> Option<Note>
+fn telling_note(names: &Names, word: &str, value: &Value<'_>) -> Option<Note>
     ensures { result ≡ spec.telling_note names.now word.now (view value.now) }
 {
     match word {
@@ -161,13 +160,13 @@ fn telling_note(names: &Names, word: &str, value: &Value) -> Option<Note>
 
 /// The note of a finished job: its lock, number, place and reply.
 #[tactic(auto, unfolding(crate::specs::EventLines::finished_of))]
-fn finished_of(names: &Names, worker: u32, value: &Value) -> Option<Note>
+fn finished_of(names: &Names, worker: u32, value: &Value<'_>) -> Option<Note>
     ensures { result ≡ spec.finished_of names.now worker (view value.now) }
 {
-    let lock = opened_lock(names, value.get(1)?)?;
-    let number = small(value.get(2)?)?;
-    let place = small(value.get(3)?)?;
-    let reply = value.get(4)?.as_u64()?;
+    let lock = opened_lock(names, value.at(1)?)?;
+    let number = small(value.at(2)?)?;
+    let place = small(value.at(3)?)?;
+    let reply = value.at(4)?.as_u64()?;
     Some(Note::Finished(Receipt {
         worker,
         lock,

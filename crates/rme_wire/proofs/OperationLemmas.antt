@@ -3,8 +3,8 @@ use Rattle.std.proofs.Common.{◌≡◌, ℕ, ◌+◌, ◌<◌, ◌≤◌, List,
 use Rattle.std.proofs.lemmas.List.{take-append-le, length-take-le}
 use Rattle.std.proofs.Math.Seq.{take-suc-set}
 use Rattle.serde_json.specs.Data.{Data, Items, no_items, item}
-use Rattle.serde_json.specs.View.{view, items_view}
-use Rattle.serde_json.specs.declared.value.Value.{Value}
+use Rattle.rme_json.specs.View.{view, items_view}
+use Rattle.rme_json.specs.declared.value.Value.{Value}
 use Rattle.rme_script.specs.declared.op.Op.{Op}
 use Rattle.rme_wire.specs.Operations.{op_of, ops_of, program_of}
 

@@ -1,14 +1,14 @@
 //! The commands of lines.
 
 ghost use Rattle.std.specs.Prelude.{◌≡◌, option_map, option_and_then};
-ghost use Rattle.serde_json.specs.View.{view};
+ghost use Rattle.rme_json.specs.View.{view};
 ghost use Rattle.rme_wire.specs.Commands as spec;
 
 use crate::operation::script_of;
 use crate::value::small;
+use rme_json::Value;
 use rme_names::Names;
 use rme_script::Job;
-use serde_json::Value;
 
 /// The most steps of a walk whose line doesn't say.
 const MOST_STEPS: u32 = 10_000;
@@ -67,7 +67,7 @@ fn lock_number(names: &Names, text: &str) -> u32
 /// The number of the lock that the member `lock` names; of a lock of another name the number of names, which is no lock.
 /// `None` where there is no such member, or it is no text.
 #[tactic(auto, unfolding(crate::specs::Commands::lock_of))]
-pub fn lock_of(names: &Names, value: &Value) -> Option<u32>
+pub fn lock_of(names: &Names, value: &Value<'_>) -> Option<u32>
     ensures { result ≡ spec.lock_of names.now (view value.now) }
 {
     let name = value.get("lock")?.as_str()?;
@@ -76,14 +76,14 @@ pub fn lock_of(names: &Names, value: &Value) -> Option<u32>
 
 /// The member `worker`, a whole number below 2^32; `None` where there is none.
 #[tactic(auto, unfolding(crate::specs::Commands::worker_of))]
-pub fn worker_of(value: &Value) -> Option<u32>
+pub fn worker_of(value: &Value<'_>) -> Option<u32>
     ensures { result ≡ spec.worker_of (view value.now) }
 {
     small(value.get("worker")?)
 }
 
 #[tactic(auto, unfolding(crate::specs::Commands::submit_of))]
-fn submit_of(names: &Names, count: usize, value: &Value) -> Option<Command>
+fn submit_of(names: &Names, count: usize, value: &Value<'_>) -> Option<Command>
     ensures { result ≡ spec.submit_of names.now count (view value.now) }
 {
     if count != 4 {
@@ -113,7 +113,7 @@ fn until_of(word: &str) -> Option<Until>
 
 /// How many steps a walk may take: 1 to 10,000.
 #[tactic(auto, unfolding(crate::specs::Commands::max_of))]
-fn max_of(value: &Value) -> Option<u32>
+fn max_of(value: &Value<'_>) -> Option<u32>
     ensures { result ≡ spec.max_of (view value.now) }
 {
     let max = small(value)?;
@@ -125,7 +125,7 @@ fn max_of(value: &Value) -> Option<u32>
 
 /// A walk whose two optional members are there or not as is said.
 #[tactic(auto, unfolding(crate::specs::Commands::walk_of))]
-fn walk_of(count: usize, value: &Value) -> Option<Command>
+fn walk_of(count: usize, value: &Value<'_>) -> Option<Command>
     ensures { result ≡ spec.walk_of count (view value.now) }
 {
     let worker = worker_of(value)?;
@@ -148,7 +148,7 @@ fn walk_of(count: usize, value: &Value) -> Option<Command>
 
 /// A command that names a worker alone.
 #[tactic(auto, unfolding(crate::specs::Commands::of_worker))]
-fn of_worker(word: &str, count: usize, value: &Value) -> Option<Command>
+fn of_worker(word: &str, count: usize, value: &Value<'_>) -> Option<Command>
     ensures { result ≡ spec.of_worker word.now count (view value.now) }
 {
     if count != 2 {
@@ -174,7 +174,7 @@ fn worker_command(word: &str, worker: u32) -> Option<Command>
 
 /// A look-up that names a lock alone.
 #[tactic(auto, unfolding(crate::specs::Commands::of_lock))]
-fn of_lock(names: &Names, word: &str, count: usize, value: &Value) -> Option<Command>
+fn of_lock(names: &Names, word: &str, count: usize, value: &Value<'_>) -> Option<Command>
     ensures { result ≡ spec.of_lock names.now word.now count (view value.now) }
 {
     if count != 2 {
@@ -213,7 +213,7 @@ fn of_world(word: &str, count: usize) -> Option<Command>
 
 /// The command that a value is, where its member `do` is a word and it has so many members.
 #[tactic(auto, unfolding(crate::specs::Commands::command_named))]
-pub fn command_named(names: &Names, word: &str, count: usize, value: &Value) -> Option<Command>
+pub fn command_named(names: &Names, word: &str, count: usize, value: &Value<'_>) -> Option<Command>
     ensures { result ≡ spec.command_named names.now word.now count (view value.now) }
 {
     match word {

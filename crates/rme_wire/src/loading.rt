@@ -2,13 +2,13 @@
 
 ghost use Rattle.std.specs.Prelude.{◌≡◌, IfOk, option_map, option_and_then};
 ghost use Rattle.std.specs.List.{list_all};
-ghost use Rattle.serde_json.specs.View.{view};
+ghost use Rattle.rme_json.specs.View.{view};
 ghost use Rattle.rme_wire.specs.Loadings as spec;
 
 use crate::opening::{GivenNames, locks_of};
 use hex::FromHexError;
+use rme_json::Value;
 use rme_names::Image;
-use serde_json::Value;
 use std::alloc::{AllocError, Global};
 
 /// What a line asks of `load`.
@@ -49,7 +49,7 @@ fn image_of(alloc: Global, text: &str) -> Result<Option<Image>, AllocError>
 
 /// The member `image`, a text.
 #[tactic(auto, unfolding(crate::specs::Loadings::digits_of))]
-fn digits_of(value: &Value) -> Option<&str>
+fn digits_of<'a>(value: &Value<'a>) -> Option<&'a str>
     ensures { option_map (λ digits. digits.now) result ≡ spec.digits_of (view value.now) }
 {
     value.get("image")?.as_str()
@@ -57,7 +57,11 @@ fn digits_of(value: &Value) -> Option<&str>
 
 /// The loading that a value is, where it has so many members.
 #[tactic(auto, unfolding(crate::specs::Loadings::loading_of))]
-pub fn loading_of(alloc: Global, count: usize, value: &Value) -> Result<Option<Loading>, AllocError>
+pub fn loading_of(
+    alloc: Global,
+    count: usize,
+    value: &Value<'_>,
+) -> Result<Option<Loading>, AllocError>
     ensures { IfOk result (λ loading. loading ≡ spec.loading_of count (view value.now)) }
 {
     if count != 3 {

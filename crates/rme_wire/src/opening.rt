@@ -2,13 +2,13 @@
 
 ghost use Rattle.std.specs.Prelude.{◌≡◌, ◌≤◌, ◌++◌, IfOk, map, length, option_and_then, string_bytes, bytes_eq, [], true};
 ghost use Rattle.std.specs.List.{list_any};
-ghost use Rattle.serde_json.specs.View.{items_view, view};
+ghost use Rattle.rme_json.specs.View.{items_view, view};
 ghost use Rattle.rme_wire.specs.Openings as spec;
 
 use crate::value::small;
+use rme_json::Value;
 use rme_names::{Names, is_name};
 use rme_words::{MOST_LOCKS, NoMemory};
-use serde_json::Value;
 use std::alloc::{AllocError, Global};
 use std::marker::Model;
 
@@ -44,7 +44,7 @@ struct Sizes {
 }
 
 #[tactic(auto, unfolding(crate::specs::Openings::sizes_of))]
-fn sizes_of(value: &Value) -> Option<Sizes>
+fn sizes_of(value: &Value<'_>) -> Option<Sizes>
     ensures { result ≡ spec.sizes_of (view value.now) }
 {
     let workers = small(value.get("workers")?)?;
@@ -58,7 +58,7 @@ fn sizes_of(value: &Value) -> Option<Sizes>
 }
 
 /// The texts of a list, or `None` where an item is no text.
-fn texts_of(alloc: Global, items: &[Value]) -> Result<Option<GivenNames>, AllocError>
+fn texts_of(alloc: Global, items: &[Value<'_>]) -> Result<Option<GivenNames>, AllocError>
     ensures { IfOk result (λ given. given ≡ spec.texts_of (items_view items.now)) }
 {
     let mut texts = Vec::new(alloc);
@@ -73,7 +73,7 @@ fn texts_of(alloc: Global, items: &[Value]) -> Result<Option<GivenNames>, AllocE
 
 /// The member `locks`, a list of texts.
 #[tactic(auto, unfolding(crate::specs::Openings::locks_of))]
-pub fn locks_of(alloc: Global, value: &Value) -> Result<Option<GivenNames>, AllocError>
+pub fn locks_of(alloc: Global, value: &Value<'_>) -> Result<Option<GivenNames>, AllocError>
     ensures { IfOk result (λ given. given ≡ spec.locks_of (view value.now)) }
 {
     let Some(list) = value.get("locks") else {
@@ -87,7 +87,11 @@ pub fn locks_of(alloc: Global, value: &Value) -> Result<Option<GivenNames>, Allo
 
 /// The opening that a value is, where it has so many members.
 #[tactic(auto, unfolding(crate::specs::Openings::opening_of))]
-pub fn opening_of(alloc: Global, count: usize, value: &Value) -> Result<Option<Opening>, AllocError>
+pub fn opening_of(
+    alloc: Global,
+    count: usize,
+    value: &Value<'_>,
+) -> Result<Option<Opening>, AllocError>
     ensures { IfOk result (λ opening. opening ≡ spec.opening_of count (view value.now)) }
 {
     if count != 5 {

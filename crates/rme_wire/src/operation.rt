@@ -1,29 +1,29 @@
 //! The operations of scripts in lines.
 
 ghost use Rattle.std.specs.Prelude.{◌≡◌};
-ghost use Rattle.serde_json.specs.View.{view};
+ghost use Rattle.rme_json.specs.View.{view};
 ghost use Rattle.rme_wire.specs.Operations as spec;
 
-use crate::value::{item_count, small};
+use crate::value::small;
+use rme_json::Value;
 use rme_script::{Op, Script};
-use serde_json::Value;
 
 /// As many operations as a script tells apart: nine are too many, and so is any number above.
 const TELLING: usize = 9;
 
 /// One operation: its name, and its cells or its cell and value.
 #[tactic(auto, unfolding(crate::specs::Operations::op_of))]
-fn op_of(value: &Value) -> Option<Op>
+fn op_of(value: &Value<'_>) -> Option<Op>
     ensures { result ≡ spec.op_of (view value.now) }
 {
-    let count = item_count(value)?;
-    let word = value.get(0)?.as_str()?;
-    let first = small(value.get(1)?)?;
+    let count = value.item_count()?;
+    let word = value.at(0)?.as_str()?;
+    let first = small(value.at(1)?)?;
     op_named(count, word, first, value)
 }
 
 /// The operation of a list of so many items, whose first two are this word and this number.
-fn op_named(count: usize, word: &str, first: u32, value: &Value) -> Option<Op>
+fn op_named(count: usize, word: &str, first: u32, value: &Value<'_>) -> Option<Op>
     ensures { result ≡ spec.op_named count word.now first (view value.now) }
 {
     if word == "get" {
@@ -36,11 +36,11 @@ fn op_named(count: usize, word: &str, first: u32, value: &Value) -> Option<Op>
     if count != 3 {
         return None;
     }
-    op_of_two(word, first, value.get(2)?)
+    op_of_two(word, first, value.at(2)?)
 }
 
 /// The operation of this word on two numbers, the first of which is read.
-fn op_of_two(word: &str, first: u32, second: &Value) -> Option<Op>
+fn op_of_two(word: &str, first: u32, second: &Value<'_>) -> Option<Op>
     ensures { result ≡ spec.op_of_two word.now first (view second.now) }
 {
     match word {
@@ -53,7 +53,7 @@ fn op_of_two(word: &str, first: u32, second: &Value) -> Option<Op>
 }
 
 /// The script that a list of operations is; `None` where the value is none.
-pub fn script_of(value: &Value) -> Option<Script>
+pub fn script_of(value: &Value<'_>) -> Option<Script>
     ensures { result ≡ spec.script_of (view value.now) }
 {
     let items = value.as_array()?;

@@ -1,17 +1,16 @@
 //! What a line asks of a world.
 
 ghost use Rattle.std.specs.Prelude.{◌≡◌, IfOk, option_map};
-ghost use Rattle.serde_json.specs.View.{view};
+ghost use Rattle.rme_json.specs.View.{view};
 ghost use Rattle.rme_wire.specs.Requests as spec;
 
 use crate::command::{Command, command_named};
 use crate::loading::{Loading, loading_of};
 use crate::opening::{Opening, opening_of};
-use crate::value::{key_count, word_of};
-use rme_json::ValueReader;
+use crate::value::word_of;
+use rme_json::{Value, ValueReader};
 use rme_names::Names;
 use rme_words::NoMemory;
-use serde_json::Value;
 use std::alloc::{AllocError, Global};
 
 /// What a command line asks for.
@@ -50,11 +49,11 @@ pub fn request_of(
 fn request_of_value(
     alloc: Global,
     names: &Names,
-    value: &Value,
+    value: &Value<'_>,
 ) -> Result<Option<Request>, AllocError>
     ensures { IfOk result (λ request. request ≡ spec.request_of names.now (view value.now)) }
 {
-    let Some(count) = key_count(value) else {
+    let Some(count) = value.key_count() else {
         return Ok(None);
     };
     let Some(word) = word_of(value) else {
@@ -69,7 +68,11 @@ fn request_of_value(
     Ok(world_request(names, word, count, value))
 }
 
-fn open_request(alloc: Global, count: usize, value: &Value) -> Result<Option<Request>, AllocError>
+fn open_request(
+    alloc: Global,
+    count: usize,
+    value: &Value<'_>,
+) -> Result<Option<Request>, AllocError>
     ensures { IfOk result (λ request. request ≡ spec.open_request count (view value.now)) }
 {
     let Some(opening) = opening_of(alloc, count, value)? else {
@@ -78,7 +81,11 @@ fn open_request(alloc: Global, count: usize, value: &Value) -> Result<Option<Req
     Ok(Some(Request::Open(opening)))
 }
 
-fn load_request(alloc: Global, count: usize, value: &Value) -> Result<Option<Request>, AllocError>
+fn load_request(
+    alloc: Global,
+    count: usize,
+    value: &Value<'_>,
+) -> Result<Option<Request>, AllocError>
     ensures { IfOk result (λ request. request ≡ spec.load_request count (view value.now)) }
 {
     let Some(loading) = loading_of(alloc, count, value)? else {
@@ -87,7 +94,7 @@ fn load_request(alloc: Global, count: usize, value: &Value) -> Result<Option<Req
     Ok(Some(Request::Load(loading)))
 }
 
-fn world_request(names: &Names, word: &str, count: usize, value: &Value) -> Option<Request>
+fn world_request(names: &Names, word: &str, count: usize, value: &Value<'_>) -> Option<Request>
     ensures { result ≡ spec.world_request names.now word.now count (view value.now) }
 {
     let command = command_named(names, word, count, value)?;

@@ -1,6 +1,7 @@
 //! The values of lines, read one after another by one reader.
 
-use rme_wire::{ValueReader, read_value};
+use rme_wire::{ValueReader, lend};
+use serde_json::Value;
 use std::test::Fail;
 
 /// Lines of all forms, those that hold no value among them; each is read behind what the one before it left.
@@ -15,19 +16,22 @@ const LINES: [&str; 14] = [
     "7 8",
     "{\"a\":\"\u{e9}\"}",
     "[1,]",
-    r#"{"a":1,"a":{"b":2}}"#,
+    r#"{"b":1,"a":{"b":2},"c":null,"b":3}"#,
     "1e400",
     "}",
     "[18446744073709551615]",
 ];
 
-/// One reader reads of each line what is read of it alone.
+/// One reader reads of each line what serde_json reads of it.
 #[test]
 fn one_after_another(rt: HostRuntime) -> Result<(), Fail> {
     let mut values = ValueReader::new(rt.alloc());
     for line in LINES {
-        let soon = values.read(line.as_bytes())?;
-        assert!(rt; soon == read_value(rt.alloc(), line.as_bytes())?);
+        let ours = values.read(line.as_bytes())?;
+        match Value::from_slice(rt.alloc(), line.as_bytes()) {
+            Ok(theirs) => assert!(rt; ours == lend(rt.alloc(), &theirs)),
+            Err(_) => assert!(rt; ours.is_none()),
+        }
     }
     Ok(())
 }
@@ -38,6 +42,7 @@ fn what_is_read(rt: HostRuntime) -> Result<(), Fail> {
     let mut values = ValueReader::new(rt.alloc());
     let twice = values.read(br#"{"a":1,"a":2}"#)?.expect(&rt, "a value");
     assert!(rt; twice.get("a").and_then(|a| a.as_u64()) == Some(2));
+    drop(twice);
     assert!(rt; values.read(br#"{"a":1"#)?.is_none());
     assert!(rt; values.read(b"1 2")?.is_none());
     assert!(rt; values.read(b"\"\xff\"")?.is_none());

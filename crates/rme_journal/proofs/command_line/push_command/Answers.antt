@@ -1,4 +1,4 @@
-use Rattle.std.proofs.Common.{arith, subst}
+use Rattle.std.proofs.Common.{arith, subst, sym, ap, ◌∙◌}
 use Rattle.std.specs.Prelude.{ℕ, List, ◌≡◌, ◌≤◌, Some, string_bytes, length, true}
 use Rattle.std.specs.List.{list_all}
 use Rattle.serde_json.specs.View.{view}
@@ -11,7 +11,8 @@ use Rattle.rme_journal.proofs.command_line.push_command.Goals as goal
 pub returns : goal.returns
 returns c =
     let line = c.in-Ok-to_string.line in
-    let asks : request_of c.args.names.now (view c.in-Ok.value) ≡ Some (World c.args.command) = c.asks_for.ensures c.if-not-asks_for.false in
+    let asks : request_of c.args.names.now (view c.in-Ok.value) ≡ Some (World c.args.command) =
+    ap (request_of c.args.names.now) (sym c.in-Some.ensures) ∙ c.asks_for.ensures c.if-not-asks_for.false in
     let whole : (list_all is_no_newline c.as_bytes.result.now ≡ true) × (length c.as_bytes.result.now ≤ 65536) = c.is_line.ensures c.if-not-is_line.false in
     let P : List ℕ → Type 0 = λ (bytes : List ℕ). list_all is_no_newline bytes ≡ true in
     let Q : List ℕ → Type 0 = λ (bytes : List ℕ). length bytes ≤ 65536 in

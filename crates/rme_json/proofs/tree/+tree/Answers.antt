@@ -4,19 +4,20 @@ use Rattle.json.specs.Json.{after_end_array, read_key}
 use Rattle.json.specs.Reads.{token_of}
 use Rattle.json.proofs.Grammar.{read_key-shorter}
 use Rattle.serde_json.specs.Data.{Data, Members, boolean, number, string, null, put}
-use Rattle.serde_json.specs.View.{view, number_view, members_view}
-use Rattle.serde_json.specs.declared.value.Value.{Value, String, Number, Bool, Null, Array, Object, the_lemmas}
-use Rattle.serde_json.proofs.Views.{view-Array, view-Object, members_view-insert_entry}
+use Rattle.serde_json.specs.View.{number_view}
+use Rattle.rme_json.specs.View.{view, members_view}
+use Rattle.rme_json.specs.declared.value.Value.{Value, String, Number, Bool, Null, Array, Object, the_lemmas}
+use Rattle.rme_json.proofs.Viewing.{Entry, view-Array, view-Object}
 use Rattle.rme_json.specs.Trees.{IsValue}
 use Rattle.rme_json.proofs.Reading.{ItemsSoFar, MembersSoFar, no_items_yet, one_more_item, items_over, no_members_yet, one_more_member, members_over, is_string, is_boolean, is_null, is_number, is_array, is_object}
 use Rattle.rme_json.proofs.tree.+tree.Goals as goal
 
-pub read_tree-returns-in_ok-text-in-String-clause-value :
-    goal.read_tree-returns-in_ok-text-in-String-clause-value
-read_tree-returns-in_ok-text-in-String-clause-value t c =
+pub read_tree-returns-in-String-clause-value :
+    goal.read_tree-returns-in-String-clause-value
+read_tree-returns-in-String-clause-value t c =
     let first : c.args.reader.now ≡ token_of c.in_ok-token.token ∷ c.next.new.self = grind arith in
     let is : c.args.reader.now ≡ Token.string c.in-String.text.now ∷ c.next.new.self = grind (arith, first) in
-    let seen : view (String c.in_ok-text-in-String.text) ≡ string c.in-String.text.now = search (rules, the_lemmas) in
+    let seen : view (String c.in-String.text) ≡ string c.in-String.text.now = search (rules, the_lemmas) in
     let P : List Token → Type 0 = λ ts. IsValue c.args.depth ts (string c.in-String.text.now) c.next.new.self in
     let Q : Data → Type 0 = λ d. IsValue c.args.depth c.args.reader.now d c.next.new.self in
     subst Q (sym seen) (subst P (sym is) (is_string c.args.depth c.next.new.self c.in-String.text.now))
@@ -96,21 +97,18 @@ read_items-returns-clause-items t c =
 pub read_members-members-init : goal.read_members-members-init
 read_members-members-init t c =
     let P : Members → Type 0 = λ ms. MembersSoFar c.args.depth c.args.reader.now ms c.args.reader.now in
-    subst P (sym (ap members_view c.new-found.ensures.empty)) (no_members_yet c.args.depth c.args.reader.now)
+    subst P (sym (ap members_view c.new-found.ensures.items)) (no_members_yet c.args.depth c.args.reader.now)
 
 pub read_members-members-preserved : goal.read_members-members-preserved
 read_members-members-preserved t c =
     let l = c.members in
-    let key = c.in-Some.name.now in
+    let key = c.in-Some.key.now in
     let behind = c.next_key.new.self in
     let named : read_key l.reader ≡ Some (Some key, behind) = grind arith in
     let done = c.in_ok-member.ensures in
     let rest = c.read_tree.new.reader in
-    let copied : string_bytes c.in_ok-key.key ≡ key = search rules in
-    let old : Members = members_view l.found.entries in
-    let inserted : members_view c.insert.new.self.entries ≡ put key (view c.in_ok-member.member) old =
-    ap members_view c.in-Ok.ensures.entries ∙ members_view-insert_entry l.found.entries c.in_ok-key.key c.in_ok-member.member
-    ∙ ap (λ name. put name (view c.in_ok-member.member) old) copied in
+    let old : Members = members_view l.found.items in
+    let inserted : members_view c.put.new.members.items ≡ put key (view c.in_ok-member.member) old = search rules in
     let shorter : length rest < length l.reader = omega (arith, done.shorter, read_key-shorter l.reader (Some key) behind named) in
     let P : Members → Type 0 = λ ms. MembersSoFar c.args.depth c.args.reader.now ms rest in
     subst P (sym inserted) (one_more_member c.args.depth c.args.reader.now old l.reader l.invariant key (view c.in_ok-member.member) behind rest named done.value shorter)
@@ -118,4 +116,4 @@ read_members-members-preserved t c =
 pub read_members-returns-clause-members : goal.read_members-returns-clause-members
 read_members-returns-clause-members t c =
     let l = c.members in
-    members_over c.args.depth c.args.reader.now (members_view l.found.entries) l.reader l.invariant c.next_key.new.self (grind arith)
+    members_over c.args.depth c.args.reader.now (members_view l.found.items) l.reader l.invariant c.next_key.new.self (grind arith)

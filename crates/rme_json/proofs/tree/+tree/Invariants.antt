@@ -1,5 +1,5 @@
 use Rattle.std.proofs.Common.{◌+◌, ◌*◌, length}
-use Rattle.serde_json.specs.View.{members_view}
+use Rattle.rme_json.specs.View.{members_view}
 use Rattle.rme_json.proofs.Reading.{ItemsSoFar, MembersSoFar}
 use Rattle.rme_json.proofs.tree.+tree.Given as goal
 
@@ -22,4 +22,4 @@ abbrev pub invariant-read_items-items : goal.invariant-read_items-items
 invariant-read_items-items l = ItemsSoFar l.depth l.initial.reader l.found.items l.reader
 
 abbrev pub invariant-read_members-members : goal.invariant-read_members-members
-invariant-read_members-members l = MembersSoFar l.depth l.initial.reader (members_view l.found.entries) l.reader
+invariant-read_members-members l = MembersSoFar l.depth l.initial.reader (members_view l.found.items) l.reader

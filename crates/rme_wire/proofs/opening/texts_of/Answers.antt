@@ -1,6 +1,6 @@
 use Rattle.std.proofs.Common.{Some, ◌+◌, ◌∷◌, [], string_bytes, drop, arith, sym, ap, ◌∙◌}
 use Rattle.std.proofs.lemmas.List.{drop_all, map-append}
-use Rattle.serde_json.specs.View.{view, items_view}
+use Rattle.rme_json.specs.View.{view, items_view}
 use Rattle.rme_wire.proofs.OperationLemmas.{view_drop}
 use Rattle.rme_wire.proofs.OpeningLemmas.{texts, texts_all, texts_more, texts_stuck}
 use Rattle.rme_wire.proofs.opening.texts_of.Goals as goal

@@ -1,6 +1,6 @@
 -- The texts that were read, followed by those that are left, are all of them.
 use Rattle.std.proofs.Common.{drop}
-use Rattle.serde_json.specs.View.{items_view}
+use Rattle.rme_json.specs.View.{items_view}
 use Rattle.rme_wire.proofs.OpeningLemmas.{ReadsTexts, texts}
 use Rattle.rme_wire.proofs.opening.texts_of.Given as goal
 

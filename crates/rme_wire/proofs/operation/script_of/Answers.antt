@@ -1,6 +1,6 @@
 use Rattle.std.proofs.Common.{◌+◌, length-set, take, drop, Some, arith, rules, refl, sym, ap, ◌∙◌}
 use Rattle.std.proofs.lemmas.List.{drop_all}
-use Rattle.serde_json.specs.View.{view, items_view}
+use Rattle.rme_json.specs.View.{view, items_view}
 use Rattle.rme_wire.specs.Operations.{script_of}
 use Rattle.rme_wire.proofs.OperationLemmas.{reads_kept, reads_passed, reads_stuck, reads_all, view_drop}
 use Rattle.rme_wire.proofs.operation.script_of.Goals as goal

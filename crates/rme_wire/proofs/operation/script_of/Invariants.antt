@@ -1,6 +1,6 @@
 -- The operations that were read, followed by those that are left, make the script of all.
 use Rattle.std.proofs.Common.{◌≡◌, ◌≤◌, length, take, drop}
-use Rattle.serde_json.specs.View.{items_view}
+use Rattle.rme_json.specs.View.{items_view}
 use Rattle.rme_wire.proofs.OperationLemmas.{Reads}
 use Rattle.rme_wire.proofs.operation.script_of.Given as goal
 

@@ -2,7 +2,7 @@ use Rattle.std.proofs.Common.{sym}
 use Rattle.std.proofs.lemmas.Bool.{iff_false}
 use Rattle.serde_json.specs.View.{view}
 use Rattle.rme_json.proofs.ValueLemmas.{value_read, value_none}
-use Rattle.rme_json.proofs.reader.read_value.Goals as goal
+use Rattle.rme_json.proofs.reader.read_owned.Goals as goal
 
 pub returns-in-Ok : goal.returns-in-Ok
 returns-in-Ok c = sym (value_read c.args.line.now (view c.in-Ok.value) c.in-Ok.ensures.ok.0 c.in-Ok.ensures.ok.1)

@@ -1,8 +1,8 @@
 use Rattle.std.proofs.Common.{◌≡◌, List, ℕ, Some, sym, subst}
 use Rattle.serde_json.specs.Read.{read}
-use Rattle.serde_json.specs.View.{view}
+use Rattle.rme_json.specs.View.{view}
 use Rattle.rme_json.proofs.ValueLemmas.{value_read}
-use Rattle.rme_json.proofs.reader.ValueReader.read_soon.Goals as goal
+use Rattle.rme_json.proofs.reader.read_soon.Goals as goal
 
 pub returns : goal.returns
 returns c =
