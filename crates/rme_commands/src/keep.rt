@@ -3,7 +3,7 @@
 use crate::hearing::listen;
 use crate::trouble::Complaints;
 use rme_desk::Desk;
-use rme_epochs::{Earlier, EpochDesk};
+use rme_epochs::{Earlier, EpochDesk, MOST_SET};
 use rme_faults::{BadArgument, Fault, shown, why_not_locks, why_not_sizes};
 use rme_journal::{Header, Started, push_falls, push_header, whole_lines};
 use rme_kept::{Kept, clients_of};
@@ -28,9 +28,6 @@ const USUAL_JOBS: u32 = 10_000;
 
 /// The most workers of a state beside the keeper.
 const MOST_WORKERS: u32 = 255;
-
-/// So many cells one job of the keeper sets.
-const MOST_SET: u32 = 8;
 
 /// What is asked of a state.
 #[derive(Drop)]

@@ -30,4 +30,5 @@ pub use epoch::{Answered, EpochDesk};
 pub use over::{PendingOver, ReadyOver, SessionOver};
 pub use renewal::Renewed;
 pub use sections::Sections;
+pub use setting::MOST_SET;
 pub use written::{Acted, Lost, WrittenDesk};

@@ -7,8 +7,8 @@ use rme_script::{Job, Op, Row, Script};
 use rme_words::Shape;
 use std::alloc::{AllocError, Global};
 
-/// So many cells one script sets.
-const MOST_SET: u32 = 8;
+/// So many cells a job of the keeper sets.
+pub const MOST_SET: u32 = 8;
 
 /// Lets the keeper, the last worker, set the cells of each lock to these, and answers how many sections it made of each.
 pub(crate) fn set_cells(
