@@ -1,18 +1,19 @@
 //! `rme serve --state`: sessions over a world that is kept in a file.
 
-use crate::hearing::listen;
+use crate::hearing::{Hearing, listen};
 use crate::trouble::Complaints;
 use rme_desk::Desk;
 use rme_epochs::{Earlier, EpochDesk, MOST_SET};
 use rme_faults::{BadArgument, Fault, shown, why_not_locks, why_not_sizes};
 use rme_journal::{Header, Started, push_falls, push_header, whole_lines};
 use rme_kept::{Kept, clients_of};
-use rme_options::{KeepTask, Remarks, Synced};
-use rme_server::{Backend, Closer, Door, serve};
+use rme_options::{KeepTask, Places, Remarks, Synced};
+use rme_server::{Backend, Closer, Door, Listener, serve};
 use rme_state::{StateFile, make_state, read_state};
 use rme_texts::push_opening;
 use rme_wire::{GivenNames, Names};
-use rme_words::Shape;
+use rme_words::{NoMemory, Shape};
+use std::alloc::{AllocError, Global};
 use std::sync::Wait;
 use std::thread::Threads;
 use std::time::Clock;
@@ -47,18 +48,35 @@ pub fn run_keep<R: Threads + Wait + Clock + Sync>(
     threads: &R,
     task: KeepTask,
 ) -> Result<u8, Fault> {
+    let door = door_of(&task);
+    let sections = task.sections;
+    let (asked, places) = parts(task);
+    let kept = begin(rt, &asked, sections)?;
+    let (listeners, hearing) = listen(rt, places)?;
+    serve_kept(rt, threads, (listeners, hearing), door, &kept)
+}
+
+/// Which connections are taken.
+fn door_of(task: &KeepTask) -> Door {
+    Door {
+        connections: None,
+        at_once: task.at_once,
+        idle: task.idle,
+        tells_why: task.remarks == Remarks::Why,
+    }
+}
+
+/// What a task asks of its state, and where it asks to listen.
+fn parts(task: KeepTask) -> (Asked, Places) {
     let KeepTask {
         state,
         workers,
         cells,
         jobs,
-        sections,
         places,
-        at_once,
-        idle,
         sync,
-        remarks,
         locks,
+        ..
     } = task;
     let asked = Asked {
         path: state,
@@ -68,16 +86,20 @@ pub fn run_keep<R: Threads + Wait + Clock + Sync>(
         locks,
         syncs: sync == Synced::Always,
     };
-    let door = Door {
-        connections: None,
-        at_once,
-        idle,
-        tells_why: remarks == Remarks::Why,
-    };
-    let kept = begin(rt, asked, sections)?;
-    let (listeners, hearing) = listen(rt, places)?;
+    (asked, places)
+}
+
+/// Serves a state that is kept to those who come to these places.
+fn serve_kept<R: Threads + Wait + Clock + Sync>(
+    rt: &HostRuntime,
+    threads: &R,
+    places: ((Listener, Option<Listener>), Hearing),
+    door: Door,
+    kept: &Kept<StateFile<'_>, Closer>,
+) -> Result<u8, Fault> {
+    let (listeners, hearing) = places;
     hearing.print(rt)?;
-    let served = serve(threads, listeners, door, &Complaints { rt }, &kept);
+    let served = serve(threads, listeners, door, &Complaints { rt }, kept);
     hearing.clear(rt);
     if kept.is_over(threads) {
         return Ok(Fault::WriteFailed.status());
@@ -88,38 +110,72 @@ pub fn run_keep<R: Threads + Wait + Clock + Sync>(
     }
 }
 
-/// The state that is asked for, where all workers are down.
-fn begin(
-    rt: &HostRuntime,
-    asked: Asked,
+/// The state that is asked for, where all workers are down. Its steps are functions of their own, since a proof follows all
+/// that a function holds to each of its ends.
+fn begin<'a>(
+    rt: &'a HostRuntime,
+    asked: &Asked,
     sections: u32,
-) -> Result<Kept<StateFile<'_>, Closer>, Fault> {
-    let mut file = open(rt, &asked)?;
+) -> Result<Kept<StateFile<'a>, Closer>, Fault> {
+    let mut file = open(rt, asked)?;
+    let (started, whole) = read(rt, asked, &mut file)?;
+    let falls = write_falls(rt.alloc(), &mut file, &started)?;
+    let earlier = earlier_of(rt, asked, &started.header)?;
+    let length = whole.saturating_add(falls) as u64;
+    Ok(kept_of(rt.alloc(), started, earlier, (length, sections), file)?)
+}
+
+/// What the file says, and how many bytes its whole lines have. What follows them is cut off.
+fn read(
+    rt: &HostRuntime,
+    asked: &Asked,
+    file: &mut StateFile<'_>,
+) -> Result<(Started, usize), Fault> {
     let bytes = file.bytes()?;
     let started = read_state(rt, asked.path.as_str(), bytes.as_slice())?;
-    refuse_others(rt, &asked, &started)?;
+    refuse_others(rt, asked, &started)?;
     let whole = whole_lines(bytes.as_slice()).len();
     if whole < bytes.len() {
         file.cut(whole)?;
     }
+    Ok((started, whole))
+}
+
+/// Writes down that all workers fell who were up, and answers how many bytes that takes.
+fn write_falls(alloc: Global, file: &mut StateFile<'_>, started: &Started) -> Result<usize, Fault> {
+    let mut falls = String::new(alloc);
+    if push_falls(&mut falls, alloc, &started.names, &started.world).is_err() {
+        return Err(Fault::NoMemory);
+    }
+    file.write(falls.as_bytes())?;
+    Ok(falls.len())
+}
+
+/// What earlier epochs left, as the header of the state says.
+fn earlier_of(rt: &HostRuntime, asked: &Asked, header: &Header) -> Result<Earlier, Fault> {
+    match Earlier::of_header(rt.alloc(), header)? {
+        Some(earlier) => Ok(earlier),
+        None => Err(Fault::BadState(shown(rt.alloc(), asked.path.as_str())?, 1)),
+    }
+}
+
+/// What was read and is kept in the file: so many bytes led to it, and its file is renewed after so many sections.
+fn kept_of<'a>(
+    alloc: Global,
+    started: Started,
+    earlier: Earlier,
+    (length, sections): (u64, u32),
+    file: StateFile<'a>,
+) -> Result<Kept<StateFile<'a>, Closer>, NoMemory> {
     let Started {
         header,
         names,
         world,
         ..
     } = started;
-    let mut falls = String::new(rt.alloc());
-    if push_falls(&mut falls, rt.alloc(), &names, &world).is_err() {
-        return Err(Fault::NoMemory);
-    }
-    file.write(falls.as_bytes())?;
-    let Some(earlier) = Earlier::of_header(rt.alloc(), &header)? else {
-        return Err(Fault::BadState(shown(rt.alloc(), asked.path.as_str())?, 1));
-    };
-    let desk = Desk::new(rt.alloc(), world)?;
-    let length = whole.saturating_add(falls.len()) as u64;
-    let desk = EpochDesk::new(rt.alloc(), desk, earlier, header.epoch, length);
-    Ok(Kept::new(rt.alloc(), names, desk, sections, file)?)
+    let desk = Desk::new(alloc, world)?;
+    let desk = EpochDesk::new(alloc, desk, earlier, header.epoch, length);
+    Kept::new(alloc, names, desk, sections, file)
 }
 
 /// The file of the state, which is made where it is not there.
@@ -146,23 +202,34 @@ fn first_lines(rt: &HostRuntime, asked: &Asked) -> Result<String, Fault> {
         let path = shown(alloc, asked.path.as_str())?;
         return Err(Fault::BadArguments(BadArgument::NoNames(path)));
     }
-    let why = why_not_locks(alloc, &asked.locks)?;
-    let mut texts = Vec::new(alloc);
-    for lock in &asked.locks {
-        let text = String::from_str(alloc, lock.as_str())?;
-        if texts.push(text).is_err() {
-            return Err(Fault::NoMemory);
-        }
-    }
-    let given = GivenNames::of(texts);
+    let names = names_of(alloc, &asked.locks)?;
+    let shape = new_shape(asked, names.len())?;
+    Ok(lines_of(alloc, &names, shape)?)
+}
+
+/// The names of a new state's locks.
+fn names_of(alloc: Global, locks: &[String]) -> Result<Names, Fault> {
+    let why = why_not_locks(alloc, locks)?;
+    let given = GivenNames::of(copies(alloc, locks)?);
     if !given.are_names() {
         return Err(Fault::BadArguments(why));
     }
-    let shape = new_shape(asked, given.len() as u32)?;
-    let names = given.names(alloc)?;
+    Ok(given.names(alloc)?)
+}
+
+fn copies(alloc: Global, texts: &[String]) -> Result<Vec<String>, AllocError> {
+    let mut copies = Vec::new(alloc);
+    for text in texts {
+        copies.push(String::from_str(alloc, text.as_str())?)?;
+    }
+    Ok(copies)
+}
+
+/// The lines of a state of these names and of this shape, in which nothing was done.
+fn lines_of(alloc: Global, names: &Names, shape: Shape) -> Result<String, AllocError> {
     let mut lines = String::new(alloc);
-    push_header(&mut lines, &names, &Header::first(alloc, shape)?)?;
-    push_opening(&mut lines, &names, shape)?;
+    push_header(&mut lines, names, &Header::first(alloc, shape)?)?;
+    push_opening(&mut lines, names, shape)?;
     lines.push_str("\n")?;
     Ok(lines)
 }
