@@ -1,3 +1,4 @@
 pub mod Adding
 pub mod Sights
 pub mod Staying
+pub mod Writing

@@ -11,15 +11,15 @@ ghost use Rattle.rme_draw.specs.Following.{Draws, ended, following_of};
 use crate::follower::Follower;
 use rme_picture::{Paint, Svg};
 use rme_verdicts::{Verdict, watch_lines};
-use rme_wire::{EngineFault, LineReader, Sink, Source, put_all};
+use rme_wire::{EngineFault, LineReader, Sink, Source};
 use std::alloc::Global;
 
 /// Checks a transcript as `check_lines` does, and draws it where the verdict is yes: a timeline in SVG, with a row for
 /// each worker and for each lock, and a column for each line.
 ///
 /// After any other verdict nothing is written, and so it is after each fault but `WriteFailed`, which leaves a front of
-/// the picture. `NoMemory` says that there was no room for a line, the machine, what was seen of the run or the picture's
-/// text, all of which grow with the transcript.
+/// the picture. `NoMemory` says that there was no room for a line, the machine or what was seen of the run, all of which
+/// grow with the transcript; the picture's text is written as it is made.
 pub fn draw_lines<R: Source + Drop, W: Sink>(
     alloc: Global,
     lines: &mut LineReader<R>,
@@ -80,10 +80,7 @@ fn write_if_yes<W: Sink, P: Paint>(
         Verdict::Yes => {}
         verdict => return Ok(verdict),
     }
-    let Ok(text) = follower.picture(painter) else {
-        return Err(EngineFault::NoMemory);
-    };
-    match put_all(writer, text.as_bytes()) {
+    match follower.write(writer, painter) {
         Ok(()) => Ok(Verdict::Yes),
         Err(fault) => Err(fault),
     }

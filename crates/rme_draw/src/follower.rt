@@ -8,10 +8,11 @@ use crate::holds::{holding_after, push_holds, push_last_holds};
 use crate::stays::{Staying, first_stays, push_last_stays, push_stay};
 use crate::told::{number_of, push_mark};
 use rme_checker::Machine;
-use rme_picture::{Drawing, Finish, Hold, Paint};
+use rme_picture::{Drawing, Finish, Hold, Page, Paint};
 use rme_program::{Note, Receipt};
 use rme_texts::{EventLine, Names};
 use rme_verdicts::Watch;
+use rme_wire::{EngineFault, Sink};
 use rme_words::NoMemory;
 use std::alloc::{AllocError, Global};
 
@@ -49,6 +50,13 @@ impl Watch for Follower {
 }
 
 impl Follower {
+    ghost use Rattle.std.specs.Prelude.{◌≡◌, ◌≢◌, ℕ, List, [], false, IfErr, IfOk, OnErr, OnOk};
+    ghost use Rattle.std.specs.Io.KnownBytes.{Appends};
+    ghost use Rattle.rme_lines.specs.Traffic.{LastWriteFails};
+    ghost use Rattle.rme_picture.specs.Pages.{PutsBy};
+    ghost use Rattle.rme_picture.specs.Pictures.{shown_in};
+    ghost use Rattle.rme_draw.specs.Following as spec;
+
     /// Nothing was seen yet.
     pub fn new(alloc: Global) -> Follower
         ensures { spec.following_of result ≡ spec.nothing_seen }
@@ -61,12 +69,40 @@ impl Follower {
         }
     }
 
-    /// The painter's text of the picture of all that was seen, which ends here.
-    pub fn picture<P: Paint>(&mut self, painter: &P) -> Result<String, AllocError>
-        ensures { IfOk result (λ text. P.paints (spec.ended (spec.following_of self.old)) (string_bytes text)) }
+    /// Writes the painter's text of the picture of all that was seen, which ends here. Memory is taken before anything is
+    /// written.
+    pub fn write<W: Sink, P: Paint>(
+        &mut self,
+        writer: &mut W,
+        painter: &P,
+    ) -> Result<(), EngineFault>
+        ensures written { OnOk result ((text : List ℕ) × P.paints (spec.ended (spec.following_of self.old)) text × Appends (W.contents writer.old) (W.contents writer.new) text) }
+        ensures unwritten { IfErr result (λ fault. fault ≢ EngineFault.WriteFailed → W.contents writer.new ≡ W.contents writer.old) }
+        ensures kind { IfErr result (λ fault. fault ≢ EngineFault.ReadFailed) }
+        ensures broke { IfErr result (λ fault. fault ≡ EngineFault.WriteFailed → LastWriteFails (W.took writer.old) (W.took writer.new)) }
     {
+        let Ok(mut page) = self.painted(writer, painter) else {
+            return Err(EngineFault::NoMemory);
+        };
+        match page.finish(writer) {
+            Ok(()) => Ok(()),
+            Err(fault) => Err(fault),
+        }
+    }
+
+    /// The page on which the painter put the picture of all that was seen. After an error nothing was written.
+    fn painted<W: Sink, P: Paint>(
+        &mut self,
+        writer: &mut W,
+        painter: &P,
+    ) -> Result<Page, AllocError>
+        ensures painted { IfOk result (λ page. (text : List ℕ) × P.paints (spec.ended (spec.following_of self.old)) text × PutsBy false page.failed text (W.contents writer.old) [] (W.took writer.old) (W.contents writer.new) page.pending (W.took writer.new)) }
+        ensures unwritten { OnErr result (writer.new ≡ writer.old) }
+    {
+        let mut page = Page::new(self.alloc)?;
         self.end()?;
-        painter.paint(self.alloc, &self.drawing)
+        painter.paint(self.alloc, &self.drawing, &mut page, writer)?;
+        Ok(page)
     }
 
     /// Ends all that goes on, one line behind the last.

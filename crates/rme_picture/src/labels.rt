@@ -1,8 +1,5 @@
 //! What a line of a transcript tells of a worker, in words.
 
-use std::alloc::AllocError;
-use std::fmt::Write;
-
 /// What a line told of a worker. The numbers are those of its jobs.
 #[derive(Clone, Copy)]
 pub enum Told {
@@ -20,20 +17,20 @@ pub enum Told {
     Withdrew(u32),
 }
 
-/// Appends the words for what was told.
-pub fn push_told(out: &mut String, told: Told) -> Result<(), AllocError> {
+/// The words for what was told, and the number of a job that ends them, if they have one.
+pub fn words_of(told: Told) -> (&'static str, Option<u32>) {
     match told {
-        Told::Submit(number) => write!(out, "submit {number}"),
-        Told::Crash => out.push_str("crash"),
-        Told::Restart => out.push_str("restart"),
-        Told::Withdraw => out.push_str("withdraw"),
-        Told::Asked(number) => write!(out, "asked {number}"),
-        Told::Blocked => out.push_str("blocked"),
-        Told::Entered => out.push_str("entered"),
-        Told::Reentered => out.push_str("re-entered"),
-        Told::Finished(number) => write!(out, "finished {number}"),
-        Told::Left => out.push_str("left"),
-        Told::Ready => out.push_str("ready"),
-        Told::Withdrew(number) => write!(out, "withdrew {number}"),
+        Told::Submit(number) => ("submit ", Some(number)),
+        Told::Crash => ("crash", None),
+        Told::Restart => ("restart", None),
+        Told::Withdraw => ("withdraw", None),
+        Told::Asked(number) => ("asked ", Some(number)),
+        Told::Blocked => ("blocked", None),
+        Told::Entered => ("entered", None),
+        Told::Reentered => ("re-entered", None),
+        Told::Finished(number) => ("finished ", Some(number)),
+        Told::Left => ("left", None),
+        Told::Ready => ("ready", None),
+        Told::Withdrew(number) => ("withdrew ", Some(number)),
     }
 }

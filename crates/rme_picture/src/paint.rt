@@ -1,21 +1,31 @@
 //! Who writes a picture.
 
 use crate::drawing::Drawing;
-use crate::svg::svg_of;
+use crate::page::Page;
+use crate::svg::put_svg;
+use rme_lines::Sink;
 use std::alloc::{AllocError, Global};
 
-/// Writes the text of a picture.
+/// Puts the text of a picture on a page.
 pub trait Paint {
-    ghost use Rattle.std.specs.Prelude.{ℕ, List, IfOk, string_bytes};
+    ghost use Rattle.std.specs.Prelude.{◌≡◌, ℕ, List, OnErr, OnOk};
+    ghost use Rattle.rme_picture.specs.Pages.{PutsOf};
     ghost use Rattle.rme_picture.specs.Pictures.{Picture, shown_in};
 
     // Which text is one of a picture. It may be any relation, so that what is drawn with every painter has to be this
     // painter's text of the very picture.
     ghost paints: { Picture → List ℕ → Type 0 };
 
-    /// The text of a drawing. An error is want of memory.
-    fn paint(&self, alloc: Global, drawing: &Drawing) -> Result<String, AllocError>
-        ensures { IfOk result (λ text. paints (shown_in drawing.now) (string_bytes text)) };
+    /// Puts the text of a drawing. An error is want of memory, and comes before anything is put.
+    fn paint<W: Sink>(
+        &self,
+        alloc: Global,
+        drawing: &Drawing,
+        page: &mut Page,
+        writer: &mut W,
+    ) -> Result<(), AllocError>
+        ensures painted { OnOk result (PutsOf (paints (shown_in drawing.now)) W.contents W.took page.old writer.old page.new writer.new) }
+        ensures refused { OnErr result (writer.new ≡ writer.old) };
 }
 
 /// A timeline in SVG.
@@ -27,7 +37,13 @@ impl Paint for Svg {
 
     ghost paints = { IsSvg };
 
-    fn paint(&self, alloc: Global, drawing: &Drawing) -> Result<String, AllocError> {
-        svg_of(alloc, drawing)
+    fn paint<W: Sink>(
+        &self,
+        alloc: Global,
+        drawing: &Drawing,
+        page: &mut Page,
+        writer: &mut W,
+    ) -> Result<(), AllocError> {
+        put_svg(alloc, drawing, page, writer)
     }
 }

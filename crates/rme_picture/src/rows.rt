@@ -1,21 +1,25 @@
-//! The rows of a picture: what stays, who holds, what was told, and what was finished.
+//! The rows of a picture: what stays, who holds, and what was told.
 
-use crate::drawing::{Drawing, Finish, Hold, Mark, Stay};
-use crate::labels::{Told, push_told};
+ghost use Rattle.rme_picture.specs.Pages.{PutsSome};
+
+use crate::drawing::{Drawing, Hold, Mark, Stay};
+use crate::labels::{Told, words_of};
+use crate::page::Page;
 use crate::phase::Phase;
-use crate::sheet::{Sheet, TEXT_LINE, entry_text, top_of_worker};
+use crate::piece::Piece;
+use crate::piece::Piece::{Number, Text};
+use crate::sheet::{Sheet, top_of_worker};
 use crate::strips::Strip;
-use std::alloc::{AllocError, Global};
-use std::fmt::Write;
+use rme_lines::Sink;
 
 /// From the top of a row to its bar.
-const BAR: u64 = 12;
+pub const BAR: u64 = 12;
 
 /// How high a bar is.
-const BAR_HEIGHT: u64 = 24;
+pub const BAR_HEIGHT: u64 = 24;
 
 /// From the top of a row to the words below its bar.
-const WORDS: u64 = 50;
+pub const WORDS: u64 = 50;
 
 /// The colour of a phase.
 pub fn colour_of(phase: Phase) -> &'static str {
@@ -43,98 +47,133 @@ pub fn name_of(phase: Phase) -> &'static str {
     }
 }
 
-/// Where a bar is: the top of its row, its first column, and how many it has.
+/// Where a bar is, the top of its row, its first column, and how many it has; and how it looks.
 #[derive(Clone, Copy)]
-struct Place {
+struct Bar {
     top: u64,
     column: u64,
     count: u64,
-}
-
-/// How a bar looks.
-#[derive(Clone, Copy)]
-struct Look {
     colour: &'static str,
     edge: &'static str,
     dashes: &'static str,
 }
 
-/// Appends a bar. In it stands the long text, or else the short one, if there is room; `tip` is what a reader is told
+/// Puts a bar. In it stands the long text, or else the short one, if there is room; `tip` is what a reader is told
 /// who points at it.
-fn push_bar(
-    out: &mut String,
+#[tactic(auto, using(crate::proofs::Putting::puts_more))]
+fn put_bar<W: Sink>(
+    page: &mut Page,
+    writer: &mut W,
     sheet: &Sheet,
-    place: Place,
-    look: Look,
-    tip: &str,
-    long: &str,
-    short: &str,
-) -> Result<(), AllocError> {
-    let x = sheet.x(place.column);
-    let width = sheet.columns(place.count);
-    let y = place.top.saturating_add(BAR);
-    let Look {
-        colour,
-        edge,
-        dashes,
-    } = look;
-    write!(
-        out,
-        "<rect x=\"{x}\" y=\"{y}\" width=\"{width}\" height=\"{BAR_HEIGHT}\" fill=\"{colour}\" stroke=\"{edge}\"{dashes}>"
-    )?;
-    writeln!(out, "<title>{tip}</title></rect>")?;
+    bar: Bar,
+    tip: &[Piece],
+    long: &[Piece],
+    short: &[Piece],
+)
+    ensures { PutsSome W.contents W.took page.old writer.old page.new writer.new }
+{
+    let x = sheet.x(bar.column);
+    let width = sheet.columns(bar.count);
+    let y = bar.top.saturating_add(BAR);
+    page.put(
+        writer,
+        &[
+            Text("<rect x=\""),
+            Number(x),
+            Text("\" y=\""),
+            Number(y),
+            Text("\" width=\""),
+            Number(width),
+            Text("\" height=\""),
+            Number(BAR_HEIGHT),
+            Text("\" fill=\""),
+            Text(bar.colour),
+            Text("\" stroke=\""),
+            Text(bar.edge),
+            Text("\""),
+            Text(bar.dashes),
+            Text("><title>"),
+        ],
+    );
+    page.put(writer, tip);
+    page.put(writer, &[Text("</title></rect>\n")]);
     let middle = x.saturating_add(width / 2);
     let base = y.saturating_add(16);
     if sheet.has_room(long, width) {
-        return push_centred(out, middle, base, long);
+        put_centred(page, writer, middle, base, long);
+    } else if sheet.has_room(short, width) {
+        put_centred(page, writer, middle, base, short);
     }
-    if sheet.has_room(short, width) {
-        return push_centred(out, middle, base, short);
-    }
-    Ok(())
 }
 
-/// Appends a text that stands in a bar.
-fn push_centred(out: &mut String, middle: u64, base: u64, text: &str) -> Result<(), AllocError> {
-    writeln!(
-        out,
-        "<text x=\"{middle}\" y=\"{base}\" text-anchor=\"middle\" fill=\"#111111\">{text}</text>"
-    )
+/// Puts a text that stands in a bar.
+#[tactic(auto, using(crate::proofs::Putting::puts_more))]
+fn put_centred<W: Sink>(page: &mut Page, writer: &mut W, middle: u64, base: u64, text: &[Piece])
+    ensures { PutsSome W.contents W.took page.old writer.old page.new writer.new }
+{
+    page.put(
+        writer,
+        &[
+            Text("<text x=\""),
+            Number(middle),
+            Text("\" y=\""),
+            Number(base),
+            Text("\" text-anchor=\"middle\" fill=\"#111111\">"),
+        ],
+    );
+    page.put(writer, text);
+    page.put(writer, &[Text("</text>\n")]);
 }
 
-/// Appends a worker's stay in a phase.
-pub fn push_stay(
-    out: &mut String,
-    alloc: Global,
+/// Puts a worker's stay in a phase.
+pub fn put_stay<W: Sink>(
+    page: &mut Page,
+    writer: &mut W,
     sheet: &Sheet,
     strip: &Strip,
     drawing: &Drawing,
     stay: &Stay,
-) -> Result<(), AllocError> {
+)
+    ensures { PutsSome W.contents W.took page.old writer.old page.new writer.new }
+{
     let name = name_of(stay.phase);
-    let mut long = String::from_str(alloc, name)?;
-    if stay.phase == Phase::Enter {
-        write!(long, " {}", lock_name(drawing, stay.lock))?;
-    }
-    let tip = format!(in alloc;
-        "worker {}: {long}, lines {} to {}",
-        stay.worker, stay.from, stay.to
-    )?;
+    let lock = lock_waited_for(drawing, stay);
+    let gap = if stay.phase == Phase::Enter { " " } else { "" };
     let (column, count) = strip.part(stay.from, stay.to);
-    let place = Place {
+    let tip = [
+        Text("worker "),
+        Number(u64::from(stay.worker)),
+        Text(": "),
+        Text(name),
+        Text(gap),
+        Text(lock),
+        Text(", lines "),
+        Number(stay.from),
+        Text(" to "),
+        Number(stay.to),
+    ];
+    put_bar(
+        page,
+        writer,
+        sheet,
+        bar_of_stay(stay, column, count),
+        &tip,
+        &[Text(name), Text(gap), Text(lock)],
+        &[Text(short_name_of(stay.phase))],
+    );
+}
+
+/// The bar of a stay. Down has a dashed edge.
+fn bar_of_stay(stay: &Stay, column: u64, count: u64) -> Bar {
+    let is_down = stay.phase == Phase::Down;
+    Bar {
         top: top_of_worker(u64::from(stay.worker)),
         column,
         count,
-    };
-    push_bar(
-        out,
-        sheet,
-        place,
-        look_of(stay.phase),
-        tip.as_str(),
-        long.as_str(),
-        short_name_of(stay.phase),
-    )
+        colour: colour_of(stay.phase),
+        edge: if is_down { "#b03030" } else { "#8a96a5" },
+        dashes: dashes_if(is_down),
+    }
 }
 
 /// The name of a phase for a bar of one column.
@@ -145,50 +184,43 @@ fn short_name_of(phase: Phase) -> &'static str {
     }
 }
 
-/// How a phase looks: down has a dashed edge.
-fn look_of(phase: Phase) -> Look {
-    let is_down = phase == Phase::Down;
-    Look {
-        colour: colour_of(phase),
-        edge: if is_down { "#b03030" } else { "#8a96a5" },
-        dashes: dashes_if(is_down),
-    }
+/// Puts a stretch of a lock with one owner. One who is down is drawn paler, with a dashed edge.
+pub fn put_hold<W: Sink>(page: &mut Page, writer: &mut W, sheet: &Sheet, strip: &Strip, hold: &Hold)
+    ensures { PutsSome W.contents W.took page.old writer.old page.new writer.new }
+{
+    let owner = u64::from(hold.owner);
+    let down = if hold.is_up { "" } else { ", down" };
+    let (column, count) = strip.part(hold.from, hold.to);
+    let tip = [
+        Text("owned by worker "),
+        Number(owner),
+        Text(down),
+        Text(", lines "),
+        Number(hold.from),
+        Text(" to "),
+        Number(hold.to),
+    ];
+    put_bar(
+        page,
+        writer,
+        sheet,
+        bar_of_hold(sheet, hold, column, count),
+        &tip,
+        &[Text("worker "), Number(owner), Text(down)],
+        &[Text("worker "), Number(owner)],
+    );
 }
 
-/// Appends a stretch of a lock with one owner. One who is down is drawn paler, with a dashed edge.
-pub fn push_hold(
-    out: &mut String,
-    alloc: Global,
-    sheet: &Sheet,
-    strip: &Strip,
-    hold: &Hold,
-) -> Result<(), AllocError> {
-    let short = format!(in alloc; "worker {}", hold.owner)?;
-    let mut long = format!(in alloc; "worker {}", hold.owner)?;
-    if !hold.is_up {
-        long.push_str(", down")?;
-    }
-    let tip = format!(in alloc; "owned by {long}, lines {} to {}", hold.from, hold.to)?;
-    let (column, count) = strip.part(hold.from, hold.to);
-    let place = Place {
+/// The bar of a stretch of a lock.
+fn bar_of_hold(sheet: &Sheet, hold: &Hold, column: u64, count: u64) -> Bar {
+    Bar {
         top: sheet.lock(hold.lock),
         column,
         count,
-    };
-    let look = Look {
         colour: owner_colour(hold.owner),
         edge: if hold.is_up { "#5b6673" } else { "#b03030" },
         dashes: dashes_if(!hold.is_up),
-    };
-    push_bar(
-        out,
-        sheet,
-        place,
-        look,
-        tip.as_str(),
-        long.as_str(),
-        short.as_str(),
-    )
+    }
 }
 
 /// The colour of an owner: six, in turn.
@@ -212,8 +244,12 @@ fn dashes_if(is_dashed: bool) -> &'static str {
     }
 }
 
-fn lock_name(drawing: &Drawing, lock: Option<u32>) -> &str {
-    let Some(lock) = lock else {
+/// The name of the lock that a stay waits for, if it waits for one.
+fn lock_waited_for<'a>(drawing: &'a Drawing, stay: &Stay) -> &'a str {
+    if stay.phase != Phase::Enter {
+        return "";
+    }
+    let Some(lock) = stay.lock else {
         return "";
     };
     match drawing.names.get(lock as usize) {
@@ -222,24 +258,44 @@ fn lock_name(drawing: &Drawing, lock: Option<u32>) -> &str {
     }
 }
 
-/// Appends what a line told of a worker: a sign on its bar, and the words below.
-pub fn push_mark(
-    out: &mut String,
-    sheet: &Sheet,
-    strip: &Strip,
-    mark: &Mark,
-) -> Result<(), AllocError> {
+/// Puts what a line told of a worker: a sign on its bar, and the words below.
+#[tactic(auto, using(crate::proofs::Putting::puts_more))]
+pub fn put_mark<W: Sink>(page: &mut Page, writer: &mut W, sheet: &Sheet, strip: &Strip, mark: &Mark)
+    ensures { PutsSome W.contents W.took page.old writer.old page.new writer.new }
+{
     let x = sheet.x(strip.column(mark.line));
     let top = top_of_worker(u64::from(mark.worker));
-    push_sign(out, x, top.saturating_add(BAR), mark.told)?;
-    let base = top.saturating_add(WORDS);
-    write!(
-        out,
-        "<text x=\"{x}\" y=\"{base}\" text-anchor=\"middle\" fill=\"{}\">",
-        ink_of(mark.told)
-    )?;
-    push_told(out, mark.told)?;
-    out.push_str("</text>\n")
+    put_sign(page, writer, x, top.saturating_add(BAR), mark.told);
+    put_words(page, writer, x, top.saturating_add(WORDS), mark.told);
+}
+
+/// Puts the words for what was told.
+fn put_words<W: Sink>(page: &mut Page, writer: &mut W, x: u64, base: u64, told: Told)
+    ensures { PutsSome W.contents W.took page.old writer.old page.new writer.new }
+{
+    let (words, number) = words_of(told);
+    page.put(
+        writer,
+        &[
+            Text("<text x=\""),
+            Number(x),
+            Text("\" y=\""),
+            Number(base),
+            Text("\" text-anchor=\"middle\" fill=\""),
+            Text(ink_of(told)),
+            Text("\">"),
+            Text(words),
+            number_or_nothing(number),
+            Text("</text>\n"),
+        ],
+    );
+}
+
+fn number_or_nothing(number: Option<u32>) -> Piece<'static> {
+    match number {
+        Some(number) => Number(u64::from(number)),
+        None => Text(""),
+    }
 }
 
 /// The colour of the words for what was told.
@@ -251,48 +307,29 @@ fn ink_of(told: Told) -> &'static str {
     }
 }
 
-/// Appends the sign of what was told: a cross for a crash, a triangle for a restart, and else a short line.
-fn push_sign(out: &mut String, x: u64, y: u64, told: Told) -> Result<(), AllocError> {
-    match told {
-        Told::Crash => writeln!(
-            out,
-            "<path transform=\"translate({x} {y})\" d=\"M-7 5 L7 19 M7 5 L-7 19\" stroke=\"#b03030\" stroke-width=\"3.5\"/>"
-        ),
-        Told::Restart => writeln!(
-            out,
-            "<path transform=\"translate({x} {y})\" d=\"M0 4 L8 19 L-8 19 Z\" fill=\"#6a3fa0\"/>"
-        ),
-        _ => writeln!(
-            out,
-            "<path transform=\"translate({x} {y})\" d=\"M0 20 V28\" stroke=\"#555555\"/>"
-        ),
-    }
+/// Puts the sign of what was told: a cross for a crash, a triangle for a restart, and else a short line.
+fn put_sign<W: Sink>(page: &mut Page, writer: &mut W, x: u64, y: u64, told: Told)
+    ensures { PutsSome W.contents W.took page.old writer.old page.new writer.new }
+{
+    page.put(
+        writer,
+        &[
+            Text("<path transform=\"translate("),
+            Number(x),
+            Text(" "),
+            Number(y),
+            Text(")\" d=\""),
+            Text(shape_of(told)),
+            Text("/>\n"),
+        ],
+    );
 }
 
-/// Appends a finished section: a dot on its lock's bar, and the words below.
-pub fn push_finish(
-    out: &mut String,
-    alloc: Global,
-    sheet: &Sheet,
-    strip: &Strip,
-    finish: &Finish,
-) -> Result<(), AllocError> {
-    let x = sheet.x(strip.column(finish.line));
-    let top = sheet.lock(finish.receipt.lock);
-    let y = top.saturating_add(BAR + BAR_HEIGHT);
-    writeln!(
-        out,
-        "<circle cx=\"{x}\" cy=\"{y}\" r=\"5\" fill=\"#1f5fa8\"/>"
-    )?;
-    let mut base = top.saturating_add(WORDS);
-    let text = entry_text(alloc, finish)?;
-    for line in &text {
-        base = base.saturating_add(TEXT_LINE);
-        writeln!(
-            out,
-            "<text x=\"{x}\" y=\"{}\" fill=\"#333333\">{line}</text>",
-            base.saturating_sub(TEXT_LINE / 2)
-        )?;
+/// The shape of a sign, and how it is drawn.
+fn shape_of(told: Told) -> &'static str {
+    match told {
+        Told::Crash => "M-7 5 L7 19 M7 5 L-7 19\" stroke=\"#b03030\" stroke-width=\"3.5\"",
+        Told::Restart => "M0 4 L8 19 L-8 19 Z\" fill=\"#6a3fa0\"",
+        _ => "M0 20 V28\" stroke=\"#555555\"",
     }
-    Ok(())
 }

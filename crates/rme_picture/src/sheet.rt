@@ -1,9 +1,9 @@
 //! Where things are on the sheet. Lengths are in units of the picture, about a pixel each.
 
-use crate::drawing::{Drawing, Finish};
-use rme_script::Row;
+use crate::drawing::Drawing;
+use crate::entries::entry_lines;
+use crate::piece::{Piece, digits_of, length_of};
 use std::alloc::{AllocError, Global};
-use std::fmt::Write;
 
 /// The height of what stands above the rows: the title, the legend and the numbers of lines.
 pub const HEAD: u64 = 128;
@@ -35,12 +35,6 @@ const LETTER: u64 = 7;
 /// No other letter is wider.
 const WIDEST_LETTER: u64 = 11;
 
-/// The most letters of a line of an entry's text: an entry is three columns from the next one of its lock.
-const ENTRY_LETTERS: usize = 24;
-
-/// An entry's text names its place, its worker and number, and its reply, before the cells.
-pub const ENTRY_LINES: u64 = 3;
-
 /// Above the numbers of lines there is so much room between a strip and the one before.
 const GAP: u64 = 12;
 
@@ -71,7 +65,7 @@ impl Sheet {
         let left = longest_name(drawing, used.as_slice())
             .saturating_mul(NAME_LETTER)
             .saturating_add(40);
-        let digits = format!(in alloc; "{}", drawing.number)?.len() as u64;
+        let digits = digits_of(u64::from(drawing.number));
         let column = COLUMN.saturating_add(digits.saturating_mul(4));
         let most = STRIP_WIDTH.saturating_sub(left).saturating_sub(BEHIND) / column.max(1);
         let lines = drawing.line.min(most.saturating_sub(1)).max(1);
@@ -99,7 +93,7 @@ impl Sheet {
         drawing: &Drawing,
         used: &[bool],
     ) -> Result<(), AllocError> {
-        let needed = entry_lines(alloc, drawing)?;
+        let needed = most_lines(alloc, drawing)?;
         for (lines, is_used) in needed.iter().zip(used) {
             if !*is_used {
                 self.locks.push(None)?;
@@ -140,13 +134,13 @@ impl Sheet {
     }
 
     /// Whether a text has room in a width.
-    pub fn has_room(&self, text: &str, width: u64) -> bool {
-        (text.len() as u64).saturating_mul(LETTER).saturating_add(6) <= width
+    pub fn has_room(&self, text: &[Piece], width: u64) -> bool {
+        length_of(text).saturating_mul(LETTER).saturating_add(6) <= width
     }
 
     /// Whether a row's name that begins in a column ends on the sheet.
-    pub fn has_room_for_name(&self, name: &str, column: u64) -> bool {
-        let width = (name.len() as u64).saturating_mul(WIDEST_LETTER);
+    pub fn has_room_for_name(&self, name: &[Piece], column: u64) -> bool {
+        let width = length_of(name).saturating_mul(WIDEST_LETTER);
         self.x(column).saturating_add(width) <= self.width
     }
 
@@ -189,42 +183,12 @@ fn used_locks(alloc: Global, drawing: &Drawing) -> Result<Vec<bool>, AllocError>
 }
 
 /// For each lock, how many lines of text its entries need.
-fn entry_lines(alloc: Global, drawing: &Drawing) -> Result<Vec<u64>, AllocError> {
+fn most_lines(alloc: Global, drawing: &Drawing) -> Result<Vec<u64>, AllocError> {
     let mut lines = vec![in alloc; 0u64; drawing.names.len()]?;
     for finish in &drawing.finishes {
-        let needed = cell_lines(alloc, &finish.cells)?.len() as u64;
         if let Some(most) = lines.get_mut(finish.receipt.lock as usize) {
-            *most = (*most).max(ENTRY_LINES.saturating_add(needed));
+            *most = (*most).max(entry_lines(&finish.cells));
         }
     }
     Ok(lines)
-}
-
-/// What the cells of a row hold, in lines that fit an entry's text.
-pub fn cell_lines(alloc: Global, row: &Row) -> Result<Vec<String>, AllocError> {
-    let mut lines = Vec::new(alloc);
-    let mut line = String::from_str(alloc, "cells")?;
-    for cell in 0..row.len() {
-        let value = format!(in alloc; " {}", row.get(cell))?;
-        if line.len().saturating_add(value.len()) > ENTRY_LETTERS {
-            lines.push(line)?;
-            line = String::new(alloc);
-        }
-        line.push_str(value.as_str())?;
-    }
-    lines.push(line)?;
-    Ok(lines)
-}
-
-/// The text of an entry: its place, its worker and number, its reply, and the cells after it.
-pub fn entry_text(alloc: Global, finish: &Finish) -> Result<Vec<String>, AllocError> {
-    let receipt = finish.receipt;
-    let mut text = Vec::new(alloc);
-    text.push(format!(in alloc; "place {}", receipt.place)?)?;
-    text.push(format!(in alloc; "worker {}, job {}", receipt.worker, receipt.number)?)?;
-    text.push(format!(in alloc; "reply {}", receipt.reply)?)?;
-    for line in cell_lines(alloc, &finish.cells)? {
-        text.push(line)?;
-    }
-    Ok(text)
 }

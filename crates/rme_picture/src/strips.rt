@@ -1,17 +1,17 @@
 //! The strips of a picture: stretches of the transcript that are drawn one below the other.
 
-use crate::drawing::{Drawing, Finish, Hold, Mark, Stay};
+use crate::drawing::{Drawing, Hold, Stay};
 use std::alloc::{AllocError, Global};
 
-/// The lines from `first` to `last`, and what was seen in them.
+/// The lines from `first` to `last`, and what was seen in them, by its places in the drawing.
 #[derive(Drop)]
 pub struct Strip {
     pub first: u64,
     pub last: u64,
-    pub stays: Vec<Stay>,
-    pub holds: Vec<Hold>,
-    pub marks: Vec<Mark>,
-    pub finishes: Vec<Finish>,
+    pub stays: Vec<usize>,
+    pub holds: Vec<usize>,
+    pub marks: Vec<usize>,
+    pub finishes: Vec<usize>,
 }
 
 impl Strip {
@@ -31,11 +31,11 @@ impl Strip {
 /// What was seen, in strips of so many lines, in order. A stay and a hold stand in each strip that they reach into.
 pub fn strips_of(alloc: Global, drawing: &Drawing, lines: u64) -> Result<Vec<Strip>, AllocError> {
     let mut strips = empty_strips(alloc, drawing.line, lines)?;
-    for stay in &drawing.stays {
-        add_stay(&mut strips, stay, lines)?;
+    for (index, stay) in drawing.stays.iter().enumerate() {
+        add_stay(&mut strips, index, stay, lines)?;
     }
-    for hold in &drawing.holds {
-        add_hold(&mut strips, hold, lines)?;
+    for (index, hold) in drawing.holds.iter().enumerate() {
+        add_hold(&mut strips, index, hold, lines)?;
     }
     add_marks(&mut strips, drawing, lines)?;
     Ok(strips)
@@ -64,22 +64,22 @@ fn place_of(line: u64, lines: u64) -> u64 {
 }
 
 /// Adds a stay to each strip that it reaches into.
-fn add_stay(strips: &mut [Strip], stay: &Stay, lines: u64) -> Result<(), AllocError> {
+fn add_stay(strips: &mut [Strip], index: usize, stay: &Stay, lines: u64) -> Result<(), AllocError> {
     let last = place_of(stay.to.saturating_sub(1), lines);
     for place in place_of(stay.from, lines)..=last {
         if let Some(strip) = strips.get_mut(place as usize) {
-            strip.stays.push(*stay)?;
+            strip.stays.push(index)?;
         }
     }
     Ok(())
 }
 
 /// Adds a hold to each strip that it reaches into.
-fn add_hold(strips: &mut [Strip], hold: &Hold, lines: u64) -> Result<(), AllocError> {
+fn add_hold(strips: &mut [Strip], index: usize, hold: &Hold, lines: u64) -> Result<(), AllocError> {
     let last = place_of(hold.to.saturating_sub(1), lines);
     for place in place_of(hold.from, lines)..=last {
         if let Some(strip) = strips.get_mut(place as usize) {
-            strip.holds.push(*hold)?;
+            strip.holds.push(index)?;
         }
     }
     Ok(())
@@ -87,18 +87,18 @@ fn add_hold(strips: &mut [Strip], hold: &Hold, lines: u64) -> Result<(), AllocEr
 
 /// Adds what was told and what was finished, each to the strip of its line.
 fn add_marks(strips: &mut [Strip], drawing: &Drawing, lines: u64) -> Result<(), AllocError> {
-    for mark in &drawing.marks {
+    for (index, mark) in drawing.marks.iter().enumerate() {
         if let Some(strip) = strips.get_mut(place_of(mark.line, lines) as usize) {
-            strip.marks.push(*mark)?;
+            strip.marks.push(index)?;
         }
     }
     add_finishes(strips, drawing, lines)
 }
 
 fn add_finishes(strips: &mut [Strip], drawing: &Drawing, lines: u64) -> Result<(), AllocError> {
-    for finish in &drawing.finishes {
+    for (index, finish) in drawing.finishes.iter().enumerate() {
         if let Some(strip) = strips.get_mut(place_of(finish.line, lines) as usize) {
-            strip.finishes.push(*finish)?;
+            strip.finishes.push(index)?;
         }
     }
     Ok(())
