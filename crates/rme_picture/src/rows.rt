@@ -75,6 +75,22 @@ fn put_bar<W: Sink>(
     let x = sheet.x(bar.column);
     let width = sheet.columns(bar.count);
     let y = bar.top.saturating_add(BAR);
+    put_box(page, writer, bar, x, y, width);
+    page.put(writer, tip);
+    page.put(writer, &[Text("</title></rect>\n")]);
+    let middle = x.saturating_add(width / 2);
+    let base = y.saturating_add(16);
+    if sheet.has_room(long, width) {
+        put_centred(page, writer, middle, base, long);
+    } else if sheet.has_room(short, width) {
+        put_centred(page, writer, middle, base, short);
+    }
+}
+
+/// Puts the box of a bar, and begins what is told of it.
+fn put_box<W: Sink>(page: &mut Page, writer: &mut W, bar: Bar, x: u64, y: u64, width: u64)
+    ensures { PutsSome W.contents W.took page.old writer.old page.new writer.new }
+{
     page.put(
         writer,
         &[
@@ -95,15 +111,6 @@ fn put_bar<W: Sink>(
             Text("><title>"),
         ],
     );
-    page.put(writer, tip);
-    page.put(writer, &[Text("</title></rect>\n")]);
-    let middle = x.saturating_add(width / 2);
-    let base = y.saturating_add(16);
-    if sheet.has_room(long, width) {
-        put_centred(page, writer, middle, base, long);
-    } else if sheet.has_room(short, width) {
-        put_centred(page, writer, middle, base, short);
-    }
 }
 
 /// Puts a text that stands in a bar.
