@@ -34,7 +34,7 @@ shown_in drawing = record {
 abbrev pub empty_picture : Picture
 empty_picture = record { workers = 0; names = []; line = 0; number = 0; stays = []; holds = []; marks = []; finishes = [] }
 
--- A text that `svg_of` made of a drawing of this picture. Nothing is said of its letters, and outside this file nothing of
+-- A text that `put_svg` put for a drawing of this picture. Nothing is said of its letters, and outside this file nothing of
 -- what it rests on is known: so a proof that a text is one comes from the painter that made it of that very picture.
 pub IsSvg : Picture → List ℕ → Type 0
 IsSvg picture text = Unit {0}
