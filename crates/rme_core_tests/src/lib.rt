@@ -14,6 +14,8 @@ mod desk;
 #[cfg(test)]
 mod images;
 #[cfg(test)]
+mod mapped;
+#[cfg(test)]
 mod parts;
 #[cfg(test)]
 mod streams;

@@ -15,8 +15,6 @@ mod only;
 mod page;
 mod sound;
 mod stance;
-#[cfg(test)]
-mod tests;
 mod texts;
 mod unread;
 

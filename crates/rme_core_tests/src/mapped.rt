@@ -1,6 +1,6 @@
-//! A file with two workers, and a lock with two cells.
+//! A file of words with two workers, and a lock with two cells.
 
-use crate::{Mapped, Stance, is_mapped, push_damage, push_json, push_text};
+use rme_mapped::{Mapped, Stance, is_mapped, push_damage, push_json, push_text};
 use std::alloc::Global;
 use std::test::Fail;
 
