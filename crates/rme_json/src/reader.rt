@@ -22,8 +22,9 @@ const MOST_DEPTH: usize = 127;
 pub struct ValueReader {
     alloc: Global,
     scratch: Scratch,
-    /// The value of the last line that was not read at the first try.
-    owned: Owned,
+    /// The value of the last line that was not read at the first try, if there was one. It is a list so that it ends by one
+    /// call wherever a reader does.
+    owned: Vec<Owned>,
 }
 
 impl ValueReader {
@@ -32,7 +33,7 @@ impl ValueReader {
         ValueReader {
             alloc,
             scratch: Scratch::new(alloc),
-            owned: Owned::Null,
+            owned: Vec::new(alloc),
         }
     }
 
@@ -51,12 +52,22 @@ impl ValueReader {
         let Some(value) = read_owned(*alloc, line)? else {
             return Ok(None);
         };
-        *owned = value;
-        match lend(*alloc, owned) {
+        match lend(*alloc, keep(owned, value)?) {
             Some(value) => Ok(Some(value)),
             None => Err(NoMemory),
         }
     }
+}
+
+/// Keeps a value in the place of the one before it.
+fn keep(owned: &mut Vec<Owned>, value: Owned) -> Result<&Owned, NoMemory>
+    ensures { IfOk result (λ kept. kept.now ≡ value) }
+{
+    owned.clear();
+    if owned.push(value).is_err() {
+        return Err(NoMemory);
+    }
+    Ok(&owned[0])
 }
 
 /// The value of a line's bytes, where it is found at the first try: its numbers are whole, its objects have few members, and
