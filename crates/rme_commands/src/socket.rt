@@ -39,16 +39,19 @@ pub fn listen_at(rt: &HostRuntime, path: String) -> Result<(UnixListener, Socket
         return Err(Fault::BadArguments(BadArgument::NoFile("--socket")));
     }
     make_way(rt, path.as_str())?;
-    let listener = match put(rt, path.as_str()) {
-        Ok(listener) => listener,
-        Err(error) if error.kind() == ErrorKind::AlreadyExists => {
-            return Err(served_already(rt, path.as_str())?);
-        }
-        Err(error) => return Err(unheard(rt, path.as_str(), error)?),
-    };
+    let listener = listener_at(rt, path.as_str())?;
     match fs::symlink_metadata(rt, path.as_str()) {
         Ok(found) => Ok((listener, file_of(path, &found))),
         Err(error) => Err(unheard(rt, path.as_str(), error)?),
+    }
+}
+
+/// Listens on a socket of this path, at which nothing was.
+fn listener_at(rt: &HostRuntime, path: &str) -> Result<UnixListener, Fault> {
+    match put(rt, path) {
+        Ok(listener) => Ok(listener),
+        Err(error) if error.kind() == ErrorKind::AlreadyExists => Err(served_already(rt, path)?),
+        Err(error) => Err(unheard(rt, path, error)?),
     }
 }
 
@@ -73,22 +76,36 @@ fn file_of(path: String, found: &Metadata) -> SocketFile {
 
 /// Removes a socket on which nobody listens, and refuses whatever else is there.
 fn make_way(rt: &HostRuntime, path: &str) -> Result<(), Fault> {
-    match fs::symlink_metadata(rt, path) {
-        Err(error) if error.kind() == ErrorKind::NotFound => return Ok(()),
-        Err(error) => return Err(unheard(rt, path, error)?),
-        Ok(found) if !found.file_type().is_socket() => {
-            let shown = shown(rt.alloc(), path)?;
-            return Err(Fault::BadArguments(BadArgument::NoSocket(shown)));
-        }
-        Ok(_) => {}
+    if !is_socket(rt, path)? {
+        return Ok(());
     }
-    match UnixStream::connect(rt, path) {
-        Ok(_) => return Err(served_already(rt, path)?),
-        Err(error) if error.kind() == ErrorKind::ConnectionRefused => {}
-        Err(error) => return Err(unheard(rt, path, error)?),
+    if is_served(rt, path)? {
+        return Err(served_already(rt, path)?);
     }
     match fs::remove_file(rt, path) {
         Ok(()) => Ok(()),
+        Err(error) => Err(unheard(rt, path, error)?),
+    }
+}
+
+/// Whether a socket is there; anything else is refused.
+fn is_socket(rt: &HostRuntime, path: &str) -> Result<bool, Fault> {
+    match fs::symlink_metadata(rt, path) {
+        Ok(found) if found.file_type().is_socket() => Ok(true),
+        Ok(_) => {
+            let shown = shown(rt.alloc(), path)?;
+            Err(Fault::BadArguments(BadArgument::NoSocket(shown)))
+        }
+        Err(error) if error.kind() == ErrorKind::NotFound => Ok(false),
+        Err(error) => Err(unheard(rt, path, error)?),
+    }
+}
+
+/// Whether somebody listens on the socket.
+fn is_served(rt: &HostRuntime, path: &str) -> Result<bool, Fault> {
+    match UnixStream::connect(rt, path) {
+        Ok(_) => Ok(true),
+        Err(error) if error.kind() == ErrorKind::ConnectionRefused => Ok(false),
         Err(error) => Err(unheard(rt, path, error)?),
     }
 }

@@ -5,3 +5,4 @@ pub mod Leading
 pub mod Falling
 pub mod Asking
 pub mod Running
+pub mod Stopping

@@ -1,7 +1,10 @@
 -- What the bytes of a file lead to: the first line is a header, and each other line is accepted.
-use Rattle.std.specs.Prelude.{◌≡◌, ℕ, Bool, true, false, List, [], ◌∷◌, Option, Some, None}
+use Rattle.std.specs.Prelude.{◌≡◌, ◌≢◌, ◌⊎◌, ℕ, ◌+◌, ◌-◌, ◌^◌, ◌≤◌, min, Bool, true, false, List, [], ◌∷◌, ◌++◌, length, Option, Some, None}
 use Rattle.rme_lines.specs.Pieces.{InputLine, lines_of}
 use Rattle.rme_words.specs.declared.refusal.Refusal.{Refusal}
+use Rattle.rme_words.specs.declared.refusal.Refusal.TheVariants.{NoMemory}
+use Rattle.rme_journal.specs.declared.fault.BadState.{BadState}
+use Rattle.rme_journal.specs.declared.fault.BadState.TheVariants as bad
 use Rattle.rme_wire.specs.Requests.{request_read}
 use Rattle.rme_wire.specs.declared.command.Command.{Command}
 use Rattle.rme_wire.specs.declared.command.Command.TheVariants.{Submit, Step, Walk, Crash, Restart, Withdraw}
@@ -52,6 +55,57 @@ AcceptsAll old (line ∷ lines) new = (mid : State) × Accepts old line mid × A
 abbrev pub AcceptsAllOf : Option (List ℕ) → State → State → Type 0
 AcceptsAllOf None old new = Unit {0}
 AcceptsAllOf (Some bytes) old new = AcceptsAll old (lines_of bytes) new
+
+-- `rme run` refuses a request, for another reason than want of memory.
+pub record RefusesRequest (old : State) (request : Request) : Type 0 where
+  pub new : State
+  pub why : Refusal
+  pub obeys : Obeys old (Some request) (Refused why) new
+  pub real : why ≢ NoMemory
+
+-- A line is not accepted: it asks for nothing, or for what no file may hold, or it is refused.
+abbrev pub Rejects : State → Option Request → Type 0
+Rejects old None = Unit {0}
+Rejects old (Some request) = (is_kept request ≡ false) ⊎ RefusesRequest old request
+
+-- So many lines were accepted, and the next was not.
+pub record StopsBehind (old : State) (lines : List InputLine) (count : ℕ) : Type 0 where
+  pub front : List InputLine
+  pub line : InputLine
+  pub behind : List InputLine
+  pub are : lines ≡ front ++ line ∷ behind
+  pub many : length front ≡ count
+  pub mid : State
+  pub accepts : AcceptsAll old front mid
+  pub rejects : Rejects mid (request_read mid.names line)
+
+-- The same of the lines of bytes that are known, of a line by its number where the first of them has the number 2.
+abbrev pub StopsAt : Option (List ℕ) → State → ℕ → Type 0
+StopsAt None old number = Unit {0}
+StopsAt (Some bytes) old number = (count : ℕ) × (number ≡ min (2 ^ 64 - 1) (count + 2)) × StopsBehind old (lines_of bytes) count
+
+-- No line opens a world.
+pub record OpensNothing (lines : List InputLine) : Type 0 where
+  pub state : State
+  pub accepts : AcceptsAll nothing_open lines state
+  pub closed : state.world ≡ None
+
+-- Bytes are no kept world for this line, by its number, counted from 1: the first, which is no header; the second, where no
+-- line opens a world; or the first behind the header that is not accepted, where those before it are.
+pub record IsDamaged (bytes : List ℕ) (number : ℕ) : Type 0 where
+  pub some : 1 ≤ number
+  pub behind : 2 ≤ number → (header : InputLine) × (lines : List InputLine) × (lines_of bytes ≡ header ∷ lines)
+      × (((number ≡ 2) × OpensNothing lines) ⊎ ((count : ℕ) × (number ≡ min (2 ^ 64 - 1) (count + 2)) × StopsBehind nothing_open lines count))
+
+-- Why bytes are not read: for one of their lines, or for want of memory.
+abbrev pub IsBad : List ℕ → BadState → Type 0
+IsBad bytes bad.NoMemory = Unit {0}
+IsBad bytes (bad.Line number) = IsDamaged bytes number
+
+-- Why the lines behind a header are not read.
+abbrev pub StopsFor : Option (List ℕ) → State → BadState → Type 0
+StopsFor left old bad.NoMemory = Unit {0}
+StopsFor left old (bad.Line number) = StopsAt left old number
 
 -- From nothing the lines behind a header lead to this world, whose locks have these names.
 pub record Starts (bytes : List ℕ) (names : List (List ℕ)) (world : Seen) : Type 0 where

@@ -1,10 +1,11 @@
 //! The bytes of a file, read as what they did to a world.
 
-ghost use Rattle.std.specs.Prelude.{◌≡◌, IfOk, OnOk, true};
+ghost use Rattle.std.specs.Prelude.{◌≡◌, IfErr, IfOk, OnOk, false, true};
 ghost use Rattle.rme_lines.specs.Cuts.{line_read};
 ghost use Rattle.rme_lines.specs.Readers.{bytes_left};
 ghost use Rattle.rme_engine.specs.Engines.{state_of};
-ghost use Rattle.rme_journal.specs.Starts.{Accepts, AcceptsAllOf, Starts, changes, is_kept, refusal_in};
+ghost use Rattle.rme_wire.specs.Requests.{request_read};
+ghost use Rattle.rme_journal.specs.Starts.{Accepts, AcceptsAllOf, IsBad, Rejects, Starts, StopsFor, changes, is_kept, refusal_in};
 
 use crate::fault::BadState;
 use crate::header::{Header, header_of, header_value};
@@ -49,6 +50,7 @@ pub fn whole_lines(bytes: &[u8]) -> &[u8] {
 /// is none.
 pub fn start<P: Progress>(alloc: Global, bytes: &[u8], progress: &P) -> Result<Started, BadState>
     ensures ok { IfOk result (λ started. Starts bytes.now started.names started.world) }
+    ensures err { IfErr result (λ why. IsBad bytes.now why) }
 {
     let mut reader = LineReader::new(alloc, bytes)?;
     let mut line = Vec::new(alloc);
@@ -85,7 +87,8 @@ fn obey_lines<R: Source + Drop, P: Progress>(
     reader: &mut LineReader<R>,
     progress: &P,
 ) -> Result<u64, BadState>
-    ensures { OnOk result (AcceptsAllOf (bytes_left R.remaining reader.old) (state_of engine.old) (state_of engine.new)) }
+    ensures ok { OnOk result (AcceptsAllOf (bytes_left R.remaining reader.old) (state_of engine.old) (state_of engine.new)) }
+    ensures err { IfErr result (λ why. StopsFor (bytes_left R.remaining reader.old) (state_of engine.old) why) }
 {
     let mut values = ValueReader::new(alloc);
     let mut line = Vec::new(alloc);
@@ -114,7 +117,8 @@ fn obey_line(
     cut: Cut,
     line: &[u8],
 ) -> Result<bool, NoMemory>
-    ensures { IfOk result (λ accepted. accepted ≡ true → Accepts (state_of engine.old) (line_read cut line.now) (state_of engine.new)) }
+    ensures accepts { IfOk result (λ accepted. accepted ≡ true → Accepts (state_of engine.old) (line_read cut line.now) (state_of engine.new)) }
+    ensures rejects { IfOk result (λ accepted. accepted ≡ false → Rejects (state_of engine.old) (request_read (state_of engine.old).names (line_read cut line.now))) }
 {
     if cut == Cut::TooLong {
         return Ok(false);

@@ -151,15 +151,32 @@ impl<'a> StateFile<'a> {
 
 /// Tries to have the file under a name for this server alone.
 fn open_once(rt: &HostRuntime, path: &str) -> Result<Opened, Fault> {
-    match fs::symlink_metadata(rt, path) {
-        Err(error) if error.kind() == ErrorKind::NotFound => return Ok(Opened::NotThere),
-        Err(error) => return Err(unread(rt, path, error)?),
-        Ok(found) if !found.is_file() => {
-            let path = shown(rt.alloc(), path)?;
-            return Err(Fault::BadArguments(BadArgument::NoState(path)));
-        }
-        Ok(_) => {}
+    if !is_there(rt, path)? {
+        return Ok(Opened::NotThere);
     }
+    let file = open_alone(rt, path)?;
+    match is_named(rt, path, &file) {
+        Ok(true) => Ok(Opened::Had(file)),
+        Ok(false) => Ok(Opened::Replaced),
+        Err(error) => Err(unread(rt, path, error)?),
+    }
+}
+
+/// Whether a file has this name; anything else that has it is refused.
+fn is_there(rt: &HostRuntime, path: &str) -> Result<bool, Fault> {
+    match fs::symlink_metadata(rt, path) {
+        Ok(found) if found.is_file() => Ok(true),
+        Ok(_) => {
+            let path = shown(rt.alloc(), path)?;
+            Err(Fault::BadArguments(BadArgument::NoState(path)))
+        }
+        Err(error) if error.kind() == ErrorKind::NotFound => Ok(false),
+        Err(error) => Err(unread(rt, path, error)?),
+    }
+}
+
+/// Opens a file to read it and to write behind its end, and locks it.
+fn open_alone(rt: &HostRuntime, path: &str) -> Result<File, Fault> {
     let mut options = OpenOptions::new();
     options.read(true).append(true);
     let file = match options.open(rt, path) {
@@ -167,14 +184,9 @@ fn open_once(rt: &HostRuntime, path: &str) -> Result<Opened, Fault> {
         Err(error) => return Err(unread(rt, path, error)?),
     };
     match file.try_lock() {
-        Ok(()) => {}
-        Err(TryLockError::WouldBlock) => return Err(served(rt, path)?),
-        Err(TryLockError::Error(error)) => return Err(unread(rt, path, error)?),
-    }
-    match is_named(rt, path, &file) {
-        Ok(true) => Ok(Opened::Had(file)),
-        Ok(false) => Ok(Opened::Replaced),
-        Err(error) => Err(unread(rt, path, error)?),
+        Ok(()) => Ok(file),
+        Err(TryLockError::WouldBlock) => Err(served(rt, path)?),
+        Err(TryLockError::Error(error)) => Err(unread(rt, path, error)?),
     }
 }
 

@@ -1,0 +1,107 @@
+-- Lines that are read one by one, up to one that is not accepted.
+use Rattle.std.proofs.Common.{◌≡◌, ◌≢◌, ℕ, ◌+◌, ◌-◌, ◌^◌, min, List, [], ◌∷◌, ◌++◌, length, append_assoc, length-append, arith, inl, inr, refl, sym, ◌∙◌, ap, subst}
+use Rattle.std.specs.Prelude.{Option, Some, None, Result, Ok, Err, IfErr, IsErrAnd}
+use Rattle.std.specs.Io.KnownBytes.{Keeps}
+use Rattle.rme_lines.specs.Cuts.{Cuts, CutsKnown, line_read}
+use Rattle.rme_lines.specs.Pieces.{InputLine, lines_of, text}
+use Rattle.rme_lines.specs.declared.cut.Cut.{Cut}
+use Rattle.rme_lines.specs.declared.cut.Cut.TheVariants.{Line, TooLong, End}
+use Rattle.rme_wire.specs.Requests.{request_read}
+use Rattle.rme_engine.specs.States.{State, nothing_open}
+use Rattle.rme_journal.specs.declared.fault.BadState.{BadState}
+use Rattle.rme_journal.specs.declared.fault.BadState.TheVariants as bad
+use Rattle.rme_journal.specs.Starts.{Accepts, AcceptsAll, AcceptsAllOf, Rejects, StopsBehind, StopsAt, StopsFor, IsDamaged, IsBad}
+
+-- Of bytes that are known, these lines were read, and all were accepted; the next line has this number.
+pub record ReadKnown (bytes : List ℕ) (start : State) (left : List ℕ) (now : State) (count : ℕ) : Type 0 where
+  pub front : List InputLine
+  pub are : lines_of bytes ≡ front ++ lines_of left
+  pub accepts : AcceptsAll start front now
+  pub number : count ≡ min (2 ^ 64 - 1) (length front + 1)
+
+abbrev pub HasRead : Option (List ℕ) → State → Option (List ℕ) → State → ℕ → Type 0
+HasRead None start left now count = Unit {0}
+HasRead (Some bytes) start None now count = ⊥
+HasRead (Some bytes) start (Some left) now count = ReadKnown bytes start left now count
+
+pub read_none : (first : Option (List ℕ)) (start : State) → HasRead first start first start 1
+read_none None start = tt
+read_none (Some bytes) start = record { front = []; are = refl; accepts = refl; number = omega arith }
+
+accepts_last : (start now next : State) (front : List InputLine) (line : InputLine) → AcceptsAll start front now → Accepts now line next → AcceptsAll start (front ++ line ∷ []) next
+accepts_last start now next [] line all accepts = (next, subst (λ (s : State). Accepts s line next) all accepts, refl)
+accepts_last start now next (l ∷ front) line all accepts = (all.0, all.1, accepts_last all.0 now next front line all.2 accepts)
+
+-- The line that was cut off is the next of the lines.
+next_is : (left later : List ℕ) (cut : Cut) (line : List ℕ) → CutsKnown left later cut line → cut ≢ End → lines_of left ≡ line_read cut line ∷ lines_of later
+next_is left later Line line cuts more = cuts
+next_is left later TooLong line cuts more = cuts
+next_is left later End line cuts more = absurd (more refl)
+
+pub read_one : (first : Option (List ℕ)) (start : State) (left later : Option (List ℕ)) (cut : Cut) (line : List ℕ) (now next : State) (count more : ℕ)
+    → HasRead first start left now count → Cuts left later cut line → cut ≢ End → Accepts now (line_read cut line) next → more ≡ min (2 ^ 64 - 1) (count + 1) → HasRead first start later next more
+read_one None start left later cut line now next count more read cuts is accepts e = tt
+read_one (Some bytes) start None later cut line now next count more read cuts is accepts e = absurd read
+read_one (Some bytes) start (Some left) None cut line now next count more read cuts is accepts e = absurd cuts
+read_one (Some bytes) start (Some left) (Some later) cut line now next count more read cuts is accepts e =
+    let this = line_read cut line in
+    let longer : length (read.front ++ this ∷ []) ≡ length read.front + 1 = length-append read.front (this ∷ []) in
+    record {
+      front = read.front ++ this ∷ [];
+      are = read.are ∙ ap (λ ls. read.front ++ ls) (next_is left later cut line cuts is) ∙ sym (append_assoc read.front (this ∷ []) (lines_of later));
+      accepts = accepts_last start now next read.front this read.accepts accepts;
+      number = omega (arith, e, longer, read.number);
+    }
+
+pub stops_here : (first : Option (List ℕ)) (start : State) (left later : Option (List ℕ)) (cut : Cut) (line : List ℕ) (now : State) (count more : ℕ)
+    → HasRead first start left now count → Cuts left later cut line → cut ≢ End → Rejects now (request_read now.names (line_read cut line)) → more ≡ min (2 ^ 64 - 1) (count + 1) → StopsAt first start more
+stops_here None start left later cut line now count more read cuts is rejects e = tt
+stops_here (Some bytes) start None later cut line now count more read cuts is rejects e = absurd read
+stops_here (Some bytes) start (Some left) None cut line now count more read cuts is rejects e = absurd cuts
+stops_here (Some bytes) start (Some left) (Some later) cut line now count more read cuts is rejects e = (
+  length read.front,
+  omega (arith, e, read.number),
+  record {
+    front = read.front;
+    line = line_read cut line;
+    behind = lines_of later;
+    are = read.are ∙ ap (λ ls. read.front ++ ls) (next_is left later cut line cuts is);
+    many = refl;
+    mid = now;
+    accepts = read.accepts;
+    rejects = rejects;
+  },
+)
+
+-- A header, and behind it lines of which one was not accepted.
+damaged_from : (bytes : List ℕ) (header : InputLine) (lines : List InputLine) (count number : ℕ) → lines_of bytes ≡ header ∷ lines → number ≡ min (2 ^ 64 - 1) (count + 2) → StopsBehind nothing_open lines count → IsDamaged bytes number
+damaged_from bytes header lines count number are is stops = record { some = omega (arith, is); behind = λ two. (header, lines, are, inr (count, is, stops)) }
+
+pub bad_from : (bytes line : List ℕ) (left later : Option (List ℕ)) (cut : Cut) (first : State) (why : BadState) → Keeps (Some bytes) left → Cuts left later cut line → cut ≡ Line → first ≡ nothing_open → StopsFor later first why → IsBad bytes why
+bad_from bytes line left later cut first bad.NoMemory keeps cuts is new stops = tt
+bad_from bytes line None later cut first (bad.Line number) keeps cuts is new stops = absurd keeps
+bad_from bytes line (Some left) None cut first (bad.Line number) keeps cuts is new stops = absurd cuts
+bad_from bytes line (Some left) (Some later) cut first (bad.Line number) keeps cuts is new stops =
+    let K : Cut → Type 0 = λ (c : Cut). CutsKnown left later c line in
+    let S : State → Type 0 = λ (s : State). StopsBehind s (lines_of later) stops.0 in
+    damaged_from bytes (text line) (lines_of later) stops.0 number (ap lines_of (sym keeps) ∙ subst K is cuts) stops.1 (subst S new stops.2)
+
+-- A header, and behind it lines that open nothing.
+pub bad_second : (bytes line : List ℕ) (left later : Option (List ℕ)) (cut : Cut) (first state : State) → Keeps (Some bytes) left → Cuts left later cut line → cut ≡ Line → first ≡ nothing_open → AcceptsAllOf later first state → state.world ≡ None → IsDamaged bytes 2
+bad_second bytes line None later cut first state keeps cuts is new all closed = absurd keeps
+bad_second bytes line (Some left) None cut first state keeps cuts is new all closed = absurd cuts
+bad_second bytes line (Some left) (Some later) cut first state keeps cuts is new all closed =
+    let K : Cut → Type 0 = λ (c : Cut). CutsKnown left later c line in
+    let A : State → Type 0 = λ (s : State). AcceptsAll s (lines_of later) state in
+    record {
+      some = omega arith;
+      behind = λ two. (text line, lines_of later, ap lines_of (sym keeps) ∙ subst K is cuts, inl (refl, record { state = state; accepts = subst A new all; closed = closed }));
+    }
+
+pub bad_first : (bytes : List ℕ) → IsDamaged bytes 1
+bad_first bytes = record { some = omega arith; behind = λ two. absurd (omega (arith, two)) }
+
+-- A fault that is handed on is the same.
+pub err_is : {T : Type 0} (result : Result T BadState) (why : BadState) (P : BadState → Type 0) → IsErrAnd result (λ e. e ≡ why) → P why → IfErr result P
+err_is (Ok value) why P same bad = absurd same
+err_is (Err e) why P same bad = subst P (sym same) bad
