@@ -2,6 +2,7 @@
 
 use rme_wire::{ValueReader, lend};
 use serde_json::Value;
+use std::alloc::Global;
 use std::test::Fail;
 
 /// Lines of all forms, those that hold no value among them; each is read behind what the one before it left.
@@ -22,16 +23,21 @@ const LINES: [&str; 14] = [
     "[18446744073709551615]",
 ];
 
+/// Whether a reader reads of a line what serde_json reads of it.
+fn reads_the_same(alloc: Global, values: &mut ValueReader, line: &str) -> Result<bool, Fail> {
+    let ours = values.read(line.as_bytes())?;
+    match Value::from_slice(alloc, line.as_bytes()) {
+        Ok(theirs) => Ok(ours == lend(alloc, &theirs)),
+        Err(_) => Ok(ours.is_none()),
+    }
+}
+
 /// One reader reads of each line what serde_json reads of it.
 #[test]
 fn one_after_another(rt: HostRuntime) -> Result<(), Fail> {
     let mut values = ValueReader::new(rt.alloc());
     for line in LINES {
-        let ours = values.read(line.as_bytes())?;
-        match Value::from_slice(rt.alloc(), line.as_bytes()) {
-            Ok(theirs) => assert!(rt; ours == lend(rt.alloc(), &theirs)),
-            Err(_) => assert!(rt; ours.is_none()),
-        }
+        assert!(rt; reads_the_same(rt.alloc(), &mut values, line)?);
     }
     Ok(())
 }
