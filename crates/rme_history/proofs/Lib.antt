@@ -6,3 +6,4 @@ pub mod Folds
 pub mod Following
 pub mod Pairs
 pub mod Returning
+pub mod Listings

@@ -5,3 +5,4 @@ pub mod Legal
 pub mod Laws
 pub mod Folds
 pub mod Tallies
+pub mod Listings

@@ -8,13 +8,16 @@
 //! answers their rows. Begin with `specs/Legal.antt`, and then `replaying.rt`.
 #![tactic(auto)]
 
+mod entry_list;
 mod fault;
 mod fold;
+mod head;
 pub mod laws;
 mod places;
 mod replaying;
 mod tally;
 
+pub use entry_list::EntryList;
 pub use fault::ReplayFault;
 pub use fold::Fold;
 pub use places::by_place;

@@ -1,0 +1,131 @@
+//! Finished sections in a list that takes little room.
+
+ghost use Rattle.std.specs.Prelude.{◌≡◌, ◌+◌, ◌≤◌, ◌++◌, length, vec_capacity};
+ghost use Rattle.rme_history.specs.Listings.{IsHead, entry_of as section_of};
+
+use crate::head::Head;
+use rme_program::{Entry, Receipt};
+use rme_script::{MOST_OPERATIONS, Op, Script};
+use rme_words::NoMemory;
+use std::alloc::Global;
+use std::marker::Model;
+
+/// No list has room for more: where the operations of a script begin is a number of 32 bits.
+const MOST_ENTRIES: usize = u32::MAX as usize / MOST_OPERATIONS;
+
+/// Finished sections, in order. One whose script has a single operation takes 48 bytes, of which an `Entry` has 160: memory that
+/// is written for the first time is dear.
+#[derive(Drop)]
+pub struct EntryList {
+    heads: Vec<Head>,
+    ops: Vec<Op>,
+    room: usize,
+}
+
+impl Model for EntryList {
+    ghost use Rattle.std.specs.Prelude.{vec_capacity};
+    ghost use Rattle.rme_history.specs.Listings.{Listing, IsListed, entries_of};
+
+    ghost Value = { Listing };
+
+    ghost view = { λ list. record { entries = entries_of list.ops.items list.heads.items; room = list.room } };
+
+    ghost invariant = { λ list. IsListed list.ops.items list.heads.items list.room (vec_capacity list.ops) (vec_capacity list.heads) };
+}
+
+impl EntryList {
+    ghost use Rattle.std.specs.Prelude.{◌≡◌, ◌-◌, ◌<◌, ◌≤◌, [], ◌∷◌, ◌++◌, IfOk, length, option_map, slice_get};
+    ghost use Rattle.rme_program.specs.declared.note.Entry.{Entry as Section};
+
+    /// An empty list with room for so many entries, whatever their scripts; `NoMemory` where it was refused.
+    pub fn with_room(alloc: Global, room: usize) -> Result<EntryList, NoMemory>
+        ensures none { IfOk result (λ list. list.entries ≡ []) }
+        ensures room { IfOk result (λ list. list.room ≡ room) }
+    {
+        if room > MOST_ENTRIES {
+            return Err(NoMemory);
+        }
+        let Ok(heads) = Vec::with_capacity(alloc, room) else {
+            return Err(NoMemory);
+        };
+        let Ok(ops) = Vec::with_capacity(alloc, room * MOST_OPERATIONS) else {
+            return Err(NoMemory);
+        };
+        Ok(EntryList { heads, ops, room })
+    }
+
+    /// How many there are.
+    pub fn len(&self) -> usize
+        ensures { result ≡ length self.now.entries }
+    {
+        self.heads.len()
+    }
+
+    /// The entry at this place, from 0.
+    pub fn get(&self, at: usize) -> Option<Entry>
+        ensures { result ≡ slice_get self.now.entries at }
+    {
+        let Some(head) = self.heads.get(at) else {
+            return None;
+        };
+        Some(entry_of(&self.ops, *head))
+    }
+
+    /// The receipt of the entry at this place.
+    pub fn receipt(&self, at: usize) -> Option<Receipt>
+        ensures { result ≡ option_map (λ (section : Section). section.receipt) (slice_get self.now.entries at) }
+    {
+        let Some(head) = self.heads.get(at) else {
+            return None;
+        };
+        Some(head.receipt)
+    }
+
+    /// The last entry.
+    pub fn last(&self) -> Option<Entry>
+        ensures { result ≡ slice_get self.now.entries (length self.now.entries - 1) }
+    {
+        self.get(self.len().saturating_sub(1))
+    }
+
+    /// Puts an entry behind the others. There is room for it, and its script has no more operations than a job may have.
+    pub fn push(&mut self, receipt: Receipt, script: &Script)
+        requires room { length self.old.entries < self.old.room }
+        requires few { script.now.n ≤ 8 }
+        ensures entries { self.new.entries ≡ self.old.entries ++ record { receipt = receipt; script = script.now } ∷ [] }
+        ensures room { self.new.room ≡ self.old.room }
+    {
+        let head = Head {
+            receipt,
+            start: self.ops.len() as u32,
+            count: script.n(),
+        };
+        put_ops(&mut self.ops, script);
+        self.heads.push_reserved(head);
+    }
+}
+
+/// The entry of a head.
+fn entry_of(ops: &[Op], head: Head) -> Entry
+    requires { IsHead (length ops.now) head }
+    ensures { result ≡ section_of ops.now head }
+{
+    let start = head.start as usize;
+    Entry {
+        receipt: head.receipt,
+        script: Script::of(&ops[start..start + head.count as usize]),
+    }
+}
+
+/// Puts a script's operations behind others, in order.
+fn put_ops(ops: &mut Vec<Op>, script: &Script)
+    requires few { script.now.n ≤ 8 }
+    requires room { length ops.old.items + script.now.n ≤ vec_capacity ops.old }
+    ensures items { ops.new.items ≡ ops.old.items ++ script.now.ops }
+    ensures count { length script.now.ops ≡ script.now.n }
+    ensures room { vec_capacity ops.new ≡ vec_capacity ops.old }
+{
+    for i in 0..script.n() {
+        ops.push_reserved(script.op(i));
+    }
+}
