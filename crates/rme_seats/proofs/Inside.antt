@@ -1,8 +1,6 @@
 -- A worker that is inside a lock and only recovers stays there, alone.
-use Rattle.std.proofs.Common.{◌≡◌, ℕ, List, [], ◌∷◌, ◌++◌, inr, refl, sym, ap, ◌∙◌, subst}
-use Rattle.std.specs.Prelude.{Some, slice_get}
+use Rattle.std.proofs.Common.{◌≡◌, ℕ, List, [], ◌∷◌, ◌++◌, inr, refl, sym, ap, ◌∙◌}
 use Rattle.rme_words.specs.declared.shape.Shape.{Shape}
-use Rattle.rme_program.specs.declared.kinds.Phase.{Phase}
 use Rattle.rme_program.specs.declared.kinds.Phase.TheVariants.{Recover, Exit}
 use Rattle.rme_program.specs.declared.note.Note.{Note}
 use Rattle.rme_program.specs.declared.note.Note.TheVariants.{Quiet, Asked, Blocked, Entered, Reentered, Finished, Left, Ready, Withdrew}
@@ -15,7 +13,7 @@ use Rattle.rme_machine.specs.declared.label.Act.TheVariants.{Leave, Still}
 use Rattle.rme_machine.specs.declared.label.Label.{Label}
 use Rattle.rme_machine.specs.declared.label.Label.TheVariants.{Nothing, Of}
 use Rattle.rme_machine.specs.Shown.{act_of}
-use Rattle.rme_machine.specs.Theorems.{HasNoLeave, IsAloneAt, IsReached}
+use Rattle.rme_machine.specs.Theorems.{HasNoLeave, IsReached}
 use Rattle.rme_machine.proofs.Reached.{reentry}
 use Rattle.rme_seats.specs.declared.operation.Operation.{Operation}
 use Rattle.rme_seats.specs.declared.operation.Operation.TheVariants as operation

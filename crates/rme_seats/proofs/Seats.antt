@@ -34,7 +34,7 @@ use Rattle.rme_seats.specs.Steps.{Stood, Stepped, Sees, Looked, Went, went, word
 use Rattle.rme_seats.specs.Stands.{Ident, Stand, IsService, IsSeated}
 use Rattle.rme_seats.specs.Chances.{Tally, Asks}
 use Rattle.rme_seats.specs.Doing.{is_plain, May, MayPlainly, MayFinish, MadeStep}
-use Rattle.rme_machine.specs.Histories.{entries_by, numbers_by}
+use Rattle.rme_machine.specs.Histories.{entries_by, numbers_by, IsLegalAfter}
 use Rattle.rme_machine.proofs.Historical.{rises_few}
 use Rattle.rme_seats.proofs.Worlds.{there}
 use Rattle.rme_seats.proofs.Going.{goes, looks}
@@ -238,6 +238,36 @@ entry_room mine tid key shape me ident stand table worker drafted es room seated
     let few = few_entries after.0.shape (lone after.0) now.stood in
     let long : length (lone after.0).entries ≡ length es + 1 = ap length now.all ∙ length-append es (record { receipt = receipt; script = script } ∷ []) in
     omega (arith, few, long, now.jobs)
+
+-- The script of a finished section has no more operations than a job may have.
+AreShort : List Entry → Type 0
+AreShort [] = Unit {0}
+AreShort (e ∷ es) = (e.script.n ≤ 8) × AreShort es
+
+entries_short : (s : Shape) (earlier es : List Entry) (w : ℕ) → IsLegalAfter s earlier es → AreShort (entries_by es w)
+unfolding AreShort
+entries_short s earlier [] w legal = tt
+entries_short s earlier (e ∷ es) w legal = elim (cases_Bool (e.receipt.worker == w)) [
+  | inl t ↦ rw t (legal.0.follows.job.script.few, entries_short s (earlier ++ e ∷ []) es w legal.1)
+  | inr f ↦ rw f (entries_short s (earlier ++ e ∷ []) es w legal.1)
+]
+
+last_short : (before : List Entry) (e : Entry) → AreShort (before ++ e ∷ []) → e.script.n ≤ 8
+unfolding AreShort
+last_short [] e short = short.0
+last_short (first ∷ before) e short = last_short before e short.1
+
+pub script_short : (mine tid : TableId) (key shape : Shape) (me : Me ℕ Record) (ident : Ident) (stand : Stand) (table : AtTable mine tid key shape me ident stand)
+    (worker : ℕ) (drafted : Bool) (es : List Entry) (room : ℕ) (seated : IsSeated me worker drafted es room) (at : ℕ) (receipt : Receipt) (script : Program) (after : Me ℕ Record)
+    (told : Went onward no_step me receipt.number after) (may : MayFinish ident.shape stand.part at receipt) → draft_script stand.part.draft ≡ script → script.n ≤ 8
+script_short mine tid key shape me ident stand table worker drafted es room seated at receipt script after told may drafts =
+    let e : Entry = record { receipt = receipt; script = script } in
+    let now = now_finished mine tid key shape me ident stand table worker drafted es room seated at receipt script after told may drafts (es ++ e ∷ []) room refl refl in
+    let stood = now.stood in
+    let its = (lone after.0).worker in
+    let book : entries_by stood.history its ≡ es ++ e ∷ [] =
+    (stood.world.books its stood.worker).entries ∙ ap (λ (q : Part). q.entries) stood.here ∙ now.all in
+    last_short es e (subst AreShort book (entries_short after.0.shape [] stood.history its stood.world.fact.legal))
 
 -- A reader's load may be made too.
 pub may_look : (mine tid : TableId) (key shape : Shape) (me : Me ℕ Record) (ident : Ident) (stand : Stand) (table : AtTable mine tid key shape me ident stand) (id at : ℕ) (known : Step ℕ)

@@ -8,6 +8,7 @@ use crate::rule::{AllParts, Place};
 use crate::seat::WorkerSeat;
 use crate::service::Service;
 use atomic_table::Closed;
+use rme_history::EntryList;
 use rme_program::Entry;
 use std::alloc::Global;
 
@@ -132,13 +133,16 @@ impl WorkerSeat {
 }
 
 /// Puts the entries to the history, one after another.
-fn put_all(history: &mut Vec<Entry>, entries: &[Entry])
-    requires { length history.old.items + length entries.now ≤ vec_capacity history.old }
-    ensures entries { history.new.items ≡ history.old.items ++ entries.now }
+fn put_all(history: &mut Vec<Entry>, entries: &EntryList)
+    requires { length history.old.items + length entries.now.entries ≤ vec_capacity history.old }
+    ensures entries { history.new.items ≡ history.old.items ++ entries.now.entries }
     ensures room { vec_capacity history.new ≡ vec_capacity history.old }
 {
-    for entry in entries {
-        history.push_reserved(*entry);
+    for at in 0..entries.len() {
+        let Some(entry) = entries.get(at) else {
+            unreachable!();
+        };
+        history.push_reserved(entry);
     }
 }
 

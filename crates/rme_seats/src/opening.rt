@@ -6,7 +6,7 @@ use crate::rule::{FirstPart, Place};
 use crate::seat::WorkerSeat;
 use crate::service::Service;
 use atomic_table::Table;
-use rme_program::Entry;
+use rme_history::EntryList;
 use rme_words::{NoMemory, Shape};
 use std::alloc::Global;
 
@@ -26,7 +26,7 @@ impl Service {
         let mut seats = room_for_seats(alloc, shape)?;
         let (service, mut seat) = Service::lay(alloc, shape)?;
         for worker in 0..shape.workers {
-            let entries = room_for_entries(alloc, shape)?;
+            let entries = EntryList::with_room(alloc, shape.jobs as usize)?;
             seats.push_reserved(service.deal(&mut seat, worker, entries));
         }
         Ok((service, seats))
@@ -47,12 +47,12 @@ impl Service {
     }
 
     /// The seat of a worker, whose part the first seat gives away.
-    fn deal(&self, seat: &mut Place, worker: u32, entries: Vec<Entry>) -> WorkerSeat
+    fn deal(&self, seat: &mut Place, worker: u32, entries: EntryList) -> WorkerSeat
         requires own { seat.old.table_id ≡ self.now.table }
         requires parts { seat.old.me ≡ (from_worker self.now.shape worker, []) }
         requires worker { worker < self.now.shape.workers }
-        requires none { entries.items ≡ [] }
-        requires room { self.now.shape.jobs ≤ vec_capacity entries }
+        requires none { entries.entries ≡ [] }
+        requires room { self.now.shape.jobs ≤ entries.room }
         ensures same { seat.new.table_id ≡ seat.old.table_id }
         ensures parts { seat.new.me ≡ (from_worker self.now.shape (worker + 1), []) }
         ensures fresh { result ≡ record { ident = self.now; part = fresh_part worker } }
@@ -73,16 +73,6 @@ fn room_for_seats(alloc: Global, shape: Shape) -> Result<Vec<WorkerSeat>, NoMemo
 {
     match Vec::with_capacity(alloc, shape.workers as usize) {
         Ok(seats) => Ok(seats),
-        Err(_) => Err(NoMemory),
-    }
-}
-
-/// Room for the entries of one worker.
-fn room_for_entries(alloc: Global, shape: Shape) -> Result<Vec<Entry>, NoMemory>
-    ensures { IfOk result (λ entries. (entries.items ≡ []) × (shape.jobs ≤ vec_capacity entries)) }
-{
-    match Vec::with_capacity(alloc, shape.jobs as usize) {
-        Ok(entries) => Ok(entries),
         Err(_) => Err(NoMemory),
     }
 }

@@ -7,7 +7,8 @@ use crate::leads::{Lead, Onward, Posting, Submit};
 use crate::plays::{Goes, Looks};
 use crate::rule::Place;
 use crate::service::Service;
-use rme_program::{Entry, Receipt};
+use rme_history::EntryList;
+use rme_program::Receipt;
 use rme_script::Script;
 use std::marker::Model;
 
@@ -22,11 +23,10 @@ pub struct WorkerSeat {
     pub(crate) worker: u32,
     /// Whether a job was ever handed to the worker.
     pub(crate) drafted: bool,
-    pub(crate) entries: Vec<Entry>,
+    pub(crate) entries: EntryList,
 }
 
 impl Model for WorkerSeat {
-    ghost use Rattle.std.specs.Prelude.{vec_capacity};
     ghost use Rattle.rme_seats.specs.Rule.{lone};
     ghost use Rattle.rme_seats.specs.Stands.{Stand, IsSeated};
 
@@ -34,7 +34,7 @@ impl Model for WorkerSeat {
 
     ghost view = { λ s. record { ident = record { table = s.seat.table_id; shape = s.seat.me.0.shape }; part = lone s.seat.me.0 } };
 
-    ghost invariant = { λ s. IsSeated s.seat.me s.worker s.drafted s.entries.items (vec_capacity s.entries) };
+    ghost invariant = { λ s. IsSeated s.seat.me s.worker s.drafted s.entries.entries s.entries.room };
 }
 
 impl WorkerSeat {
@@ -56,8 +56,8 @@ impl WorkerSeat {
     }
 
     /// The worker's finished sections, in order.
-    pub fn entries(&self) -> &[Entry]
-        ensures { result.now ≡ self.now.part.entries }
+    pub fn entries(&self) -> &EntryList
+        ensures { result.now.entries ≡ self.now.part.entries }
     {
         &self.entries
     }
@@ -176,10 +176,7 @@ impl WorkerSeat {
             .table
             .shared
             .store::<Goes<Onward>>(&mut self.seat, at + 1, receipt.number as u64);
-        self.entries.push_reserved(Entry {
-            receipt,
-            script: *script,
-        });
+        self.entries.push(receipt, script);
         Ok(())
     }
 
