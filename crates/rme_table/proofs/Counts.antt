@@ -1,5 +1,5 @@
 -- What was gathered, with the counts of each lock taken from it, is a close that counts.
-use Rattle.std.proofs.Common.{◌≡◌, ◌⊎◌, ℕ, ◌+◌, ◌<◌, ◌≤◌, List, [], ◌∷◌, ◌++◌, length, refl, sym, ◌∙◌, ap, subst, inl, inr, arith}
+use Rattle.std.proofs.Common.{◌≡◌, ℕ, ◌+◌, ◌<◌, ◌≤◌, List, [], ◌∷◌, ◌++◌, length, refl, sym, ◌∙◌, ap, subst, inl, inr, arith}
 use Rattle.std.specs.Prelude.{Bool, true, false, not, slice_get, slice_set, Option, Some, None}
 use Rattle.std.proofs.lemmas.Option.{slice_get_within}
 use Rattle.rme_words.specs.declared.shape.Shape.{Shape}
@@ -9,7 +9,7 @@ use Rattle.rme_words.specs.Words.{Memory}
 use Rattle.rme_tree.specs.Nodes.{owner_in}
 use Rattle.rme_program.specs.declared.note.Entry.{Entry}
 use Rattle.rme_machine.specs.Fact.{Stands, StandsOwned}
-use Rattle.rme_machine.specs.Histories.{entries_at, place_of}
+use Rattle.rme_machine.specs.Histories.{place_of}
 use Rattle.rme_machine.specs.ShownCells.{ShownCells}
 use Rattle.rme_machine.specs.Views.{LockWords, WorkerWords, is_pending, lock_words, worker_words}
 use Rattle.rme_machine.proofs.Sections.{place_count}
@@ -22,7 +22,7 @@ use Rattle.rme_table.specs.declared.closed.CountedLock.{CountedLock}
 use Rattle.rme_table.specs.Downs.{all_given}
 use Rattle.rme_table.specs.Filling.{is_done}
 use Rattle.rme_table.specs.Closing.{shown_in}
-use Rattle.rme_table.specs.Counting.{HasCountRoom, HaveCountRoom, IsCount, IsCounted, IsCountedLock, finished_by}
+use Rattle.rme_table.specs.Counting.{HasCountRoom, IsCount, IsCounted, IsCountedLock, finished_by}
 use Rattle.rme_table.proofs.Closes.{settled_as}
 use Rattle.rme_table.proofs.Filled.{written}
 

@@ -1,11 +1,16 @@
 -- Lists that are gone through from the front: what is counted and what is kept of them.
-use Rattle.std.proofs.Common.{◌≡◌, ℕ, zero, suc, ◌+◌, ◌<◌, ◌≤◌, List, [], ◌∷◌, ◌++◌, length, take, get_or, refl, sym, ◌∙◌, ap, inl, inr, arith}
+use Rattle.std.proofs.Common.{◌≡◌, ℕ, zero, suc, ◌+◌, ◌<◌, ◌≤◌, ◌-◌, List, [], ◌∷◌, ◌++◌, length, take, get_or, Some, slice_get, refl, sym, ◌∙◌, ap, inl, inr, arith}
 use Rattle.std.specs.Prelude.{Bool, true, false, ◌==◌, filter, if◌then◌else◌}
 use Rattle.std.specs.List.{list_all, range_with_len}
+use Rattle.std.specs.Option.{option_map}
 use Rattle.std.proofs.lemmas.Bool.{cases_Bool, cases_eq, eq-eqb, and_parts}
 use Rattle.std.proofs.lemmas.List.{length-append, append-nil}
 use Rattle.std.proofs.lemmas.List.Elements.{filter-append}
+use Rattle.std.proofs.lemmas.Option.{slice_get_cases, slice_get_within, same_Some, none-some}
+use Rattle.std.proofs.Math.Seq.{take-length}
+use Rattle.rme_script.proofs.Lists.{take_next}
 use Rattle.rme_program.specs.declared.note.Entry.{Entry}
+use Rattle.rme_program.specs.declared.note.Receipt.{Receipt}
 use Rattle.rme_machine.specs.Histories.{entries_at}
 use Rattle.rme_seats.specs.Rule.{total}
 use Rattle.rme_seats.specs.Stands.{Stand}
@@ -41,6 +46,26 @@ module _ (lock : ℕ) (es : List Entry) (i : ℕ) (d : Entry) (within : i < leng
 
   pub left_one : ((get_or es i d).receipt.lock == lock) ≡ false → entries_at (take (i + 1) es) lock ≡ entries_at (take i es) lock
   left_one is = more ∙ ap (λ (b : Bool). entries_at (take i es) lock ++ (if b then get_or es i d ∷ [] else [])) is ∙ append-nil (entries_at (take i es) lock)
+
+-- One more of a lock is counted where the next one's receipt is of that lock.
+pub count_more : (lock : ℕ) (es : List Entry) (i : ℕ) (r : Receipt) → option_map (λ (e : Entry). e.receipt) (slice_get es i) ≡ Some r
+    → length (entries_at (take (i + 1) es) lock) ≡ length (entries_at (take i es) lock) + (if r.lock == lock then 1 else 0)
+count_more lock es i r is = elim (slice_get_cases es i).1 [
+  | inl (e, within, found, there) ↦
+      let same : (get_or es i e).receipt ≡ r = ap (λ (d : Entry). d.receipt) there ∙ same_Some _ _ (ap (option_map (λ (d : Entry). d.receipt)) (sym found) ∙ is) in
+      elim (cases_Bool (r.lock == lock)) [
+        | inl t ↦ rw t (ap length (kept_one lock es i e within (ap (λ (q : Receipt). q.lock == lock) same ∙ t)) ∙ length-append (entries_at (take i es) lock) (get_or es i e ∷ []))
+        | inr f ↦ rw f (let here = ap length (left_one lock es i e within (ap (λ (q : Receipt). q.lock == lock) same ∙ f)) in omega (arith, here))
+      ]
+  | inr (past, none) ↦ absurd (none-some _ (ap (option_map (λ (d : Entry). d.receipt)) (sym none) ∙ is))
+]
+
+-- The last one of a list stands behind the others.
+pub split_last : (es : List Entry) (e : Entry) → slice_get es (length es - 1) ≡ Some e → (before : List Entry) × (last : Entry) × (es ≡ before ++ last ∷ []) × (last.receipt ≡ e.receipt)
+split_last es e is =
+    let within = slice_get_within es (length es - 1) e is in
+    let all : (length es - 1) + 1 ≡ length es = omega (arith, within) in
+    (take (length es - 1) es, e, sym (take-length es) ∙ ap (λ (n : ℕ). take n es) (sym all) ∙ take_next es (length es - 1) e is, refl)
 
 -- What is kept of the first ones is no more than what is kept of all.
 pub few_kept : (lock : ℕ) (es : List Entry) (i : ℕ) → length (entries_at (take i es) lock) ≤ length (entries_at es lock)

@@ -1,5 +1,5 @@
 -- The number that a worker knows is its word Begun, from the first own step of Recover on.
-use Rattle.std.proofs.Common.{◌≡◌, ℕ, refl, sym, ◌∙◌, ap, subst}
+use Rattle.std.proofs.Common.{◌≡◌, ℕ, refl, ◌∙◌, ap, subst}
 use Rattle.std.specs.Prelude.{Bool, true, false, Some}
 use Rattle.rme_words.specs.declared.shape.Shape.{Shape}
 use Rattle.rme_tree.specs.Nodes.{held_in}
@@ -14,7 +14,7 @@ use Rattle.rme_machine.specs.Fits.{Knows, KnowsDeparture}
 use Rattle.rme_seats.specs.declared.record.Part.{Part}
 use Rattle.rme_seats.specs.Rule.{memory_in}
 use Rattle.rme_seats.specs.Doing.{IsAt}
-use Rattle.rme_seats.specs.Stands.{Ident, Stand}
+use Rattle.rme_seats.specs.Stands.{Ident}
 use Rattle.rme_phases.specs.declared.recovering.Found.{Found}
 use Rattle.rme_phases.specs.declared.recovering.Found.TheVariants as found
 use Rattle.rme_phases.specs.Finds.{found_stage}

@@ -1,6 +1,6 @@
 //! A worker that is down.
 
-use rme_program::Entry;
+use rme_history::EntryList;
 use rme_seats::WorkerSeat;
 use std::marker::Model;
 
@@ -34,8 +34,8 @@ impl Down {
     }
 
     /// The worker's finished sections, in order.
-    pub fn entries(&self) -> &[Entry]
-        ensures { result.now ≡ self.now.part.entries }
+    pub fn entries(&self) -> &EntryList
+        ensures { result.now.entries ≡ self.now.part.entries }
     {
         self.seat.entries()
     }
@@ -44,6 +44,6 @@ impl Down {
     pub fn fresh(&self) -> bool
         ensures { result ≡ is_fresh self.now.part }
     {
-        !self.seat.is_drafted() && self.seat.entries().is_empty()
+        !self.seat.is_drafted() && self.seat.entries().len() == 0
     }
 }

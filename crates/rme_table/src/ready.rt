@@ -7,8 +7,9 @@ use crate::admitted::Admitted;
 use crate::down::Down;
 use crate::kinds::{Climb, Posted, Ready};
 use crate::service::Service;
+use rme_history::EntryList;
 use rme_phases::post;
-use rme_program::{Entry, Receipt, WITHDRAWN_PLACE};
+use rme_program::{Receipt, WITHDRAWN_PLACE};
 use rme_script::Job;
 use rme_seats::{Chance, Posting};
 use rme_words::Refusal;
@@ -145,8 +146,8 @@ impl Ready {
 }
 
 /// The receipt of the last entry.
-fn last_receipt(entries: &[Entry]) -> Option<Receipt>
-    ensures { result ≡ last_receipt entries.now }
+fn last_receipt(entries: &EntryList) -> Option<Receipt>
+    ensures { result ≡ last_receipt entries.now.entries }
 {
     match entries.last() {
         None => None,

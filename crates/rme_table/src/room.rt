@@ -9,6 +9,7 @@ ghost use Rattle.rme_table.specs.Filling.{HasRoom, HaveRoom, IsRoom, copied};
 
 use crate::closed::ClosedLock;
 use crate::down::Down;
+use rme_history::EntryList;
 use rme_program::Entry;
 use rme_seats::WorkerSeat;
 use rme_words::{NoMemory, Shape};
@@ -65,12 +66,15 @@ fn count_at(downs: &[Down], lock: u32) -> Option<usize>
 }
 
 /// How many entries are of a lock.
-fn count_in(entries: &[Entry], lock: u32) -> usize
-    ensures { result ≡ length (entries_at entries.now lock) }
+fn count_in(entries: &EntryList, lock: u32) -> usize
+    ensures { result ≡ length (entries_at entries.now.entries lock) }
 {
     let mut count = 0;
-    for entry in entries {
-        if entry.receipt.lock == lock {
+    for at in 0..entries.len() {
+        let Some(receipt) = entries.receipt(at) else {
+            unreachable!();
+        };
+        if receipt.lock == lock {
             count += 1;
         }
     }

@@ -3,4 +3,4 @@ use Rattle.rme_table.specs.Calls.{receipt_in}
 use Rattle.rme_table.proofs.ready.last_receipt.Goals as goal
 
 pub returns-in-Some : goal.returns-in-Some
-returns-in-Some c = ap receipt_in c.in-Some.ensures.value
+returns-in-Some c = ap receipt_in c.in-Some.ensures

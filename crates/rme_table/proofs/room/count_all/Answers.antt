@@ -1,4 +1,4 @@
-use Rattle.std.proofs.Common.{List, length, ap}
+use Rattle.std.proofs.Common.{List, length, ap, ◌∙◌}
 use Rattle.rme_program.specs.declared.note.Entry.{Entry}
 use Rattle.rme_seats.specs.Stands.{Stand}
 use Rattle.rme_table.proofs.Entries.{total_next}
@@ -7,4 +7,4 @@ use Rattle.rme_table.proofs.room.count_all.Goals as goal
 pub loop-down-preserved : goal.loop-down-preserved
 loop-down-preserved c =
     total_next (λ (down : Stand). length down.part.entries) c.args.downs.now c.loop-down.down-index c.down-item.result _ _ _ c.loop-down.invariant c.loop-down-test.true c.down-item.is
-    (ap (λ (es : List Entry). length es) c.entries.ensures) c.in_ok-count.ensures.1
+    (c.len.ensures ∙ ap (λ (es : List Entry). length es) c.entries.ensures) c.in_ok-count.ensures.1
