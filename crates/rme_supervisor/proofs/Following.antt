@@ -1,5 +1,5 @@
 -- Whether the entries of a worker follow its plan, one entry after another, and those of all workers theirs.
-use Rattle.std.proofs.Common.{◌≡◌, ℕ, ◌+◌, ◌<◌, List, [], ◌∷◌, ◌++◌, length, take, get_or, ap, sym, ◌∙◌, subst, arith, inl, inr}
+use Rattle.std.proofs.Common.{◌≡◌, ℕ, ◌+◌, ◌<◌, List, [], ◌∷◌, ◌++◌, take, get_or, ap, sym, ◌∙◌, subst, arith, inl, inr}
 use Rattle.std.specs.Prelude.{slice_get, Some}
 use Rattle.std.proofs.lemmas.Bool.{cases_eq}
 use Rattle.std.proofs.lemmas.List.{map-append, take_more}
@@ -12,9 +12,11 @@ use Rattle.rme_supervisor.specs.declared.plan.WorkerPlan.{WorkerPlan}
 use Rattle.rme_supervisor.specs.Supervised.{Follows, job_of, jobs_in}
 
 -- One more entry is of the next job.
-pub first_more : (entries : List Entry) (jobs : List Job) (i : ℕ) (entry : Entry) (job : Job) → i < length entries → entry ≡ get_or entries i entry → slice_get jobs i ≡ Some job → job_of entry ≡ job
+pub first_more : (entries : List Entry) (jobs : List Job) (i : ℕ) (entry : Entry) (job : Job) → slice_get entries i ≡ Some entry → slice_get jobs i ≡ Some job → job_of entry ≡ job
     → jobs_in (take i entries) ≡ take i jobs → jobs_in (take (i + 1) entries) ≡ take (i + 1) jobs
-first_more entries jobs i entry job within entry_is at of before =
+first_more entries jobs i entry job here at of before =
+    let within = slice_get_within entries i entry here in
+    let entry_is : entry ≡ get_or entries i entry = sym (get_or_from_slice_get entries i entry entry here) in
     let there : job_of (get_or entries i entry) ≡ get_or jobs i job = ap job_of (sym entry_is) ∙ of ∙ sym (get_or_from_slice_get jobs i job job at) in
     let last : jobs_in (take i entries ++ get_or entries i entry ∷ []) ≡ jobs_in (take i entries) ++ job_of (get_or entries i entry) ∷ [] = map-append job_of (take i entries) (get_or entries i entry ∷ []) in
     ap jobs_in (take_more entries i entry within) ∙ last ∙ ap (λ (js : List Job). js ++ job_of (get_or entries i entry) ∷ []) before ∙ ap (λ (j : Job). take i jobs ++ j ∷ []) there

@@ -6,6 +6,7 @@ ghost use Rattle.rme_supervisor.specs.Supervised.{AreAll, AllFollow, Follows, Is
 
 use crate::end::End;
 use crate::plan::WorkerPlan;
+use rme_history::EntryList;
 use rme_program::Entry;
 use rme_script::Job;
 use rme_table::Down;
@@ -108,21 +109,24 @@ fn all_follow(fresh: bool, plans: &[WorkerPlan], downs: &[Down], ends: &[End]) -
 }
 
 /// Whether entries are the first jobs of a plan, in order, each once, and all of them where all are done.
-fn follows(plan: &WorkerPlan, entries: &[Entry], end: End) -> bool
-    ensures { IsTrue result ↔ Follows plan.now entries.now end }
+fn follows(plan: &WorkerPlan, entries: &EntryList, end: End) -> bool
+    ensures { IsTrue result ↔ Follows plan.now entries.now.entries end }
 {
     are_first(plan, entries) && (end != End::AllDone || plan.job(entries.len()).is_none())
 }
 
 /// Whether entries are the first jobs of a plan, in order, each once.
-fn are_first(plan: &WorkerPlan, entries: &[Entry]) -> bool
-    ensures { IsTrue result ↔ (jobs_in entries.now ≡ take (length entries.now) (planned plan.now)) }
+fn are_first(plan: &WorkerPlan, entries: &EntryList) -> bool
+    ensures { IsTrue result ↔ (jobs_in entries.now.entries ≡ take (length entries.now.entries) (planned plan.now)) }
 {
     for i in 0..entries.len() {
+        let Some(entry) = entries.get(i) else {
+            unreachable!();
+        };
         let Some(job) = plan.job(i) else {
             return false;
         };
-        if !is_of_job(&entries[i], job) {
+        if !is_of_job(&entry, job) {
             return false;
         }
     }
