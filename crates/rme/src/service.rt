@@ -5,6 +5,7 @@
 //! before each own step whether the worker falls there: `Never` says no, and `Plan` says yes once. `close` answers the
 //! finished sections of each lock, and `close_counted` how many there are, without memory.
 
+pub use rme_history::EntryList;
 pub use rme_server::Plan;
 pub use rme_table::{
     Chance, Climb, Closed, ClosedLock, CountRoom, Counted, CountedLock, Down, Held, Kept, Leave,

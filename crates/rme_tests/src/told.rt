@@ -67,10 +67,16 @@ pub fn receipt((worker, lock, number, place, reply): Numbers) -> Receipt {
 /// An entry: a receipt and the operations of its job.
 pub type Told<'a> = (Numbers, &'a [Op]);
 
+/// Whether an entry is this one.
+pub fn entry_is(entry: &Entry, told: &Told<'_>) -> bool {
+    let (numbers, operations) = told;
+    entry.receipt == receipt(*numbers) && entry.script == Script::of(operations)
+}
+
 /// Whether a list has just these entries.
-pub fn entries_are(entries: &[Entry], told: &[Told<'_>]) -> bool {
-    for (entry, (numbers, operations)) in entries.iter().zip(told) {
-        if entry.receipt != receipt(*numbers) || entry.script != Script::of(operations) {
+fn entries_are(entries: &[Entry], told: &[Told<'_>]) -> bool {
+    for (entry, told) in entries.iter().zip(told) {
+        if !entry_is(entry, told) {
             return false;
         }
     }

@@ -6,9 +6,9 @@ use crate::service::plays::Call::{
 };
 use crate::service::plays::{Call, live};
 use crate::service::values::next;
-use crate::told::{Numbers, Told, entries_are, open};
+use crate::told::{Numbers, Told, entry_is, open};
 use rme::Op;
-use rme::service::Down;
+use rme::service::{Down, EntryList};
 use std::process::Abort;
 use std::test::Fail;
 
@@ -41,10 +41,22 @@ const WITH_FALLS: &[Call] = &[
     IsReady(1, Some(FINISHED)),
 ];
 
+/// Whether a list has just these entries.
+fn list_is(entries: &EntryList, told: &[Told<'_>]) -> bool {
+    let mut at = 0;
+    for told in told {
+        if !entries.get(at).is_some_and(|entry| entry_is(&entry, told)) {
+            return false;
+        }
+        at += 1;
+    }
+    entries.len() == at && entries.last().is_some() == (at > 0)
+}
+
 /// A Down must have this number, be fresh or not, and have just these entries.
 fn down_is(rt: &impl Abort, down: &Down, worker: u32, fresh: bool, told: &[Told]) {
     assert!(rt; down.worker() == worker && down.fresh() == fresh);
-    assert!(rt; entries_are(down.entries(), told));
+    assert!(rt; list_is(down.entries(), told));
 }
 
 /// What each value of a worker tells.

@@ -7,7 +7,7 @@ use crate::service::lives::live_on;
 use crate::service::plans::{Numbers, Plan, draw_plan};
 use crate::service::watch::Watch;
 use crate::told::open;
-use rme::service::{ClosedLock, Down, Service};
+use rme::service::{ClosedLock, Down, EntryList, Service};
 use rme::{Entry, Job, Refusal};
 use std::process::Abort;
 use std::sync::atomic::{AtomicU64, Ordering};
@@ -58,12 +58,13 @@ fn is_made(entry: &Entry, worker: u32, number: u32, job: &Job) -> bool {
 }
 
 /// The entries of a worker are its jobs, in order, each once.
-fn check_entries(rt: &impl Abort, worker: u32, entries: &[Entry], jobs: &[Job]) {
+fn check_entries(rt: &impl Abort, worker: u32, entries: &EntryList, jobs: &[Job]) {
     assert!(rt; entries.len() == jobs.len());
     let mut number: u32 = 0;
-    for (entry, job) in entries.iter().zip(jobs) {
+    for job in jobs {
+        let entry = entries.get(number as usize);
         number = number.saturating_add(1);
-        assert!(rt; is_made(entry, worker, number, job));
+        assert!(rt; entry.is_some_and(|entry| is_made(&entry, worker, number, job)));
     }
 }
 
