@@ -2,7 +2,7 @@
 
 use rme_session_lines::SERVICE_NUMBERS;
 use rme_texts::{ToldReceipt, push_receipt};
-use rme_wire::{Names, Value, ValueReader, lock_of, small, up_to};
+use rme_wire::{Names, Room, Value, ValueReader, lock_of, small, up_to};
 use rme_words::{NoMemory, Shape};
 use std::alloc::{AllocError, Global};
 
@@ -98,9 +98,10 @@ fn push_places(out: &mut String, places: &[i64]) -> Result<(), AllocError> {
 /// The value of a header's line; `None` where the line is none of this version.
 pub(crate) fn header_value<'a>(
     values: &'a mut ValueReader,
+    room: &'a mut Room,
     line: &'a [u8],
 ) -> Result<Option<Value<'a>>, NoMemory> {
-    let Some(value) = values.read(line)? else {
+    let Some(value) = values.read(room, line)? else {
         return Ok(None);
     };
     if is_header(&value) {

@@ -12,7 +12,7 @@ use crate::header::{Header, header_of, header_value};
 use memchr::memrchr;
 use rme_engine::{Engine, TalliedWorld};
 use rme_texts::Reply;
-use rme_wire::{Command, Cut, LineReader, Names, Request, Source, ValueReader, request_of};
+use rme_wire::{Command, Cut, LineReader, Names, Request, Room, Source, ValueReader, request_of};
 use rme_words::{NoMemory, Refusal};
 use rme_world::World;
 use std::alloc::Global;
@@ -60,7 +60,8 @@ pub fn start<P: Progress>(alloc: Global, bytes: &[u8], progress: &P) -> Result<S
         Cut::TooLong | Cut::End => return Err(BadState::Line(1)),
     }
     let mut values = ValueReader::new(alloc);
-    let Some(header) = header_value(&mut values, line.as_slice())? else {
+    let mut room = Room::new();
+    let Some(header) = header_value(&mut values, &mut room, line.as_slice())? else {
         return Err(BadState::Line(1));
     };
     let mut engine = Engine::new(alloc)?;

@@ -15,5 +15,5 @@ mod tree;
 mod value;
 
 pub use lent::lend;
-pub use reader::ValueReader;
+pub use reader::{Room, ValueReader};
 pub use value::Value;

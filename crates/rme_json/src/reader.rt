@@ -22,9 +22,19 @@ const MOST_DEPTH: usize = 127;
 pub struct ValueReader {
     alloc: Global,
     scratch: Scratch,
-    /// The value of the last line that was not read at the first try, if there was one. It is a list so that it ends by one
-    /// call wherever a reader does.
-    owned: Vec<Owned>,
+}
+
+/// Where the value of a line is kept that is not read at the first try. An empty one takes no memory.
+#[derive(Drop)]
+pub struct Room {
+    owned: Option<Owned>,
+}
+
+impl Room {
+    /// A room in which nothing is kept yet.
+    pub fn new() -> Room {
+        Room { owned: None }
+    }
 }
 
 impl ValueReader {
@@ -33,41 +43,29 @@ impl ValueReader {
         ValueReader {
             alloc,
             scratch: Scratch::new(alloc),
-            owned: Vec::new(alloc),
         }
     }
 
     /// The value of a line's bytes, or `None` where they are none. `NoMemory` says that there was no room for it.
-    pub fn read<'a>(&'a mut self, line: &'a [u8]) -> Result<Option<Value<'a>>, NoMemory>
+    pub fn read<'a>(
+        &'a mut self,
+        room: &'a mut Room,
+        line: &'a [u8],
+    ) -> Result<Option<Value<'a>>, NoMemory>
         ensures { IfOk result (λ value. option_map view value ≡ value_of line.now) }
     {
-        let ValueReader {
-            alloc,
-            scratch,
-            owned,
-        } = self;
+        let ValueReader { alloc, scratch } = self;
         if let Some(value) = read_soon(*alloc, scratch, line) {
             return Ok(Some(value));
         }
         let Some(value) = read_owned(*alloc, line)? else {
             return Ok(None);
         };
-        match lend(*alloc, keep(owned, value)?) {
+        match lend(*alloc, room.owned.insert(value)) {
             Some(value) => Ok(Some(value)),
             None => Err(NoMemory),
         }
     }
-}
-
-/// Keeps a value in the place of the one before it.
-fn keep(owned: &mut Vec<Owned>, value: Owned) -> Result<&Owned, NoMemory>
-    ensures { IfOk result (λ kept. kept.now ≡ value) }
-{
-    owned.clear();
-    if owned.push(value).is_err() {
-        return Err(NoMemory);
-    }
-    Ok(&owned[0])
 }
 
 /// The value of a line's bytes, where it is found at the first try: its numbers are whole, its objects have few members, and

@@ -1,7 +1,7 @@
 //! Look-ups, which a session may ask for with or without a worker.
 
 use rme_texts::{Reply, push_reply};
-use rme_wire::{Names, Value, ValueReader, lock_of, word_of};
+use rme_wire::{Names, Room, Value, ValueReader, lock_of, word_of};
 use rme_words::NoMemory;
 use rme_world::World;
 use std::alloc::{AllocError, Global};
@@ -20,7 +20,8 @@ pub enum Look {
 /// The look-up of a line; `None` where the line is none.
 pub fn look_of(alloc: Global, names: &Names, line: &[u8]) -> Result<Option<Look>, NoMemory> {
     let mut values = ValueReader::new(alloc);
-    match values.read(line)? {
+    let mut room = Room::new();
+    match values.read(&mut room, line)? {
         None => Ok(None),
         Some(value) => Ok(look_in(names, &value)),
     }

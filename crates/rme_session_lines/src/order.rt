@@ -5,7 +5,9 @@ ghost use Rattle.rme_json.specs.View.{view};
 ghost use Rattle.rme_session_lines.specs.Orders as spec;
 
 use rme_script::Job;
-use rme_wire::{Names, Value, ValueReader, lock_of, script_of, small, up_to, word_of, worker_of};
+use rme_wire::{
+    Names, Room, Value, ValueReader, lock_of, script_of, small, up_to, word_of, worker_of,
+};
 use rme_words::NoMemory;
 use std::alloc::Global;
 
@@ -108,7 +110,8 @@ pub fn order_of(
 ) -> Result<Option<Order>, NoMemory>
     ensures { IfOk result (λ order. order ≡ spec.order_of_line names.now most line.now) }
 {
-    match values.read(line)? {
+    let mut room = Room::new();
+    match values.read(&mut room, line)? {
         None => Ok(None),
         Some(value) => Ok(order_of_value(names, most, &value)),
     }

@@ -7,7 +7,7 @@ ghost use Rattle.rme_verdicts.specs.EventLines as spec;
 use rme_program::{Note, Receipt};
 use rme_script::Job;
 use rme_texts::{EventLine, Handed, Names};
-use rme_wire::{Value, ValueReader, script_of, small, word_of, worker_of};
+use rme_wire::{Room, Value, ValueReader, script_of, small, word_of, worker_of};
 use rme_words::NoMemory;
 
 /// The event and the answer that a transcript's line tells, or `None` where it is no event line.
@@ -21,7 +21,8 @@ pub fn event_of(
 ) -> Result<Option<EventLine>, NoMemory>
     ensures { IfOk result (λ event. event ≡ spec.event_of_line names.now line.now) }
 {
-    match values.read(line)? {
+    let mut room = Room::new();
+    match values.read(&mut room, line)? {
         None => Ok(None),
         Some(value) => Ok(event_of_value(names, &value)),
     }

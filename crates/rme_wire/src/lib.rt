@@ -19,7 +19,7 @@ pub use loading::Loading;
 pub use opening::{GivenNames, Opening};
 pub use operation::script_of;
 pub use request::{Request, request_of};
-pub use rme_json::{Value, ValueReader, lend};
+pub use rme_json::{Room, Value, ValueReader, lend};
 pub use rme_lines::{Cut, EngineFault, Exchange, LineReader, Pending, Sink, Source, put_all};
 pub use rme_names::{Image, Names, is_name};
 pub use shaped::names_and_shape;

@@ -8,7 +8,7 @@ use crate::command::{Command, command_named};
 use crate::loading::{Loading, loading_of};
 use crate::opening::{Opening, opening_of};
 use crate::value::word_of;
-use rme_json::{Value, ValueReader};
+use rme_json::{Room, Value, ValueReader};
 use rme_names::Names;
 use rme_words::NoMemory;
 use std::alloc::{AllocError, Global};
@@ -36,7 +36,8 @@ pub fn request_of(
 ) -> Result<Option<Request>, NoMemory>
     ensures { IfOk result (λ request. request ≡ spec.request_of_line names.now line.now) }
 {
-    match values.read(line)? {
+    let mut room = Room::new();
+    match values.read(&mut room, line)? {
         None => Ok(None),
         Some(value) => match request_of_value(alloc, names, &value) {
             Ok(request) => Ok(request),

@@ -1,6 +1,6 @@
 //! The values of lines, read one after another by one reader.
 
-use rme_wire::{ValueReader, lend};
+use rme_wire::{Room, ValueReader, lend};
 use serde_json::Value;
 use std::test::Fail;
 
@@ -24,7 +24,8 @@ const LINES: [&str; 14] = [
 
 /// Whether a reader finds a value in a line.
 fn finds(values: &mut ValueReader, line: &str) -> Result<bool, Fail> {
-    Ok(values.read(line.as_bytes())?.is_some())
+    let mut room = Room::new();
+    Ok(values.read(&mut room, line.as_bytes())?.is_some())
 }
 
 /// One reader finds a value in each line in which serde_json finds one, and in no other.
@@ -42,13 +43,18 @@ fn one_after_another(rt: HostRuntime) -> Result<(), Fail> {
 #[test]
 fn what_is_read(rt: HostRuntime) -> Result<(), Fail> {
     let mut values = ValueReader::new(rt.alloc());
-    let twice = values.read(br#"{"a":1,"a":2}"#)?.expect(&rt, "a value");
+    let mut room = Room::new();
+    let twice = values
+        .read(&mut room, br#"{"a":1,"a":2}"#)?
+        .expect(&rt, "a value");
     assert!(rt; twice.get("a").and_then(|a| a.as_u64()) == Some(2));
     drop(twice);
-    assert!(rt; values.read(br#"{"a":1"#)?.is_none());
-    assert!(rt; values.read(b"1 2")?.is_none());
-    assert!(rt; values.read(b"\"\xff\"")?.is_none());
-    let whole = values.read(b"18446744073709551615")?.expect(&rt, "a value");
+    assert!(rt; values.read(&mut room, br#"{"a":1"#)?.is_none());
+    assert!(rt; values.read(&mut room, b"1 2")?.is_none());
+    assert!(rt; values.read(&mut room, b"\"\xff\"")?.is_none());
+    let whole = values
+        .read(&mut room, b"18446744073709551615")?
+        .expect(&rt, "a value");
     assert!(rt; whole.as_u64() == Some(18_446_744_073_709_551_615));
     Ok(())
 }
