@@ -4,8 +4,9 @@
    Each worker is a thread that runs its jobs, each one the script Add(0, 1): it posts the job on its slate, climbs
    the tree of the lock, runs the section and leaves. The words lie packed, one after another, as the service numbers
    them, with word 0 unused. So neighbours share cache lines here where they do there, which counts most where each
-   thread has a lock for itself. For each finished job an entry of 160 bytes, the receipt and the script, goes to the
-   worker's own list, which was reserved and not touched before. With one worker a job takes 28 operations on words.
+   thread has a lock for itself. For each finished job an entry, the receipt and the script, goes to the worker's own
+   list, which was reserved and not touched before: 160 bytes, or, compiled with SMALL, 48 as in the service. With one
+   worker a job takes 28 operations on words.
 
    It is a fair comparison since a job does on shared words what the service does, a general script included: length,
    operations and mask are read from the words, and the parity of the turn is asked. What it does not have is what the
@@ -46,12 +47,23 @@ struct receipt {
     uint64_t reply;
 };
 
+#ifdef SMALL
+/* The operations of its script lie in a list of their own, `n` of them from `start` on. */
+struct entry {
+    struct receipt receipt;
+    uint32_t start;
+    uint32_t n;
+};
+
+_Static_assert(sizeof(struct entry) + sizeof(struct operation) == 48, "an entry of one operation has 48 bytes, as in the service");
+#else
 struct entry {
     struct receipt receipt;
     struct script script;
 };
 
-_Static_assert(sizeof(struct entry) == 160, "an entry has 160 bytes, as in the service");
+_Static_assert(sizeof(struct entry) == 160, "an entry has the script with room for eight operations");
+#endif
 _Static_assert(sizeof(_Atomic uint64_t) == 8, "a word has 8 bytes");
 
 typedef _Atomic uint64_t word;
@@ -63,12 +75,19 @@ struct worker {
     word *own;
     struct entry *entries;
     uint32_t length;
+#ifdef SMALL
+    struct operation *operations;
+    uint32_t used;
+#endif
 };
 
 static struct run run;
 static unsigned leaves, height;
 static word *words;
 static struct entry *lists[MOST_THREADS];
+#ifdef SMALL
+static struct operation *operations[MOST_THREADS];
+#endif
 
 /* Where the block of a worker and of a lock begins. That of the lock after the last is the number of all words. */
 static size_t worker_start(unsigned worker) {
@@ -260,15 +279,30 @@ static void leave(struct worker *self, word *lock) {
     }
 }
 
+/* Puts the entry of a finished job to the worker's list. */
+static void put(struct worker *self, struct receipt receipt, const struct script *script) {
+#ifdef SMALL
+    self->entries[self->length++] = (struct entry){receipt, self->used, script->n};
+    for (uint32_t i = 0; i < script->n; i++) {
+        self->operations[self->used++] = script->operations[i];
+    }
+#else
+    self->entries[self->length++] = (struct entry){receipt, *script};
+#endif
+}
+
 static void work(unsigned number) {
-    struct worker self = {number, 0, own_words(number), lists[number], 0};
+    struct worker self = {.number = number, .own = own_words(number), .entries = lists[number]};
+#ifdef SMALL
+    self.operations = operations[number];
+#endif
     unsigned lock = lock_of(&run, number);
     const struct script script = {.operations = {{ADD, 0, 1}}, .n = 1};
     for (unsigned job = 0; job < run.jobs; job++) {
         post(&self, lock, &script);
         climb(&self, lock_words(lock));
         struct receipt receipt = section(&self, lock, lock_words(lock));
-        self.entries[self.length++] = (struct entry){receipt, script};
+        put(&self, receipt, &script);
         leave(&self, lock_words(lock));
     }
 }
@@ -311,6 +345,12 @@ int main(int count, char **arguments) {
         if (lists[worker] == NULL) {
             fail("no memory");
         }
+#ifdef SMALL
+        operations[worker] = malloc((size_t)run.jobs * MOST_OPERATIONS * sizeof(struct operation));
+        if (operations[worker] == NULL) {
+            fail("no memory");
+        }
+#endif
     }
     uint64_t time = time_of(&run, work);
     check();
