@@ -9,7 +9,11 @@ use Rattle.rme_lines.specs.declared.cut.Cut.{Cut}
 use Rattle.rme_lines.specs.declared.cut.Cut.TheVariants.{Line, TooLong, End}
 use Rattle.rme_engine.specs.States.{State, nothing_open}
 use Rattle.rme_engine.specs.declared.tallied.TalliedWorld.{TalliedWorld}
-use Rattle.rme_journal.specs.Starts.{Accepts, AcceptsAll, AcceptsAllOf, Starts}
+use Rattle.rme_json.specs.Values.{value_of}
+use Rattle.serde_json.specs.Data.{Data}
+use Rattle.rme_words.specs.declared.shape.Shape.{Shape}
+use Rattle.rme_journal.specs.Headers.{IsOfThisVersion, IsPastOf, Past, TellsPast}
+use Rattle.rme_journal.specs.Starts.{Accepts, AcceptsAll, AcceptsAllOf, BeginsWith, Starts}
 
 -- Whatever the lines that are left lead to, all lines lead to.
 pub record Leads (first : Option (List ℕ)) (start : State) (left : Option (List ℕ)) (now : State) : Type 0 where
@@ -38,7 +42,7 @@ leads_end first start (Some before) (Some after) line now leads cuts = leads.on 
 abbrev pub with_names : List (List ℕ) → TalliedWorld → List (List ℕ) × TalliedWorld
 with_names names tallied = (names, tallied)
 
-opened : (state : State) (names : List (List ℕ)) (tallied : TalliedWorld) (world : Option TalliedWorld) → state.world ≡ world → option_map (with_names state.names) world ≡ Some (with_names names tallied) → state ≡ record { names = names; world = Some tallied }
+pub opened : (state : State) (names : List (List ℕ)) (tallied : TalliedWorld) (world : Option TalliedWorld) → state.world ≡ world → option_map (with_names state.names) world ≡ Some (with_names names tallied) → state ≡ record { names = names; world = Some tallied }
 opened state names tallied None is e = absurd (none-some (with_names names tallied) e)
 opened state names tallied (Some w) is e =
     let q : with_names state.names w ≡ with_names names tallied = same_Some _ _ e in
@@ -48,6 +52,20 @@ opened state names tallied (Some w) is e =
     let W : Option TalliedWorld → Type 0 = λ (v : Option TalliedWorld). state ≡ record { names = state.names; world = v } in
     let same : state ≡ record { names = state.names; world = state.world } = refl in
     subst N a (subst W (is ∙ ap Some b) same)
+
+-- The line that was cut off first is a header of this world.
+pub begins_with : (bytes line : List ℕ) (left later : Option (List ℕ)) (cut : Cut) (names : List (List ℕ)) (shape : Shape) (value : Data) (past : Past) → Keeps (Some bytes) left → Cuts left later cut line → cut ≡ Line
+    → (value_of line ≡ Some value) × IsOfThisVersion value → TellsPast names value past × IsPastOf shape past → BeginsWith bytes names shape past
+begins_with bytes line None later cut names shape value past keeps cuts is reads tells = absurd keeps
+begins_with bytes line (Some left) None cut names shape value past keeps cuts is reads tells = absurd cuts
+begins_with bytes line (Some left) (Some later) cut names shape value past keeps cuts is reads tells =
+    let K : Cut → Type 0 = λ (c : Cut). CutsKnown left later c line in
+    record {
+      first = line;
+      lines = lines_of later;
+      are = ap lines_of (sym keeps) ∙ subst K is cuts;
+      header = record { value = value; reads = reads.0; version = reads.1; tells = tells.0; may = tells.1 };
+    }
 
 -- A header, and behind it lines that were all accepted.
 pub starts_from : (bytes line : List ℕ) (left later : Option (List ℕ)) (cut : Cut) (names : List (List ℕ)) (tallied : TalliedWorld) (first state : State) → Keeps (Some bytes) left → Cuts left later cut line → cut ≡ Line → first ≡ nothing_open

@@ -1,6 +1,9 @@
--- How texts of lines grow; how deep values nest; what lines that are read lead to.
+-- How texts of lines grow; how deep values nest; what line 1 tells, and that it tells one thing at most; what lines that are
+-- read lead to.
 pub mod Growing
 pub mod Nesting
+pub mod Telling
+pub mod OnePast
 pub mod Leading
 pub mod Falling
 pub mod Asking

@@ -1,16 +1,22 @@
 -- Lines that are read one by one, up to one that is not accepted.
 use Rattle.std.proofs.Common.{◌≡◌, ◌≢◌, ℕ, ◌+◌, ◌-◌, ◌^◌, min, List, [], ◌∷◌, ◌++◌, length, append_assoc, length-append, arith, inl, inr, refl, sym, ◌∙◌, ap, subst}
-use Rattle.std.specs.Prelude.{Option, Some, None, Result, Ok, Err, IfErr, IsErrAnd}
+use Rattle.std.specs.Prelude.{Option, Some, None, ◌⊎◌, option_map, Result, Ok, Err, IfErr, IsErrAnd}
 use Rattle.std.specs.Io.KnownBytes.{Keeps}
 use Rattle.rme_lines.specs.Cuts.{Cuts, CutsKnown, line_read}
-use Rattle.rme_lines.specs.Pieces.{InputLine, lines_of, text}
+use Rattle.rme_lines.specs.Pieces.{InputLine, lines_of, text, too_long}
 use Rattle.rme_lines.specs.declared.cut.Cut.{Cut}
 use Rattle.rme_lines.specs.declared.cut.Cut.TheVariants.{Line, TooLong, End}
 use Rattle.rme_wire.specs.Requests.{request_read}
 use Rattle.rme_engine.specs.States.{State, nothing_open}
 use Rattle.rme_journal.specs.declared.fault.BadState.{BadState}
 use Rattle.rme_journal.specs.declared.fault.BadState.TheVariants as bad
-use Rattle.rme_journal.specs.Starts.{Accepts, AcceptsAll, AcceptsAllOf, Rejects, StopsBehind, StopsAt, StopsFor, IsDamaged, IsBad}
+use Rattle.rme_json.specs.Values.{value_of}
+use Rattle.serde_json.specs.Data.{Data}
+use Rattle.rme_words.specs.declared.shape.Shape.{Shape}
+use Rattle.rme_engine.specs.declared.tallied.TalliedWorld.{TalliedWorld}
+use Rattle.rme_journal.specs.Headers.{IsHeader, IsOfThisVersion, IsPastOf, Past, TellsPast}
+use Rattle.rme_journal.proofs.Leading.{opened, with_names}
+use Rattle.rme_journal.specs.Starts.{Accepts, AcceptsAll, AcceptsAllOf, Rejects, StopsBehind, StopsAt, StopsFor, HasNoHeader, LeadsElsewhere, IsDamaged, IsBad}
 
 -- Of bytes that are known, these lines were read, and all were accepted; the next line has this number.
 pub record ReadKnown (bytes : List ℕ) (start : State) (left : List ℕ) (now : State) (count : ℕ) : Type 0 where
@@ -73,9 +79,16 @@ stops_here (Some bytes) start (Some left) (Some later) cut line now count more r
   },
 )
 
+-- What a header tells is told by the value of its line.
+told_of : (names : List (List ℕ)) (shape : Shape) (line : List ℕ) (past : Past) (value : Data) → value_of line ≡ Some value → IsHeader names shape line past → TellsPast names value past × IsPastOf shape past
+told_of names shape line past value reads header =
+    let e = header.reads in
+    let same : header.value ≡ value = cc in
+    let P : Data → Type 0 = λ (v : Data). TellsPast names v past in (subst P same header.tells, header.may)
+
 -- A header, and behind it lines of which one was not accepted.
 damaged_from : (bytes : List ℕ) (header : InputLine) (lines : List InputLine) (count number : ℕ) → lines_of bytes ≡ header ∷ lines → number ≡ min (2 ^ 64 - 1) (count + 2) → StopsBehind nothing_open lines count → IsDamaged bytes number
-damaged_from bytes header lines count number are is stops = record { some = omega (arith, is); behind = λ two. (header, lines, are, inr (count, is, stops)) }
+damaged_from bytes header lines count number are is stops = record { some = omega (arith, is); first = λ one. absurd (omega (arith, is, one)); behind = λ two. (header, lines, are, inr (count, is, stops)) }
 
 pub bad_from : (bytes line : List ℕ) (left later : Option (List ℕ)) (cut : Cut) (first : State) (why : BadState) → Keeps (Some bytes) left → Cuts left later cut line → cut ≡ Line → first ≡ nothing_open → StopsFor later first why → IsBad bytes why
 bad_from bytes line left later cut first bad.NoMemory keeps cuts is new stops = tt
@@ -95,11 +108,48 @@ bad_second bytes line (Some left) (Some later) cut first state keeps cuts is new
     let A : State → Type 0 = λ (s : State). AcceptsAll s (lines_of later) state in
     record {
       some = omega arith;
+      first = λ one. absurd (omega (arith, one));
       behind = λ two. (text line, lines_of later, ap lines_of (sym keeps) ∙ subst K is cuts, inl (refl, record { state = state; accepts = subst A new all; closed = closed }));
     }
 
-pub bad_first : (bytes : List ℕ) → IsDamaged bytes 1
-bad_first bytes = record { some = omega arith; behind = λ two. absurd (omega (arith, two)) }
+-- The first line is no header.
+damaged_first : (bytes : List ℕ) (lines : List InputLine) → lines_of bytes ≡ lines → HasNoHeader lines → IsDamaged bytes 1
+damaged_first bytes lines are none = record { some = omega arith; first = λ one. subst HasNoHeader (sym are) none; behind = λ two. absurd (omega (arith, two)) }
+
+-- There is none, or it is over-long.
+pub bad_cut : (bytes line : List ℕ) (left later : Option (List ℕ)) (cut : Cut) → Keeps (Some bytes) left → Cuts left later cut line → (cut ≡ TooLong) ⊎ (cut ≡ End) → IsDamaged bytes 1
+bad_cut bytes line None later cut keeps cuts other = absurd keeps
+bad_cut bytes line (Some left) None cut keeps cuts other = absurd cuts
+bad_cut bytes line (Some left) (Some later) Line keeps cuts (inl e) = cc
+bad_cut bytes line (Some left) (Some later) Line keeps cuts (inr e) = cc
+bad_cut bytes line (Some left) (Some later) TooLong keeps cuts other = damaged_first bytes (too_long ∷ lines_of later) (ap lines_of (sym keeps) ∙ cuts) tt
+bad_cut bytes line (Some left) (Some later) End keeps cuts other = damaged_first bytes [] (ap lines_of (sym keeps) ∙ cuts) tt
+
+-- A line was cut off, which has no value of this version, or is no header of the world that the lines behind it lead to.
+pub bad_version : (bytes line : List ℕ) (left later : Option (List ℕ)) (cut : Cut) → Keeps (Some bytes) left → Cuts left later cut line → cut ≡ Line
+    → ((value : Data) → (value_of line ≡ Some value) × IsOfThisVersion value → ⊥) → IsDamaged bytes 1
+bad_version bytes line None later cut keeps cuts is none = absurd keeps
+bad_version bytes line (Some left) None cut keeps cuts is none = absurd cuts
+bad_version bytes line (Some left) (Some later) cut keeps cuts is none =
+    let K : Cut → Type 0 = λ (c : Cut). CutsKnown left later c line in damaged_first bytes (text line ∷ lines_of later) (ap lines_of (sym keeps) ∙ subst K is cuts) (inl none)
+
+pub bad_header : (bytes line : List ℕ) (left later : Option (List ℕ)) (cut : Cut) (names : List (List ℕ)) (tallied : TalliedWorld) (first state : State) (value : Data)
+    → Keeps (Some bytes) left → Cuts left later cut line → cut ≡ Line → first ≡ nothing_open
+    → AcceptsAllOf later first state → Some (with_names names tallied) ≡ option_map (with_names state.names) state.world
+    → value_of line ≡ Some value → ((past : Past) → TellsPast names value past × IsPastOf tallied.world.shape past → ⊥) → IsDamaged bytes 1
+bad_header bytes line None later cut names tallied first state value keeps cuts is new all e reads none = absurd keeps
+bad_header bytes line (Some left) None cut names tallied first state value keeps cuts is new all e reads none = absurd cuts
+bad_header bytes line (Some left) (Some later) cut names tallied first state value keeps cuts is new all e reads none =
+    let K : Cut → Type 0 = λ (c : Cut). CutsKnown left later c line in
+    let A : State → Type 0 = λ (s : State). AcceptsAll s (lines_of later) state in
+    let B : State → Type 0 = λ (s : State). AcceptsAll nothing_open (lines_of later) s in
+    let elsewhere : LeadsElsewhere line (lines_of later) = record {
+      names = names;
+      tallied = tallied;
+      accepts = subst B (opened state names tallied state.world refl (sym e)) (subst A new all);
+      none = λ past header. none past (told_of names tallied.world.shape line past value reads header);
+    } in
+    damaged_first bytes (text line ∷ lines_of later) (ap lines_of (sym keeps) ∙ subst K is cuts) (inr elsewhere)
 
 -- A fault that is handed on is the same.
 pub err_is : {T : Type 0} (result : Result T BadState) (why : BadState) (P : BadState → Type 0) → IsErrAnd result (λ e. e ≡ why) → P why → IfErr result P

@@ -1,10 +1,14 @@
--- What the bytes of a file lead to: the first line is a header, and each other line is accepted.
+-- What the bytes of a file lead to: the first line is a header of the world that the others lead to, and each of these is accepted.
 use Rattle.std.specs.Prelude.{◌≡◌, ◌≢◌, ◌⊎◌, ℕ, ◌+◌, ◌-◌, ◌^◌, ◌≤◌, min, Bool, true, false, List, [], ◌∷◌, ◌++◌, length, Option, Some, None}
-use Rattle.rme_lines.specs.Pieces.{InputLine, lines_of}
+use Rattle.rme_lines.specs.Pieces.{InputLine, lines_of, text, too_long}
+use Rattle.rme_words.specs.declared.shape.Shape.{Shape}
 use Rattle.rme_words.specs.declared.refusal.Refusal.{Refusal}
 use Rattle.rme_words.specs.declared.refusal.Refusal.TheVariants.{NoMemory}
 use Rattle.rme_journal.specs.declared.fault.BadState.{BadState}
 use Rattle.rme_journal.specs.declared.fault.BadState.TheVariants as bad
+use Rattle.rme_journal.specs.Headers.{IsHeader, IsOfThisVersion, Past}
+use Rattle.rme_json.specs.Values.{value_of}
+use Rattle.serde_json.specs.Data.{Data}
 use Rattle.rme_wire.specs.Requests.{request_read}
 use Rattle.rme_wire.specs.declared.command.Command.{Command}
 use Rattle.rme_wire.specs.declared.command.Command.TheVariants.{Submit, Step, Walk, Crash, Restart, Withdraw}
@@ -90,10 +94,25 @@ pub record OpensNothing (lines : List InputLine) : Type 0 where
   pub accepts : AcceptsAll nothing_open lines state
   pub closed : state.world ≡ None
 
+-- The lines behind the first were all accepted and lead to a world, and the first is no header of it, whatever it tells.
+pub record LeadsElsewhere (first : List ℕ) (lines : List InputLine) : Type 0 where
+  pub names : List (List ℕ)
+  pub tallied : TalliedWorld
+  pub accepts : AcceptsAll nothing_open lines record { names = names; world = Some tallied }
+  pub none : (past : Past) → IsHeader names tallied.world.shape first past → ⊥
+
+-- The first line is no header: there is none, it is over-long, it has no value of this version, or it is none of the world that
+-- the others lead to.
+abbrev pub HasNoHeader : List InputLine → Type 0
+HasNoHeader [] = Unit {0}
+HasNoHeader (too_long ∷ lines) = Unit {0}
+HasNoHeader (text first ∷ lines) = ((value : Data) → (value_of first ≡ Some value) × IsOfThisVersion value → ⊥) ⊎ LeadsElsewhere first lines
+
 -- Bytes are no kept world for this line, by its number, counted from 1: the first, which is no header; the second, where no
 -- line opens a world; or the first behind the header that is not accepted, where those before it are.
 pub record IsDamaged (bytes : List ℕ) (number : ℕ) : Type 0 where
   pub some : 1 ≤ number
+  pub first : number ≡ 1 → HasNoHeader (lines_of bytes)
   pub behind : 2 ≤ number → (header : InputLine) × (lines : List InputLine) × (lines_of bytes ≡ header ∷ lines)
       × (((number ≡ 2) × OpensNothing lines) ⊎ ((count : ℕ) × (number ≡ min (2 ^ 64 - 1) (count + 2)) × StopsBehind nothing_open lines count))
 
@@ -115,3 +134,10 @@ pub record Starts (bytes : List ℕ) (names : List (List ℕ)) (world : Seen) : 
   pub tallied : TalliedWorld
   pub its : tallied.world ≡ world
   pub accepts : AcceptsAll nothing_open lines record { names = names; world = Some tallied }
+
+-- The first line is a header of a world of this shape whose locks have these names, and tells this.
+pub record BeginsWith (bytes : List ℕ) (names : List (List ℕ)) (shape : Shape) (past : Past) : Type 0 where
+  pub first : List ℕ
+  pub lines : List InputLine
+  pub are : lines_of bytes ≡ text first ∷ lines
+  pub header : IsHeader names shape first past

@@ -10,6 +10,7 @@
 mod command_line;
 mod deed_lines;
 mod fault;
+mod first_line;
 mod header;
 pub mod laws;
 mod starting;

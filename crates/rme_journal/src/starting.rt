@@ -5,10 +5,12 @@ ghost use Rattle.rme_lines.specs.Cuts.{line_read};
 ghost use Rattle.rme_lines.specs.Readers.{bytes_left};
 ghost use Rattle.rme_engine.specs.Engines.{state_of};
 ghost use Rattle.rme_wire.specs.Requests.{request_read};
-ghost use Rattle.rme_journal.specs.Starts.{Accepts, AcceptsAllOf, IsBad, Rejects, Starts, StopsFor, changes, is_kept, refusal_in};
+ghost use Rattle.rme_journal.specs.Headers.{past_of};
+ghost use Rattle.rme_journal.specs.Starts.{Accepts, AcceptsAllOf, BeginsWith, IsBad, Rejects, Starts, StopsFor, changes, is_kept, refusal_in};
 
 use crate::fault::BadState;
-use crate::header::{Header, header_of, header_value};
+use crate::first_line::{header_of, header_value};
+use crate::header::Header;
 use memchr::memrchr;
 use rme_engine::{Engine, TalliedWorld};
 use rme_texts::Reply;
@@ -50,6 +52,7 @@ pub fn whole_lines(bytes: &[u8]) -> &[u8] {
 /// is none.
 pub fn start<P: Progress>(alloc: Global, bytes: &[u8], progress: &P) -> Result<Started, BadState>
     ensures ok { IfOk result (λ started. Starts bytes.now started.names started.world) }
+    ensures header { IfOk result (λ started. BeginsWith bytes.now started.names started.world.shape (past_of started.header)) }
     ensures err { IfErr result (λ why. IsBad bytes.now why) }
 {
     let mut reader = LineReader::new(alloc, bytes)?;
