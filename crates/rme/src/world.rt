@@ -5,7 +5,7 @@
 //! `replay` says whether a list of entries is a legal history, and what cells it leaves.
 
 pub use rme_engine::TalliedWorld;
-pub use rme_history::{ReplayFault, Tally, by_place, replay};
+pub use rme_history::{EntryList, ReplayFault, Tally, by_place, replay};
 pub use rme_program::{Answer, Event, Note};
 pub use rme_texts::{WalkEnd, WalkNotes, Walked};
 pub use rme_wire::{Until, Walk};

@@ -8,9 +8,9 @@ ghost use Rattle.rme_checker.specs.Deciding.{job_fits, has_outcome};
 
 use crate::stances::script_inside;
 use crate::worker::Worker;
-use rme_history::Fold;
+use rme_history::{EntryList, Fold};
 use rme_machine::{Act, Stance};
-use rme_program::{Entry, Receipt};
+use rme_program::Receipt;
 use rme_script::{Job, Row, Script, eval};
 use rme_words::{NoMemory, Shape};
 use std::alloc::Global;
@@ -24,7 +24,7 @@ use std::marker::Model;
 pub struct Ledger {
     shape: Shape,
     workers: Vec<Worker>,
-    entries: Vec<Entry>,
+    entries: EntryList,
     fold: Fold,
 }
 
@@ -34,9 +34,9 @@ impl Model for Ledger {
 
     ghost Value = { LedgerView };
 
-    ghost view = { λ ledger. record { shape = ledger.shape; workers = ledger.workers.items; history = ledger.entries.items } };
+    ghost view = { λ ledger. record { shape = ledger.shape; workers = ledger.workers.items; history = ledger.entries.entries } };
 
-    ghost invariant = { λ ledger. IsLedger ledger.shape ledger.workers.items ledger.entries.items ledger.fold.rows.items ledger.fold.counts.items };
+    ghost invariant = { λ ledger. IsLedger ledger.shape ledger.workers.items ledger.entries.entries ledger.fold.rows.items ledger.fold.counts.items };
 }
 
 impl Ledger {
@@ -58,7 +58,7 @@ impl Ledger {
         Ok(Ledger {
             shape,
             workers,
-            entries: Vec::new(alloc),
+            entries: EntryList::new(alloc),
             fold,
         })
     }
@@ -77,8 +77,8 @@ impl Ledger {
     }
 
     /// The finished sections, in order.
-    pub fn entries(&self) -> &[Entry]
-        ensures { result.now ≡ self.now.history }
+    pub fn entries(&self) -> &EntryList
+        ensures { result.now.entries ≡ self.now.history }
     {
         &self.entries
     }
@@ -141,9 +141,8 @@ impl Ledger {
     {
         let last = self.entries.len();
         let script = script_inside(&self.workers[worker as usize].stance());
-        let Ok(()) = self.entries.push(Entry { receipt, script }) else {
-            return Err(NoMemory);
-        };
+        self.entries.reserve(1)?;
+        self.entries.push(receipt, &script);
         // Its place and its reply are those of the receipt that is due, so that it follows.
         let follows = self.fold.follow(self.shape, &self.entries, last);
         prove!(follows);

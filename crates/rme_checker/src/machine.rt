@@ -5,8 +5,9 @@ ghost use Rattle.std.specs.Prelude.{◌≡◌, None, IfOk, replicate, slice_set}
 use crate::label::label_of;
 use crate::ledger::{Ledger, job_fits};
 use crate::worker::Worker;
+use rme_history::EntryList;
 use rme_machine::{Act, Label};
-use rme_program::{Answer, Entry, Event};
+use rme_program::{Answer, Event};
 use rme_script::Row;
 use rme_words::{NoMemory, Shape};
 use std::alloc::Global;
@@ -99,8 +100,8 @@ impl Machine {
     }
 
     /// The finished sections of all locks, in order of finishing.
-    pub fn finished(&self) -> &[Entry]
-        ensures { result.now ≡ self.now.state.history }
+    pub fn finished(&self) -> &EntryList
+        ensures { result.now.entries ≡ self.now.state.history }
     {
         self.ledger.entries()
     }

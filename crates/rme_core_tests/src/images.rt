@@ -1,6 +1,7 @@
 //! The calls that an image is written, read and judged by, each on its own.
 
 use rme_good::is_good;
+use rme_history::EntryList;
 use rme_image::{encode, parse};
 use rme_words::{Bank, Refusal, Shape};
 use std::alloc::Global;
@@ -23,7 +24,8 @@ fn smallest(alloc: Global) -> Result<Vec<u8>, Fail> {
 #[test]
 fn encoded(rt: HostRuntime) -> Result<(), Fail> {
     let image = smallest(rt.alloc())?;
-    let encoded = encode(rt.alloc(), Shape::new(1, 1, 1, 1)?, &[0; 37], &[])?;
+    let none = EntryList::new(rt.alloc());
+    let encoded = encode(rt.alloc(), Shape::new(1, 1, 1, 1)?, &[0; 37], &none)?;
     assert!(rt; encoded.as_slice() == image.as_slice());
     Ok(())
 }
@@ -37,7 +39,7 @@ fn parsed(rt: HostRuntime) -> Result<(), Fail> {
     assert!(rt; parsed.shape.workers() == 1 && parsed.shape.locks() == 1);
     assert!(rt; parsed.shape.cells() == 1 && parsed.shape.jobs() == 1);
     assert!(rt; parsed.words.as_slice() == [0; 37].as_slice());
-    assert!(rt; parsed.entries.is_empty());
+    assert!(rt; parsed.entries.len() == 0);
     let _ = image.pop();
     assert!(rt; parse(rt.alloc(), &image).err() == Some(Refusal::BadImage));
     Ok(())
@@ -49,7 +51,7 @@ fn are_good(rt: &impl Abort, alloc: Global, words: &[u64]) -> Result<bool, Fail>
     let words = Vec::from_slice(alloc, words)?;
     assert!(rt; words.len() == shape.words());
     let bank = Bank::of(shape, words);
-    Ok(is_good(alloc, &bank, &[])?)
+    Ok(is_good(alloc, &bank, &EntryList::new(alloc))?)
 }
 
 /// `is_good` says yes to `Begun` 1, and no to `Turn` 1.

@@ -7,7 +7,7 @@ use crate::loaded::load_world;
 use crate::opened::open_world;
 use crate::tallied::TalliedWorld;
 use crate::told::{push_events, push_opened};
-use rme_program::Entry;
+use rme_history::EntryList;
 use rme_texts::{Done, Reply, push_reply};
 use rme_wire::{
     Cut, EngineFault, Image, Loading, Names, Opening, Request, ValueReader, request_of,
@@ -138,17 +138,17 @@ impl Engine {
     fn push_answer(&self, out: &mut String, reply: &Reply) -> Result<(), AllocError>
         ensures { OnOk result (string_bytes out.new ≡ string_bytes out.old ++ written (text_of (state_of self.now) reply.now)) }
     {
-        push_reply(out, &self.names, self.history(), reply)?;
+        self.push_reply(out, reply)?;
         out.push_str("\n")
     }
 
-    /// The history of the world that is open, if one is.
-    fn history(&self) -> &[Entry]
-        ensures { result.now ≡ history_of self.now.world }
+    /// Appends the text of a reply, by the history of the world that is open, if one is.
+    fn push_reply(&self, out: &mut String, reply: &Reply) -> Result<(), AllocError>
+        ensures { OnOk result (string_bytes out.new ≡ string_bytes out.old ++ text_of (state_of self.now) reply.now) }
     {
         match &self.world {
-            None => &[],
-            Some(tallied) => tallied.world.history(),
+            None => push_reply(out, &self.names, &EntryList::new(self.alloc), reply),
+            Some(tallied) => push_reply(out, &self.names, tallied.world.history(), reply),
         }
     }
 

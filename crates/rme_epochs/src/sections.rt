@@ -16,8 +16,12 @@ impl Sections {
     /// Those of a world.
     pub fn of(world: &World) -> Sections {
         let mut counts = [0u64; MOST_LOCKS as usize];
-        for entry in world.history() {
-            if let Some(count) = counts.get_mut(entry.receipt.lock as usize) {
+        let history = world.history();
+        for at in 0..history.len() {
+            let Some(receipt) = history.receipt(at) else {
+                break;
+            };
+            if let Some(count) = counts.get_mut(receipt.lock as usize) {
                 *count = count.saturating_add(1);
             }
         }
@@ -36,9 +40,13 @@ pub(crate) fn last_receipts(
     world: &World,
 ) -> Result<Vec<Option<Receipt>>, AllocError> {
     let mut last = vec![in alloc; None; world.shape().workers() as usize]?;
-    for entry in world.history() {
-        if let Some(receipt) = last.get_mut(entry.receipt.worker as usize) {
-            *receipt = Some(entry.receipt);
+    let history = world.history();
+    for at in 0..history.len() {
+        let Some(receipt) = history.receipt(at) else {
+            break;
+        };
+        if let Some(own) = last.get_mut(receipt.worker as usize) {
+            *own = Some(receipt);
         }
     }
     Ok(last)

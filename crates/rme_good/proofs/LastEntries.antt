@@ -5,7 +5,7 @@ use Rattle.std.specs.List.{range_with_len}
 use Rattle.std.proofs.lemmas.Bool.{eqb-true}
 use Rattle.std.proofs.lemmas.List.{length-append}
 use Rattle.std.proofs.lemmas.List.Elements.{filter-append}
-use Rattle.std.proofs.lemmas.Option.{slice_get_read, same_Some}
+use Rattle.std.proofs.lemmas.Option.{same_Some}
 use Rattle.rme_words.specs.declared.shape.Shape.{Shape}
 use Rattle.rme_script.proofs.Lists.{take_next}
 use Rattle.rme_program.specs.declared.note.Entry.{Entry}
@@ -47,11 +47,8 @@ lasts_same s t es by at xs ys shape workers locks lasts =
     subst (λ (u : Shape). AreLasts u es xs ys) shape record { workers = workers ∙ lasts.workers; locks = locks ∙ lasts.locks }
 
 -- The entry at i, which is e, after the last entries of those before it.
-module _ (s : Shape) (entries : List Entry) (i : ℕ) (e : Entry) (by at : List (Option Entry)) (within : i < length entries) (is : e ≡ get_or entries i e)
+module _ (s : Shape) (entries : List Entry) (i : ℕ) (e : Entry) (by at : List (Option Entry)) (here : slice_get entries i ≡ Some e)
     (lasts : AreLasts s (take i entries) by at) where
-  here : slice_get entries i ≡ Some e
-  here = slice_get_read entries (length entries) i e refl within is
-
   pub not_followed : (CanFollow s (take i entries) e → ⊥) → FollowsIn s entries i → ⊥
   not_followed broken all = broken (all e here)
 

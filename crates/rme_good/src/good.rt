@@ -8,8 +8,7 @@ use crate::lasts::Lasts;
 use crate::locks::all_stand;
 use crate::trees::has_nodes;
 use crate::workers::all_accounted;
-use rme_history::{ReplayFault, replay};
-use rme_program::Entry;
+use rme_history::{EntryList, ReplayFault, replay};
 use rme_words::{Bank, NoMemory};
 use std::alloc::Global;
 
@@ -18,8 +17,8 @@ use std::alloc::Global;
 ///
 /// It goes over the entries and over the words once each. Takes memory for the rows and the last entries;
 /// `NoMemory` where it was refused.
-pub fn is_good(alloc: Global, bank: &Bank, entries: &[Entry]) -> Result<bool, NoMemory>
-    ensures { IfOk result (λ good. IsTrue good ↔ IsGood bank.now.shape (memory_of bank.now) entries.now) }
+pub fn is_good(alloc: Global, bank: &Bank, entries: &EntryList) -> Result<bool, NoMemory>
+    ensures { IfOk result (λ good. IsTrue good ↔ IsGood bank.now.shape (memory_of bank.now) entries.now.entries) }
 {
     let shape = bank.shape();
     let rows = match replay(alloc, shape, entries) {

@@ -6,6 +6,7 @@ ghost use Rattle.std.specs.List.{range_with_len};
 ghost use Rattle.rme_program.specs.declared.note.Entry.{Entry};
 ghost use Rattle.rme_good.specs.Lasts.{last_number, next_place, FollowsIn, DoRise, AreLasts};
 
+use rme_history::EntryList;
 use rme_program::Entry;
 use rme_words::{NoMemory, Shape};
 use std::alloc::Global;
@@ -60,13 +61,16 @@ impl Lasts {
 
     /// Goes on by the entry at `i`, if it has a worker and a lock of the shape and its number is above those of
     /// its worker's earlier entries.
-    fn follow(&mut self, shape: Shape, entries: &[Entry], i: usize) -> bool
-        requires within { i < length entries.now }
-        requires lasts { AreLasts shape (take i entries.now) self.old.by_worker.items self.old.at_lock.items }
-        ensures follows { MatchBool result (FollowsIn shape entries.now i) (¬ FollowsIn shape entries.now i) }
-        ensures lasts { MatchBool result (AreLasts shape (take (i + 1) entries.now) self.new.by_worker.items self.new.at_lock.items) (Unit {0}) }
+    fn follow(&mut self, shape: Shape, entries: &EntryList, i: usize) -> bool
+        requires within { i < length entries.now.entries }
+        requires lasts { AreLasts shape (take i entries.now.entries) self.old.by_worker.items self.old.at_lock.items }
+        ensures follows { MatchBool result (FollowsIn shape entries.now.entries i) (¬ FollowsIn shape entries.now.entries i) }
+        ensures lasts { MatchBool result (AreLasts shape (take (i + 1) entries.now.entries) self.new.by_worker.items self.new.at_lock.items) (Unit {0}) }
     {
-        let entry = &entries[i];
+        let found = entries.get(i);
+        let Some(entry) = &found else {
+            unreachable!();
+        };
         let receipt = entry.receipt;
         if receipt.worker >= shape.workers {
             return false;
@@ -84,10 +88,10 @@ impl Lasts {
     }
 
     /// Goes on by all entries, in order, from what there is before any.
-    fn follow_all(&mut self, shape: Shape, entries: &[Entry]) -> bool
+    fn follow_all(&mut self, shape: Shape, entries: &EntryList) -> bool
         requires { AreLasts shape [] self.old.by_worker.items self.old.at_lock.items }
-        ensures rise { MatchBool result (DoRise shape entries.now) (¬ DoRise shape entries.now) }
-        ensures lasts { MatchBool result (AreLasts shape entries.now self.new.by_worker.items self.new.at_lock.items) (Unit {0}) }
+        ensures rise { MatchBool result (DoRise shape entries.now.entries) (¬ DoRise shape entries.now.entries) }
+        ensures lasts { MatchBool result (AreLasts shape entries.now.entries self.new.by_worker.items self.new.at_lock.items) (Unit {0}) }
     {
         for i in 0..entries.len() {
             if !self.follow(shape, entries, i) {
@@ -100,9 +104,9 @@ impl Lasts {
     /// The last entries of a list, or none where an entry has no worker or no lock of the shape, or a number that
     /// isn't above those of its worker's earlier entries. Takes memory for an entry of each worker and lock;
     /// `NoMemory` where it was refused.
-    pub fn of(alloc: Global, shape: Shape, entries: &[Entry]) -> Result<Option<Lasts>, NoMemory>
-        ensures { IfOk result (λ found. MatchOption found (¬ DoRise shape entries.now)
-            (λ lasts. DoRise shape entries.now × AreLasts shape entries.now lasts.by_worker.items lasts.at_lock.items)) }
+    pub fn of(alloc: Global, shape: Shape, entries: &EntryList) -> Result<Option<Lasts>, NoMemory>
+        ensures { IfOk result (λ found. MatchOption found (¬ DoRise shape entries.now.entries)
+            (λ lasts. DoRise shape entries.now.entries × AreLasts shape entries.now.entries lasts.by_worker.items lasts.at_lock.items)) }
     {
         let mut lasts = Lasts::none(alloc, shape)?;
         if !lasts.follow_all(shape, entries) {

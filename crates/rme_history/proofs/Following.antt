@@ -1,7 +1,7 @@
 -- Whether the entry at a place of a list follows from those before it, by what a replay has found there.
-use Rattle.std.proofs.Common.{◌≡◌, ◌≢◌, ℕ, ◌+◌, ◌<◌, List, ◌∷◌, [], ◌++◌, length, take, get_or, refl, sym, ◌∙◌, ap, subst, inl, inr, arith}
+use Rattle.std.proofs.Common.{◌≡◌, ◌≢◌, ℕ, ◌+◌, ◌<◌, List, ◌∷◌, [], ◌++◌, length, take, get_or, sym, ◌∙◌, ap, subst, inl, inr, arith}
 use Rattle.std.specs.Prelude.{slice_get, slice_set, Some}
-use Rattle.std.proofs.lemmas.Option.{slice_get_read, slice_get_cases, same_Some}
+use Rattle.std.proofs.lemmas.Option.{slice_get_cases, same_Some}
 use Rattle.rme_words.specs.declared.shape.Shape.{Shape}
 use Rattle.rme_script.specs.Eval.{Ran, eval_of}
 use Rattle.rme_script.specs.Scripts.{IsScript}
@@ -17,10 +17,7 @@ use Rattle.rme_history.proofs.Legal.{legal_more, follows_in}
 use Rattle.rme_history.proofs.Folds.{fold_more}
 
 -- What was found before the entry at i, which is e, and what was read of its lock.
-module _ (s : Shape) (entries : List Entry) (i : ℕ) (e : Entry) (within : i < length entries) (is : e ≡ get_or entries i e) where
-  here : slice_get entries i ≡ Some e
-  here = slice_get_read entries (length entries) i e refl within is
-
+module _ (s : Shape) (entries : List Entry) (i : ℕ) (e : Entry) (here : slice_get entries i ≡ Some e) where
   pub not_followed : ¬ Follows s (take i entries) e → ¬ FollowsAt s entries i
   not_followed broken all = broken (all e here)
 

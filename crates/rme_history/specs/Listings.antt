@@ -1,5 +1,5 @@
 -- A list of finished sections whose scripts' operations lie one behind another in a list of their own.
-use Rattle.std.specs.Prelude.{ℕ, ◌+◌, ◌*◌, ◌≤◌, All, List, length, map, slice_range}
+use Rattle.std.specs.Prelude.{ℕ, ◌+◌, ◌-◌, ◌*◌, ◌≤◌, All, List, length, map, slice_range}
 use Rattle.rme_script.specs.declared.op.Op.{Op}
 use Rattle.rme_program.specs.declared.note.Entry.{Entry}
 use Rattle.rme_history.specs.declared.head.Head.{Head}
@@ -21,10 +21,10 @@ pub record IsHead (count : ℕ) (head : Head) : Type 0 where
   pub there : head.start + head.count ≤ count
   pub few : head.count ≤ 8
 
--- Each head is one, and there is room for all that may come.
+-- Each head is one, and there is room for all that may come: the operations of those that are missing too.
 pub record IsListed (ops : List Op) (heads : List Head) (room ops_wide heads_wide : ℕ) : Type 0 where
   pub all : All (IsHead (length ops)) heads
   pub few : length ops ≤ 8 * length heads
   pub most : room ≤ 536870911
-  pub op_room : room * 8 ≤ ops_wide
+  pub op_room : length ops + 8 * (room - length heads) ≤ ops_wide
   pub head_room : room ≤ heads_wide

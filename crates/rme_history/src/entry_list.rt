@@ -34,8 +34,20 @@ impl Model for EntryList {
 }
 
 impl EntryList {
-    ghost use Rattle.std.specs.Prelude.{◌≡◌, ◌-◌, ◌<◌, ◌≤◌, [], ◌∷◌, ◌++◌, IfOk, length, option_map, slice_get};
+    ghost use Rattle.std.specs.Prelude.{◌≡◌, ◌+◌, ◌-◌, ◌<◌, ◌≤◌, [], ◌∷◌, ◌++◌, IfOk, OnOk, OnErr, length, option_map, slice_get};
     ghost use Rattle.rme_program.specs.declared.note.Entry.{Entry as Section};
+
+    /// An empty list that has no room and takes no memory.
+    pub fn new(alloc: Global) -> EntryList
+        ensures none { result.entries ≡ [] }
+        ensures room { result.room ≡ 0 }
+    {
+        EntryList {
+            heads: Vec::new(alloc),
+            ops: Vec::new(alloc),
+            room: 0,
+        }
+    }
 
     /// An empty list with room for so many entries, whatever their scripts; `NoMemory` where it was refused.
     pub fn with_room(alloc: Global, room: usize) -> Result<EntryList, NoMemory>
@@ -52,6 +64,30 @@ impl EntryList {
             return Err(NoMemory);
         };
         Ok(EntryList { heads, ops, room })
+    }
+
+    /// Makes room for so many more entries, whatever their scripts. It grows as a `Vec` does, so that many small calls cost as
+    /// much as a large one.
+    ///
+    /// `NoMemory` where it was refused, or where there would be more than 536,870,911 entries; the list is as before then.
+    pub fn reserve(&mut self, more: usize) -> Result<(), NoMemory>
+        ensures entries { self.new.entries ≡ self.old.entries }
+        ensures made { OnOk result (length self.old.entries + more ≤ self.new.room) }
+        ensures roomier { self.old.room ≤ self.new.room }
+        ensures unchanged { OnErr result (self.new ≡ self.old) }
+    {
+        let room = self.heads.len().saturating_add(more);
+        if room > MOST_ENTRIES {
+            return Err(NoMemory);
+        }
+        if self.heads.reserve(more).is_err() {
+            return Err(NoMemory);
+        }
+        if self.ops.reserve(more * MOST_OPERATIONS).is_err() {
+            return Err(NoMemory);
+        }
+        self.room = self.room.max(room);
+        Ok(())
     }
 
     /// How many there are.
@@ -79,6 +115,17 @@ impl EntryList {
             return None;
         };
         Some(head.receipt)
+    }
+
+    /// The operations of the entry at this place, which are not copied.
+    pub fn operations(&self, at: usize) -> Option<&[Op]>
+        ensures { option_map (λ (section : Section). section.script.ops) (slice_get self.now.entries at) ≡ option_map (λ ops. ops.now) result }
+    {
+        let Some(head) = self.heads.get(at) else {
+            return None;
+        };
+        let start = head.start as usize;
+        Some(&self.ops[start..start + head.count as usize])
     }
 
     /// The last entry.

@@ -7,6 +7,7 @@ ghost use Rattle.rme_program.specs.Conditions.{IsJob};
 ghost use Rattle.rme_machine.specs.Histories.{entry_job};
 ghost use Rattle.rme_history.specs.Folds.{IsFold, FollowsAt};
 
+use crate::entry_list::EntryList;
 use crate::fault::ReplayFault;
 use rme_program::Entry;
 use rme_script::{Row, eval};
@@ -37,14 +38,16 @@ impl Fold {
     }
 
     /// Goes on by the entry at `i`, if it follows from those before it.
-    pub fn follow(&mut self, shape: Shape, entries: &[Entry], i: usize) -> bool
-        requires within { i < length entries.now }
-        requires fold { IsFold shape (take i entries.now) self.old.rows.items self.old.counts.items }
-        ensures follows { MatchBool result (FollowsAt shape entries.now i) (¬ FollowsAt shape entries.now i) }
-        ensures fold { MatchBool result (IsFold shape (take (i + 1) entries.now) self.new.rows.items self.new.counts.items) (Unit {0}) }
+    pub fn follow(&mut self, shape: Shape, entries: &EntryList, i: usize) -> bool
+        requires within { i < length entries.now.entries }
+        requires fold { IsFold shape (take i entries.now.entries) self.old.rows.items self.old.counts.items }
+        ensures follows { MatchBool result (FollowsAt shape entries.now.entries i) (¬ FollowsAt shape entries.now.entries i) }
+        ensures fold { MatchBool result (IsFold shape (take (i + 1) entries.now.entries) self.new.rows.items self.new.counts.items) (Unit {0}) }
     {
-        let entry = &entries[i];
-        if !is_of_shape(entry, shape) {
+        let Some(entry) = entries.get(i) else {
+            unreachable!();
+        };
+        if !is_of_shape(&entry, shape) {
             return false;
         }
         let lock = entry.receipt.lock as usize;

@@ -4,9 +4,9 @@ ghost use Rattle.std.specs.Prelude.{◌≡◌, [], OnOk, IfOk, IfErr, IsOk};
 ghost use Rattle.rme_history.specs.Folds.{IsFold};
 ghost use Rattle.rme_history.specs.Legal.{AreLegal, IsFault, IsFirstBroken, rows_of_locks};
 
+use crate::entry_list::EntryList;
 use crate::fault::ReplayFault;
 use crate::fold::Fold;
-use rme_program::Entry;
 use rme_script::Row;
 use rme_words::Shape;
 use std::alloc::Global;
@@ -17,11 +17,11 @@ use std::alloc::Global;
 /// earlier entries are of its lock, or whose reply is not that of its script on what these left. The workers
 /// and the numbers of the entries are not looked at. Takes memory for the rows and a count of each lock;
 /// `NoMemory` where it was refused.
-pub fn replay(alloc: Global, shape: Shape, entries: &[Entry]) -> Result<Vec<Row>, ReplayFault>
-    ensures legal { OnOk result (AreLegal shape entries.now) }
-    ensures rows { IfOk result (λ rows. rows.items ≡ rows_of_locks shape entries.now) }
-    ensures broken { IfErr result (λ fault. IsFault shape entries.now fault) }
-    ensures accepted { AreLegal shape entries.now → IfErr result (λ fault. fault ≡ ReplayFault.NoMemory) }
+pub fn replay(alloc: Global, shape: Shape, entries: &EntryList) -> Result<Vec<Row>, ReplayFault>
+    ensures legal { OnOk result (AreLegal shape entries.now.entries) }
+    ensures rows { IfOk result (λ rows. rows.items ≡ rows_of_locks shape entries.now.entries) }
+    ensures broken { IfErr result (λ fault. IsFault shape entries.now.entries fault) }
+    ensures accepted { AreLegal shape entries.now.entries → IfErr result (λ fault. fault ≡ ReplayFault.NoMemory) }
 {
     let mut fold = match Fold::new(alloc, shape) {
         Ok(fold) => fold,
@@ -35,12 +35,12 @@ pub fn replay(alloc: Global, shape: Shape, entries: &[Entry]) -> Result<Vec<Row>
 
 /// Goes on by all entries, in order, from what there is before any; the error is the place of the first that
 /// does not follow. Takes no memory, so that it cannot give up for want of it.
-fn follow_all(fold: &mut Fold, shape: Shape, entries: &[Entry]) -> Result<(), usize>
+fn follow_all(fold: &mut Fold, shape: Shape, entries: &EntryList) -> Result<(), usize>
     requires { IsFold shape [] fold.old.rows.items fold.old.counts.items }
-    ensures legal { OnOk result (AreLegal shape entries.now) }
-    ensures rows { OnOk result (fold.new.rows.items ≡ rows_of_locks shape entries.now) }
-    ensures broken { IfErr result (λ i. IsFirstBroken shape entries.now i) }
-    ensures accepted { AreLegal shape entries.now → IsOk result }
+    ensures legal { OnOk result (AreLegal shape entries.now.entries) }
+    ensures rows { OnOk result (fold.new.rows.items ≡ rows_of_locks shape entries.now.entries) }
+    ensures broken { IfErr result (λ i. IsFirstBroken shape entries.now.entries i) }
+    ensures accepted { AreLegal shape entries.now.entries → IsOk result }
 {
     for i in 0..entries.len() {
         if !fold.follow(shape, entries, i) {

@@ -1,5 +1,5 @@
 -- What was written part by part is the whole, and words that leave none out are all of them.
-use Rattle.std.proofs.Common.{◌≡◌, ℕ, zero, suc, ◌+◌, ◌%◌, ◌<◌, List, [], ◌∷◌, ◌++◌, take, slice_get, Some, length, get_or, append_assoc, refl, sym, ◌∙◌, ap, arith}
+use Rattle.std.proofs.Common.{◌≡◌, ℕ, zero, suc, ◌+◌, ◌%◌, ◌<◌, List, [], ◌∷◌, ◌++◌, take, slice_get, Some, length, get_or, append_assoc, refl, ap, arith}
 use Rattle.std.specs.List.{All, flat_map}
 use Rattle.std.specs.Int.{w8, w64, to_be_bytes}
 use Rattle.std.proofs.lemmas.List.{flat_map_more, take_more}
@@ -24,10 +24,8 @@ byte_whole n fits = let e : n % 256 ≡ n = omega (arith, fits) in rw e refl
 pub items_more : {A : Type 0} (f : A → List ℕ) (o p q : List ℕ) (items : List A) (i : ℕ) (x : A) → slice_get items i ≡ Some x → p ≡ o ++ flat_map f (take i items) → q ≡ p ++ f x → q ≡ o ++ flat_map f (take (i + 1) items)
 items_more f o p q items i x at so_far put = rw (take_next items i x at, put, so_far) (flat_map_more f o (take i items) x)
 
-pub item_more : {A : Type 0} (f : A → List ℕ) (o p q : List ℕ) (items : List A) (i : ℕ) (x : A) → i < length items → x ≡ get_or items i x → p ≡ o ++ flat_map f (take i items) → q ≡ p ++ f x → q ≡ o ++ flat_map f (take (i + 1) items)
-item_more {A = A} f o p q items i x within is so_far put =
-    let one : take (i + 1) items ≡ take i items ++ x ∷ [] = take_more items i x within ∙ ap (λ (y : A). take i items ++ y ∷ []) (sym is) in
-    rw (one, put, so_far) (flat_map_more f o (take i items) x)
+pub item_more : {A : Type 0} (f : A → List ℕ) (o p q : List ℕ) (items : List A) (i : ℕ) (d : A) → i < length items → p ≡ o ++ flat_map f (take i items) → q ≡ p ++ f (get_or items i d) → q ≡ o ++ flat_map f (take (i + 1) items)
+item_more f o p q items i d within so_far put = rw (take_more items i d within, put, so_far) (flat_map_more f o (take i items) (get_or items i d))
 
 pub words_skip_none : (shape : Shape) (i : ℕ) (words : List ℕ) → words_bytes (skips 2 shape) i words ≡ flat_map (to_be_bytes w64) words
 unfolding skips

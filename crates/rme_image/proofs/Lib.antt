@@ -1,4 +1,5 @@
 pub mod Appends
+pub mod Listed
 pub mod Loops
 pub mod Masks
 pub mod Fields

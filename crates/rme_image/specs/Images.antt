@@ -60,6 +60,10 @@ triple_bytes words = []
 abbrev pub op_bytes : Op → List ℕ
 op_bytes op = triple_bytes (op_words op)
 
+-- The script of some operations.
+abbrev pub script_with : List Op → Program
+script_with ops = record { n = length ops; ops = ops }
+
 -- A script: how many operations it has, and these.
 abbrev pub script_bytes : Program → List ℕ
 script_bytes script = to_be_bytes w8 script.n ++ flat_map op_bytes script.ops

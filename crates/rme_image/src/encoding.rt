@@ -4,11 +4,12 @@ ghost use Rattle.std.specs.Prelude.{◌≡◌, ◌<◌, ◌^◌, ◌++◌, lengt
 ghost use Rattle.std.specs.List.{All};
 ghost use Rattle.rme_words.specs.Words.{word_count};
 ghost use Rattle.rme_script.specs.Scripts.{IsScript, IsWithin};
-ghost use Rattle.rme_image.specs.Images.{IsSmallOp, IsSmallScript, IsSmallReceipt, IsSmallEntry, IsWithinBytes, Spells, header_bytes, header_of, skips, words_bytes, op_bytes, script_bytes, receipt_bytes, entry_bytes, entries_bytes, image_of};
+ghost use Rattle.rme_image.specs.Images.{IsSmallOp, IsSmallScript, IsSmallReceipt, IsSmallEntry, IsWithinBytes, Spells, header_bytes, header_of, script_with, skips, words_bytes, op_bytes, script_bytes, receipt_bytes, entry_bytes, entries_bytes, image_of};
 
 use crate::header::{MAGIC, VERSION};
-use rme_program::{Entry, Receipt};
-use rme_script::{Op, Script, op_words};
+use rme_history::EntryList;
+use rme_program::Receipt;
+use rme_script::{Op, op_words};
 use rme_words::{NoMemory, Shape};
 use std::alloc::Global;
 
@@ -58,16 +59,15 @@ fn put_op(out: &mut Vec<u8>, op: Op) -> Result<(), NoMemory>
     Ok(())
 }
 
-/// Writes a script.
-fn put_script(out: &mut Vec<u8>, script: &Script) -> Result<(), NoMemory>
-    requires { IsScript 256 script.now }
-    ensures put { OnOk result (out.new.items ≡ out.old.items ++ script_bytes script.now) }
-    ensures small { OnOk result (IsSmallScript script.now) }
+/// Writes a script, which has these operations.
+fn put_script(out: &mut Vec<u8>, ops: &[Op]) -> Result<(), NoMemory>
+    requires { IsScript 256 (script_with ops.now) }
+    ensures put { OnOk result (out.new.items ≡ out.old.items ++ script_bytes (script_with ops.now)) }
+    ensures small { OnOk result (IsSmallScript (script_with ops.now)) }
 {
-    let count = script.n();
-    put(out, &(count as u8).to_be_bytes())?;
-    for i in 0..count {
-        put_op(out, script.op(i))?;
+    put(out, &(ops.len() as u8).to_be_bytes())?;
+    for op in ops {
+        put_op(out, *op)?;
     }
     Ok(())
 }
@@ -88,16 +88,22 @@ fn put_receipt(out: &mut Vec<u8>, receipt: Receipt) -> Result<(), NoMemory>
 }
 
 /// Writes all entries behind their number.
-fn put_entries(out: &mut Vec<u8>, entries: &[Entry]) -> Result<(), NoMemory>
-    requires few { length entries.now < 2 ^ 32 }
-    requires within { All IsWithinBytes entries.now }
-    ensures put { OnOk result (out.new.items ≡ out.old.items ++ entries_bytes entries.now) }
-    ensures small { OnOk result (All IsSmallEntry entries.now) }
+fn put_entries(out: &mut Vec<u8>, entries: &EntryList) -> Result<(), NoMemory>
+    requires few { length entries.now.entries < 2 ^ 32 }
+    requires within { All IsWithinBytes entries.now.entries }
+    ensures put { OnOk result (out.new.items ≡ out.old.items ++ entries_bytes entries.now.entries) }
+    ensures small { OnOk result (All IsSmallEntry entries.now.entries) }
 {
     put(out, &(entries.len() as u32).to_be_bytes())?;
-    for entry in entries {
-        put_receipt(out, entry.receipt)?;
-        put_script(out, &entry.script)?;
+    for i in 0..entries.len() {
+        let Some(receipt) = entries.receipt(i) else {
+            unreachable!();
+        };
+        let Some(ops) = entries.operations(i) else {
+            unreachable!();
+        };
+        put_receipt(out, receipt)?;
+        put_script(out, ops)?;
     }
     Ok(())
 }
@@ -111,12 +117,12 @@ pub fn encode(
     alloc: Global,
     shape: Shape,
     words: &[u64],
-    entries: &[Entry],
+    entries: &EntryList,
 ) -> Result<Vec<u8>, NoMemory>
-    requires few { length entries.now < 2 ^ 32 }
-    requires within { All IsWithinBytes entries.now }
-    ensures image { IfOk result (λ bytes. bytes.items ≡ image_of 2 shape words.now entries.now) }
-    ensures spelled { length words.now ≡ word_count shape → IfOk result (λ bytes. Spells 2 bytes.items shape words.now entries.now) }
+    requires few { length entries.now.entries < 2 ^ 32 }
+    requires within { All IsWithinBytes entries.now.entries }
+    ensures image { IfOk result (λ bytes. bytes.items ≡ image_of 2 shape words.now entries.now.entries) }
+    ensures spelled { length words.now ≡ word_count shape → IfOk result (λ bytes. Spells 2 bytes.items shape words.now entries.now.entries) }
 {
     let mut out = Vec::new(alloc);
     put_header(&mut out, shape)?;

@@ -4,6 +4,7 @@ ghost use Rattle.std.specs.Prelude.{◌≡◌, ◌≤◌, [], IfOk, IfSome, opti
 ghost use Rattle.rme_image.specs.Reading.{op_at, script_at, receipt_at, entry_at, entries_at, many_at};
 
 use crate::numbers::{number8, number16, number32, number64};
+use rme_history::EntryList;
 use rme_program::{Entry, Receipt};
 use rme_script::{MOST_OPERATIONS, Op, Script, op_of};
 use rme_words::NoMemory;
@@ -50,7 +51,8 @@ fn read_operations(count: usize, bytes: &[u8]) -> Option<(Script, &[u8])>
 /// The script at the front, and what follows it.
 #[tactic(auto, unfolding(crate::specs::Reading::script_at))]
 fn read_script(bytes: &[u8]) -> Option<(Script, &[u8])>
-    ensures { script_at bytes.now ≡ option_map (λ x. (x.0, x.1.now)) result }
+    ensures read { script_at bytes.now ≡ option_map (λ x. (x.0, x.1.now)) result }
+    ensures few { IfSome result (λ x. x.0.n ≤ 8) }
 {
     let Some((count, rest)) = number8(bytes) else {
         return None;
@@ -95,7 +97,8 @@ fn read_receipt(bytes: &[u8]) -> Option<(Receipt, &[u8])>
 /// The entry at the front, and what follows it.
 #[tactic(auto, unfolding(crate::specs::Reading::entry_at))]
 fn read_entry(bytes: &[u8]) -> Option<(Entry, &[u8])>
-    ensures { entry_at bytes.now ≡ option_map (λ x. (x.0, x.1.now)) result }
+    ensures read { entry_at bytes.now ≡ option_map (λ x. (x.0, x.1.now)) result }
+    ensures few { IfSome result (λ x. x.0.script.n ≤ 8) }
 {
     let Some((receipt, rest)) = read_receipt(bytes) else {
         return None;
@@ -112,27 +115,26 @@ fn read_some(
     alloc: Global,
     count: u32,
     bytes: &[u8],
-) -> Result<Option<(Vec<Entry>, &[u8])>, NoMemory>
-    ensures { IfOk result (λ read. many_at (λ _. entry_at) count [] bytes.now ≡ option_map (λ x. (x.0.items, x.1.now)) read) }
+) -> Result<Option<(EntryList, &[u8])>, NoMemory>
+    ensures { IfOk result (λ read. many_at (λ _. entry_at) count [] bytes.now ≡ option_map (λ x. (x.0.entries, x.1.now)) read) }
 {
-    let mut entries = Vec::new(alloc);
+    let mut entries = EntryList::new(alloc);
     let mut rest = bytes;
     for _ in 0..count {
         let Some((next, after)) = read_entry(rest) else {
             return Ok(None);
         };
-        match entries.push(next) {
-            Ok(()) => rest = after,
-            Err(_) => return Err(NoMemory),
-        }
+        entries.reserve(1)?;
+        entries.push(next.receipt, &next.script);
+        rest = after;
     }
     Ok(Some((entries, rest)))
 }
 
 /// All entries: their number, the entries, and nothing after the last.
 #[tactic(auto, unfolding(crate::specs::Reading::entries_at))]
-pub fn read_entries(alloc: Global, bytes: &[u8]) -> Result<Option<Vec<Entry>>, NoMemory>
-    ensures { IfOk result (λ read. entries_at bytes.now ≡ option_map (λ x. x.items) read) }
+pub fn read_entries(alloc: Global, bytes: &[u8]) -> Result<Option<EntryList>, NoMemory>
+    ensures { IfOk result (λ read. entries_at bytes.now ≡ option_map (λ x. x.entries) read) }
 {
     let Some((count, rest)) = number32(bytes) else {
         return Ok(None);

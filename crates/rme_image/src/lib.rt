@@ -1,7 +1,7 @@
 //! The bytes of a saved world: how its words and its history are written, and how they are read.
 //!
-//! This crate stands on `rme_words`, `rme_script` and `rme_program`, of which it uses the shape, the operations and
-//! the entries. It knows how many bytes each part has and in which order they stand; it does not know which words
+//! This crate stands on `rme_words`, `rme_script`, `rme_program` and `rme_history`, of which it uses the shape, the
+//! operations, the entries and their list. It knows how many bytes each part has and in which order they stand; it does not know which words
 //! are those of a world. The definition that the crates above use is `Spells` of `specs/Images.antt`: `encode`
 //! writes what spells the given words and entries, and `parse` finds exactly what the bytes spell, in version 2 and
 //! in the older version 1. Begin with `specs/Images.antt`, and then `encoding.rt`.

@@ -8,7 +8,7 @@ ghost use Rattle.rme_image.specs.Images.{IsVersion, Spells};
 use crate::entries::read_entries;
 use crate::header::{read_header, shape_of};
 use crate::words::read_words;
-use rme_program::Entry;
+use rme_history::EntryList;
 use rme_words::{Refusal, Shape};
 use std::alloc::Global;
 
@@ -23,7 +23,7 @@ pub struct Parsed {
     /// the masks are those that it stands for: all cells of a lock whose turn is odd, else none.
     pub words: Vec<u64>,
     /// The entries in order of finishing.
-    pub entries: Vec<Entry>,
+    pub entries: EntryList,
 }
 
 /// What the bytes spell, all of the bytes.
@@ -33,8 +33,8 @@ pub struct Parsed {
 /// end too early or too late. Whether the words and entries are those of a world is not asked. Takes memory for the
 /// words and the entries as it reads them, in time linear in the bytes; `NoMemory` where it was refused.
 pub fn parse(alloc: Global, bytes: &[u8]) -> Result<Parsed, Refusal>
-    ensures found { IfOk result (λ p. IsVersion p.version p.shape × Spells p.version bytes.now p.shape p.words.items p.entries.items) }
-    ensures only { (version : ℕ) (shape : Shape) (words : List ℕ) (entries : List Entry) → IsVersion version shape → Spells version bytes.now shape words entries → IfOk result (λ p. (p.version ≡ version) × (p.shape ≡ shape) × (p.words.items ≡ words) × (p.entries.items ≡ entries)) × IfErr result (λ e. e ≡ Refusal.NoMemory) }
+    ensures found { IfOk result (λ p. IsVersion p.version p.shape × Spells p.version bytes.now p.shape p.words.items p.entries.entries) }
+    ensures only { (version : ℕ) (shape : Shape) (words : List ℕ) (entries : List Entry) → IsVersion version shape → Spells version bytes.now shape words entries → IfOk result (λ p. (p.version ≡ version) × (p.shape ≡ shape) × (p.words.items ≡ words) × (p.entries.entries ≡ entries)) × IfErr result (λ e. e ≡ Refusal.NoMemory) }
     ensures refused { IfErr result (λ e. (e ≡ Refusal.BadImage) ⊎ (e ≡ Refusal.NoMemory)) }
 {
     let Some((header, rest)) = read_header(bytes) else {

@@ -48,7 +48,7 @@ pub(crate) fn push_owner(
         Ok(owner) => Reply::Owner(owner),
         Err(refusal) => Reply::Refused(refusal),
     };
-    push_reply(out, names, &[], &reply)
+    push_reply(out, names, world.history(), &reply)
 }
 
 /// Appends what the cells of a lock hold.
@@ -62,5 +62,5 @@ pub(crate) fn push_cells(
         Ok((row, settled)) => Reply::Cells(row, settled),
         Err(refusal) => Reply::Refused(refusal),
     };
-    push_reply(out, names, &[], &reply)
+    push_reply(out, names, world.history(), &reply)
 }

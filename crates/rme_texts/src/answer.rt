@@ -8,8 +8,9 @@ ghost use Rattle.rme_texts.specs.Told.{receipt_told};
 use crate::texts::{push_cells, push_entries, push_note, push_notes, push_receipt};
 use crate::told::ToldReceipt;
 use crate::walked::Walked;
+use rme_history::EntryList;
 use rme_names::{Image, Names};
-use rme_program::{Entry, Note};
+use rme_program::Note;
 use rme_script::Row;
 use rme_words::Refusal;
 use std::alloc::AllocError;
@@ -128,8 +129,8 @@ fn push_last_receipt(
 }
 
 /// Appends the answer of `history`.
-pub fn push_history(out: &mut String, names: &Names, entries: &[Entry]) -> Result<(), AllocError>
-    ensures { OnOk result (string_bytes out.new ≡ string_bytes out.old ++ spec.history_text names.now entries.now) }
+pub fn push_history(out: &mut String, names: &Names, entries: &EntryList) -> Result<(), AllocError>
+    ensures { OnOk result (string_bytes out.new ≡ string_bytes out.old ++ spec.history_text names.now entries.now.entries) }
 {
     out.push_str("{\"entries\":[")?;
     push_entries(out, names, entries)?;

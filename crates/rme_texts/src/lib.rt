@@ -1,8 +1,8 @@
 //! What is written: the texts of notes, receipts, entries and whole answers.
 //!
 //! Each text is compact JSON with sorted keys. The crate stands on rme_program and rme_script, whose notes,
-//! entries and scripts it shows, on rme_words for the refusals, on rme_names, whose public names it passes on, and
-//! on hex, which spells bytes; it reads nothing. The one contract that the crates above use is that of each `push_` function: the
+//! entries and scripts it shows, on rme_history for the list of entries, on rme_words for the refusals, on rme_names,
+//! whose public names it passes on, and on hex, which spells bytes; it reads nothing. The one contract that the crates above use is that of each `push_` function: the
 //! text that it appends is the one of `specs/Replies.antt`. Begin with `reply.rt`.
 #![tactic(auto)]
 

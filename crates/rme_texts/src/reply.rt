@@ -9,8 +9,9 @@ use crate::answer::{
 };
 use crate::told::told_last;
 use crate::walked::Walked;
+use rme_history::EntryList;
 use rme_names::{Image, Names};
-use rme_program::{Entry, Note, Receipt};
+use rme_program::{Note, Receipt};
 use rme_script::Row;
 use rme_words::Refusal;
 use std::alloc::AllocError;
@@ -52,10 +53,10 @@ pub enum Reply {
 pub fn push_reply(
     out: &mut String,
     names: &Names,
-    history: &[Entry],
+    history: &EntryList,
     reply: &Reply,
 ) -> Result<(), AllocError>
-    ensures { OnOk result (string_bytes out.new ≡ string_bytes out.old ++ spec.reply_text names.now history.now reply.now) }
+    ensures { OnOk result (string_bytes out.new ≡ string_bytes out.old ++ spec.reply_text names.now history.now.entries reply.now) }
 {
     match reply {
         Reply::Done(done) => push_done(out, *done),

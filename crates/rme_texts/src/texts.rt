@@ -5,6 +5,7 @@ ghost use Rattle.rme_texts.specs.Texts as spec;
 ghost use Rattle.rme_texts.specs.Told.{receipt_told};
 
 use crate::told::ToldReceipt;
+use rme_history::EntryList;
 use rme_names::Names;
 use rme_program::{Entry, Note, Receipt};
 use rme_script::{Op, Row, Script};
@@ -151,13 +152,16 @@ fn push_entry(out: &mut String, names: &Names, entry: &Entry) -> Result<(), Allo
 }
 
 /// Appends entries, separated by commas.
-pub fn push_entries(out: &mut String, names: &Names, entries: &[Entry]) -> Result<(), AllocError>
-    ensures { OnOk result (string_bytes out.new ≡ string_bytes out.old ++ spec.entries_text names.now entries.now) }
+pub fn push_entries(out: &mut String, names: &Names, entries: &EntryList) -> Result<(), AllocError>
+    ensures { OnOk result (string_bytes out.new ≡ string_bytes out.old ++ spec.entries_text names.now entries.now.entries) }
 {
     let mut later = false;
-    for entry in entries {
+    for i in 0..entries.len() {
+        let Some(entry) = entries.get(i) else {
+            unreachable!();
+        };
         push_comma(out, later)?;
-        push_entry(out, names, entry)?;
+        push_entry(out, names, &entry)?;
         later = true;
     }
     Ok(())

@@ -5,6 +5,7 @@ pub mod Refusing
 pub mod Happening
 pub mod Headline
 pub mod Calls
+pub mod Slated
 pub mod Going
 pub mod Telling
 pub mod Opened

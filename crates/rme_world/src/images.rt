@@ -21,13 +21,8 @@ impl World {
     pub fn save(&self) -> Result<Vec<u8>, NoMemory>
         ensures { IfOk result (λ bytes. Saved self.now bytes.items) }
     {
-        let alloc = *self.history.allocator();
-        encode(
-            alloc,
-            self.shape(),
-            self.bank.words(),
-            self.history.as_slice(),
-        )
+        let alloc = *self.counts.allocator();
+        encode(alloc, self.shape(), self.bank.words(), &self.history)
     }
 
     /// The world of an image, of version 2 or of the older version 1. All its workers are down, and no steps are
@@ -43,7 +38,7 @@ impl World {
         let shape = parsed.shape;
         let bank = Bank::of(shape, parsed.words);
         let mut history = parsed.entries;
-        match is_good(alloc, &bank, history.as_slice()) {
+        match is_good(alloc, &bank, &history) {
             Ok(true) => {}
             Ok(false) => return Err(Refusal::BadImage),
             Err(_) => return Err(Refusal::NoMemory),

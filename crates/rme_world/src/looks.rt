@@ -5,7 +5,8 @@ ghost use Rattle.rme_program.specs.declared.stage.Stage.{Stage};
 
 use crate::world::World;
 use rme_good::is_pending;
-use rme_program::{Entry, Phase, Private, Receipt, Stage, WITHDRAWN_PLACE};
+use rme_history::EntryList;
+use rme_program::{Phase, Private, Receipt, Stage, WITHDRAWN_PLACE};
 use rme_script::Row;
 use rme_tree::owner;
 use rme_words::{Address, Refusal};
@@ -64,8 +65,8 @@ impl World {
     }
 
     /// The finished sections of all locks, in order of finishing.
-    pub fn history(&self) -> &[Entry]
-        ensures { result.now ≡ self.now.history }
+    pub fn history(&self) -> &EntryList
+        ensures { result.now.entries ≡ self.now.history }
     {
         &self.history
     }

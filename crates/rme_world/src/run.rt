@@ -23,7 +23,7 @@ impl World {
         ensures answers { IfOk result (λ answers. length answers.items ≡ length events.now) }
         ensures unchanged { OnErr result (self.new ≡ self.old) }
     {
-        let alloc = *self.history.allocator();
+        let alloc = *self.counts.allocator();
         let Ok(mut answers) = Vec::with_capacity(alloc, events.len()) else {
             return Err(NoMemory);
         };

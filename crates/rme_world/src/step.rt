@@ -1,6 +1,6 @@
 //! One own step of one worker.
 
-ghost use Rattle.std.specs.Prelude.{◌≡◌, ◌<◌, vec_len, vec_capacity};
+ghost use Rattle.std.specs.Prelude.{◌≡◌, ◌<◌, ◌+◌, ◌-◌, length};
 ghost use Rattle.rme_program.specs.declared.note.Note.{Note};
 ghost use Rattle.rme_program.specs.declared.note.Receipt.{Receipt};
 ghost use Rattle.rme_machine.specs.Changes.{history_after};
@@ -9,7 +9,8 @@ ghost use Rattle.rme_words.specs.Words.{memory_of};
 use crate::perform::perform;
 use crate::world::World;
 use rme_good::slate;
-use rme_program::{Entry, Note, Phase, Stage, after, next, phase};
+use rme_history::EntryList;
+use rme_program::{Note, Phase, Stage, after, next, phase};
 use rme_words::{Bank, Refusal};
 
 /// An own step that was made.
@@ -101,16 +102,15 @@ impl World {
     }
 }
 
-/// Puts a finished section into the history, where there is room for it.
-fn record(history: &mut Vec<Entry>, bank: &Bank, worker: u32, note: Note)
+/// Puts a finished section into the history, where there is room for it, which is less by one then.
+fn record(history: &mut EntryList, bank: &Bank, worker: u32, note: Note)
     requires worker { worker < bank.now.shape.workers }
-    requires room { (receipt : Receipt) → note ≡ Note.Finished receipt → vec_len history.old < vec_capacity history.old }
-    ensures entries { history.new.items ≡ history_after history.old.items (memory_of bank.now) worker note }
-    ensures capacity { vec_capacity history.new ≡ vec_capacity history.old }
+    requires room { (receipt : Receipt) → note ≡ Note.Finished receipt → length history.old.entries < history.old.room }
+    ensures entries { history.new.entries ≡ history_after history.old.entries (memory_of bank.now) worker note }
+    ensures room { length history.new.entries + (history.new.room - length history.new.entries) ≡ length history.old.entries + (history.old.room - length history.old.entries) }
 {
     let Note::Finished(receipt) = note else {
         return;
     };
-    let script = slate(bank, worker);
-    history.push_reserved(Entry { receipt, script });
+    history.push(receipt, &slate(bank, worker));
 }

@@ -9,7 +9,8 @@ ghost use Rattle.rme_world.specs.Seen.{shown_by};
 ghost use Rattle.rme_world.specs.Opening.{opening};
 
 use crate::counts::Counts;
-use rme_program::{Entry, Private};
+use rme_history::EntryList;
+use rme_program::Private;
 use rme_words::{Bank, NoMemory, Shape};
 use std::alloc::Global;
 use std::marker::Model;
@@ -22,19 +23,19 @@ use std::marker::Model;
 pub struct World {
     pub(crate) bank: Bank,
     pub(crate) privates: Vec<Option<Private>>,
-    pub(crate) history: Vec<Entry>,
+    pub(crate) history: EntryList,
     pub(crate) counts: Vec<Counts>,
 }
 
 impl Model for World {
-    ghost use Rattle.std.specs.Prelude.{◌-◌, vec_len, vec_capacity};
+    ghost use Rattle.std.specs.Prelude.{◌-◌, length};
     ghost use Rattle.rme_world.specs.Seen.{Seen, IsKept};
 
     ghost Value = { Seen };
 
-    ghost view = { λ world. record { shape = world.bank.shape; words = world.bank.words; privates = world.privates.items; history = world.history.items; counts = world.counts.items; room = vec_capacity world.history - vec_len world.history } };
+    ghost view = { λ world. record { shape = world.bank.shape; words = world.bank.words; privates = world.privates.items; history = world.history.entries; counts = world.counts.items; room = world.history.room - length world.history.entries } };
 
-    ghost invariant = { λ world. IsKept record { shape = world.bank.shape; words = world.bank.words; privates = world.privates.items; history = world.history.items; counts = world.counts.items; room = vec_capacity world.history - vec_len world.history } };
+    ghost invariant = { λ world. IsKept record { shape = world.bank.shape; words = world.bank.words; privates = world.privates.items; history = world.history.entries; counts = world.counts.items; room = world.history.room - length world.history.entries } };
 }
 
 impl World {
@@ -50,7 +51,7 @@ impl World {
         Ok(World {
             bank,
             privates,
-            history: Vec::new(alloc),
+            history: EntryList::new(alloc),
             counts,
         })
     }

@@ -4,5 +4,5 @@ use Rattle.std.specs.Int.{w32, to_be_bytes}
 use Rattle.rme_image.specs.Images.{IsSmallEntry, entry_bytes}
 use Rattle.rme_image.proofs.encoding.put_entries.Given as goal
 
-abbrev pub invariant-loop-entry : goal.invariant-loop-entry
-invariant-loop-entry l = (l.out.items ≡ l.fn.out.items ++ to_be_bytes w32 (length l.entries) ++ flat_map entry_bytes (take l.entry-index l.entries)) × All IsSmallEntry (take l.entry-index l.entries)
+abbrev pub invariant-loop-i : goal.invariant-loop-i
+invariant-loop-i l = (l.out.items ≡ l.fn.out.items ++ to_be_bytes w32 (length l.entries.entries) ++ flat_map entry_bytes (take l.i l.entries.entries)) × All IsSmallEntry (take l.i l.entries.entries)

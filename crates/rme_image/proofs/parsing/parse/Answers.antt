@@ -21,7 +21,7 @@ returns-in_default-3-clause-only c = λ version shape words entries is s.
 pub returns-clause-found : goal.returns-clause-found
 returns-clause-found c = (
   c.in-Some-shape_of.ensures.found.1,
-  is_spelled c.args.bytes.now c.in-Some.header c.in-Some.rest.now c.in-Some-shape_of.shape c.in-Some-2.words.items c.in-Some-2.rest.now c.in-Some-3.entries.items
+  is_spelled c.args.bytes.now c.in-Some.header c.in-Some.rest.now c.in-Some-shape_of.shape c.in-Some-2.words.items c.in-Some-2.rest.now c.in-Some-3.entries.entries
       (λ i. omega (arith, c.type_inv.bytes i)) c.in-Some.ensures c.in-Some-shape_of.ensures.found.0 (rw c.in-Some-2.is at c.in_ok-words.ensures) (rw c.in-Some-3.is at c.in_ok-entries.ensures),
 )
 
@@ -38,7 +38,7 @@ returns-clause-only c = λ version shape words entries is s.
         one_version version shape words entries bytes is s header rest found c.in-Some.ensures same,
         one_shape version shape words entries bytes is s header rest found c.in-Some.ensures same,
         one_words version shape words entries bytes is s header rest found c.in-Some.ensures same c.in-Some-2.words.items c.in-Some-2.rest.now read,
-        one_entries version shape words entries bytes is s header rest found c.in-Some.ensures same c.in-Some-2.words.items c.in-Some-2.rest.now read c.in-Some-3.entries.items last,
+        one_entries version shape words entries bytes is s header rest found c.in-Some.ensures same c.in-Some-2.words.items c.in-Some-2.rest.now read c.in-Some-3.entries.entries last,
       ),
       tt,
     )

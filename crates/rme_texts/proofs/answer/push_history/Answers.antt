@@ -5,4 +5,4 @@ use Rattle.rme_texts.proofs.answer.push_history.Goals as goal
 
 pub returns : goal.returns
 returns c =
-    append_three (string_bytes c.args.out.now) _ _ _ _ (entries_text c.args.names.now c.args.entries.now) _ c.in_ok-push_str.ensures.bytes c.in_ok-push_entries.ensures c.in_ok-push_str-2.ensures.bytes
+    append_three (string_bytes c.args.out.now) _ _ _ _ (entries_text c.args.names.now c.args.entries.now.entries) _ c.in_ok-push_str.ensures.bytes c.in_ok-push_entries.ensures c.in_ok-push_str-2.ensures.bytes

@@ -1,11 +1,11 @@
-use Rattle.std.proofs.Common.{string_bytes, arith}
+use Rattle.std.proofs.Common.{string_bytes, sym, ◌∙◌}
 use Rattle.rme_texts.specs.Texts.{entry_text}
-use Rattle.rme_names.proofs.ListLemmas.{drop_read}
+use Rattle.rme_script.proofs.Lists.{drop_at}
 use Rattle.rme_texts.proofs.TextLemmas.{separates_next}
 use Rattle.rme_texts.proofs.texts.push_entries.Goals as goal
 
-pub loop-entry-preserved : goal.loop-entry-preserved
-loop-entry-preserved c =
-    let here = drop_read c.args.entries.now c.loop-entry.entry-index c.entry-item.result (omega arith) c.entry-item.is in
-    let so_far = rw here at c.loop-entry.invariant in
-    separates_next (entry_text c.args.names.now) (string_bytes c.args.out.now) c.args.entries.now _ _ c.entry-item.result _ _ _ so_far c.in_ok-push_comma.ensures c.in_ok-push_entry.ensures
+pub loop-i-preserved : goal.loop-i-preserved
+loop-i-preserved c =
+    let here = drop_at c.args.entries.now.entries c.loop-i.i c.in-Some.entry (sym c.get.ensures ∙ c.in-Some.is) in
+    let so_far = rw here at c.loop-i.invariant in
+    separates_next (entry_text c.args.names.now) (string_bytes c.args.out.now) c.args.entries.now.entries _ _ c.in-Some.entry _ _ _ so_far c.in_ok-push_comma.ensures c.in_ok-push_entry.ensures

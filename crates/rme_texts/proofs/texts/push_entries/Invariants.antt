@@ -4,5 +4,5 @@ use Rattle.rme_texts.specs.Texts.{entry_text}
 use Rattle.rme_texts.proofs.TextLemmas.{Separates}
 use Rattle.rme_texts.proofs.texts.push_entries.Given as goal
 
-abbrev pub invariant-loop-entry : goal.invariant-loop-entry
-invariant-loop-entry l = Separates (entry_text l.names) (string_bytes l.fn.out) l.entries (string_bytes l.out) l.later (drop l.entry-index l.entries)
+abbrev pub invariant-loop-i : goal.invariant-loop-i
+invariant-loop-i l = Separates (entry_text l.names) (string_bytes l.fn.out) l.entries.entries (string_bytes l.out) l.later (drop l.i l.entries.entries)

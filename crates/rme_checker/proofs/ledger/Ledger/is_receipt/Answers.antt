@@ -35,7 +35,7 @@ returns c =
     rw (← c.self.view_is) (λ me is_me.
     let same = read_same _ _ me _ within c.index.ensures is_me in
     c.has_outcome.ensures
-    ∙ receipt_read c.self.inside.shape c.self.inside.entries.items c.args.worker me.stance c.args.receipt.now c.in-Inside.number c.in-Inside.job _ _ (ap (λ (x : WorkerState). x.stance) (sym same) ∙ inside)
+    ∙ receipt_read c.self.inside.shape c.self.inside.entries.entries c.args.worker me.stance c.args.receipt.now c.in-Inside.number c.in-Inside.job _ _ (ap (λ (x : WorkerState). x.stance) (sym same) ∙ inside)
     c.if-receipt-worker.false c.if-receipt-job.false c.if-receipt-number.false
     (count_read _ _ _ _ c.self.invariant.fold c.in-Inside.job.lock fits.lock c.index-count.result.now c.index-count.ensures)
     (row_read _ _ _ _ c.self.invariant.fold c.in-Inside.job.lock fits.lock c.index-row.result.now c.index-row.ensures))

@@ -12,8 +12,8 @@ invariant_of-result c = record {
       opening_fits c.args.shape c.in_ok-workers.workers.items c.args.shape.workers
       (c.in_ok-workers.ensures ∙ made_of_one (λ _. opening_worker) opening_worker 0 c.args.shape.workers (λ _ _. refl));
   fold =
-      subst (λ (es : List Entry). IsFold c.args.shape es c.in-Ok.fold.rows.items c.in-Ok.fold.counts.items) (sym c.new-2.ensures.items) c.in-Ok.ensures.start;
+      subst (λ (es : List Entry). IsFold c.args.shape es c.in-Ok.fold.rows.items c.in-Ok.fold.counts.items) (sym c.new-2.ensures.none) c.in-Ok.ensures.start;
 }
 
 pub returns : goal.returns
-returns c = rw (c.in_ok-workers.ensures, made_of_one (λ _. opening_worker) opening_worker 0 c.args.shape.workers (λ _ _. refl), c.new-2.ensures.items) refl
+returns c = rw (c.in_ok-workers.ensures, made_of_one (λ _. opening_worker) opening_worker 0 c.args.shape.workers (λ _ _. refl), c.new-2.ensures.none) refl

@@ -9,9 +9,9 @@ returns-then-not-follow-clause-rise c = λ rise. c.if-not-follow.ensures.follows
 
 pub loop-i-preserved : goal.loop-i-preserved
 loop-i-preserved c = record {
-  rise = up_to (λ (k : ℕ). FollowsIn c.args.shape c.args.entries.now k) c.loop-i.i c.loop-i.invariant.rise c.if-not-follow.ensures.follows;
+  rise = up_to (λ (k : ℕ). FollowsIn c.args.shape c.args.entries.now.entries k) c.loop-i.i c.loop-i.invariant.rise c.if-not-follow.ensures.follows;
   lasts = c.if-not-follow.ensures.lasts;
 }
 
 pub returns-clause-rise : goal.returns-clause-rise
-returns-clause-rise c = λ i e here. c.loop-i.invariant.rise i (omega (arith, slice_get_within _ i e here, c.loop-i-test.false)) e here
+returns-clause-rise c = λ i e here. c.loop-i.invariant.rise i (omega (arith, slice_get_within _ i e here, c.loop-i-test.false, c.len-i-end.ensures)) e here

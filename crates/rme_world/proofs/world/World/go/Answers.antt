@@ -1,5 +1,5 @@
 use Rattle.std.proofs.Common.{refl, sym, subst, arith}
-use Rattle.std.specs.Prelude.{◌-◌, ◌<◌, Some, slice_set, vec_len, vec_capacity}
+use Rattle.std.specs.Prelude.{◌-◌, ◌<◌, Some, length, slice_set}
 use Rattle.rme_words.specs.declared.shape.Shape.{Shape}
 use Rattle.rme_program.specs.declared.kinds.Phase.{Phase}
 use Rattle.rme_world.specs.Counting.{count_of}
@@ -54,7 +54,7 @@ invariant_of-self c =
     (stepped _ c.args.worker c.in-Some.private c.self.invariant its.0 its.1 _
     c.shape-shape.result c.shape-shape.ensures c.next.result c.perform-found.result c.after-note.new.private c.after-note.result c.after_step.new.self c.index_mut-counts.result.now c.phase-before.result c.phase-now.result
     c.perform-found.ensures.shape c.next.ensures.action c.perform-found.ensures.did c.after-note.ensures.after c.after-note.ensures.note refl refl c.record.ensures.entries
-    (omega (arith, c.record.ensures.capacity, c.self.inside.history.ok.0, c.self.inside.history.ok.1, c.record.new.history.ok.0, c.record.new.history.ok.1))
+    c.record.ensures.room
     (counts_lie _ c.args.worker c.index_mut-counts.result.now c.self.invariant (busy_within _ c.args.worker c.self.invariant (rw (← c.self.view_is) at c.requires.busy)) c.index_mut-counts.ensures.value) c.phase-before.ensures c.phase-now.ensures c.after_step.ensures)
     c.self.invariant
 
@@ -65,19 +65,19 @@ returns-clause-steps c =
       shape = c.perform-found.new.bank.shape;
       words = c.perform-found.new.bank.words;
       privates = slice_set c.self.inside.privates.items c.args.worker (Some c.after-note.new.private);
-      history = c.record.new.history.items;
+      history = c.record.new.history.entries;
       counts = slice_set c.self.inside.counts.items c.args.worker c.after_step.new.self;
-      room = vec_capacity c.record.new.history - vec_len c.record.new.history;
+      room = c.record.new.history.room - length c.record.new.history.entries;
     }) c.self.view_is
     (stepped _ c.args.worker c.in-Some.private c.self.invariant its.0 its.1 record {
       shape = c.perform-found.new.bank.shape;
       words = c.perform-found.new.bank.words;
       privates = slice_set c.self.inside.privates.items c.args.worker (Some c.after-note.new.private);
-      history = c.record.new.history.items;
+      history = c.record.new.history.entries;
       counts = slice_set c.self.inside.counts.items c.args.worker c.after_step.new.self;
-      room = vec_capacity c.record.new.history - vec_len c.record.new.history;
+      room = c.record.new.history.room - length c.record.new.history.entries;
     }
     c.shape-shape.result c.shape-shape.ensures c.next.result c.perform-found.result c.after-note.new.private c.after-note.result c.after_step.new.self c.index_mut-counts.result.now c.phase-before.result c.phase-now.result
     c.perform-found.ensures.shape c.next.ensures.action c.perform-found.ensures.did c.after-note.ensures.after c.after-note.ensures.note refl refl c.record.ensures.entries
-    (omega (arith, c.record.ensures.capacity, c.self.inside.history.ok.0, c.self.inside.history.ok.1, c.record.new.history.ok.0, c.record.new.history.ok.1))
+    c.record.ensures.room
     (counts_lie _ c.args.worker c.index_mut-counts.result.now c.self.invariant (busy_within _ c.args.worker c.self.invariant (rw (← c.self.view_is) at c.requires.busy)) c.index_mut-counts.ensures.value) c.phase-before.ensures c.phase-now.ensures c.after_step.ensures)
