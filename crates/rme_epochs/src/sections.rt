@@ -19,7 +19,7 @@ impl Sections {
         let history = world.history();
         for at in 0..history.len() {
             let Some(receipt) = history.receipt(at) else {
-                break;
+                unreachable!();
             };
             if let Some(count) = counts.get_mut(receipt.lock as usize) {
                 *count = count.saturating_add(1);
@@ -43,7 +43,7 @@ pub(crate) fn last_receipts(
     let history = world.history();
     for at in 0..history.len() {
         let Some(receipt) = history.receipt(at) else {
-            break;
+            unreachable!();
         };
         if let Some(own) = last.get_mut(receipt.worker as usize) {
             *own = Some(receipt);
