@@ -1,0 +1,5 @@
+pub mod Fronts
+pub mod Telling
+pub mod Marking
+pub mod Texts
+pub mod Holding

@@ -1,0 +1,21 @@
+-- What the mark says stays true, and holds of each beginning that is not longer.
+use Rattle.std.proofs.Common.{◌≡◌, ℕ, suc, ◌≤◌, List, length, Option, arith}
+use mathlib.Core.List.{IsPrefix}
+use Rattle.rme_ledger.specs.declared.entry.Entry.{Entry}
+use Rattle.rme_ledger.specs.Logs.{AreHeld}
+use Rattle.rme_ledger.specs.Rules.{IsMark}
+use Rattle.rme_ledger.proofs.Fronts.{prefix_self, prefix_trans, prefix_shorter}
+
+module _ {X : Type 0} (holds : X → Option (List ℕ)) where
+  pub mark_stays : (count : ℕ) (xs ys : List Entry) → IsPrefix xs ys → IsMark holds count xs → IsMark holds count ys
+  mark_stays count xs ys p is = record { start = is.start; begins = prefix_trans is.start xs ys is.begins p; counted = is.counted; held = is.held }
+
+  -- a beginning of what was held was held
+  pub held_before : (xs ys : List Entry) → IsPrefix xs ys → AreHeld holds ys → AreHeld holds xs
+  held_before xs ys p held start q some = held start (prefix_trans start xs ys q p) some
+
+  pub held_by_mark : (count : ℕ) (mine log : List Entry) (own : ℕ) → IsMark holds count log → IsPrefix mine log → length mine ≡ suc own → own ≤ count → AreHeld holds mine
+  held_by_mark count mine log own is p len le = held_before mine is.start (prefix_shorter mine is.start log p is.begins (omega (arith, len, le, is.counted))) is.held
+
+  pub mark_of : (log : List Entry) (own : ℕ) → length log ≡ suc own → AreHeld holds log → IsMark holds own log
+  mark_of log own len held = record { start = log; begins = prefix_self log; counted = len; held = held }
