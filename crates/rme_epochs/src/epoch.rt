@@ -97,6 +97,13 @@ impl EpochDesk {
         self.written.desk()
     }
 
+    /// The lines that nobody has taken, to look at.
+    pub fn lines(&self) -> &str
+        ensures { result.now ≡ self.now.lines }
+    {
+        self.written.lines()
+    }
+
     /// What the epochs before left.
     pub fn earlier(&self) -> &Earlier
         ensures { result.now ≡ self.now.earlier }

@@ -98,6 +98,13 @@ impl WrittenDesk {
         &self.desk
     }
 
+    /// The lines that nobody has taken, to look at.
+    pub fn lines(&self) -> &str
+        ensures { result.now ≡ self.now.lines }
+    {
+        self.lines.as_str()
+    }
+
     /// Whether something was done that could not be written down.
     pub fn is_lost(&self) -> bool {
         self.is_lost
