@@ -2,15 +2,15 @@
 
 use crate::ledger::Ledger;
 use crate::log::Naming;
+use crate::log_end::LogEnd;
 use crate::teller::{Taken, Teller};
-use crate::told::Told;
 use std::marker::Model;
 
 /// A ledger with all that was told to it, which is what it holds. To a contract it is that beginning of the log.
 #[derive(Drop)]
 pub struct Held<L: Ledger, J: Naming> {
     ledger: L,
-    upto: Told<L, J>,
+    upto: LogEnd<L, J>,
 }
 
 impl<L: Ledger, J: Naming> Model for Held<L, J> {
@@ -32,7 +32,7 @@ impl<L: Ledger, J: Naming> Held<L, J> {
     ghost use Rattle.rme_ledger.specs.declared.entry.Entry.TheVariants.{Whole};
 
     /// The ledger, with which the log begins.
-    pub(crate) fn new(ledger: L, first: Told<L, J>) -> Held<L, J>
+    pub(crate) fn new(ledger: L, first: LogEnd<L, J>) -> Held<L, J>
         requires first { first ≡ Whole (known_bytes (L.holds ledger)) ∷ [] }
         ensures { result ≡ first }
     {
@@ -43,7 +43,7 @@ impl<L: Ledger, J: Naming> Held<L, J> {
     }
 
     /// All that it holds.
-    pub fn upto(&self) -> &Told<L, J>
+    pub fn upto(&self) -> &LogEnd<L, J>
         ensures upto { result.now ≡ self.now }
         ensures held { AreHeld L.holds self.now }
     {

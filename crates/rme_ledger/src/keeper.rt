@@ -3,10 +3,10 @@
 use crate::held::Held;
 use crate::ledger::{Ledger, NotKept};
 use crate::log::Naming;
+use crate::log_end::LogEnd;
 use crate::marks::Marks;
 use crate::spinning::lock_soon;
 use crate::teller::Taken;
-use crate::told::Told;
 use std::alloc::Global;
 use std::mem::replace;
 use std::sync::atomic::{AtomicBool, Ordering};
@@ -57,30 +57,30 @@ impl<L: Ledger, J: Naming> Keeper<L, J> {
         }
     }
 
-    /// Waits until all of these were in the ledger, and writes them itself where nobody else does.
+    /// Waits until all that was told before this end was in the ledger, and writes it itself where nobody else does.
     pub fn keep<R: Wait, F: Tells<L, J>>(
         &self,
         rt: &R,
         front: &Mutex<F>,
-        mine: &Told<L, J>,
+        end: &LogEnd<L, J>,
     ) -> Result<(), NotKept>
-        ensures held { OnOk result (AreHeld L.holds mine.now) }
-        ensures lines { OnOk result (HadAllLines L.holds mine.now) }
+        ensures held { OnOk result (AreHeld L.holds end.now) }
+        ensures lines { OnOk result (HadAllLines L.holds end.now) }
     {
         for _ in rt.forever() {
-            let is_behind = self.marks.is_behind(mine);
+            let is_behind = self.marks.is_behind(end);
             // What was lost may be told where what is kept is, so that this comes first.
             if self.is_broken() {
                 return Err(NotKept);
             }
-            if self.marks.has_kept(mine) {
+            if self.marks.has_kept(end) {
                 return Ok(());
             }
             let mut back = lock_soon(rt, &self.back);
             if self.is_broken() {
                 return Err(NotKept);
             }
-            if self.marks.has_kept(mine) {
+            if self.marks.has_kept(end) {
                 return Ok(());
             }
             if let Some(held) = back.held.take() {

@@ -14,21 +14,21 @@ mod held;
 mod keeper;
 mod ledger;
 mod log;
+mod log_end;
 mod marks;
 mod opening;
 mod spinning;
 mod teller;
-mod told;
 
 pub use entry::Entry;
 pub use held::Held;
 pub use keeper::{Keeper, Tells};
 pub use ledger::{Ledger, NotKept};
 pub use log::Naming;
+pub use log_end::LogEnd;
 pub use opening::Opened;
 pub use spinning::lock_soon;
 pub use teller::{Taken, Teller};
-pub use told::Told;
 
 #[cfg(test)]
 mod tests;

@@ -5,8 +5,8 @@ ghost use Rattle.std.specs.Prelude.{◌≡◌, false};
 use crate::entry::Entry;
 use crate::ledger::Ledger;
 use crate::log::{Law, Naming};
+use crate::log_end::LogEnd;
 use crate::spinning::{ROUNDS, TURNS};
-use crate::told::Told;
 use logbook::Word;
 use std::marker::PhantomData;
 use std::sync::atomic::{AtomicBool, Ordering};
@@ -43,8 +43,8 @@ impl<L: Ledger, J: Naming> Marks<L, J> {
         self.is_writing.store(true, Ordering::SeqCst);
     }
 
-    /// All of these are kept, and nobody writes.
-    pub(crate) fn wrote(&self, upto: &Told<L, J>)
+    /// All before this end is kept, and nobody writes.
+    pub(crate) fn wrote(&self, upto: &LogEnd<L, J>)
         requires { AreHeld L.holds upto.now }
     {
         upto.set(&self.kept);
@@ -56,18 +56,18 @@ impl<L: Ledger, J: Naming> Marks<L, J> {
         self.is_writing.store(false, Ordering::SeqCst);
     }
 
-    /// Whether all of these are kept, as far as was noted.
-    pub(crate) fn has_kept(&self, mine: &Told<L, J>) -> bool
-        ensures held { IsTrue result → AreHeld L.holds mine.now }
-        ensures lines { IsTrue result → HadAllLines L.holds mine.now }
+    /// Whether all before this end is kept, as far as was noted.
+    pub(crate) fn has_kept(&self, end: &LogEnd<L, J>) -> bool
+        ensures held { IsTrue result → AreHeld L.holds end.now }
+        ensures lines { IsTrue result → HadAllLines L.holds end.now }
     {
-        mine.is_held(&self.kept)
+        end.is_held(&self.kept)
     }
 
-    /// Waits for a while as long as somebody writes and not all of these are kept. Whether both are so still.
-    pub(crate) fn is_behind(&self, mine: &Told<L, J>) -> bool {
+    /// Waits for a while as long as somebody writes and not all before this end is kept. Whether both are so still.
+    pub(crate) fn is_behind(&self, end: &LogEnd<L, J>) -> bool {
         for _ in 0..ROUNDS {
-            if !self.stays_behind(mine) {
+            if !self.stays_behind(end) {
                 return false;
             }
             thread::yield_now();
@@ -75,10 +75,10 @@ impl<L: Ledger, J: Naming> Marks<L, J> {
         true
     }
 
-    /// Whether somebody writes and not all of these are kept, at each of so many looks.
-    fn stays_behind(&self, mine: &Told<L, J>) -> bool {
+    /// Whether somebody writes and not all before this end is kept, at each of so many looks.
+    fn stays_behind(&self, end: &LogEnd<L, J>) -> bool {
         for _ in 0..TURNS {
-            if self.has_kept(mine) || !self.is_writing.load(Ordering::SeqCst) {
+            if self.has_kept(end) || !self.is_writing.load(Ordering::SeqCst) {
                 return false;
             }
             hint::spin_loop();

@@ -5,9 +5,9 @@ use crate::held::Held;
 use crate::keeper::Keeper;
 use crate::ledger::Ledger;
 use crate::log::{Law, Naming};
+use crate::log_end::LogEnd;
 use crate::marks::Marks;
 use crate::teller::Teller;
-use crate::told::Told;
 use logbook::{Seen, Start, Word};
 use std::alloc::Global;
 use std::marker::Model;
@@ -60,7 +60,7 @@ impl<L: Ledger> Opened<L> {
             kept,
             seen,
         } = self;
-        let first = Told::first(seen);
+        let first = LogEnd::first(seen);
         let held = Held::new(ledger, first.again());
         (
             Teller::new(head, first),

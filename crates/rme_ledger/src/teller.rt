@@ -3,7 +3,7 @@
 use crate::entry::Entry;
 use crate::ledger::Ledger;
 use crate::log::{AsLines, AsWhole, Law, Naming};
-use crate::told::Told;
+use crate::log_end::LogEnd;
 use logbook::Word;
 use std::marker::Model;
 
@@ -13,8 +13,8 @@ use std::marker::Model;
 pub struct Teller<L: Ledger, J: Naming> {
     /// How many entries were told. Nobody else tells, which no contract knows.
     head: Word<Entry, u64, Law<L>>,
-    taken: Told<L, J>,
-    told: Told<L, J>,
+    taken: LogEnd<L, J>,
+    told: LogEnd<L, J>,
 }
 
 impl<L: Ledger, J: Naming> Model for Teller<L, J> {
@@ -31,8 +31,8 @@ impl<L: Ledger, J: Naming> Model for Teller<L, J> {
 #[derive(Drop)]
 pub struct Taken<L: Ledger, J: Naming> {
     lines: String,
-    from: Told<L, J>,
-    upto: Told<L, J>,
+    from: LogEnd<L, J>,
+    upto: LogEnd<L, J>,
 }
 
 impl<L: Ledger, J: Naming> Model for Taken<L, J> {
@@ -54,7 +54,7 @@ impl<L: Ledger, J: Naming> Teller<L, J> {
     ghost use Rattle.rme_ledger.specs.declared.entry.Entry.TheVariants.{Lines, Whole};
 
     /// Who tells behind this beginning of the log, all of which was taken.
-    pub(crate) fn new(head: Word<Entry, u64, Law<L>>, told: Told<L, J>) -> Teller<L, J>
+    pub(crate) fn new(head: Word<Entry, u64, Law<L>>, told: LogEnd<L, J>) -> Teller<L, J>
         requires head { head ≡ head_of J.book }
         ensures log { result.log ≡ told }
         ensures waits { result.waits ≡ [] }
@@ -66,8 +66,8 @@ impl<L: Ledger, J: Naming> Teller<L, J> {
         }
     }
 
-    /// All that was told so far.
-    pub fn told(&self) -> Told<L, J>
+    /// Where the log ends now.
+    pub fn end(&self) -> LogEnd<L, J>
         ensures told { result ≡ self.now.log }
         ensures waits { IsTold result self.now.waits }
     {
@@ -89,14 +89,14 @@ impl<L: Ledger, J: Naming> Teller<L, J> {
     }
 
     /// Whether just this was told.
-    pub(crate) fn has_told(&self, upto: &Told<L, J>) -> bool
+    pub(crate) fn has_told(&self, upto: &LogEnd<L, J>) -> bool
         ensures { IsTrue result → self.now.log ≡ upto.now }
     {
         self.told.is(upto)
     }
 
     /// Tells these bytes in the place of all that was told, and answers all that is told then.
-    pub(crate) fn renew(&mut self, bytes: &[u8]) -> Option<Told<L, J>>
+    pub(crate) fn renew(&mut self, bytes: &[u8]) -> Option<LogEnd<L, J>>
         ensures told { OnSome result ((self.new.log ≡ self.old.log ++ Whole bytes.now ∷ []) × (self.new.waits ≡ [])) }
         ensures is { IfSome result (λ told. told ≡ self.old.log ++ Whole bytes.now ∷ []) }
         ensures same { IfNone result (self.new ≡ self.old) }
@@ -129,7 +129,7 @@ impl<L: Ledger, J: Naming> Taken<L, J> {
     ghost use Rattle.rme_ledger.specs.Rules.{AreLinesSince};
 
     /// What was taken before, the lines, and what was taken with them.
-    pub(crate) fn parts(&self) -> (&Told<L, J>, &[u8], &Told<L, J>)
+    pub(crate) fn parts(&self) -> (&LogEnd<L, J>, &[u8], &LogEnd<L, J>)
         ensures upto { result.2.now ≡ self.now }
         ensures since { AreLinesSince result.0.now result.2.now result.1.now }
     {

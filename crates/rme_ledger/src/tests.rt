@@ -82,7 +82,7 @@ impl<J: Naming> Tells<Pages, J> for Desk<J> {
 
 impl<J: Naming> Desk<J> {
     /// Writes a line down and tells it, if there is memory.
-    fn write(&mut self, line: &str) -> Option<Told<Pages, J>> {
+    fn write(&mut self, line: &str) -> Option<LogEnd<Pages, J>> {
         let mut teller = self.teller.take()?;
         if self.lines.push_str(line).is_err() {
             self.teller = Some(teller);
@@ -91,7 +91,7 @@ impl<J: Naming> Desk<J> {
         if !teller.tell(line.as_bytes()) {
             return None;
         }
-        let told = teller.told();
+        let told = teller.end();
         self.teller = Some(teller);
         Some(told)
     }

@@ -4,7 +4,7 @@ use mathlib.Core.List.{IsPrefix}
 use Rattle.rme_ledger.specs.declared.entry.Entry.{Entry}
 use Rattle.rme_ledger.proofs.Holding.{had_all_lines}
 use Rattle.rme_ledger.proofs.Marking.{held_by_mark}
-use Rattle.rme_ledger.proofs.told.Told.is_held.Goals as goal
+use Rattle.rme_ledger.proofs.log_end.LogEnd.is_held.Goals as goal
 
 pub returns-clause-held : goal.returns-clause-held
 returns-clause-held g c = λ yes.

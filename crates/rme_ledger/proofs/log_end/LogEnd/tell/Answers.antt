@@ -1,6 +1,6 @@
 use Rattle.std.proofs.Common.{◌≡◌, ◌+◌, suc, sym, ◌∙◌, ap, arith, length}
 use Rattle.rme_ledger.proofs.Telling.{tells_moves}
-use Rattle.rme_ledger.proofs.told.Told.tell.Goals as goal
+use Rattle.rme_ledger.proofs.log_end.LogEnd.tell.Goals as goal
 
 pub compare_exchange-found-requires : goal.compare_exchange-found-requires
 compare_exchange-found-requires g c =

@@ -2,7 +2,7 @@ use Rattle.std.proofs.Common.{◌≤◌, ap, subst, arith, length, List}
 use mathlib.Core.List.{IsPrefix}
 use Rattle.rme_ledger.specs.declared.entry.Entry.{Entry}
 use Rattle.rme_ledger.proofs.Fronts.{prefix_shorter}
-use Rattle.rme_ledger.proofs.told.Told.longer.Goals as goal
+use Rattle.rme_ledger.proofs.log_end.LogEnd.later.Goals as goal
 
 pub returns-then-self-other-clause-this : goal.returns-then-self-other-clause-this
 returns-then-self-other-clause-this g c =

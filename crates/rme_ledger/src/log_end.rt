@@ -1,4 +1,4 @@
-//! A beginning of the log, which who has it has seen.
+//! Where the log ended at some moment.
 
 use crate::entry::Entry;
 use crate::ledger::Ledger;
@@ -6,39 +6,39 @@ use crate::log::{Law, Naming, Nothing, Tell};
 use logbook::{Offer, Plain, Seen, Word};
 use std::marker::{Model, PhantomData};
 
-/// A beginning of the log: all that was told by some moment. To a contract it is its entries.
+/// Where the log ended at some moment. To a contract it is the entries before that, all that was told by then.
 #[derive(Drop)]
-pub struct Told<L: Ledger, J: Naming> {
+pub struct LogEnd<L: Ledger, J: Naming> {
     /// How many entries were told behind the first.
     count: u64,
     seen: Seen<Entry, u64, Law<L>>,
     of: PhantomData<J>,
 }
 
-impl<L: Ledger, J: Naming> Model for Told<L, J> {
+impl<L: Ledger, J: Naming> Model for LogEnd<L, J> {
     ghost use Rattle.std.specs.Prelude.{◌≡◌, List, suc, length};
     ghost use Rattle.rme_ledger.specs.declared.entry.Entry.{Entry};
 
     ghost Value = { List Entry };
 
-    ghost view = { λ told. told.seen.log };
+    ghost view = { λ end. end.seen.log };
 
-    ghost invariant = { λ told. (length told.seen.log ≡ suc told.count) × (told.seen.book ≡ J.book) };
+    ghost invariant = { λ end. (length end.seen.log ≡ suc end.count) × (end.seen.book ≡ J.book) };
 }
 
-impl<L: Ledger, J: Naming> Told<L, J> {
+impl<L: Ledger, J: Naming> LogEnd<L, J> {
     ghost use Rattle.std.specs.Prelude.{◌≡◌, ◌++◌, ◌∷◌, [], IfSome, IsTrue, None, false, length};
     ghost use mathlib.Core.List.{IsPrefix};
     ghost use Rattle.rme_ledger.specs.Logs.{AreHeld, HadAllLines};
     ghost use Rattle.rme_ledger.specs.Rules.{head_of};
 
-    /// What the ledger held at the beginning.
-    pub(crate) fn first(seen: Seen<Entry, u64, Law<L>>) -> Told<L, J>
+    /// Behind the first entry.
+    pub(crate) fn first(seen: Seen<Entry, u64, Law<L>>) -> LogEnd<L, J>
         requires book { seen.book ≡ J.book }
         requires first { length seen.log ≡ 1 }
         ensures { result ≡ seen.log }
     {
-        Told {
+        LogEnd {
             count: 0,
             seen,
             of: PhantomData,
@@ -46,18 +46,18 @@ impl<L: Ledger, J: Naming> Told<L, J> {
     }
 
     /// A copy.
-    pub fn again(&self) -> Told<L, J>
+    pub fn again(&self) -> LogEnd<L, J>
         ensures { result ≡ self.now }
     {
-        Told {
+        LogEnd {
             count: self.count,
             seen: self.seen.again(),
             of: PhantomData,
         }
     }
 
-    /// The longer of two beginnings of the log, which the other begins.
-    pub fn longer(&self, other: &Told<L, J>) -> Told<L, J>
+    /// The later of two ends.
+    pub fn later(&self, other: &LogEnd<L, J>) -> LogEnd<L, J>
         ensures this { IsPrefix self.now result }
         ensures that { IsPrefix other.now result }
     {
@@ -70,8 +70,8 @@ impl<L: Ledger, J: Naming> Told<L, J> {
         }
     }
 
-    /// Whether two beginnings of the log are one.
-    pub(crate) fn is(&self, other: &Told<L, J>) -> bool
+    /// Whether two ends are one.
+    pub(crate) fn is(&self, other: &LogEnd<L, J>) -> bool
         ensures { IsTrue result → self.now ≡ other.now }
     {
         let mut both = self.seen.again();
@@ -79,15 +79,15 @@ impl<L: Ledger, J: Naming> Told<L, J> {
         self.count == other.count
     }
 
-    /// Tells an entry behind these, by the word that counts them. `None` where there are others behind these already.
+    /// Tells an entry here, by the word that counts them. `None` where others were told here already.
     pub(crate) fn tell<X, M: Plain<X, Entry, u64>>(
         &self,
         head: &Word<Entry, u64, Law<L>>,
         about: &X,
-    ) -> Option<Told<L, J>>
+    ) -> Option<LogEnd<L, J>>
         requires head { head.now ≡ head_of J.book }
         requires new { M.state about.now ≡ None }
-        ensures { IfSome result (λ told. told ≡ self.now ++ M.ask about.now ∷ []) }
+        ensures { IfSome result (λ end. end ≡ self.now ++ M.ask about.now ∷ []) }
     {
         if self.count == u64::MAX {
             return None;
@@ -102,7 +102,7 @@ impl<L: Ledger, J: Naming> Told<L, J> {
         if found != self.count {
             return None;
         }
-        Some(Told {
+        Some(LogEnd {
             count: next,
             seen,
             of: PhantomData,
@@ -117,7 +117,7 @@ impl<L: Ledger, J: Naming> Told<L, J> {
         mark.load_hint(&mut seen)
     }
 
-    /// Whether the mark says that all of these were held.
+    /// Whether the mark says that all before this end was held.
     pub(crate) fn is_held(&self, mark: &Word<Entry, u64, Law<L>>) -> bool
         requires mark { (mark.now.tracked ≡ false) × (mark.now.book ≡ J.book) }
         ensures held { IsTrue result → AreHeld L.holds self.now }
@@ -127,7 +127,7 @@ impl<L: Ledger, J: Naming> Told<L, J> {
         mark.load_hint(&mut seen) >= self.count
     }
 
-    /// Puts the mark behind all of these, which were held.
+    /// Puts the mark here, before which all was held.
     pub(crate) fn set(&self, mark: &Word<Entry, u64, Law<L>>)
         requires mark { (mark.now.tracked ≡ false) × (mark.now.book ≡ J.book) }
         requires held { AreHeld L.holds self.now }

@@ -3,7 +3,7 @@ use Rattle.std.proofs.lemmas.Bool.Decides.{nat_tests}
 use mathlib.Core.List.{IsPrefix}
 use Rattle.rme_ledger.specs.declared.entry.Entry.{Entry}
 use Rattle.rme_ledger.proofs.Fronts.{prefix_same}
-use Rattle.rme_ledger.proofs.told.Told.is.Goals as goal
+use Rattle.rme_ledger.proofs.log_end.LogEnd.is.Goals as goal
 
 pub returns : goal.returns
 returns g c = λ yes.
