@@ -1,5 +1,7 @@
 //! `rme serve --state`: sessions over a world that is kept in a file.
 
+ghost use Rattle.std.specs.Prelude.{◌≡◌};
+
 use crate::hearing::{Hearing, listen};
 use crate::trouble::Complaints;
 use rme_desk::Desk;
@@ -7,6 +9,7 @@ use rme_epochs::{Earlier, EpochDesk, MOST_SET};
 use rme_faults::{BadArgument, Fault, shown, why_not_locks, why_not_sizes};
 use rme_journal::{Header, Started, push_falls, push_header, whole_lines};
 use rme_kept::{Kept, clients_of};
+use rme_ledger::{Naming, Opened};
 use rme_options::{KeepTask, Places, Remarks, Synced};
 use rme_server::{Backend, Closer, Door, Listener, serve};
 use rme_state::{StateFile, make_state, read_state};
@@ -14,6 +17,7 @@ use rme_texts::push_opening;
 use rme_wire::{GivenNames, Names};
 use rme_words::{NoMemory, Shape};
 use std::alloc::{AllocError, Global};
+use std::marker::Brand;
 use std::sync::Wait;
 use std::thread::Threads;
 use std::time::Clock;
@@ -51,7 +55,37 @@ pub fn run_keep<R: Threads + Wait + Clock + Sync>(
     let door = door_of(&task);
     let sections = task.sections;
     let (asked, places) = parts(task);
-    let kept = begin(rt, &asked, sections)?;
+    let begun = begin(rt, &asked, sections)?;
+    serve_begun::<Brand, R>(rt, threads, places, door, begun)
+}
+
+/// A state of which all is kept in its file, with the log of that.
+#[derive(Drop)]
+struct Begun<'a> {
+    names: Names,
+    desk: EpochDesk,
+    /// The file is renewed after so many.
+    sections: u32,
+    opened: Opened<StateFile<'a>>,
+}
+
+/// Serves a state to those who come to these places, under a name of its log.
+fn serve_begun<J: Naming + Send + Sync, R: Threads + Wait + Clock + Sync>(
+    rt: &HostRuntime,
+    threads: &R,
+    places: Places,
+    door: Door,
+    begun: Begun<'_>,
+) -> Result<u8, Fault>
+    requires { begun.opened ≡ J.book }
+{
+    let Begun {
+        names,
+        desk,
+        sections,
+        opened,
+    } = begun;
+    let kept = Kept::<StateFile<'_>, Closer, J>::new(rt.alloc(), names, desk, sections, opened)?;
     let (listeners, hearing) = listen(rt, places)?;
     serve_kept(rt, threads, (listeners, hearing), door, &kept)
 }
@@ -90,12 +124,12 @@ fn parts(task: KeepTask) -> (Asked, Places) {
 }
 
 /// Serves a state that is kept to those who come to these places.
-fn serve_kept<R: Threads + Wait + Clock + Sync>(
+fn serve_kept<J: Naming + Send + Sync, R: Threads + Wait + Clock + Sync>(
     rt: &HostRuntime,
     threads: &R,
     places: ((Listener, Option<Listener>), Hearing),
     door: Door,
-    kept: &Kept<StateFile<'_>, Closer>,
+    kept: &Kept<StateFile<'_>, Closer, J>,
 ) -> Result<u8, Fault> {
     let (listeners, hearing) = places;
     hearing.print(rt)?;
@@ -112,17 +146,13 @@ fn serve_kept<R: Threads + Wait + Clock + Sync>(
 
 /// The state that is asked for, where all workers are down. Its steps are functions of their own, since a proof follows all
 /// that a function holds to each of its ends.
-fn begin<'a>(
-    rt: &'a HostRuntime,
-    asked: &Asked,
-    sections: u32,
-) -> Result<Kept<StateFile<'a>, Closer>, Fault> {
+fn begin<'a>(rt: &'a HostRuntime, asked: &Asked, sections: u32) -> Result<Begun<'a>, Fault> {
     let mut file = open(rt, asked)?;
     let (started, whole) = read(rt, asked, &mut file)?;
     let falls = write_falls(rt.alloc(), &mut file, &started)?;
     let earlier = earlier_of(rt, asked, &started.header)?;
     let length = whole.saturating_add(falls) as u64;
-    Ok(kept_of(rt.alloc(), started, earlier, (length, sections), file)?)
+    Ok(begun_of(rt.alloc(), started, earlier, (length, sections), file)?)
 }
 
 /// What the file says, and how many bytes its whole lines have. What follows them is cut off.
@@ -160,13 +190,13 @@ fn earlier_of(rt: &HostRuntime, asked: &Asked, header: &Header) -> Result<Earlie
 }
 
 /// What was read and is kept in the file: so many bytes led to it, and its file is renewed after so many sections.
-fn kept_of<'a>(
+fn begun_of<'a>(
     alloc: Global,
     started: Started,
     earlier: Earlier,
     (length, sections): (u64, u32),
     file: StateFile<'a>,
-) -> Result<Kept<StateFile<'a>, Closer>, NoMemory> {
+) -> Result<Begun<'a>, NoMemory> {
     let Started {
         header,
         names,
@@ -175,7 +205,12 @@ fn kept_of<'a>(
     } = started;
     let desk = Desk::new(alloc, world)?;
     let desk = EpochDesk::new(alloc, desk, earlier, header.epoch, length);
-    Kept::new(alloc, names, desk, sections, file)
+    Ok(Begun {
+        names,
+        desk,
+        sections,
+        opened: Opened::new(file),
+    })
 }
 
 /// The file of the state, which is made where it is not there.

@@ -1,2 +1,3 @@
--- Orders that are served try by try.
+-- The lines that a deed adds, and orders that are served try by try.
+pub mod Growing
 pub mod Extending

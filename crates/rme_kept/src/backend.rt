@@ -1,11 +1,11 @@
 //! A kept world as what answers sessions.
 
-use crate::back::Ledger;
+use crate::front::Obeyed;
 use crate::kept::Kept;
 use crate::look::{Look, look_of};
 use crate::waiting::goes_on;
 use rme_desk::Stand;
-use rme_epochs::Answered;
+use rme_ledger::{Ledger, Naming};
 use rme_server::{Backend, Buffers, Client, Reach};
 use rme_session_lines::{Order, SERVICE_NUMBERS, SessionReply};
 use rme_wire::{Cut, EngineFault, Names, Sink};
@@ -16,7 +16,7 @@ use std::time::Clock;
 
 /// A line is obeyed as an order of a session over the kept world, or as a look-up. It is answered once all lines that tell of it
 /// are kept. A session whose lines can't be kept ends as for want of memory.
-impl<L: Ledger, H: Reach> Backend for Kept<L, H> {
+impl<L: Ledger, H: Reach, J: Naming> Backend for Kept<L, H, J> {
     ghost use Rattle.std.specs.Prelude.{⊤, None};
     ghost use Rattle.rme_kept.specs.Serving.{Answers};
 
@@ -31,7 +31,7 @@ impl<L: Ledger, H: Reach> Backend for Kept<L, H> {
 
     ghost nobody = { λ _. None };
 
-    ghost answers = { λ kept _. Answers kept.clients kept.names };
+    ghost answers = { λ kept _. Answers L.holds kept.clients kept.names };
 
     fn alloc(&self) -> Global {
         self.alloc
@@ -76,10 +76,11 @@ impl<L: Ledger, H: Reach> Backend for Kept<L, H> {
     }
 }
 
-impl<L: Ledger, H: Reach> Kept<L, H> {
+impl<L: Ledger, H: Reach, J: Naming> Kept<L, H, J> {
     ghost use Rattle.std.specs.Prelude.{◌≡◌, [], IfErr, OnOk, string_bytes, Err, Ok};
     ghost use Rattle.rme_desk.specs.declared.desk.Stand.{Stand as Session};
     ghost use Rattle.rme_kept.specs.Serving.{AnswersTo, IsBegun};
+    ghost use Rattle.rme_ledger.specs.Logs.{HadAllLines};
     ghost use Rattle.rme_orders.specs.Sessions.{session_line};
     ghost use Rattle.rme_lines.specs.Puts.{Gathers};
     ghost use Rattle.rme_lines.specs.Traffic.{MakesWrites};
@@ -97,7 +98,7 @@ impl<L: Ledger, H: Reach> Kept<L, H> {
         writer: &mut O,
         client: &C,
     ) -> Result<(), EngineFault>
-        ensures answers { OnOk result (AnswersTo self.now.clients self.now.names stand.old (Ok order) (string_bytes buffers.new.text) stand.new) }
+        ensures answers { OnOk result (AnswersTo L.holds self.now.clients self.now.names stand.old (Ok order) (string_bytes buffers.new.text) stand.new) }
         ensures gathers { OnOk result (Gathers (O.contents writer.old) buffers.old.exchange.pending [] (O.contents writer.new) buffers.new.exchange.pending) }
         ensures err { IfErr result (λ fault. Breaks fault (O.contents writer.old) buffers.old.exchange.pending (O.contents writer.new) buffers.new.exchange.pending
             (O.took writer.old) (O.took writer.new)) }
@@ -107,7 +108,7 @@ impl<L: Ledger, H: Reach> Kept<L, H> {
             return buffers.say(&self.names, SessionReply::Refused(Refusal::NoWorker));
         }
         let first = self.obey_or_end(rt, stand, &order, client)?;
-        if !goes_on(&order, first.reply) {
+        if !goes_on(&order, first.answered.reply) {
             return self.answer_kept(rt, first, buffers);
         }
         if let Err(fault) = buffers.exchange.write(writer) {
@@ -121,15 +122,16 @@ impl<L: Ledger, H: Reach> Kept<L, H> {
     fn answer_kept<R: Wait>(
         &self,
         rt: &R,
-        answered: Answered,
+        obeyed: Obeyed<L, J>,
         buffers: &mut Buffers,
     ) -> Result<(), EngineFault>
-        ensures says { OnOk result (string_bytes buffers.new.text ≡ session_line self.now.names (reply_told answered.reply)) }
+        ensures says { OnOk result (string_bytes buffers.new.text ≡ session_line self.now.names (reply_told obeyed.answered.reply)) }
+        ensures kept { OnOk result (HadAllLines L.holds obeyed.end) }
         ensures same { buffers.new.exchange ≡ buffers.old.exchange }
         ensures err { IfErr result (λ fault. fault ≡ EngineFault.NoMemory) }
     {
-        match self.keep(rt, answered.end) {
-            Ok(()) => buffers.tell(&self.names, answered.reply),
+        match self.keep(rt, &obeyed.end) {
+            Ok(()) => buffers.tell(&self.names, obeyed.answered.reply),
             Err(_) => Err(EngineFault::NoMemory),
         }
     }
@@ -141,7 +143,7 @@ impl<L: Ledger, H: Reach> Kept<L, H> {
         why: Refusal,
         buffers: &mut Buffers,
     ) -> Result<(), EngineFault>
-        ensures answers { OnOk result ((stand : Session) → AnswersTo self.now.clients self.now.names stand (Err why) (string_bytes buffers.new.text) stand) }
+        ensures answers { OnOk result ((stand : Session) → AnswersTo L.holds self.now.clients self.now.names stand (Err why) (string_bytes buffers.new.text) stand) }
         ensures same { buffers.new.exchange ≡ buffers.old.exchange }
         ensures err { IfErr result (λ fault. fault ≡ EngineFault.NoMemory) }
     {
@@ -161,7 +163,10 @@ impl<L: Ledger, H: Reach> Kept<L, H> {
         text.clear();
         let end = self.look(rt, look, text)?;
         text.push_str("\n")?;
-        match self.keep(rt, end) {
+        let Some(end) = end else {
+            return Err(EngineFault::NoMemory);
+        };
+        match self.keep(rt, &end) {
             Ok(()) => Ok(()),
             Err(_) => Err(EngineFault::NoMemory),
         }

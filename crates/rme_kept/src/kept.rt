@@ -1,71 +1,62 @@
 //! The backend of sessions over a kept world.
 
-use crate::back::{Back, Ledger, NotKept};
+use crate::front::{Front, Obeyed};
 use crate::look::{Look, push_cells, push_owner};
 use crate::renewing::Due;
-use crate::spinning::{Marks, lock_soon};
 use crate::status::{Told, clients_of, push_status};
 use rme_desk::Stand;
-use rme_epochs::{Answered, EpochDesk, Lost};
+use rme_epochs::{EpochDesk, Lost};
+use rme_ledger::{Keeper, Ledger, LogEnd, Naming, NotKept, Opened, lock_soon};
 use rme_server::{Client, Hall, Reach, note};
 use rme_session_lines::{Order, ToldReply};
 use rme_wire::Names;
 use rme_words::{NoMemory, Refusal};
 use std::alloc::{AllocError, Global};
-use std::mem::replace;
-use std::sync::atomic::{AtomicBool, AtomicU64, Ordering};
-use std::sync::{Condvar, Mutex, Wait};
+use std::sync::atomic::{AtomicU64, Ordering};
+use std::sync::{Mutex, Wait};
 
 /// A world that sessions share, and the ledger in which what was done to it is kept.
 #[derive(Drop)]
-pub struct Kept<L: Ledger, H: Reach> {
+pub struct Kept<L: Ledger, H: Reach, J: Naming> {
     pub(crate) alloc: Global,
     pub(crate) names: Names,
     /// How many workers sessions may have.
     clients: u32,
     hall: Hall<H>,
     pub(crate) due: Due,
-    pub(crate) front: Mutex<EpochDesk>,
-    back: Mutex<Back<L>>,
-    marks: Marks,
-    /// Whether some of what was done could not be kept, or written down. Who waits for lines is woken after it was set.
-    is_broken: AtomicBool,
-    /// Lines were written, or could not be.
-    written: Condvar,
+    pub(crate) front: Mutex<Front<L, J>>,
+    pub(crate) keeper: Keeper<L, J>,
     /// How many sessions began.
     sessions: AtomicU64,
 }
 
-impl<L: Ledger, H: Reach> Kept<L, H> {
-    ghost use Rattle.std.specs.Prelude.{◌≡◌, IfOk, None, true};
+impl<L: Ledger, H: Reach, J: Naming> Kept<L, H, J> {
+    ghost use Rattle.std.specs.Prelude.{◌≡◌, IfOk, OnOk, None, true};
     ghost use Rattle.rme_kept.specs.Serving.{IsBegun, Tries, is_keepers};
+    ghost use Rattle.rme_ledger.specs.Logs.{HadAllLines, IsTold};
     ghost use Rattle.rme_session_lines.specs.Told.{reply_told};
 
-    /// A desk of which all is kept in the ledger, and the names of its locks. A new epoch begins once so many sections are
-    /// finished in one, and once a worker has made all jobs of one.
+    /// A desk of which all is kept in the ledger, by its log, and the names of its locks. A new epoch begins once so many sections
+    /// are finished in one, and once a worker has made all jobs of one.
     pub fn new(
         alloc: Global,
         names: Names,
         desk: EpochDesk,
         sections: u32,
-        ledger: L,
-    ) -> Result<Kept<L, H>, NoMemory> {
+        opened: Opened<L>,
+    ) -> Result<Kept<L, H, J>, NoMemory>
+        requires named { opened ≡ J.book }
+    {
         let hall = Hall::new(alloc, desk.desk().world().shape())?;
+        let (teller, keeper) = opened.named::<J>(alloc);
         Ok(Kept {
             alloc,
             names,
             clients: clients_of(desk.desk().world()),
             hall,
             due: Due::after(sections),
-            front: Mutex::new(desk),
-            back: Mutex::new(Back {
-                ledger: Some(ledger),
-                spare: String::new(alloc),
-                kept: 0,
-            }),
-            marks: Marks::new(),
-            is_broken: AtomicBool::new(false),
-            written: Condvar::new(),
+            front: Mutex::new(Front::new(desk, teller)),
+            keeper,
             sessions: AtomicU64::new(0),
         })
     }
@@ -100,8 +91,8 @@ impl<L: Ledger, H: Reach> Kept<L, H> {
         stand: &mut Stand,
         order: &Order,
         client: &C,
-    ) -> Result<Answered, Lost>
-        ensures { IfOk result (λ acted. Tries stand.old order.now stand.new (reply_told acted.reply)) }
+    ) -> Result<Obeyed<L, J>, Lost>
+        ensures { IfOk result (λ obeyed. Tries (IsTold obeyed.end) self.now.names stand.old order.now stand.new (reply_told obeyed.answered.reply)) }
     {
         if self.due.is_long() {
             self.renew(rt, None);
@@ -122,22 +113,22 @@ impl<L: Ledger, H: Reach> Kept<L, H> {
         stand: &mut Stand,
         order: &Order,
         client: &C,
-    ) -> Result<Answered, Lost>
-        ensures { IfOk result (λ acted. Tries stand.old order.now stand.new (reply_told acted.reply)) }
+    ) -> Result<Obeyed<L, J>, Lost>
+        ensures { IfOk result (λ obeyed. Tries (IsTold obeyed.end) self.now.names stand.old order.now stand.new (reply_told obeyed.answered.reply)) }
     {
         let had = stand.worker.is_some();
         let seat = self.hall.seat(rt, asked_of(stand, order));
         let acted = self.act(rt, stand, order);
         note(seat, client, had, stand.worker.is_some());
-        if let Ok(acted) = acted {
-            self.hall.ring_for(rt, acted.reply);
+        if let Ok(obeyed) = &acted {
+            self.hall.ring_for(rt, obeyed.answered.reply);
         }
         acted
     }
 
     /// Obeys an order in this epoch.
-    fn act<R: Wait>(&self, rt: &R, stand: &mut Stand, order: &Order) -> Result<Answered, Lost>
-        ensures { IfOk result (λ acted. Tries stand.old order.now stand.new (reply_told acted.reply)) }
+    fn act<R: Wait>(&self, rt: &R, stand: &mut Stand, order: &Order) -> Result<Obeyed<L, J>, Lost>
+        ensures { IfOk result (λ obeyed. Tries (IsTold obeyed.end) self.now.names stand.old order.now stand.new (reply_told obeyed.answered.reply)) }
     {
         let mut front = lock_soon(rt, &self.front);
         let acted = front.obey(self.alloc, &self.names, stand, order);
@@ -147,10 +138,10 @@ impl<L: Ledger, H: Reach> Kept<L, H> {
 
     /// Looks whether a new epoch is due, and whether what was done could not be written down. Nobody is told then of anything
     /// that is seen of the desk after this.
-    pub(crate) fn see(&self, desk: &EpochDesk) {
-        self.due.see(desk);
-        if desk.is_lost() {
-            self.is_broken.store(true, Ordering::SeqCst);
+    pub(crate) fn see(&self, front: &Front<L, J>) {
+        self.due.see(front.desk());
+        if front.is_lost() {
+            self.keeper.break_off();
         }
     }
 
@@ -168,139 +159,45 @@ impl<L: Ledger, H: Reach> Kept<L, H> {
         self.hall.ring_for_worker(rt);
         match gone {
             // What can't be kept now is told by who next waits for it.
-            Ok(end) => drop(self.keep(rt, end)),
-            Err(_) => self.lose(rt),
+            Ok(end) => drop(self.keep(rt, &end)),
+            Err(_) => self.keeper.lose(rt),
         }
     }
 
-    /// Waits until so many bytes of lines are kept, and writes them itself where nobody else does.
-    pub(crate) fn keep<R: Wait>(&self, rt: &R, end: u64) -> Result<(), NotKept> {
-        for _ in rt.forever() {
-            let is_behind = self.marks.is_behind(end);
-            // What was lost may end where what is kept does, so that this comes first.
-            if self.is_broken() {
-                return Err(NotKept);
-            }
-            if self.marks.has_kept(end) {
-                return Ok(());
-            }
-            let mut back = lock_soon(rt, &self.back);
-            if self.is_broken() {
-                return Err(NotKept);
-            }
-            if back.kept >= end {
-                return Ok(());
-            }
-            if let Some(ledger) = back.ledger.take() {
-                self.marks.write();
-                let spare = replace(&mut back.spare, String::new(self.alloc));
-                drop(back);
-                self.write(rt, ledger, spare);
-            } else if is_behind {
-                drop(self.written.wait(rt, back));
-            }
-        }
-        unreachable!()
-    }
-
-    /// Writes all lines so far, and gives the ledger back.
-    fn write<R: Wait>(&self, rt: &R, ledger: L, spare: String) {
-        let mut ledger = ledger;
-        let taken = lock_soon(rt, &self.front).take_lines(spare);
-        let Some((mut lines, end)) = taken else {
-            ledger.lose();
-            return self.lose(rt);
-        };
-        let kept = ledger.keep(lines.as_bytes());
-        lines.clear();
-        self.give_back(rt, ledger, lines, kept.map(|()| end));
-    }
-
-    /// Takes the ledger, once nobody else has it; `None` once lines could not be kept.
-    pub(crate) fn take_ledger<R: Wait>(&self, rt: &R) -> Option<(L, String)> {
-        let mut back = self.back.lock(rt);
-        for _ in rt.forever() {
-            if self.is_broken() {
-                return None;
-            }
-            if let Some(ledger) = back.ledger.take() {
-                self.marks.write();
-                let spare = replace(&mut back.spare, String::new(self.alloc));
-                return Some((ledger, spare));
-            }
-            back = self.written.wait(rt, back);
-        }
-        unreachable!()
-    }
-
-    /// Gives the ledger back, in which so many bytes of lines are kept then, and an empty text; or says that they could not be.
-    pub(crate) fn give_back<R: Wait>(
-        &self,
-        rt: &R,
-        ledger: L,
-        spare: String,
-        kept: Result<u64, NotKept>,
-    ) {
-        let mut ledger = ledger;
-        let mut back = self.back.lock(rt);
-        back.spare = spare;
-        match kept {
-            // Meanwhile something was done that could not be written.
-            Ok(_) if self.is_broken() => ledger.lose(),
-            Ok(end) => {
-                back.kept = end;
-                back.ledger = Some(ledger);
-                self.marks.wrote(end);
-            }
-            Err(_) => self.is_broken.store(true, Ordering::SeqCst),
-        }
-        if self.is_broken() {
-            self.marks.stop();
-        }
-        drop(back);
-        self.written.notify_all();
-    }
-
-    /// What was done can't be written any more.
-    pub(crate) fn lose<R: Wait>(&self, rt: &R) {
-        let mut back = self.back.lock(rt);
-        self.is_broken.store(true, Ordering::SeqCst);
-        if let Some(ledger) = &mut back.ledger {
-            ledger.lose();
-        }
-        back.ledger = None;
-        self.marks.stop();
-        drop(back);
-        self.written.notify_all();
+    /// Waits until all that was told so far is kept, and writes it itself where nobody else does.
+    pub(crate) fn keep<R: Wait>(&self, rt: &R, end: &LogEnd<L, J>) -> Result<(), NotKept>
+        ensures { OnOk result (HadAllLines L.holds end.now) }
+    {
+        self.keeper.keep(rt, &self.front, end)
     }
 
     /// Whether some of what was done could not be kept. Then nothing more is.
     pub(crate) fn is_broken(&self) -> bool {
-        self.is_broken.load(Ordering::SeqCst)
+        self.keeper.is_broken()
     }
 
-    /// Appends what is looked up, and answers where the lines end that tell of it.
+    /// Appends what is looked up, and answers how far was told by then, unless some of what was done was lost.
     pub(crate) fn look<R: Wait>(
         &self,
         rt: &R,
         look: Look,
         out: &mut String,
-    ) -> Result<u64, AllocError> {
+    ) -> Result<Option<LogEnd<L, J>>, AllocError> {
         let front = self.front.lock(rt);
-        let world = front.desk().world();
+        let world = front.desk().desk().world();
         match look {
             Look::Owner(lock) => push_owner(out, &self.names, world, lock)?,
             Look::Cells(lock) => push_cells(out, &self.names, world, lock)?,
-            Look::Status => push_status(out, &self.names, &Told::of(&front))?,
+            Look::Status => push_status(out, &self.names, &Told::of(front.desk()))?,
         }
         Ok(front.end())
     }
 }
 
 /// Whether a job was refused since its worker has made all jobs of the epoch.
-fn is_spent(acted: &Result<Answered, Lost>) -> bool {
+fn is_spent<L: Ledger, J: Naming>(acted: &Result<Obeyed<L, J>, Lost>) -> bool {
     match acted {
-        Ok(acted) => acted.reply == ToldReply::Refused(Refusal::TooManyJobs),
+        Ok(obeyed) => obeyed.answered.reply == ToldReply::Refused(Refusal::TooManyJobs),
         Err(_) => false,
     }
 }

@@ -1,9 +1,12 @@
 //! A new epoch, once one has grown long.
 
-use crate::back::{Ledger, NotKept};
+ghost use Rattle.std.specs.Prelude.{◌≡◌, [], IfSome};
+
+use crate::front::Front;
 use crate::kept::Kept;
 use rme_desk::Stand;
 use rme_epochs::{EpochDesk, Renewed};
+use rme_ledger::{Held, Ledger, Naming, Tells};
 use rme_server::Reach;
 use rme_session_lines::{Attachment, Order};
 use std::sync::Wait;
@@ -70,52 +73,53 @@ impl Due {
     }
 }
 
-impl<L: Ledger, H: Reach> Kept<L, H> {
+impl<L: Ledger, H: Reach, J: Naming> Kept<L, H, J> {
+    ghost use Rattle.std.specs.Prelude.{◌≡◌, [], IfSome};
+
     /// Begins a new epoch, if one is due still, or this worker has made all jobs of this one. Meanwhile no other session does anything.
     /// Answers whether there is a new one.
     pub(crate) fn renew<R: Wait>(&self, rt: &R, spent: Option<u32>) -> bool {
-        let Some((ledger, spare)) = self.take_ledger(rt) else {
+        let Some((held, spare)) = self.keeper.take_ledger(rt) else {
             return false;
         };
-        let mut ledger = ledger;
         let mut front = self.front.lock(rt);
-        let is_due = self.due.is_due(&front) || front.is_spent(spent);
+        let is_due = self.due.is_due(front.desk()) || front.desk().is_spent(spent);
         let renewed = if is_due {
             self.new_epoch(&mut front)
         } else {
             None
         };
-        let Some((mut lines, end)) = front.take_lines(spare) else {
+        let Some(taken) = front.take_lines(spare) else {
             self.see(&front);
             drop(front);
-            ledger.lose();
-            self.lose(rt);
+            let _ledger = held.lose();
+            self.keeper.lose(rt);
             return false;
         };
-        let kept = ledger.keep(lines.as_bytes());
-        lines.clear();
-        let is_new = is_due && put_in_place(&mut front, &mut ledger, renewed, &kept);
+        let (kept, is_new) = put_in_place(&mut front, held.keep(&taken), renewed);
         if is_due {
-            self.due.tried(&front, is_new);
+            self.due.tried(front.desk(), is_new);
         }
         drop(front);
-        self.give_back(rt, ledger, lines, kept.map(|()| end));
+        self.keeper.give_back(rt, taken.into_empty(), kept);
         is_new || !is_due
     }
 
     /// The epoch that follows, if it comes out alike.
-    fn new_epoch(&self, front: &mut EpochDesk) -> Option<Renewed> {
+    fn new_epoch(&self, front: &mut Front<L, J>) -> Option<Renewed>
+        ensures { IfSome result (λ renewed. renewed.desk.lines ≡ []) }
+    {
         for _ in 0..self.names.len() {
-            match front.fallen_behind() {
+            match front.desk().fallen_behind() {
                 Some(worker) => self.walk_out(front, worker)?,
                 None => break,
             }
         }
-        front.renewed(self.alloc, &self.names).ok()
+        front.desk().renewed(self.alloc, &self.names).ok()
     }
 
     /// Lets a worker that is down walk out of the lock of its finished job, and fall again.
-    fn walk_out(&self, front: &mut EpochDesk, worker: u32) -> Option<()> {
+    fn walk_out(&self, front: &mut Front<L, J>, worker: u32) -> Option<()> {
         let mut stand = self.new_stand();
         let order = Order::Attach(Attachment {
             worker,
@@ -130,18 +134,15 @@ impl<L: Ledger, H: Reach> Kept<L, H> {
 }
 
 /// Puts a new epoch in the place of the one before, once that is kept whole, in the ledger first. Answers whether it did.
-fn put_in_place<L: Ledger>(
-    front: &mut EpochDesk,
-    ledger: &mut L,
+fn put_in_place<L: Ledger, J: Naming>(
+    front: &mut Front<L, J>,
+    kept: Result<Held<L, J>, L>,
     renewed: Option<Renewed>,
-    kept: &Result<(), NotKept>,
-) -> bool {
-    let Some(Renewed { bytes, desk }) = renewed else {
-        return false;
-    };
-    if kept.is_err() || ledger.replace(bytes.as_bytes()).is_err() {
-        return false;
+) -> (Result<Held<L, J>, L>, bool)
+    requires { IfSome renewed (λ renewed. renewed.desk.lines ≡ []) }
+{
+    match (kept, renewed) {
+        (Ok(held), Some(Renewed { bytes, desk })) => front.renew(held, bytes.as_bytes(), desk),
+        (kept, _) => (kept, false),
     }
-    *front = desk;
-    true
 }

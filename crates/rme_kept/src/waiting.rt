@@ -6,10 +6,11 @@ ghost use Rattle.rme_session_lines.specs.Told.{reply_told};
 ghost use Rattle.rme_session_lines.specs.declared.session.SessionReply.TheVariants as answer;
 ghost use Rattle.rme_words.specs.declared.refusal.Refusal.TheVariants.{Taken};
 
-use crate::back::Ledger;
+use crate::front::Obeyed;
 use crate::kept::Kept;
 use rme_desk::Stand;
 use rme_epochs::{Answered, Lost};
+use rme_ledger::{Ledger, LogEnd, Naming};
 use rme_orders::{once_more, patience_of, told_as, told_still_waits};
 use rme_server::{Client, LONGEST, Pauses, Reach};
 use rme_session_lines::{Attachment, Order, Patience, ToldReply};
@@ -17,9 +18,10 @@ use rme_words::{NoMemory, Refusal};
 use std::sync::Wait;
 use std::time::{Clock, Duration};
 
-impl<L: Ledger, H: Reach> Kept<L, H> {
+impl<L: Ledger, H: Reach, J: Naming> Kept<L, H, J> {
     ghost use Rattle.std.specs.Prelude.{◌≡◌, IfOk, true};
     ghost use Rattle.rme_kept.specs.Serving.{Extends, Tries};
+    ghost use Rattle.rme_ledger.specs.Logs.{IsTold};
     ghost use Rattle.rme_orders.specs.Parts.{still_waits};
     ghost use Rattle.rme_server.specs.Sessions.{MayGoOn};
     ghost use Rattle.rme_session_lines.specs.Told.{reply_told};
@@ -33,14 +35,14 @@ impl<L: Ledger, H: Reach> Kept<L, H> {
         rt: &R,
         stand: &mut Stand,
         order: Order,
-        first: Answered,
+        first: Obeyed<L, J>,
         client: &C,
-    ) -> Result<Answered, NoMemory>
-        requires may { MayGoOn order (reply_told first.reply) }
-        ensures { IfOk result (λ acted. Extends order stand.old (reply_told first.reply) stand.new (reply_told acted.reply)) }
+    ) -> Result<Obeyed<L, J>, NoMemory>
+        requires may { MayGoOn order (reply_told first.answered.reply) }
+        ensures { IfOk result (λ acted. Extends self.now.names order stand.old (reply_told first.answered.reply) first.end stand.new (reply_told acted.answered.reply) acted.end) }
     {
         match order {
-            Order::Attach(asked) => self.take_over(rt, stand, asked, client),
+            Order::Attach(asked) => self.take_over(rt, stand, asked, first.end, client),
             order => self.try_on(rt, stand, order, first, client),
         }
     }
@@ -53,17 +55,17 @@ impl<L: Ledger, H: Reach> Kept<L, H> {
         stand: &mut Stand,
         order: &Order,
         client: &C,
-    ) -> Result<Answered, NoMemory>
-        ensures { IfOk result (λ acted. Tries stand.old order.now stand.new (reply_told acted.reply)) }
+    ) -> Result<Obeyed<L, J>, NoMemory>
+        ensures { IfOk result (λ obeyed. Tries (IsTold obeyed.end) self.now.names stand.old order.now stand.new (reply_told obeyed.answered.reply)) }
     {
         if self.is_broken() {
             return Err(NoMemory);
         }
         match self.obey_once(rt, stand, order, client) {
-            Ok(acted) => Ok(acted),
+            Ok(obeyed) => Ok(obeyed),
             Err(Lost::NoMemory) => Err(NoMemory),
             Err(Lost::Unwritten) => {
-                self.lose(rt);
+                self.keeper.lose(rt);
                 Err(NoMemory)
             }
         }
@@ -76,17 +78,23 @@ impl<L: Ledger, H: Reach> Kept<L, H> {
         rt: &R,
         stand: &mut Stand,
         asked: Attachment,
+        first: LogEnd<L, J>,
         client: &C,
-    ) -> Result<Answered, NoMemory>
-        ensures { IfOk result (λ acted. Extends (word.Attach asked) stand.old (answer.Refused Taken) stand.new (reply_told acted.reply)) }
+    ) -> Result<Obeyed<L, J>, NoMemory>
+        ensures { IfOk result (λ acted. Extends self.now.names (word.Attach asked) stand.old (answer.Refused Taken) first stand.new (reply_told acted.answered.reply) acted.end) }
     {
         let mut returned = self.hall().listen_for_workers(rt);
+        let mut end = first;
         for _ in rt.forever() {
             self.hall().send_away(rt, asked.worker);
             returned.wait(rt, Duration::from_micros(LONGEST));
-            let acted = self.obey_or_end(rt, stand, &Order::Attach(asked), client)?;
-            if !is_taken(acted.reply) || client.is_gone() {
-                return Ok(acted);
+            let next = self.obey_or_end(rt, stand, &Order::Attach(asked), client)?;
+            end = end.later(&next.end);
+            if !is_taken(next.answered.reply) || client.is_gone() {
+                return Ok(Obeyed {
+                    answered: next.answered,
+                    end,
+                });
             }
         }
         unreachable!()
@@ -98,30 +106,42 @@ impl<L: Ledger, H: Reach> Kept<L, H> {
         rt: &R,
         stand: &mut Stand,
         order: Order,
-        first: Answered,
+        first: Obeyed<L, J>,
         client: &C,
-    ) -> Result<Answered, NoMemory>
-        requires waits { still_waits (reply_told first.reply) ≡ true }
-        ensures { IfOk result (λ acted. Extends order stand.old (reply_told first.reply) stand.new (reply_told acted.reply)) }
+    ) -> Result<Obeyed<L, J>, NoMemory>
+        requires waits { still_waits (reply_told first.answered.reply) ≡ true }
+        ensures { IfOk result (λ acted. Extends self.now.names order stand.old (reply_told first.answered.reply) first.end stand.new (reply_told acted.answered.reply) acted.end) }
     {
-        let mut pauses = Pauses::new(rt, first.waits_for, self.hall());
-        let mut acted = first;
+        let Obeyed { answered, end } = first;
+        let mut told = end;
+        let mut pauses = Pauses::new(rt, answered.waits_for, self.hall());
+        let mut acted = answered;
         for _ in 1..most_tries(&order) {
             pauses.pause(rt, &order);
             let next = self.obey_or_end(rt, stand, &once_more(order), client)?;
+            told = told.later(&next.end);
             acted = Answered {
-                reply: told_as(acted.reply, next.reply),
-                ..next
+                reply: told_as(acted.reply, next.answered.reply),
+                ..next.answered
             };
             if !told_still_waits(acted.reply) {
-                return Ok(acted);
+                return Ok(Obeyed {
+                    answered: acted,
+                    end: told,
+                });
             }
             pauses.pass_on();
             if pauses.are_over(rt, &order) || (!pauses.are_short() && client.is_gone()) {
-                return Ok(acted);
+                return Ok(Obeyed {
+                    answered: acted,
+                    end: told,
+                });
             }
         }
-        Ok(acted)
+        Ok(Obeyed {
+            answered: acted,
+            end: told,
+        })
     }
 }
 

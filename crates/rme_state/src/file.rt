@@ -190,7 +190,12 @@ fn open_alone(rt: &HostRuntime, path: &str) -> Result<File, Fault> {
     }
 }
 
+/// What a file holds no contract can know.
 impl Ledger for StateFile<'_> {
+    ghost use Rattle.std.specs.Prelude.{None};
+
+    ghost holds = { λ _. None };
+
     fn keep(&mut self, lines: &[u8]) -> Result<(), NotKept> {
         match self.write(lines) {
             Ok(()) => Ok(()),

@@ -7,14 +7,15 @@ use Rattle.rme_session_lines.specs.declared.order.Order.TheVariants as word
 use Rattle.rme_session_lines.specs.declared.session.SessionReply.{SessionReply}
 use Rattle.rme_session_lines.specs.declared.session.SessionReply.TheVariants as answer
 use Rattle.rme_words.specs.declared.refusal.Refusal.TheVariants.{Taken}
-use Rattle.rme_epochs.specs.declared.epoch.Answered.{Answered}
 use Rattle.rme_session_lines.specs.Told.{reply_told}
 use Rattle.rme_kept.proofs.kept.Kept.go_on.Goals as goal
 
 pub returns-in-Attach : goal.returns-in-Attach
 returns-in-Attach g c =
-    let M : Order → Type 0 = λ (its : Order). MayGoOn its (reply_told c.args.first.reply) in
-    let taken : (reply_told c.args.first.reply) ≡ answer.Refused Taken = subst M c.in-Attach.is c.requires.may in
-    let O : Order → Type 0 = λ (its : Order). IfOk c.take_over.result (λ (acted : Answered). Extends its c.args.stand.now (reply_told c.args.first.reply) c.take_over.new.stand (reply_told acted.reply)) in
-    let R : SessionReply → Type 0 = λ (reply : SessionReply). IfOk c.take_over.result (λ (acted : Answered). Extends (word.Attach c.in-Attach.asked) c.args.stand.now reply c.take_over.new.stand (reply_told acted.reply)) in
+    let reply = reply_told c.args.first.answered.reply in
+    let names = c.args.self.now.names in
+    let M : Order → Type 0 = λ (its : Order). MayGoOn its reply in
+    let taken : reply ≡ answer.Refused Taken = subst M c.in-Attach.is c.requires.may in
+    let O : Order → Type 0 = λ (its : Order). IfOk c.take_over.result (λ acted. Extends names its c.args.stand.now reply c.args.first.end c.take_over.new.stand (reply_told acted.answered.reply) acted.end) in
+    let R : SessionReply → Type 0 = λ (told : SessionReply). IfOk c.take_over.result (λ acted. Extends names (word.Attach c.in-Attach.asked) c.args.stand.now told c.args.first.end c.take_over.new.stand (reply_told acted.answered.reply) acted.end) in
     subst O (sym c.in-Attach.is) (subst R (sym taken) c.take_over.ensures)

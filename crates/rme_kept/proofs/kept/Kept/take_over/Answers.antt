@@ -11,15 +11,17 @@ use Rattle.rme_kept.proofs.kept.Kept.take_over.Goals as goal
 pub returns-then-not-is_taken : goal.returns-then-not-is_taken
 returns-then-not-is_taken g c =
     let its = word.Attach c.args.asked in
-    extends_on its its c.args.stand.now c.loop.stand c.obey_or_end.new.stand (answer.Refused Taken) (answer.Refused Taken) (reply_told c.in_ok-acted.acted.reply) (reply_told c.in_ok-acted.acted.reply) c.loop.invariant.extends (inr refl) refl
-    c.in_ok-acted.ensures refl
+    let next = c.in_ok-next.next in
+    extends_on c.args.self.now.names its its c.args.stand.now c.loop.stand c.obey_or_end.new.stand (answer.Refused Taken) (answer.Refused Taken) (reply_told next.answered.reply) (reply_told next.answered.reply) c.args.first c.loop.end next.end c.later-end.result
+    c.loop.invariant.extends (inr refl) refl c.in_ok-next.ensures c.later-end.ensures.this c.later-end.ensures.that refl
 
 pub loop-preserved : goal.loop-preserved
 loop-preserved g c =
     let its = word.Attach c.args.asked in
-    let E : SessionReply → Type 0 = λ (reply : SessionReply). Extends its c.args.stand.now (answer.Refused Taken) c.obey_or_end.new.stand reply in
+    let next = c.in_ok-next.next in
+    let E : SessionReply → Type 0 = λ (reply : SessionReply). Extends c.args.self.now.names its c.args.stand.now (answer.Refused Taken) c.args.first c.obey_or_end.new.stand reply c.later-end.result in
     record {
       extends = subst E (c.is_taken.ensures c.if-not-is_taken.false)
-          (extends_on its its c.args.stand.now c.loop.stand c.obey_or_end.new.stand (answer.Refused Taken) (answer.Refused Taken) (reply_told c.in_ok-acted.acted.reply) (reply_told c.in_ok-acted.acted.reply) c.loop.invariant.extends (inr refl) refl
-          c.in_ok-acted.ensures refl);
+          (extends_on c.args.self.now.names its its c.args.stand.now c.loop.stand c.obey_or_end.new.stand (answer.Refused Taken) (answer.Refused Taken) (reply_told next.answered.reply) (reply_told next.answered.reply) c.args.first c.loop.end next.end c.later-end.result
+          c.loop.invariant.extends (inr refl) refl c.in_ok-next.ensures c.later-end.ensures.this c.later-end.ensures.that refl);
     }

@@ -6,4 +6,4 @@ use Rattle.rme_words.specs.declared.refusal.Refusal.TheVariants.{Taken}
 use Rattle.rme_kept.proofs.kept.Kept.take_over.Given as goal
 
 abbrev pub invariant-loop : goal.invariant-loop
-invariant-loop g l = record { extends : Extends (word.Attach l.fn.asked) l.fn.stand (answer.Refused Taken) l.stand (answer.Refused Taken) }
+invariant-loop g l = record { extends : Extends l.fn.self.names (word.Attach l.fn.asked) l.fn.stand (answer.Refused Taken) l.fn.first l.stand (answer.Refused Taken) l.end }

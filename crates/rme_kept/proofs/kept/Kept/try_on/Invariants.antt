@@ -7,6 +7,6 @@ use Rattle.rme_kept.proofs.kept.Kept.try_on.Given as goal
 
 abbrev pub invariant-loop : goal.invariant-loop
 invariant-loop g l = record {
-  extends : Extends l.fn.order l.fn.stand (reply_told l.fn.first.reply) l.stand (reply_told l.acted.reply);
+  extends : Extends l.fn.self.names l.fn.order l.fn.stand (reply_told l.fn.first.answered.reply) l.fn.first.end l.stand (reply_told l.acted.reply) l.told;
   waits : still_waits (reply_told l.acted.reply) ≡ true;
 }

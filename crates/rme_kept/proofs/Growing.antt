@@ -1,0 +1,42 @@
+-- What was written stands behind what was there.
+use Rattle.std.proofs.Common.{◌≡◌, ℕ, ◌≤◌, List, [], ◌∷◌, ◌++◌, length, drop, Option, Some, sym, subst, ap, ◌∙◌, arith, append_assoc, length-append}
+use Rattle.std.specs.Prelude.{IfSome}
+use Rattle.std.proofs.lemmas.List.{append-nil}
+use Rattle.std.proofs.Math.Seq.{drop-append_seam, drop-length}
+use Rattle.rme_desk.specs.Offices.{Office}
+use Rattle.rme_epochs.specs.Records.{IsWritten, record_of}
+use Rattle.rme_ledger.specs.Rules.{Telling}
+use Rattle.rme_journal.specs.Deeds.{commands_done}
+use Rattle.rme_journal.specs.Lines.{WritesAll}
+use Rattle.rme_wire.specs.declared.command.Command.{Command}
+
+writes_rest : (names : List (List ℕ)) (before : List ℕ) (commands : List Command) (after : List ℕ) → WritesAll names before commands after → (rest : List ℕ) × (after ≡ before ++ rest)
+writes_rest names before [] after writes = ([], writes ∙ sym (append-nil before))
+writes_rest names before (command ∷ commands) after writes =
+    let line = writes.1.0 ++ 10 ∷ [] in
+    let more = writes_rest names writes.0 commands after writes.2 in
+    (line ++ more.0, more.1 ∙ (ap (λ w. w ++ more.0) writes.1.2 ∙ append_assoc before line more.0))
+
+module _ (names : List (List ℕ)) (old : Office) (before : List ℕ) (new : Office) (after : List ℕ) (written : IsWritten names (record_of old before) (record_of new after)) where
+  rest : (rest : List ℕ) × (after ≡ before ++ rest)
+  rest = writes_rest names before (commands_done written.0) after written.2
+
+  pub written_longer : length before ≤ length after
+  written_longer = omega (arith, ap length rest.1, length-append before rest.0)
+
+  pub written_behind : before ++ drop (length before) after ≡ after
+  written_behind = ap (λ w. before ++ w) (ap (λ l. drop (length before) l) rest.1 ∙ drop-append_seam before rest.0) ∙ sym rest.1
+
+-- nothing stands behind the end
+pub nothing_behind : (waits lines : List ℕ) (before : ℕ) → length lines ≡ before → waits ≡ waits ++ drop before lines
+nothing_behind waits lines before all = sym (ap (λ w. waits ++ w) (ap (λ n. drop n lines) (sym all) ∙ drop-length lines) ∙ append-nil waits)
+
+-- who tells has told what the desk has
+pub waits_some : (found : Option Telling) (teller : Telling) (lines : List ℕ) → found ≡ Some teller → IfSome found (λ (t : Telling). t.waits ≡ lines) → teller.waits ≡ lines
+waits_some found teller lines is waits = subst (λ (o : Option Telling). IfSome o (λ (t : Telling). t.waits ≡ lines)) is waits
+
+-- once what was written is told, so it is again
+pub waits_again : (names : List (List ℕ)) (old : Office) (before : List ℕ) (new : Office) (after : List ℕ) → IsWritten names (record_of old before) (record_of new after) → (looked waits now : List ℕ) → looked ≡ before → waits ≡ before
+    → now ≡ waits ++ drop (length looked) after → now ≡ after
+waits_again names old before new after written looked waits now saw same told =
+    told ∙ (ap (λ w. w ++ drop (length looked) after) same ∙ (ap (λ b. before ++ drop (length b) after) saw ∙ written_behind names old before new after written))
