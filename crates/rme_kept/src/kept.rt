@@ -126,13 +126,16 @@ impl<L: Ledger, H: Reach, J: Naming> Kept<L, H, J> {
         acted
     }
 
-    /// Obeys an order in this epoch.
+    /// Obeys an order in this epoch. Where that is quickly done, its lines are kept at once.
     fn act<R: Wait>(&self, rt: &R, stand: &mut Stand, order: &Order) -> Result<Obeyed<L, J>, Lost>
         ensures { IfOk result (λ obeyed. Tries (IsTold obeyed.end) self.now.names stand.old order.now stand.new (reply_told obeyed.answered.reply)) }
     {
         let mut front = lock_soon(rt, &self.front);
         let acted = front.obey(self.alloc, &self.names, stand, order);
         self.see(&front);
+        if let Ok(obeyed) = &acted {
+            self.keeper.keep_at_once(rt, &mut *front, &obeyed.end);
+        }
         acted
     }
 

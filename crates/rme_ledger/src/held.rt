@@ -50,6 +50,11 @@ impl<L: Ledger, J: Naming> Held<L, J> {
         &self.upto
     }
 
+    /// Whether to keep lines takes no longer than to have another thread do it.
+    pub(crate) fn is_quick(&self) -> bool {
+        self.ledger.is_quick()
+    }
+
     /// Keeps these lines. After an error nothing more is kept, and the ledger is left to be dropped.
     pub fn keep(self, taken: &Taken<L, J>) -> Result<Held<L, J>, L>
         ensures { IfOk result (λ held. held ≡ taken.now) }

@@ -25,6 +25,8 @@ pub struct Keeper<L: Ledger, J: Naming> {
     alloc: Global,
     back: Mutex<Back<L, J>>,
     marks: Marks<L, J>,
+    /// Whether to keep lines takes no longer than to have another thread do it.
+    is_quick: bool,
     /// Whether some of what was done could not be kept, or written down. Who waits for lines is woken after it was set.
     is_broken: AtomicBool,
     /// Lines were written, or could not be.
@@ -47,6 +49,7 @@ impl<L: Ledger, J: Naming> Keeper<L, J> {
     pub(crate) fn new(alloc: Global, held: Held<L, J>, marks: Marks<L, J>) -> Keeper<L, J> {
         Keeper {
             alloc,
+            is_quick: held.is_quick(),
             back: Mutex::new(Back {
                 held: Some(held),
                 spare: String::new(alloc),
@@ -87,7 +90,8 @@ impl<L: Ledger, J: Naming> Keeper<L, J> {
                 self.marks.write();
                 let spare = replace(&mut back.spare, String::new(self.alloc));
                 drop(back);
-                self.write(rt, front, held, spare);
+                let taken = lock_soon(rt, front).take_lines(spare);
+                self.write(rt, held, taken);
             } else if is_behind {
                 drop(self.written.wait(rt, back));
             }
@@ -95,15 +99,31 @@ impl<L: Ledger, J: Naming> Keeper<L, J> {
         unreachable!()
     }
 
-    /// Writes all lines so far, and gives the ledger back.
-    fn write<R: Wait, F: Tells<L, J>>(
+    /// Keeps all lines so far, up to this end, where that takes no longer than to have another thread do it, and nobody else
+    /// writes. It is for who has the lock of those who tell: so who waits for that lock meanwhile waits less than for another's
+    /// write. Who then waits for the end by `keep` finds that it is kept, or why it is not.
+    pub fn keep_at_once<R: Wait, F: Tells<L, J>>(
         &self,
         rt: &R,
-        front: &Mutex<F>,
-        held: Held<L, J>,
-        spare: String,
+        front: &mut F,
+        end: &LogEnd<L, J>,
     ) {
-        let taken = lock_soon(rt, front).take_lines(spare);
+        if !self.is_quick || self.marks.has_kept(end) || self.is_broken() {
+            return;
+        }
+        let mut back = lock_soon(rt, &self.back);
+        let Some(held) = back.held.take() else {
+            return;
+        };
+        self.marks.write();
+        let spare = replace(&mut back.spare, String::new(self.alloc));
+        drop(back);
+        let taken = front.take_lines(spare);
+        self.write(rt, held, taken);
+    }
+
+    /// Writes the lines that were taken, and gives the ledger back.
+    fn write<R: Wait>(&self, rt: &R, held: Held<L, J>, taken: Option<Taken<L, J>>) {
         let Some(taken) = taken else {
             let _ledger = held.lose();
             return self.lose(rt);

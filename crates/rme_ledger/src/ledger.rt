@@ -21,6 +21,9 @@ pub trait Ledger: Drop {
         ensures replaced { OnOk result (Replaces (holds self.old) bytes.now (holds self.new)) }
         ensures same { OnErr result (holds self.new ≡ holds self.old) };
 
+    /// Whether to keep lines takes no longer than to have another thread do it: then who has told lines keeps them at once.
+    fn is_quick(&self) -> bool;
+
     /// Some of what was done could not be written as lines.
     fn lose(&mut self)
         ensures same { holds self.new ≡ holds self.old };

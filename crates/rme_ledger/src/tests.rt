@@ -17,6 +17,7 @@ struct Pages {
     alloc: Global,
     bytes: Vec<u8>,
     losses: u32,
+    is_quick: bool,
 }
 
 impl Pages {
@@ -45,6 +46,10 @@ impl Ledger for Pages {
             }
             Err(_) => Err(NotKept),
         }
+    }
+
+    fn is_quick(&self) -> bool {
+        self.is_quick
     }
 
     fn lose(&mut self) {
@@ -136,6 +141,7 @@ fn two_lines_are_kept(rt: HostRuntime) -> Result<(), Fail> {
         alloc: rt.alloc(),
         bytes: Vec::from_slice(rt.alloc(), b"before\n")?,
         losses: 0,
+        is_quick: false,
     };
     kept_by_two::<Brand, _>(&rt, rt.alloc(), Opened::new(pages))
 }
@@ -171,6 +177,7 @@ fn other_bytes_take_their_place(rt: HostRuntime) -> Result<(), Fail> {
         alloc: rt.alloc(),
         bytes: Vec::new(rt.alloc()),
         losses: 0,
+        is_quick: false,
     };
     replaced::<Brand, _>(&rt, rt.alloc(), Opened::new(pages))
 }
@@ -203,6 +210,7 @@ fn nothing_is_kept_once_it_is_broken(rt: HostRuntime) -> Result<(), Fail> {
         alloc: rt.alloc(),
         bytes: Vec::new(rt.alloc()),
         losses: 0,
+        is_quick: false,
     };
     broken::<Brand, _>(&rt, rt.alloc(), Opened::new(pages))
 }
@@ -224,5 +232,39 @@ fn broken<J: Naming, R: Wait + Abort>(
     assert!(rt; keeper.is_broken());
     assert!(rt; keeper.keep(rt, &desk, &told).is_err());
     assert!(rt; keeper.take_ledger(rt).is_none());
+    Ok(())
+}
+
+#[test]
+fn who_tells_keeps_at_once(rt: HostRuntime) -> Result<(), Fail> {
+    let pages = Pages {
+        alloc: rt.alloc(),
+        bytes: Vec::new(rt.alloc()),
+        losses: 0,
+        is_quick: true,
+    };
+    kept_at_once::<Brand, _>(&rt, rt.alloc(), Opened::new(pages))
+}
+
+fn kept_at_once<J: Naming, R: Wait + Abort>(
+    rt: &R,
+    alloc: Global,
+    opened: Opened<Pages>,
+) -> Result<(), Fail>
+    requires { opened ≡ J.book }
+{
+    let (teller, keeper) = opened.named::<J>(alloc);
+    let desk = Mutex::new(Desk {
+        lines: String::new(alloc),
+        teller: Some(teller),
+    });
+    let mut front = desk.lock(rt);
+    let told = front.write("one\n").ok_or("told")?;
+    keeper.keep_at_once(rt, &mut *front, &told);
+    assert!(rt; front.lines.is_empty());
+    drop(front);
+    assert!(rt; keeper.keep(rt, &desk, &told).is_ok());
+    let pages = end(rt, &keeper).ok_or("kept")?;
+    assert!(rt; pages.has("one\n"));
     Ok(())
 }

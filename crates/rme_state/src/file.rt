@@ -216,6 +216,11 @@ impl Ledger for StateFile<'_> {
         }
     }
 
+    /// Where nobody waits for the disk: the system takes lines within a microsecond.
+    fn is_quick(&self) -> bool {
+        !self.syncs
+    }
+
     fn lose(&mut self) {
         self.tell(&Fault::NoMemory);
     }
