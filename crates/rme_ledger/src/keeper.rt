@@ -102,12 +102,7 @@ impl<L: Ledger, J: Naming> Keeper<L, J> {
     /// Keeps all lines so far, up to this end, where that takes no longer than to have another thread do it, and nobody else
     /// writes. It is for who has the lock of those who tell: so who waits for that lock meanwhile waits less than for another's
     /// write. Who then waits for the end by `keep` finds that it is kept, or why it is not.
-    pub fn keep_at_once<R: Wait, F: Tells<L, J>>(
-        &self,
-        rt: &R,
-        front: &mut F,
-        end: &LogEnd<L, J>,
-    ) {
+    pub fn keep_at_once<R: Wait, F: Tells<L, J>>(&self, rt: &R, front: &mut F, end: &LogEnd<L, J>) {
         if !self.is_quick || self.marks.has_kept(end) || self.is_broken() {
             return;
         }
