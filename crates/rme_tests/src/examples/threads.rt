@@ -31,12 +31,19 @@ fn come_up(service: &Service, down: Down) -> Result<Ready, Down>
     requires ours { down.ident ≡ service.now }
     ensures ours { MatchResult result (λ ready. ready.ident ≡ service.now) (λ down. down.ident ≡ service.now) }
 {
-    let held = match down.recover(service, &mut Never)? {
-        Stance::Ready(ready) => return Ok(ready),
-        Stance::Leave(leave) => return leave.exit(service, &mut Never),
-        Stance::Climb(climb) => enter(service, climb)?,
-        Stance::Held(held) => held,
-    };
+    match down.recover(service, &mut Never)? {
+        Stance::Ready(ready) => Ok(ready),
+        Stance::Leave(leave) => leave.exit(service, &mut Never),
+        Stance::Climb(climb) => finish(service, enter(service, climb)?),
+        Stance::Held(held) => finish(service, held),
+    }
+}
+
+/// Makes the job that the worker owns its lock with.
+fn finish(service: &Service, held: Held) -> Result<Ready, Down>
+    requires ours { held.ident ≡ service.now }
+    ensures ours { MatchResult result (λ ready. ready.ident ≡ service.now) (λ down. down.ident ≡ service.now) }
+{
     let (leave, _receipt) = held.perform(service, &mut Never)?;
     leave.exit(service, &mut Never)
 }

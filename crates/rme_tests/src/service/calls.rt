@@ -43,14 +43,15 @@ const WITH_FALLS: &[Call] = &[
 
 /// Whether a list has just these entries.
 fn list_is(entries: &EntryList, told: &[Told<'_>]) -> bool {
-    let mut at = 0;
-    for told in told {
-        if !entries.get(at).is_some_and(|entry| entry_is(&entry, told)) {
+    for at in 0..told.len() {
+        let Some(entry) = entries.get(at) else {
+            return false;
+        };
+        if !entry_is(&entry, &told[at]) {
             return false;
         }
-        at += 1;
     }
-    entries.len() == at && entries.last().is_some() == (at > 0)
+    entries.len() == told.len() && entries.last().is_none() == told.is_empty()
 }
 
 /// A Down must have this number, be fresh or not, and have just these entries.

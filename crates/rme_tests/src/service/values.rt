@@ -18,7 +18,10 @@ pub fn next(rt: &impl Abort, service: &Service, downs: &mut Vec<Down>) -> Down
     ensures ours { result.ident ≡ service.now }
     ensures rest { AreOf service.now downs.new.items }
 {
-    downs.pop().expect(rt, "a Down")
+    let Some(down) = downs.pop() else {
+        panic!(rt; "no Down is left");
+    };
+    down
 }
 
 /// Two Downs as a list.

@@ -3,6 +3,7 @@
 use crate::service::chances::Falls;
 use crate::service::plays::Call::{Ask, Enter, Exit, Perform};
 use crate::service::plays::{Call, live};
+use crate::service::values::next;
 use crate::supervisor::values::{Planned, locks_are, plans_of};
 use crate::told::{alone, open};
 use rme::Op;
@@ -38,7 +39,7 @@ const PLANNED: Planned<'static> = Planned {
 #[test]
 fn begun(rt: HostRuntime) -> Result<(), Fail> {
     let (service, mut downs) = open(rt.alloc(), (1, 1, 1, 10))?;
-    let down = downs.pop().expect(&rt, "a Down");
+    let down = next(&rt, &service, &mut downs);
     let down = live(&rt, &service, down, BEFORE, &mut Falls::new(&[]));
     assert!(rt; !down.fresh());
     let downs = alone(&rt, rt.alloc(), &service, down)?;
