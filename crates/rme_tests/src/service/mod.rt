@@ -8,6 +8,6 @@ mod plans;
 pub mod plays;
 mod services;
 mod stress;
-mod values;
+pub mod values;
 mod watch;
 mod withdrawal;
