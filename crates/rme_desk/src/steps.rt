@@ -7,7 +7,7 @@ ghost use Rattle.rme_desk.specs.Walks.{IsEnd, IsSpent, IsUp, Walks, is_at};
 ghost use Rattle.rme_world.specs.Seen.{IsKept};
 
 use rme_orders::{Countdown, Planned};
-use rme_program::{Phase, phase};
+use rme_program::Phase;
 use rme_world::World;
 
 /// Where a worker is to come.
@@ -97,8 +97,8 @@ fn is_there(world: &World, worker: u32, goal: Goal) -> bool
     ensures kept { IsKept world.now }
     ensures there { (private : Private) × (slice_get world.now.privates worker ≡ Some (Some private)) × (result ≡ is_at goal (phase_of private.stage)) }
 {
-    match world.known(worker) {
-        Some(private) => goal.is_at(phase(&private)),
+    match world.phase(worker) {
+        Some(phase) => goal.is_at(phase),
         None => unreachable!(),
     }
 }

@@ -51,7 +51,7 @@ pub(crate) fn go_on(world: &mut World, worker: u32, goal: Goal, planned: Planned
 pub(crate) fn look(world: &World, worker: u32)
     ensures { IsKept world.now }
 {
-    let _ = world.known(worker);
+    let _ = world.phase(worker);
 }
 
 /// The worker falls.

@@ -61,6 +61,9 @@ impl World {
         ensures stopped { IsTrue result → IsStopped self.now worker }
         ensures free { IsFalse result → IsStopped self.now worker → ⊥ }
     {
+        if !self.climbs(worker) {
+            return false;
+        }
         let Some(private) = self.known(worker) else {
             return false;
         };
@@ -69,6 +72,15 @@ impl World {
         };
         match next(self.shape(), &private) {
             Action::Swap(address, free, _) => self.bank.load(address) != free,
+            _ => false,
+        }
+    }
+    /// Whether a worker takes the nodes of its path. What it knows is wide, and is not copied to see that.
+    fn climbs(&self, worker: u32) -> bool
+        ensures { IsFalse result → IsStopped self.now worker → ⊥ }
+    {
+        match self.privates.get(worker as usize) {
+            Some(Some(private)) => matches!(private.stage, Stage::Climbing(_)),
             _ => false,
         }
     }

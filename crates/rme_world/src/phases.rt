@@ -12,6 +12,7 @@ impl World {
     /// The phase that a worker is in: none while it is down, and where there is no such worker.
     /// A worker in phase Section owns the lock that its slate names, by the words as `owner` reads them.
     pub fn phase(&self, worker: u32) -> Option<Phase>
+        ensures kept { IsKept self.now }
         ensures phase { result ≡ phase_seen self.now worker }
         ensures owns { result ≡ Some Section → OwnsItsLock self.now worker }
     {

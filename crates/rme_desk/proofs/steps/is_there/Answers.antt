@@ -1,13 +1,21 @@
-use Rattle.std.proofs.Common.{ap, sym, ◌∙◌}
-use Rattle.std.proofs.lemmas.Option.{none-some}
-use Rattle.rme_world.proofs.Stopping.{found_up}
+use Rattle.std.proofs.Common.{◌≡◌, ap, sym, ◌∙◌}
+use Rattle.std.specs.Prelude.{ℕ, Option, Some, option_map, slice_get}
+use Rattle.std.proofs.lemmas.Option.{none-some, same_Some}
+use Rattle.rme_program.specs.declared.private.Private.{Private}
+use Rattle.rme_program.specs.Phases.{phase_of}
+use Rattle.rme_world.specs.Looks.{phase_seen}
+use Rattle.rme_world.specs.Seen.{Seen}
 use Rattle.rme_world.proofs.Worlds.{up_at}
 use Rattle.rme_desk.specs.Walks.{is_at}
 use Rattle.rme_desk.proofs.steps.is_there.Goals as goal
 
+-- The phase of a worker that is up.
+phase_up : (seen : Seen) (worker : ℕ) (private : Private) → slice_get seen.privates worker ≡ Some (Some private) → phase_seen seen worker ≡ Some (phase_of private.stage)
+phase_up seen worker private up = ap (option_map (λ (known : Private). phase_of known.stage)) (up_at seen worker (Some private) up)
+
 pub unreachable-requires : goal.unreachable-requires
-unreachable-requires c =
-    none-some c.requires.up.0 (sym c.in-None.is ∙ c.known.ensures.known ∙ up_at c.args.world.now c.args.worker _ c.requires.up.1)
+unreachable-requires c = none-some _ (sym c.in-None.is ∙ c.phase.ensures.phase ∙ phase_up c.args.world.now c.args.worker c.requires.up.0 c.requires.up.1)
 
 pub returns-clause-there : goal.returns-clause-there
-returns-clause-there c = (c.in-Some.private, found_up c.args.world.now c.args.worker c.in-Some.private (sym c.known.ensures.known ∙ c.in-Some.is), c.is_at.ensures ∙ ap (is_at c.args.goal) c.phase.ensures)
+returns-clause-there c =
+    (c.requires.up.0, c.requires.up.1, c.is_at.ensures ∙ ap (is_at c.args.goal) (same_Some _ _ (sym c.in-Some.is ∙ c.phase.ensures.phase ∙ phase_up c.args.world.now c.args.worker c.requires.up.0 c.requires.up.1)))
