@@ -1,7 +1,7 @@
 //! The world of a new epoch while it is made, and the lines that lead to it.
 
 use rme_desk::{Begin, Deed};
-use rme_journal::push_deed;
+use rme_journal::{CommandWriter, push_deed};
 use rme_program::{Note, Phase};
 use rme_script::Job;
 use rme_wire::Names;
@@ -41,9 +41,9 @@ impl Extent {
 /// A world of a new epoch, in which all workers were up and ready at first.
 #[derive(Drop)]
 pub(crate) struct Draft<'a> {
-    alloc: Global,
     names: &'a Names,
     world: World,
+    writer: CommandWriter,
     lines: String,
 }
 
@@ -55,9 +55,9 @@ impl<'a> Draft<'a> {
     ) -> Result<Draft<'a>, NotRenewed> {
         match World::new(alloc, shape) {
             Ok(world) => Ok(Draft {
-                alloc,
                 names,
                 world,
+                writer: CommandWriter::new(alloc),
                 lines: String::new(alloc),
             }),
             Err(_) => Err(NotRenewed),
@@ -66,7 +66,8 @@ impl<'a> Draft<'a> {
 
     /// The lines so far.
     pub(crate) fn into_lines(self) -> String {
-        self.lines
+        let Draft { lines, .. } = self;
+        lines
     }
 
     /// Hands a worker a job, and lets it come so far with it.
@@ -102,7 +103,7 @@ impl<'a> Draft<'a> {
     }
 
     fn write(&mut self, deed: Deed) -> Result<(), NotRenewed> {
-        match push_deed(&mut self.lines, self.alloc, self.names, deed) {
+        match push_deed(&mut self.lines, &mut self.writer, self.names, deed) {
             Ok(()) => Ok(()),
             Err(_) => Err(NotRenewed),
         }

@@ -137,7 +137,6 @@ impl EpochDesk {
     /// After `NoMemory` nothing was done. After `Unwritten` no order is obeyed any more.
     pub fn obey(
         &mut self,
-        alloc: Global,
         names: &Names,
         stand: &mut Stand,
         order: &Order,
@@ -157,7 +156,7 @@ impl EpochDesk {
         }
         let numbers = self.earlier.numbers_for(&session, order);
         let its = order_within(numbers, order);
-        let acted = self.written.obey(alloc, names, stand, &its)?;
+        let acted = self.written.obey(names, stand, &its)?;
         match self.earlier.reply(numbers, acted.reply) {
             Some(reply) => Ok(Answered {
                 reply,
@@ -180,11 +179,11 @@ impl EpochDesk {
     }
 
     /// Lets go of the worker that a session has, and writes that down.
-    pub fn let_go(&mut self, alloc: Global, names: &Names, stand: &mut Stand) -> Result<u64, Lost>
+    pub fn let_go(&mut self, names: &Names, stand: &mut Stand) -> Result<u64, Lost>
         ensures written { OnOk result (IsWritten names.now (record_of self.old.office self.old.lines) (record_of self.new.office self.new.lines)) }
         ensures earlier { self.new.earlier ≡ self.old.earlier }
     {
-        self.written.let_go(alloc, names, stand)
+        self.written.let_go(names, stand)
     }
 
     /// Takes the lines that nobody has taken, and leaves this empty text in their place. Answers where they end. `None`

@@ -7,7 +7,7 @@ ghost use Rattle.rme_journal.specs.Deeds.{commands_done};
 ghost use Rattle.rme_journal.specs.Lines.{WritesAll};
 
 use rme_desk::{Deed, Desk, Stand};
-use rme_journal::push_deed;
+use rme_journal::{CommandWriter, push_deed};
 use rme_orders::still_waits;
 use rme_session_lines::{Order, SessionReply};
 use rme_wire::Names;
@@ -22,6 +22,7 @@ const ROOM: usize = 4_096;
 #[derive(Drop)]
 pub struct WrittenDesk {
     desk: Desk,
+    writer: CommandWriter,
     lines: String,
     /// How many bytes of lines were taken.
     taken: u64,
@@ -72,6 +73,7 @@ impl WrittenDesk {
     {
         WrittenDesk {
             desk,
+            writer: CommandWriter::new(alloc),
             lines: String::new(alloc),
             taken: 0,
             is_lost: false,
@@ -85,6 +87,7 @@ impl WrittenDesk {
     {
         WrittenDesk {
             desk,
+            writer: CommandWriter::new(alloc),
             lines: String::new(alloc),
             taken,
             is_lost: false,
@@ -118,13 +121,7 @@ impl WrittenDesk {
     /// Obeys an order of a session with one try, and writes down what was done.
     ///
     /// After `NoMemory` nothing was done. After `Unwritten` no order is obeyed any more.
-    pub fn obey(
-        &mut self,
-        alloc: Global,
-        names: &Names,
-        stand: &mut Stand,
-        order: &Order,
-    ) -> Result<Acted, Lost>
+    pub fn obey(&mut self, names: &Names, stand: &mut Stand, order: &Order) -> Result<Acted, Lost>
         ensures obeys { IfOk result (λ acted. Obeys self.old.office.world.shape (view_of self.old.office stand.old) (with_tries 1 order.now) (view_of self.new.office stand.new) acted.reply) }
         ensures written { OnOk result (IsWritten names.now self.old self.new) }
         ensures unchanged { IfErr result (λ why. why ≡ lost.NoMemory → (self.new ≡ self.old) × (stand.new ≡ stand.old)) }
@@ -139,7 +136,7 @@ impl WrittenDesk {
             Ok(done) => done,
             Err(_) => return Err(Lost::NoMemory),
         };
-        if write_down(&mut self.lines, alloc, names, done.deed).is_err() {
+        if write_down(&mut self.lines, &mut self.writer, names, done.deed).is_err() {
             return Err(self.lose());
         }
         let reply = done.reply;
@@ -151,11 +148,11 @@ impl WrittenDesk {
     }
 
     /// Lets go of the worker that a session has, and writes that down.
-    pub fn let_go(&mut self, alloc: Global, names: &Names, stand: &mut Stand) -> Result<u64, Lost>
+    pub fn let_go(&mut self, names: &Names, stand: &mut Stand) -> Result<u64, Lost>
         ensures written { OnOk result (IsWritten names.now self.old self.new) }
     {
         let deed = self.desk.let_go(stand);
-        if self.is_lost || write_down(&mut self.lines, alloc, names, deed).is_err() {
+        if self.is_lost || write_down(&mut self.lines, &mut self.writer, names, deed).is_err() {
             return Err(self.lose());
         }
         Ok(self.end())
@@ -204,7 +201,7 @@ impl WrittenDesk {
 /// Appends the lines of what was done, if anything was.
 fn write_down(
     lines: &mut String,
-    alloc: Global,
+    writer: &mut CommandWriter,
     names: &Names,
     deed: Option<Deed>,
 ) -> Result<(), Lost>
@@ -214,7 +211,7 @@ fn write_down(
     let Some(deed) = deed else {
         return Ok(());
     };
-    match push_deed(lines, alloc, names, deed) {
+    match push_deed(lines, writer, names, deed) {
         Ok(()) => Ok(()),
         Err(_) => Err(Lost::Unwritten),
     }

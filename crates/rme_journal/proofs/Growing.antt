@@ -1,17 +1,10 @@
 -- Texts that grow by lines.
 use Rattle.std.proofs.Common.{◌≡◌, ℕ, List, [], ◌∷◌, ◌++◌, refl, subst}
-use Rattle.std.specs.Prelude.{◌==◌, Bool, true, false, not, OnOk, Some, String, string_bytes, Result, Ok, Err}
-use Rattle.std.specs.declared.alloc.Global.{Global}
+use Rattle.std.specs.Prelude.{◌==◌, Bool, true, false, not, OnOk, Result, Ok, Err}
 use Rattle.std.specs.List.{list_all}
 use Rattle.std.proofs.lemmas.Bool.{and_parts}
-use Rattle.std.proofs.lemmas.Str.{IsUtf8-string_bytes, is_utf8-from_IsUtf8}
-use Rattle.serde_json.specs.Data.{Data}
-use Rattle.serde_json.specs.Read.{read}
 use Rattle.rme_lines.specs.Pieces.{IsPiece}
-use Rattle.rme_wire.specs.Requests.{request_of, request_of_line}
-use Rattle.rme_wire.specs.Values.{value_of}
 use Rattle.rme_wire.specs.declared.command.Command.{Command}
-use Rattle.rme_wire.specs.declared.request.Request.{Request}
 use Rattle.rme_journal.specs.Lines.{IsLineOf, Writes, WritesAll, is_no_newline}
 
 -- First by these lines, and then by those.
@@ -34,13 +27,14 @@ one_piece (byte ∷ bytes) all =
     let parts = and_parts (is_no_newline byte) (list_all is_no_newline bytes) all in
     (not_newline byte (byte == 10) refl parts.0, one_piece bytes parts.1)
 
--- A text that reads as this value asks for what the value asks for.
-pub line_asks : (names : List (List ℕ)) (line : String Global) (value : Data) (request : Request) → read (string_bytes line) ≡ Some value → request_of names value ≡ Some request → request_of_line names (string_bytes line) ≡ Some request
-unfolding value_of
-line_asks names line value request reads asks =
-    rw (is_utf8-from_IsUtf8 (string_bytes line) (IsUtf8-string_bytes line)) (rw reads asks)
-
 -- A text and a newline were appended, and the text is the line of a command.
 pub writes_line : {A E : Type 0} (result : Result A E) (names : List (List ℕ)) (command : Command) (before after line text : List ℕ) → IsLineOf names command line → text ≡ line → OnOk result (after ≡ before ++ (text ++ 10 ∷ [])) → OnOk result (Writes names before command after)
 writes_line (Ok value) names command before after line text its same grew = (line, its, subst (λ (t : List ℕ). after ≡ before ++ (t ++ 10 ∷ [])) same grew)
 writes_line (Err error) names command before after line text its same grew = grew
+
+-- First by these lines, then by those, and by the last, if they could be written.
+pub writes_last : {A E : Type 0} (result : Result A E) (names : List (List ℕ)) (first second third : List Command) (before mid later after : List ℕ)
+    → WritesAll names before first mid → WritesAll names mid second later → OnOk result (WritesAll names later third after) → OnOk result (WritesAll names before (first ++ (second ++ third)) after)
+writes_last (Ok value) names first second third before mid later after one two three =
+    writes_then names first (second ++ third) before mid after one (writes_then names second third mid later after two three)
+writes_last (Err error) names first second third before mid later after one two three = three

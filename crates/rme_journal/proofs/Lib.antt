@@ -1,7 +1,6 @@
--- How texts of lines grow; how deep values nest; what line 1 tells, and that it tells one thing at most; what lines that are
+-- How texts of lines grow; what line 1 tells, and that it tells one thing at most; what lines that are
 -- read lead to.
 pub mod Growing
-pub mod Nesting
 pub mod Telling
 pub mod OnePast
 pub mod Leading

@@ -2,44 +2,66 @@
 
 ghost use Rattle.std.specs.Prelude.{◌≡◌, ◌≤◌, ◌++◌, ◌∷◌, [], IsTrue, OnOk, length, string_bytes, true};
 ghost use Rattle.std.specs.List.{list_all};
-ghost use Rattle.rme_journal.specs.Lines.{Writes, is_no_newline};
+ghost use Rattle.rme_journal.specs.Lines.{is_no_newline};
 
+use crate::asked::asks_for;
+use crate::command_text::push_text;
 use crate::fault::LineFault;
-use crate::value::{asks_for, value_of};
-use rme_wire::{Command, Names, lend};
+use rme_wire::{Command, Names, ValueReader, request_of};
 use std::alloc::Global;
 
 /// The most bytes of a line, without its newline.
 const LINE_LIMIT: usize = 65_536;
 
-/// Appends the line that asks for a command, which changes a world, and its newline.
+/// Writes the lines of commands. It keeps its memory from line to line.
 ///
-/// An error leaves a text that is of no use. `NoLine` comes for a command that changes no world, and for a submission whose lock
-/// has no name or whose script a line can't hold.
-pub fn push_command(
-    out: &mut String,
+/// A line is written out and then read, as whoever reads the file will: so what it asks for does not rest on how it is written.
+#[derive(Drop)]
+pub struct CommandWriter {
     alloc: Global,
-    names: &Names,
-    command: Command,
-) -> Result<(), LineFault>
-    ensures { OnOk result (Writes names.now (string_bytes out.old) command (string_bytes out.new)) }
-{
-    let Ok(value) = value_of(alloc, names, &command) else {
-        return Err(LineFault::NoMemory);
-    };
-    let Some(lent) = lend(alloc, &value) else {
-        return Err(LineFault::NoMemory);
-    };
-    if !asks_for(names, &lent, command) {
-        return Err(LineFault::NoLine);
+    values: ValueReader,
+    line: String,
+}
+
+impl CommandWriter {
+    ghost use Rattle.std.specs.Prelude.{OnOk, string_bytes};
+    ghost use Rattle.rme_journal.specs.Lines.{Writes};
+
+    /// A writer, which takes its memory with the first line.
+    pub fn new(alloc: Global) -> CommandWriter {
+        CommandWriter {
+            alloc,
+            values: ValueReader::new(alloc),
+            line: String::new(alloc),
+        }
     }
-    let Ok(line) = value.to_string(alloc) else {
-        return Err(LineFault::NoMemory);
-    };
-    if !is_line(line.as_bytes()) {
-        return Err(LineFault::NoLine);
+
+    /// Appends the line that asks for a command, which changes a world, and its newline.
+    ///
+    /// An error leaves a text that is of no use. `NoLine` comes for a command that changes no world, and for a submission whose
+    /// lock has no name or whose script a line can't hold.
+    pub fn push(
+        &mut self,
+        out: &mut String,
+        names: &Names,
+        command: Command,
+    ) -> Result<(), LineFault>
+        ensures { OnOk result (Writes names.now (string_bytes out.old) command (string_bytes out.new)) }
+    {
+        self.line.clear();
+        push_text(&mut self.line, names, &command)?;
+        if !is_line(self.line.as_bytes()) {
+            return Err(LineFault::NoLine);
+        }
+        let line = self.line.as_bytes();
+        let Ok(asked) = request_of(self.alloc, &mut self.values, names, line) else {
+            return Err(LineFault::NoMemory);
+        };
+        if !asks_for(&asked, command) {
+            return Err(LineFault::NoLine);
+        }
+        push_whole(out, self.line.as_str())
     }
-    push_whole(out, line.as_str())
 }
 
 /// Whether these bytes may stand on a line.

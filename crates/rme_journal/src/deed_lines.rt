@@ -4,7 +4,7 @@ ghost use Rattle.std.specs.Prelude.{◌≡◌, OnOk, length, string_bytes};
 ghost use Rattle.rme_journal.specs.Deeds.{begin_commands, commands_of, fall_commands, falls_from, walk_commands};
 ghost use Rattle.rme_journal.specs.Lines.{WritesAll};
 
-use crate::command_line::push_command;
+use crate::command_line::CommandWriter;
 use crate::fault::LineFault;
 use rme_desk::{Begin, Deed};
 use rme_wire::{Command, Names, Walk};
@@ -16,21 +16,21 @@ use std::alloc::Global;
 /// An error leaves a text that is of no use.
 pub fn push_deed(
     out: &mut String,
-    alloc: Global,
+    writer: &mut CommandWriter,
     names: &Names,
     deed: Deed,
 ) -> Result<(), LineFault>
     ensures { OnOk result (WritesAll names.now (string_bytes out.old) (commands_of deed) (string_bytes out.new)) }
 {
-    push_begin(out, alloc, names, deed.worker, deed.begins)?;
-    push_walk(out, alloc, names, deed.worker, deed.steps)?;
-    push_fall(out, alloc, names, deed.worker, deed.falls)
+    push_begin(out, writer, names, deed.worker, deed.begins)?;
+    push_walk(out, writer, names, deed.worker, deed.steps)?;
+    push_fall(out, writer, names, deed.worker, deed.falls)
 }
 
 /// Appends the line of what a deed begins with, if it begins with more than a step.
 fn push_begin(
     out: &mut String,
-    alloc: Global,
+    writer: &mut CommandWriter,
     names: &Names,
     worker: u32,
     begins: Begin,
@@ -38,9 +38,9 @@ fn push_begin(
     ensures { OnOk result (WritesAll names.now (string_bytes out.old) (begin_commands worker begins) (string_bytes out.new)) }
 {
     match begins {
-        Begin::Restart => push_command(out, alloc, names, Command::Restart(worker)),
-        Begin::Submit(job) => push_command(out, alloc, names, Command::Submit(worker, job)),
-        Begin::Withdraw => push_command(out, alloc, names, Command::Withdraw(worker)),
+        Begin::Restart => writer.push(out, names, Command::Restart(worker)),
+        Begin::Submit(job) => writer.push(out, names, Command::Submit(worker, job)),
+        Begin::Withdraw => writer.push(out, names, Command::Withdraw(worker)),
         Begin::GoOn => Ok(()),
     }
 }
@@ -48,7 +48,7 @@ fn push_begin(
 /// Appends the line of so many own steps, if there are any.
 fn push_walk(
     out: &mut String,
-    alloc: Global,
+    writer: &mut CommandWriter,
     names: &Names,
     worker: u32,
     steps: u32,
@@ -63,13 +63,13 @@ fn push_walk(
         until: None,
         max: steps,
     };
-    push_command(out, alloc, names, Command::Walk(walk))
+    writer.push(out, names, Command::Walk(walk))
 }
 
 /// Appends the line of a crash, if there is one.
 fn push_fall(
     out: &mut String,
-    alloc: Global,
+    writer: &mut CommandWriter,
     names: &Names,
     worker: u32,
     falls: bool,
@@ -79,7 +79,7 @@ fn push_fall(
     if !falls {
         return Ok(());
     }
-    push_command(out, alloc, names, Command::Crash(worker))
+    writer.push(out, names, Command::Crash(worker))
 }
 
 /// Appends a line for each worker that is up, by which it crashes.
@@ -93,8 +93,15 @@ pub fn push_falls(
 ) -> Result<(), LineFault>
     ensures { OnOk result (WritesAll names.now (string_bytes out.old) (falls_from 0 world.now.privates) (string_bytes out.new)) }
 {
+    let mut writer = CommandWriter::new(alloc);
     for worker in 0..worker_count(world) {
-        push_fall(out, alloc, names, worker, world.known(worker).is_some())?;
+        push_fall(
+            out,
+            &mut writer,
+            names,
+            worker,
+            world.known(worker).is_some(),
+        )?;
     }
     Ok(())
 }

@@ -7,16 +7,17 @@
 //! `start`, which reads the bytes of a file. Begin with `deed_lines.rt`, then `starting.rt`.
 #![tactic(auto)]
 
+mod asked;
 mod command_line;
+mod command_text;
 mod deed_lines;
 mod fault;
 mod first_line;
 mod header;
 pub mod laws;
 mod starting;
-mod value;
 
-pub use command_line::push_command;
+pub use command_line::CommandWriter;
 pub use deed_lines::{push_deed, push_falls};
 pub use fault::{BadState, LineFault};
 pub use header::{Header, LastWord, push_header, push_last_word};

@@ -7,7 +7,6 @@ use rme_epochs::{Answered, EpochDesk, Lost};
 use rme_ledger::{Held, Ledger, LogEnd, Naming, Taken, Teller, Tells};
 use rme_session_lines::Order;
 use rme_wire::Names;
-use std::alloc::Global;
 use std::marker::Model;
 
 /// What became of an order, and how far was told by then: once the log is kept so far, its lines are.
@@ -85,7 +84,6 @@ impl<L: Ledger, J: Naming> Front<L, J> {
     /// After `NoMemory` nothing was done. After `Unwritten` no order is obeyed any more.
     pub(crate) fn obey(
         &mut self,
-        alloc: Global,
         names: &Names,
         stand: &mut Stand,
         order: &Order,
@@ -99,7 +97,7 @@ impl<L: Ledger, J: Naming> Front<L, J> {
         };
         let mut teller = teller;
         let before = self.desk.lines().len();
-        let answered = match self.desk.obey(alloc, names, stand, order) {
+        let answered = match self.desk.obey(names, stand, order) {
             Ok(answered) => answered,
             Err(Lost::NoMemory) => {
                 self.teller = Some(teller);
@@ -118,7 +116,6 @@ impl<L: Ledger, J: Naming> Front<L, J> {
     /// Lets go of the worker that a session has, and tells that. Answers how far was told then.
     pub(crate) fn let_go(
         &mut self,
-        alloc: Global,
         names: &Names,
         stand: &mut Stand,
     ) -> Result<LogEnd<L, J>, Lost> {
@@ -127,7 +124,7 @@ impl<L: Ledger, J: Naming> Front<L, J> {
         };
         let mut teller = teller;
         let before = self.desk.lines().len();
-        let Ok(_) = self.desk.let_go(alloc, names, stand) else {
+        let Ok(_) = self.desk.let_go(names, stand) else {
             return Err(Lost::Unwritten);
         };
         if !tell_behind(&mut teller, &self.desk, before) {

@@ -131,7 +131,7 @@ impl<L: Ledger, H: Reach, J: Naming> Kept<L, H, J> {
         ensures { IfOk result (λ obeyed. Tries (IsTold obeyed.end) self.now.names stand.old order.now stand.new (reply_told obeyed.answered.reply)) }
     {
         let mut front = lock_soon(rt, &self.front);
-        let acted = front.obey(self.alloc, &self.names, stand, order);
+        let acted = front.obey(&self.names, stand, order);
         self.see(&front);
         if let Ok(obeyed) = &acted {
             self.keeper.keep_at_once(rt, &mut *front, &obeyed.end);
@@ -153,7 +153,7 @@ impl<L: Ledger, H: Reach, J: Naming> Kept<L, H, J> {
         let mut stand = stand;
         let seat = self.hall.seat(rt, stand.worker);
         let mut front = lock_soon(rt, &self.front);
-        let gone = front.let_go(self.alloc, &self.names, &mut stand);
+        let gone = front.let_go(&self.names, &mut stand);
         self.see(&front);
         drop(front);
         if let Some(mut seat) = seat {

@@ -125,10 +125,8 @@ impl<L: Ledger, H: Reach, J: Naming> Kept<L, H, J> {
             worker,
             take: false,
         });
-        front
-            .obey(self.alloc, &self.names, &mut stand, &order)
-            .ok()?;
-        front.let_go(self.alloc, &self.names, &mut stand).ok()?;
+        front.obey(&self.names, &mut stand, &order).ok()?;
+        front.let_go(&self.names, &mut stand).ok()?;
         Some(())
     }
 }
