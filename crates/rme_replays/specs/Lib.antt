@@ -1,0 +1,2 @@
+-- When two worlds are alike.
+pub mod Alike
