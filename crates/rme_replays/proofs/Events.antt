@@ -21,8 +21,8 @@ use Rattle.rme_world.specs.declared.counts.Counts.{Counts}
 use Rattle.rme_world.specs.Seen.{Seen, memory_seen}
 use Rattle.rme_world.specs.Events.{Submits, Steps, Crashes, Restarts, Withdraws, with_private}
 use Rattle.rme_world.specs.Calls.{Submitted, Stepped, Crashed, Restarted, Withdrawn}
-use Rattle.rme_world.specs.EventLists.{AllHappen, Happens, IsCall}
-use Rattle.rme_world.specs.Refused.{IsRefused, crash_refusal, job_refusal, of_down, of_up, restart_refusal, step_refusal, submit_refusal, withdraw_refusal}
+use Rattle.rme_world.specs.EventLists.{AllHappen, Happens}
+use Rattle.rme_world.specs.Refused.{IsRefused, crash_refusal, job_refusal, of_down, of_up, restart_refusal, submit_refusal, withdraw_refusal}
 use Rattle.rme_world.specs.Running.{answer_of}
 use Rattle.rme_replays.specs.Alike.{AreAlike}
 use Rattle.rme_replays.proofs.Steps.{after_same, did_same, found_same}
