@@ -58,20 +58,20 @@ module _ (old again one other : Seen) (alike : AreAlike old again) where
   same_private : (worker : ℕ) (private same : Private) → slice_get old.privates worker ≡ Some (Some private) → slice_get again.privates worker ≡ Some (Some same) → private ≡ same
   same_private worker private same first second = same_Some _ _ (same_Some _ _ (sym first ∙ ap (λ (ps : List (Option Private)). slice_get ps worker) alike.privates ∙ second))
 
-  submits : (worker : ℕ) (job : Job) (number also : ℕ) → Submits old worker job number one → Submits again worker job also other → AreAlike one other
+  pub submits : (worker : ℕ) (job : Job) (number also : ℕ) → Submits old worker job number one → Submits again worker job also other → AreAlike one other
   submits worker job number also first second =
       known worker (Some (submitted_private first.private job)) (Some (submitted_private second.private job)) _ _ one.room other.room
       (ap (λ (p : Private). Some (submitted_private p job)) (same_private worker first.private second.private first.found second.found)) first.hands second.hands
 
-  withdraws : (worker : ℕ) → Withdraws old worker one → Withdraws again worker other → AreAlike one other
+  pub withdraws : (worker : ℕ) → Withdraws old worker one → Withdraws again worker other → AreAlike one other
   withdraws worker first second =
       known worker (Some (withdrawing_private first.private)) (Some (withdrawing_private second.private)) _ _ old.room again.room
       (ap (λ (p : Private). Some (withdrawing_private p)) (same_private worker first.private second.private first.found second.found)) first.turns second.turns
 
-  crashes : (worker : ℕ) → Crashes old worker one → Crashes again worker other → AreAlike one other
+  pub crashes : (worker : ℕ) → Crashes old worker one → Crashes again worker other → AreAlike one other
   crashes worker first second = known worker None None _ _ old.room again.room refl first.falls second.falls
 
-  restarts : (worker : ℕ) → Restarts old worker one → Restarts again worker other → AreAlike one other
+  pub restarts : (worker : ℕ) → Restarts old worker one → Restarts again worker other → AreAlike one other
   restarts worker first second = known worker (Some (restarted_private worker)) (Some (restarted_private worker)) _ _ old.room again.room refl first.rises second.rises
 
   -- An own step, of one private state, from one memory.
@@ -126,19 +126,26 @@ module _ (old again one other : Seen) (alike : AreAlike old again) where
   submit_one worker job (Err why) (Ok number) given also its was first second memory more =
       no_memory (submit_refusal old worker job) why given (job_same worker job ∙ second.accepted.may) first.refused its memory
 
-  step_one : (worker : ℕ) (result repeat : Result Note Refusal) → Stepped old worker result one → Stepped again worker repeat other → AreAlike one other
+  pub step_one : (worker : ℕ) (result repeat : Result Note Refusal) → Stepped old worker result one → Stepped again worker repeat other → AreAlike one other
   step_one worker (Ok note) (Ok told) first second = steps old again one other alike worker note told first.accepted second.accepted
   step_one worker (Err why) (Err same) first second = unchanged old again one other alike first.unchanged second.unchanged
   step_one worker (Ok note) (Err why) first second = some_none _ _ why (up_same worker _ _ refl) first.accepted.may second.refused
   step_one worker (Err why) (Ok note) first second = some_none _ _ why (sym (up_same worker _ _ refl)) second.accepted.may first.refused
 
-  crash_one : (worker : ℕ) (result repeat : Result (Unit {0}) Refusal) → Crashed old worker result one → Crashed again worker repeat other → AreAlike one other
+  -- What it brings about is the same too.
+  pub step_result : (worker : ℕ) (result repeat : Result Note Refusal) → Stepped old worker result one → Stepped again worker repeat other → result ≡ repeat
+  step_result worker (Ok note) (Ok told) first second = ap Ok (says old again one other alike worker note told first.accepted second.accepted)
+  step_result worker (Err why) (Err same) first second = ap Err (same_Some why same (sym first.refused ∙ up_same worker _ _ refl ∙ second.refused))
+  step_result worker (Ok note) (Err why) first second = some_none _ _ why (up_same worker _ _ refl) first.accepted.may second.refused
+  step_result worker (Err why) (Ok note) first second = some_none _ _ why (sym (up_same worker _ _ refl)) second.accepted.may first.refused
+
+  pub crash_one : (worker : ℕ) (result repeat : Result (Unit {0}) Refusal) → Crashed old worker result one → Crashed again worker repeat other → AreAlike one other
   crash_one worker (Ok done) (Ok same) first second = crashes old again one other alike worker first.accepted second.accepted
   crash_one worker (Err why) (Err same) first second = unchanged old again one other alike first.unchanged second.unchanged
   crash_one worker (Ok done) (Err why) first second = some_none (crash_refusal old worker) (crash_refusal again worker) why (up_same worker _ _ refl) first.accepted.may second.refused
   crash_one worker (Err why) (Ok done) first second = some_none (crash_refusal again worker) (crash_refusal old worker) why (sym (up_same worker _ _ refl)) second.accepted.may first.refused
 
-  restart_one : (worker : ℕ) (result repeat : Result (Unit {0}) Refusal) → Restarted old worker result one → Restarted again worker repeat other → AreAlike one other
+  pub restart_one : (worker : ℕ) (result repeat : Result (Unit {0}) Refusal) → Restarted old worker result one → Restarted again worker repeat other → AreAlike one other
   restart_one worker (Ok done) (Ok same) first second = restarts old again one other alike worker first.accepted second.accepted
   restart_one worker (Err why) (Err same) first second = unchanged old again one other alike first.unchanged second.unchanged
   restart_one worker (Ok done) (Err why) first second =
@@ -146,7 +153,7 @@ module _ (old again one other : Seen) (alike : AreAlike old again) where
   restart_one worker (Err why) (Ok done) first second =
       some_none (restart_refusal again worker) (restart_refusal old worker) why (sym (ap (λ (ps : List (Option Private)). of_down (slice_get ps worker)) alike.privates)) second.accepted.may first.refused
 
-  withdraw_one : (worker : ℕ) (result repeat : Result (Unit {0}) Refusal) → Withdrawn old worker result one → Withdrawn again worker repeat other → AreAlike one other
+  pub withdraw_one : (worker : ℕ) (result repeat : Result (Unit {0}) Refusal) → Withdrawn old worker result one → Withdrawn again worker repeat other → AreAlike one other
   withdraw_one worker (Ok done) (Ok same) first second = withdraws old again one other alike worker first.accepted second.accepted
   withdraw_one worker (Err why) (Err same) first second = unchanged old again one other alike first.unchanged second.unchanged
   withdraw_one worker (Ok done) (Err why) first second = some_none (withdraw_refusal old worker) (withdraw_refusal again worker) why (up_same worker _ _ refl) first.accepted.may second.refused
@@ -158,6 +165,10 @@ module _ (old again one other : Seen) (alike : AreAlike old again) where
   happens (Crash worker) given also first second = crash_one worker first.call.0 second.call.0 first.call.2 second.call.2
   happens (Restart worker) given also first second = restart_one worker first.call.0 second.call.0 first.call.2 second.call.2
   happens (Withdraw worker) given also first second = withdraw_one worker first.call.0 second.call.0 first.call.2 second.call.2
+
+-- Worlds that are those of before.
+pub alike_after : (old again one other : Seen) → AreAlike old again → one ≡ old → other ≡ again → AreAlike one other
+alike_after old again one other alike first second = unchanged old again one other alike first second
 
 -- All events of a list.
 pub all_happen : (events : List Event) (told also : List Answer) (old again one other : Seen) → AreAlike old again → AllHappen old events told one → AllHappen again events also other → AreAlike one other
