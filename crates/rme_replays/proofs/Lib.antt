@@ -5,3 +5,6 @@ pub mod Steps
 pub mod Events
 pub mod Walks
 pub mod Lines
+pub mod Still
+pub mod Written
+pub mod Reading

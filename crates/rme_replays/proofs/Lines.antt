@@ -1,6 +1,6 @@
 -- Lines that are accepted, from what is alike.
-use Rattle.std.proofs.Common.{◌≡◌, ℕ, List, [], ◌∷◌, length, refl, sym, ap, subst, ◌∙◌}
-use Rattle.std.specs.Prelude.{Bool, true, false, Option, Some, None, Result, Ok, Err}
+use Rattle.std.proofs.Common.{◌≡◌, ℕ, List, [], ◌∷◌, refl, sym, ap, subst, ◌∙◌}
+use Rattle.std.specs.Prelude.{true, false, Option, Some, None, Result, Ok, Err}
 use Rattle.std.proofs.lemmas.Bool.{false≢true}
 use Rattle.std.proofs.lemmas.Option.{none-some, same_Some}
 use Rattle.rme_words.specs.declared.shape.Shape.{Shape}
@@ -8,7 +8,7 @@ use Rattle.rme_words.specs.declared.refusal.Refusal.{Refusal}
 use Rattle.rme_words.specs.declared.refusal.Refusal.TheVariants.{AlreadyOpen, NotOpen}
 use Rattle.rme_words.proofs.Shapes.{same_shape}
 use Rattle.rme_script.specs.declared.job.Job.{Job}
-use Rattle.rme_lines.specs.Pieces.{InputLine, lines_of}
+use Rattle.rme_lines.specs.Pieces.{InputLine}
 use Rattle.rme_texts.specs.declared.reply.Reply.{Reply}
 use Rattle.rme_texts.specs.declared.reply.Reply.TheVariants as reply
 use Rattle.rme_wire.specs.Requests.{request_read}
@@ -31,10 +31,10 @@ use Rattle.rme_replays.proofs.Events.{alike_itself, crash_one, restart_one, step
 use Rattle.rme_replays.proofs.Walks.{walk_one}
 
 -- What is accepted is not refused.
-not_refused : {A : Type 0} (says : Reply) (why : Refusal) → says ≡ reply.Refused why → refusal_in says ≡ None → A
+pub not_refused : {A : Type 0} (says : Reply) (why : Refusal) → says ≡ reply.Refused why → refusal_in says ≡ None → A
 not_refused says why is taken = absurd (none-some why (sym taken ∙ ap refusal_in is))
 
-no_change : {A : Type 0} → false ≡ true → A
+pub no_change : {A : Type 0} → false ≡ true → A
 no_change is = absurd (false≢true is)
 
 -- Commands.

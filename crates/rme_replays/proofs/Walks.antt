@@ -1,5 +1,5 @@
 -- A walk from alike worlds.
-use Rattle.std.proofs.Common.{◌≡◌, ℕ, zero, suc, List, [], ◌∷◌, ◌++◌, refl, sym, ap, subst, ◌∙◌}
+use Rattle.std.proofs.Common.{◌≡◌, ℕ, zero, suc, List, refl, sym, ap, subst, ◌∙◌}
 use Rattle.std.specs.Prelude.{Bool, true, false, Option, Some, None, Result, Ok, Err, slice_get, ◌<◌}
 use Rattle.rme_words.specs.declared.refusal.Refusal.{Refusal}
 use Rattle.rme_words.specs.declared.shape.Shape.{Shape}
@@ -8,7 +8,6 @@ use Rattle.rme_program.specs.declared.private.Private.{Private}
 use Rattle.rme_texts.specs.declared.walked.WalkEnd.{WalkEnd}
 use Rattle.rme_wire.specs.declared.command.Until.{Until}
 use Rattle.rme_engine.specs.declared.tallied.TalliedWorld.{TalliedWorld}
-use Rattle.rme_engine.specs.Tallies.{StepsTallied}
 use Rattle.rme_engine.specs.Walks.{Follows, Goes, Walks, end_after, is_true}
 use Rattle.rme_world.specs.Calls.{ShowsReady}
 use Rattle.rme_world.specs.Looks.{IsReady}
