@@ -3,8 +3,8 @@
 pub mod Blind
 pub mod Steps
 pub mod Events
+pub mod Still
 pub mod Walks
 pub mod Lines
-pub mod Still
 pub mod Written
 pub mod Reading

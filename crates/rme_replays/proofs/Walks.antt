@@ -1,32 +1,25 @@
 -- A walk from alike worlds.
 use Rattle.std.proofs.Common.{◌≡◌, ℕ, zero, suc, List, refl, sym, ap, subst, ◌∙◌}
-use Rattle.std.specs.Prelude.{Bool, true, false, Option, Some, None, Result, Ok, Err, slice_get, ◌<◌}
+use Rattle.std.specs.Prelude.{Bool, true, false, Option, Some, None, Result, Ok, Err, ◌<◌}
 use Rattle.rme_words.specs.declared.refusal.Refusal.{Refusal}
 use Rattle.rme_words.specs.declared.shape.Shape.{Shape}
 use Rattle.rme_program.specs.declared.note.Note.{Note}
-use Rattle.rme_program.specs.declared.private.Private.{Private}
 use Rattle.rme_texts.specs.declared.walked.WalkEnd.{WalkEnd}
 use Rattle.rme_wire.specs.declared.command.Until.{Until}
 use Rattle.rme_engine.specs.declared.tallied.TalliedWorld.{TalliedWorld}
 use Rattle.rme_engine.specs.Walks.{Follows, Goes, Walks, end_after, is_true}
 use Rattle.rme_world.specs.Calls.{ShowsReady}
-use Rattle.rme_world.specs.Looks.{IsReady}
 use Rattle.rme_world.specs.Seen.{Seen}
 use Rattle.rme_replays.specs.Alike.{AreAlike}
 use Rattle.rme_replays.proofs.Events.{alike_after, step_one, step_result}
+use Rattle.rme_replays.proofs.Still.{alike_back, ready_on}
 
 -- Alike worlds show the same readiness.
-is_ready_too : (one other : Seen) (worker : ℕ) → AreAlike one other → IsReady one worker → IsReady other worker
-is_ready_too one other worker alike its = (its.0, sym (ap (λ (ps : List (Option Private)). slice_get ps worker) alike.privates) ∙ its.1, its.2)
-
-is_ready_before : (one other : Seen) (worker : ℕ) → AreAlike one other → IsReady other worker → IsReady one worker
-is_ready_before one other worker alike its = (its.0, ap (λ (ps : List (Option Private)). slice_get ps worker) alike.privates ∙ its.1, its.2)
-
 ready_same : (one other : Seen) (worker : ℕ) (ready again : Result Bool Refusal) → AreAlike one other → ShowsReady one worker ready → ShowsReady other worker again → is_true ready ≡ is_true again
 ready_same one other worker (Ok true) (Ok true) alike first second = refl
 ready_same one other worker (Ok false) (Ok false) alike first second = refl
-ready_same one other worker (Ok true) (Ok false) alike first second = sym (second.ready.1 (is_ready_too one other worker alike (first.ready.0 refl)))
-ready_same one other worker (Ok false) (Ok true) alike first second = first.ready.1 (is_ready_before one other worker alike (second.ready.0 refl))
+ready_same one other worker (Ok true) (Ok false) alike first second = sym (second.ready.1 (ready_on one other worker alike (first.ready.0 refl)))
+ready_same one other worker (Ok false) (Ok true) alike first second = first.ready.1 (ready_on other one worker (alike_back one other alike) (second.ready.0 refl))
 ready_same one other worker (Ok true) (Err why) alike first second = sym (second.accepted.1 (subst (λ (n : ℕ). worker < n) (ap (λ (s : Shape). s.workers) alike.shape) (first.accepted.0 refl)))
 ready_same one other worker (Ok false) (Err why) alike first second = refl
 ready_same one other worker (Err why) (Ok true) alike first second = first.accepted.1 (subst (λ (n : ℕ). worker < n) (sym (ap (λ (s : Shape). s.workers) alike.shape)) (second.accepted.0 refl))
