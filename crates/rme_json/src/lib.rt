@@ -15,5 +15,6 @@ mod tree;
 mod value;
 
 pub use lent::lend;
+pub use number::whole_number;
 pub use reader::{Room, ValueReader};
 pub use value::Value;

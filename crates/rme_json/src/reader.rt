@@ -1,7 +1,8 @@
 //! Reading the value of a line.
 
 ghost use Rattle.std.specs.Prelude.{◌≡◌, Some, IfOk, IfSome, option_map};
-ghost use Rattle.serde_json.specs.Read.{read};
+ghost use Rattle.std.specs.Str.{IsUtf8};
+ghost use Rattle.json.specs.Lex.{tokens};
 ghost use Rattle.serde_json.specs.View as kit;
 ghost use Rattle.rme_json.specs.Values.{value_of};
 ghost use Rattle.rme_json.specs.View.{view};
@@ -66,6 +67,26 @@ impl ValueReader {
             None => Err(NoMemory),
         }
     }
+
+    /// The tokens of a line's bytes, for who needs no tree of them. `None` where the bytes are no UTF-8 or there was no room.
+    pub fn tokens<'a>(&'a mut self, line: &'a [u8]) -> Option<Reader<'a>>
+        ensures { IfSome result (λ reader. IsUtf8 line.now × (reader ≡ tokens line.now)) }
+    {
+        tokens_of(&mut self.scratch, line)
+    }
+}
+
+/// The tokens of a line's bytes, likewise.
+fn tokens_of<'a>(scratch: &'a mut Scratch, line: &'a [u8]) -> Option<Reader<'a>>
+    ensures { IfSome result (λ reader. IsUtf8 line.now × (reader ≡ tokens line.now)) }
+{
+    let Ok(text) = simdutf8::compat::from_utf8(line) else {
+        return None;
+    };
+    let Ok(reader) = Reader::new(text, scratch) else {
+        return None;
+    };
+    Some(reader)
 }
 
 /// The value of a line's bytes, where it is found at the first try: its numbers are whole, its objects have few members, and
@@ -73,20 +94,7 @@ impl ValueReader {
 fn read_soon<'a>(alloc: Global, scratch: &'a mut Scratch, line: &'a [u8]) -> Option<Value<'a>>
     ensures { IfSome result (λ value. Some (view value) ≡ value_of line.now) }
 {
-    let Ok(text) = simdutf8::compat::from_utf8(line) else {
-        return None;
-    };
-    let value = read_text(alloc, scratch, text)?;
-    Some(value)
-}
-
-/// The value that a text is, likewise.
-fn read_text<'a>(alloc: Global, scratch: &'a mut Scratch, text: &'a str) -> Option<Value<'a>>
-    ensures { IfSome result (λ value. read text.now ≡ Some (view value)) }
-{
-    let Ok(mut reader) = Reader::new(text, scratch) else {
-        return None;
-    };
+    let mut reader = tokens_of(scratch, line)?;
     let value = read_tree(alloc, &mut reader, MOST_DEPTH)?;
     if reader.next().is_some() {
         return None;
@@ -95,6 +103,7 @@ fn read_text<'a>(alloc: Global, scratch: &'a mut Scratch, text: &'a str) -> Opti
 }
 
 /// The value of a line's bytes, or `None` where they are none. `NoMemory` says that there was no room for it.
+#[inline(never)]
 fn read_owned(alloc: Global, line: &[u8]) -> Result<Option<Owned>, NoMemory>
     ensures { IfOk result (λ value. option_map kit.view value ≡ value_of line.now) }
 {

@@ -1,11 +1,16 @@
-use Rattle.std.proofs.Common.{◌≡◌, List, ℕ, Some, sym, subst}
-use Rattle.serde_json.specs.Read.{read}
+use Rattle.std.proofs.Common.{◌≡◌, List, [], sym, subst, arith}
+use Rattle.json.specs.Token.{Token}
+use Rattle.rme_json.specs.Trees.{IsValue}
 use Rattle.rme_json.specs.View.{view}
+use Rattle.rme_json.proofs.Reading.{whole}
 use Rattle.rme_json.proofs.ValueLemmas.{value_read}
 use Rattle.rme_json.proofs.reader.read_soon.Goals as goal
 
 pub returns : goal.returns
 returns c =
     let value = c.in_ok-value.value in
-    let P : List ℕ → Type 0 = λ bytes. read bytes ≡ Some (view value) in
-    sym (value_read c.args.line.now (view value) c.in-Ok.ensures.cases.1 (subst P c.in-Ok.ensures.cases.0 c.in_ok-value.ensures))
+    let over : c.read_tree.new.reader ≡ [] = grind arith in
+    let P : List Token → Type 0 = λ rest. IsValue 127 c.in_ok-reader.reader (view value) rest in
+    let Q : List Token → Type 0 = λ tokens. IsValue 127 tokens (view value) [] in
+    let all = subst Q c.in_ok-reader.ensures.1 (subst P over c.in_ok-value.ensures.value) in
+    sym (value_read c.args.line.now (view value) c.in_ok-reader.ensures.0 (whole c.args.line.now (view value) all))
