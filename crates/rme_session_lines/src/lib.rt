@@ -4,11 +4,13 @@
 //! refusals an answer holds. It is a crate of its own so that who runs commands by lines builds nothing of sessions. Its two
 //! contracts are those of `order_of`, the order of a line (`specs/Orders.antt`), and of `push_session_reply`, the text of
 //! an answer (`specs/Sessions.antt`). What a client is told may have larger numbers than the answer of one world has
-//! (`told.rt`). Begin with `order.rt`, then `session.rt`.
+//! (`told.rt`). Most lines are read token by token (`soon.rt`). Begin with `order.rt`, then `session.rt`.
 #![tactic(auto)]
 
 mod order;
 mod session;
+mod soon;
+mod tokens;
 mod told;
 
 pub use order::{

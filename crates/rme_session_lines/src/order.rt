@@ -4,6 +4,7 @@ ghost use Rattle.std.specs.Prelude.{◌≡◌, ◌≤◌, IfOk, option_map, opti
 ghost use Rattle.rme_json.specs.View.{view};
 ghost use Rattle.rme_session_lines.specs.Orders as spec;
 
+use crate::soon::order_soon;
 use rme_script::Job;
 use rme_wire::{
     Names, Room, Value, ValueReader, lock_of, script_of, small, up_to, word_of, worker_of,
@@ -12,13 +13,13 @@ use rme_words::NoMemory;
 use std::alloc::Global;
 
 /// How often a session tries to enter where its line doesn't say.
-const USUAL_TRIES: u32 = 1_000;
+pub(crate) const USUAL_TRIES: u32 = 1_000;
 
 /// The most tries that a line may ask for.
-const MOST_TRIES: u32 = 1_000_000;
+pub(crate) const MOST_TRIES: u32 = 1_000_000;
 
 /// The most milliseconds that a line may wait: an hour.
-const MOST_WAIT: u32 = 3_600_000;
+pub(crate) const MOST_WAIT: u32 = 3_600_000;
 
 /// The largest number that the client of one world may give a job.
 pub const WORLD_NUMBERS: u64 = 4_294_967_295;
@@ -103,6 +104,22 @@ pub enum Order {
 /// The names are those of the service's locks, and `most` is the largest number that a job of its may have. `NoMemory` says
 /// that there was no room for the line's value.
 pub fn order_of(
+    values: &mut ValueReader,
+    names: &Names,
+    most: u64,
+    line: &[u8],
+) -> Result<Option<Order>, NoMemory>
+    ensures { IfOk result (λ order. order ≡ spec.order_of_line names.now most line.now) }
+{
+    if let Some(order) = order_soon(values, names, most, line) {
+        return Ok(Some(order));
+    }
+    order_by_tree(values, names, most, line)
+}
+
+/// The order of any line. What it needs of the stack is taken only here.
+#[inline(never)]
+fn order_by_tree(
     values: &mut ValueReader,
     names: &Names,
     most: u64,
@@ -264,7 +281,7 @@ fn crash_after_of(count: usize, value: &Value<'_>) -> Option<Order>
 
 /// An order of a word alone.
 #[tactic(auto, unfolding(crate::specs::Orders::bare_order))]
-fn bare_order(word: &str, count: usize) -> Option<Order>
+pub(crate) fn bare_order(word: &str, count: usize) -> Option<Order>
     ensures { result ≡ spec.bare_order word.now count }
 {
     if count != 1 {

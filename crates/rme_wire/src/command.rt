@@ -55,7 +55,7 @@ pub enum Command {
 
 /// The number of a lock's name, or the number of names where there is no such name.
 #[tactic(auto, unfolding(crate::specs::Commands::lock_number))]
-fn lock_number(names: &Names, text: &str) -> u32
+pub fn lock_number(names: &Names, text: &str) -> u32
     ensures { result ≡ spec.lock_number names.now text.now }
 {
     match names.number(text) {

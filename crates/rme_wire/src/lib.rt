@@ -14,12 +14,12 @@ mod request;
 mod shaped;
 mod value;
 
-pub use command::{Command, Until, Walk, command_named, lock_of, worker_of};
+pub use command::{Command, Until, Walk, command_named, lock_number, lock_of, worker_of};
 pub use loading::Loading;
 pub use opening::{GivenNames, Opening};
 pub use operation::script_of;
 pub use request::{Request, request_of};
-pub use rme_json::{Room, Value, ValueReader, lend};
+pub use rme_json::{Room, Value, ValueReader, lend, whole_number};
 pub use rme_lines::{Cut, EngineFault, Exchange, LineReader, Pending, Sink, Source, put_all};
 pub use rme_names::{Image, Names, is_name};
 pub use shaped::names_and_shape;

@@ -1,0 +1,50 @@
+use Rattle.std.proofs.Common.{◌≡◌, List, [], ◌∷◌, bytes_eq, true, Some, None, ap, sym, subst, ◌∙◌, arith}
+use Rattle.std.proofs.lemmas.Slice.Eq.{bytes_eq-Decides}
+use Rattle.std.specs.Prelude.{codes}
+use Rattle.json.specs.Token.{Token}
+use Rattle.json.specs.Json.{read_key}
+use Rattle.json.proofs.Grammar.{read_key_is}
+use Rattle.rme_session_lines.specs.declared.order.Order.{Order}
+use Rattle.rme_session_lines.specs.Orders.{bare_order}
+use Rattle.rme_session_lines.specs.Tokens.{IsOrder, handed}
+use Rattle.rme_session_lines.proofs.Found.{each_found}
+use Rattle.rme_session_lines.proofs.OrderLemmas.{bare_at, handed_at}
+use Rattle.rme_session_lines.proofs.soon.take_order.Goals as goal
+
+pub returns-in_default : goal.returns-in_default
+returns-in_default c =
+    let names = c.args.names.now in
+    let most = c.args.most in
+    let word = c.in_ok-word.word.now in
+    let opens : c.args.reader.now ≡ Token.begin_object ∷ c.take_object.new.reader = grind arith in
+    let named : c.take_object.new.reader ≡ Token.key (codes "do") ∷ c.take_key.new.reader = grind arith in
+    let text : c.take_key.new.reader ≡ Token.string word ∷ c.take_text.new.reader = c.in_ok-word.ensures in
+    let read : read_key c.take_text.new.reader ≡ Some (None, c.next_key.new.self) = grind arith in
+    let over : c.next_key.new.self ≡ [] = grind arith in
+    let ends : c.take_text.new.reader ≡ Token.end_object ∷ [] = read_key_is c.take_text.new.reader None c.next_key.new.self read ∙ ap (λ (ts : List Token). Token.end_object ∷ ts) over in
+    let all = opens ∙ ap (λ (ts : List Token). Token.begin_object ∷ ts) (named ∙ ap (λ (ts : List Token). Token.key (codes "do") ∷ ts) (text ∙ ap (λ (ts : List Token). Token.string word ∷ ts) ends)) in
+    each_found (λ (order : Order). IsOrder names most c.args.reader.now order) (bare_order word 1) c.bare_order.result c.bare_order.ensures
+    (λ (order : Order) (e : bare_order word 1 ≡ Some order).
+    let P : List Token → Type 0 = λ ts. IsOrder names most ts order in
+    subst P (sym all) (bare_at names most word order e))
+
+pub returns : goal.returns
+returns c =
+    let names = c.args.names.now in
+    let most = c.args.most in
+    let word = c.in_ok-word.word.now in
+    let key = c.in-Some.key.now in
+    let s = c.in_ok-submission.submission in
+    let behind = c.next_key.new.self in
+    let opens : c.args.reader.now ≡ Token.begin_object ∷ c.take_object.new.reader = grind arith in
+    let named : c.take_object.new.reader ≡ Token.key (codes "do") ∷ c.take_key.new.reader = grind arith in
+    let text : c.take_key.new.reader ≡ Token.string word ∷ c.take_text.new.reader = c.in_ok-word.ensures in
+    let read : read_key c.take_text.new.reader ≡ Some (Some key, behind) = grind arith in
+    let same : bytes_eq key (codes "lock") ≡ true = grind arith in
+    let is : key ≡ codes "lock" = (bytes_eq-Decides key (codes "lock")).0 same in
+    let lock : c.take_text.new.reader ≡ Token.key (codes "lock") ∷ behind = read_key_is c.take_text.new.reader (Some key) behind read ∙ ap (λ k. Token.key k ∷ behind) is in
+    let all = opens ∙ ap (λ (ts : List Token). Token.begin_object ∷ ts) (named ∙ ap (λ (ts : List Token). Token.key (codes "do") ∷ ts) (text ∙ ap (λ (ts : List Token). Token.string word ∷ ts) lock)) in
+    each_found (λ (order : Order). IsOrder names most c.args.reader.now order) (handed word s) c.handed.result c.handed.ensures
+    (λ (order : Order) (e : handed word s ≡ Some order).
+    let P : List Token → Type 0 = λ ts. IsOrder names most ts order in
+    subst P (sym all) (handed_at names most word s order behind c.in_ok-submission.ensures e))
