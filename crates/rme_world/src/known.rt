@@ -75,6 +75,7 @@ impl World {
             _ => false,
         }
     }
+
     /// Whether a worker takes the nodes of its path. What it knows is wide, and is not copied to see that.
     fn climbs(&self, worker: u32) -> bool
         ensures { IsFalse result → IsStopped self.now worker → ⊥ }
