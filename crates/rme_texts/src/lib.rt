@@ -17,6 +17,6 @@ pub use answer::{Done, Report, push_last, push_refusal};
 pub use event::{EventLine, Handed, push_event, push_opening};
 pub use reply::{Reply, push_reply};
 pub use rme_names::{Image, Names, is_name};
-pub use texts::{name_of, push_note, push_receipt};
+pub use texts::{name_of, push_note, push_ops, push_receipt};
 pub use told::{ToldReceipt, told_last};
 pub use walked::{WalkEnd, WalkNotes, Walked};
