@@ -13,23 +13,23 @@ struct rme_core_worker {
     void *at;
 };
 
-enum rme_core_operation { RME_CORE_LOAD = 1, RME_CORE_STORE = 2, RME_CORE_SWAP = 3 };
+enum rme_core_operation { RME_CORE_LOAD = 1, RME_CORE_STORE, RME_CORE_SWAP, RME_CORE_EXPECT, RME_CORE_EXPECT_EVEN };
 
 /* One operation on the word of this number: a load; a store of `first`; a swap, which puts `second` where the word has
-   `first`. */
+   `first`; a load that is expected to find `first`, and one that is expected to find an even number below 2^32. */
 struct rme_core_action {
     uint32_t kind;
-    uint32_t word;
+    size_t word;
     uint64_t first;
     uint64_t second;
 };
 
-/* Own steps that are sure to come, one after the other, whatever each finds; and what each loaded, or found before its
-   swap. Of a store no value is read. */
+/* Own steps that come one after the other as long as each swap puts its value and each load finds what is expected; and
+   what each loaded, or found before its swap. The first that does not ends the batch. Of a store no value is read. */
 struct rme_core_batch {
     uint32_t count;
-    struct rme_core_action actions[32];
-    uint64_t values[32];
+    struct rme_core_action actions[96];
+    uint64_t values[96];
 };
 
 enum rme_core_event {
@@ -44,7 +44,7 @@ enum rme_core_event {
     RME_CORE_WITHDREW
 };
 
-/* What the last step of a batch brought about. */
+/* What a step brought about that another can see. */
 struct rme_core_note {
     uint32_t kind;
     uint32_t worker;
@@ -52,6 +52,13 @@ struct rme_core_note {
     uint64_t number;
     uint64_t place;
     uint64_t reply;
+};
+
+/* What the steps of a batch brought about, and where the worker is now. */
+struct rme_core_outcome {
+    uint32_t count;
+    uint32_t phase;
+    struct rme_core_note notes[97];
 };
 
 enum rme_core_phase {
@@ -87,17 +94,17 @@ enum rme_core_word_kind {
     RME_CORE_CELL
 };
 
-_Static_assert(sizeof(struct rme_core_action) == 24 && sizeof(struct rme_core_batch) == 1032,
+_Static_assert(sizeof(struct rme_core_action) == 32 && sizeof(struct rme_core_batch) == 3848,
                "as the crate lays it out");
-_Static_assert(offsetof(struct rme_core_batch, values) == 776 && sizeof(struct rme_core_note) == 40, "likewise");
-_Static_assert(sizeof(struct rme_core_standing) == 16, "likewise");
+_Static_assert(offsetof(struct rme_core_batch, values) == 3080 && sizeof(struct rme_core_note) == 40, "likewise");
+_Static_assert(sizeof(struct rme_core_standing) == 16 && sizeof(struct rme_core_outcome) == 3888, "likewise");
 
 uint32_t rme_core_new(uint32_t workers, uint32_t locks, uint32_t cells, uint32_t jobs, uint32_t worker,
                       struct rme_core_worker *out);
 void rme_core_free(struct rme_core_worker worker);
-uint32_t rme_core_next(struct rme_core_worker *worker, struct rme_core_batch *batch);
+uint32_t rme_core_next(struct rme_core_worker *worker, uint32_t until, struct rme_core_batch *batch);
 uint32_t rme_core_after(struct rme_core_worker *worker, const struct rme_core_batch *batch, uint32_t count,
-                        struct rme_core_note *note);
+                        struct rme_core_outcome *outcome);
 uint32_t rme_core_stance(struct rme_core_worker *worker, struct rme_core_standing *standing);
 uint32_t rme_core_submit(struct rme_core_worker *worker, uint32_t lock, uint32_t operations, const uint64_t words[24],
                          uint64_t *number);

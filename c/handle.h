@@ -14,6 +14,7 @@ struct rme_handle {
     volatile unsigned char *own; /* 1 in the process that attached, 0 in a child of it */
     struct rme_receipt receipt;  /* of the section that was finished last */
     struct rme_core_batch batch;
+    struct rme_core_outcome outcome; /* of the batch that was made last */
 };
 
 /* What a call needs: any handle; one that may look, whose worker, if it has one, has recovered, and whose file is not

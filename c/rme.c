@@ -6,7 +6,8 @@
    in this folder:
 
    - `make_batch` below does each operation that the crate told, in order, once, as one sequentially consistent
-     operation of one 64-bit word of the mapping, and hands on what it found. No other function stores a word.
+     operation of one 64-bit word of the mapping, and hands on what it found; it ends behind a swap that put nothing, and
+     behind a load that was expected to find something else. No other function stores a word.
    - `rme_look` of looks.c reads one word once, for look-ups; no step depends on what it answers.
    - core.h declares the crate's exports as they are.
    - A handle is used by one call at a time (`rme_begin`), in the process that attached it (`own`, a page that the
@@ -33,92 +34,63 @@ static int told(uint32_t refusal) {
 
 /* STEPS */
 
-/* Does the operations of a batch, one after the other. */
-static void make_batch(_Atomic uint64_t *words, struct rme_core_batch *batch) {
-    for (uint32_t i = 0; i < batch->count; i++) {
-        const struct rme_core_action *action = &batch->actions[i];
+/* Does the operations of a batch, one after the other, as far as the first that found what ends it, and answers how many.
+   Of a store no value is read. */
+static uint32_t make_batch(_Atomic uint64_t *words, struct rme_core_batch *batch) {
+    const struct rme_core_action *action = batch->actions, *end = action + batch->count;
+    for (; action < end; action++) {
+        _Atomic uint64_t *word = &words[action->word];
         uint64_t found = action->first;
-        switch (action->kind) {
-        case RME_CORE_LOAD:
-            found = atomic_load(&words[action->word]);
-            break;
-        case RME_CORE_STORE:
-            atomic_store(&words[action->word], action->first);
-            break;
-        default:
-            atomic_compare_exchange_strong(&words[action->word], &found, action->second);
+        if (action->kind == RME_CORE_STORE) {
+            atomic_store(word, found);
+            continue;
         }
-        batch->values[i] = found;
+        uint64_t *value = &batch->values[action - batch->actions];
+        int goes_on = 1;
+        if (action->kind == RME_CORE_SWAP) {
+            goes_on = atomic_compare_exchange_strong(word, &found, action->second);
+        } else {
+            found = atomic_load(word);
+            goes_on = action->kind == RME_CORE_EXPECT        ? found == action->first
+                      : action->kind == RME_CORE_EXPECT_EVEN ? found % 2 == 0 && found >> 32 == 0
+                                                             : 1;
+        }
+        *value = found;
+        if (!goes_on) {
+            return (uint32_t)(action - batch->actions) + 1;
+        }
     }
+    return batch->count;
 }
 
-/* Makes the worker's next own steps, at least one; RME_IDLE where it is ready and has none. */
-static int step(struct rme_handle *self, struct rme_core_note *note) {
-    uint32_t refusal = rme_core_next(&self->core, &self->batch);
-    if (refusal == 0) {
-        make_batch(self->file.words, &self->batch);
-        refusal = rme_core_after(&self->core, &self->batch, self->batch.count, note);
+/* Makes the worker's next own steps, at least one, as far as one that says something of the kind `until`; RME_IDLE where
+   it is ready and has none. The receipt of a section that is finished on the way is kept, also where damage ends it. */
+static int step(struct rme_handle *self, uint32_t until) {
+    uint32_t refusal = rme_core_next(&self->core, until, &self->batch);
+    if (refusal != 0) {
+        return told(refusal);
+    }
+    uint32_t made = make_batch(self->file.words, &self->batch);
+    refusal = rme_core_after(&self->core, &self->batch, made, &self->outcome);
+    for (uint32_t i = 0; i < self->outcome.count; i++) {
+        const struct rme_core_note *note = &self->outcome.notes[i];
+        if (note->kind == RME_CORE_FINISHED) {
+            self->receipt = (struct rme_receipt){note->worker, note->lock, note->number, note->place, note->reply};
+        }
     }
     return told(refusal);
+}
+
+/* What the last of the steps that said something said. */
+static uint32_t last_event(const struct rme_handle *self) {
+    uint32_t count = self->outcome.count;
+    return count == 0 ? RME_CORE_QUIET : self->outcome.notes[count - 1].kind;
 }
 
 struct rme_core_standing rme_standing_of(struct rme_handle *self) {
     struct rme_core_standing standing = {0};
     rme_core_stance(&self->core, &standing);
     return standing;
-}
-
-/* Goes on until the worker is ready; the receipt of a section that is finished on the way is kept, also where damage
-   ends the way out. */
-static int become_ready(struct rme_handle *self) {
-    struct rme_core_note note;
-    int error;
-    while ((error = step(self, &note)) == 0) {
-        if (note.kind == RME_CORE_FINISHED) {
-            self->receipt = (struct rme_receipt){note.worker, note.lock, note.number, note.place, note.reply};
-        }
-    }
-    return error == RME_IDLE ? 0 : error;
-}
-
-/* Recovers until the worker waits, is inside, or is ready. */
-static int recover(struct rme_handle *self) {
-    for (;;) {
-        switch (rme_standing_of(self).phase) {
-        case RME_CORE_RECOVERS: {
-            struct rme_core_note note;
-            int error = step(self, &note);
-            if (error != 0) {
-                return error;
-            }
-            break;
-        }
-        case RME_CORE_EXITS:
-            return become_ready(self);
-        default:
-            return 0;
-        }
-    }
-}
-
-static int submit(struct rme_handle *self, uint32_t lock, const struct rme_operation *operations, uint32_t count,
-                  uint64_t *number) {
-    uint64_t words[3 * RME_MOST_OPERATIONS] = {0};
-    for (uint32_t i = 0; i < count && count <= RME_MOST_OPERATIONS; i++) {
-        words[3 * i] = operations[i].kind;
-        words[3 * i + 1] = operations[i].cell;
-        words[3 * i + 2] = operations[i].value;
-    }
-    struct rme_core_note note = {0};
-    uint64_t begun = 0;
-    int error = told(rme_core_submit(&self->core, lock, count, words, &begun));
-    while (error == 0 && note.kind != RME_CORE_ASKED) {
-        error = step(self, &note);
-    }
-    if (error == 0 && number != NULL) {
-        *number = begun;
-    }
-    return error;
 }
 
 /* WAITING */
@@ -160,21 +132,76 @@ static int pass(struct wait *wait, uint32_t milliseconds) {
     return 0;
 }
 
-static int enter(struct rme_handle *self, uint32_t milliseconds) {
+/* Goes on until a step says something of the kind `until`, which RME_CORE_QUIET never is, or the worker is ready; behind
+   each blocked step time passes. */
+static int go_on(struct rme_handle *self, uint32_t until, uint32_t milliseconds) {
     struct wait wait = {0};
-    struct rme_core_note note;
-    int error = 0;
-    do {
-        if ((error = step(self, &note)) == 0 && note.kind == RME_CORE_BLOCKED) {
+    for (;;) {
+        int error = step(self, until);
+        uint32_t event = last_event(self);
+        if (error == 0 && event == RME_CORE_BLOCKED) {
             error = pass(&wait, milliseconds);
         }
-    } while (error == 0 && note.kind != RME_CORE_ENTERED);
+        int is_there = event == until && until != RME_CORE_QUIET;
+        if (error != 0 || is_there || self->outcome.phase == RME_CORE_RESTS) {
+            return error;
+        }
+    }
+}
+
+/* PHASES */
+
+/* Recovers until the worker waits, is inside, or is ready. */
+static int recover(struct rme_handle *self) {
+    uint32_t phase = rme_standing_of(self).phase;
+    while (phase == RME_CORE_RECOVERS) {
+        int error = step(self, RME_CORE_QUIET);
+        if (error != 0) {
+            return error;
+        }
+        phase = self->outcome.phase;
+    }
+    return phase == RME_CORE_EXITS ? go_on(self, RME_CORE_QUIET, RME_FOREVER) : 0;
+}
+
+/* Hands over a job, which is not posted yet. */
+static int hand(struct rme_handle *self, uint32_t lock, const struct rme_operation *operations, uint32_t count,
+                uint64_t *number) {
+    uint64_t words[3 * RME_MOST_OPERATIONS] = {0};
+    for (uint32_t i = 0; i < count && count <= RME_MOST_OPERATIONS; i++) {
+        words[3 * i] = operations[i].kind;
+        words[3 * i + 1] = operations[i].cell;
+        words[3 * i + 2] = operations[i].value;
+    }
+    return told(rme_core_submit(&self->core, lock, count, words, number));
+}
+
+static int submit(struct rme_handle *self, uint32_t lock, const struct rme_operation *operations, uint32_t count,
+                  uint64_t *number) {
+    uint64_t begun = 0;
+    int error = hand(self, lock, operations, count, &begun);
+    error = error != 0 ? error : go_on(self, RME_CORE_ASKED, RME_FOREVER);
+    if (error == 0 && number != NULL) {
+        *number = begun;
+    }
     return error;
 }
 
 /* The section of a worker that is inside, and its way out; or what is left of them. */
 static int commit(struct rme_handle *self, struct rme_receipt *receipt) {
-    int error = become_ready(self);
+    int error = go_on(self, RME_CORE_QUIET, RME_FOREVER);
+    if (error == 0 && receipt != NULL) {
+        *receipt = self->receipt;
+    }
+    return error;
+}
+
+/* A whole job. */
+static int run(struct rme_handle *self, uint32_t lock, const struct rme_operation *operations, uint32_t count,
+               uint32_t milliseconds, struct rme_receipt *receipt) {
+    uint64_t begun = 0;
+    int error = hand(self, lock, operations, count, &begun);
+    error = error != 0 ? error : go_on(self, RME_CORE_QUIET, milliseconds);
     if (error == 0 && receipt != NULL) {
         *receipt = self->receipt;
     }
@@ -271,7 +298,7 @@ int rme_enter(struct rme_handle *handle, uint32_t wait) {
     }
     switch (where(rme_standing_of(handle).phase)) {
     case RME_WAITING:
-        return rme_end(handle, enter(handle, wait));
+        return rme_end(handle, go_on(handle, RME_CORE_ENTERED, wait));
     case RME_INSIDE:
         return rme_end(handle, 0);
     default:
@@ -300,10 +327,7 @@ int rme_run(struct rme_handle *handle, uint32_t lock, const struct rme_operation
     if (error != 0) {
         return error;
     }
-    error = submit(handle, lock, operations, count, NULL);
-    error = error != 0 ? error : enter(handle, wait);
-    error = error != 0 ? error : commit(handle, receipt);
-    return rme_end(handle, error);
+    return rme_end(handle, run(handle, lock, operations, count, wait, receipt));
 }
 
 int rme_withdraw(struct rme_handle *handle, uint64_t *number) {
@@ -313,7 +337,7 @@ int rme_withdraw(struct rme_handle *handle, uint64_t *number) {
     }
     uint64_t begun = rme_standing_of(handle).number;
     error = told(rme_core_withdraw(&handle->core));
-    error = error != 0 ? error : become_ready(handle);
+    error = error != 0 ? error : go_on(handle, RME_CORE_QUIET, RME_FOREVER);
     if (error == 0 && number != NULL) {
         *number = begun;
     }

@@ -1,5 +1,9 @@
-mod Folding
 mod Telling
-mod Running
+mod Going
+mod Loading
+mod Finishing
+mod Led
+mod Folding
+mod Jumping
 pub mod LooseValues
 pub mod HandleValues

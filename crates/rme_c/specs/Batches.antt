@@ -1,12 +1,14 @@
--- Which actions a batch tells: those of a worker's next own steps, whatever the steps before them find.
-use Rattle.std.specs.Prelude.{◌≡◌, ◌≢◌, ℕ, List, [], ◌∷◌, take}
+-- Which actions a batch tells: those of a worker's next own steps, one after another, for as long as the batch goes on.
+use Rattle.std.specs.Prelude.{◌≡◌, ◌≢◌, ◌⊎◌, ◌<◌, ◌%◌, ◌^◌, ℕ, List, [], ◌∷◌, ◌++◌, take}
 use Rattle.rme_words.specs.declared.shape.Shape.{Shape}
+use Rattle.rme_words.specs.Words.{word}
 use Rattle.rme_program.specs.declared.action.Action.{Action}
 use Rattle.rme_program.specs.declared.action.Action.TheVariants.{Load, Store, Swap}
 use Rattle.rme_program.specs.declared.note.Note.{Note}
-use Rattle.rme_program.specs.declared.note.Note.TheVariants.{Quiet}
+use Rattle.rme_program.specs.declared.note.Note.TheVariants.{Quiet, Asked, Blocked, Entered, Reentered, Finished, Left, Ready, Withdrew}
 use Rattle.rme_program.specs.declared.private.Private.{Private}
-use Rattle.rme_program.specs.declared.stage.Stage.TheVariants.{Resting, Logging}
+use Rattle.rme_program.specs.declared.stage.Stage.{Stage}
+use Rattle.rme_program.specs.declared.stage.Stage.TheVariants.{Resting, Climbing, Logging}
 use Rattle.rme_program.specs.declared.stage.Log.TheVariants.{LoadSlate, LoadCells}
 use Rattle.rme_script.specs.Programs.{Program}
 use Rattle.rme_program.specs.Conditions.{Takes}
@@ -19,39 +21,74 @@ use Rattle.rme_c.specs.Flat.{flat_action}
 abbrev pub actions_told : Batch → List FlatAction
 actions_told batch = take batch.count batch.actions
 
-abbrev pub OnlyLoads : List FlatAction → Type 0
-OnlyLoads [] = Unit {0}
-OnlyLoads (action ∷ rest) = (action.kind ≡ 1) × OnlyLoads rest
+-- A load is plain, or is expected to find something.
+abbrev pub IsLoad : ℕ → Type 0
+IsLoad kind = (kind ≡ 1) ⊎ ((kind ≡ 4) ⊎ (kind ≡ 5))
 
--- Only loads stand behind a step whose value may be refused, so that nothing is written after such a value was found.
-abbrev pub MayFollow : Action → List FlatAction → Type 0
-MayFollow (Load address) rest = OnlyLoads rest
-MayFollow (Store address value) rest = Unit {0}
-MayFollow (Swap address from to) rest = OnlyLoads rest
+-- What C does is the operation of a step, on the same word.
+abbrev pub Does : Shape → FlatAction → Action → Type 0
+Does shape flat (Load address) = IsLoad flat.kind × (flat.word ≡ word shape address)
+Does shape flat (Store address value) = flat ≡ flat_action shape (Store address value)
+Does shape flat (Swap address from to) = flat ≡ flat_action shape (Swap address from to)
 
--- A step that another follows says nothing, so that the last note is the only one.
-abbrev pub IsSilent : List FlatAction → Note → Type 0
-IsSilent [] note = Unit {0}
-IsSilent (action ∷ rest) note = note ≡ Quiet
+-- A batch goes on behind an action that found this: a swap that put its value, a load that found what it expected.
+pub record GoesOn (action : FlatAction) (found : ℕ) : Type 0 where
+  pub swapped : action.kind ≡ 3 → found ≡ action.first
+  pub expected : action.kind ≡ 4 → found ≡ action.first
+  pub even : action.kind ≡ 5 → (found < 2 ^ 32) × (found % 2 ≡ 0)
 
--- The actions are those of the next own steps of a worker that knows this, whatever values they find.
-abbrev pub Foretells : Shape → Private → List FlatAction → Type 0
-Foretells shape private [] = Unit {0}
-Foretells shape private (action ∷ rest) =
+-- A batch ends at the latest with a step that says something of this kind.
+abbrev pub Stops : ℕ → Note → Type 0
+Stops until Quiet = ⊥
+Stops until (Asked number) = until ≡ 1
+Stops until Blocked = until ≡ 2
+Stops until (Entered lock) = until ≡ 3
+Stops until (Reentered lock) = until ≡ 4
+Stops until (Finished receipt) = until ≡ 5
+Stops until (Left lock) = until ≡ 6
+Stops until Ready = until ≡ 7
+Stops until (Withdrew number) = until ≡ 8
+
+abbrev pub IfMore : List FlatAction → Type 0 → Type 0
+IfMore [] it = Unit {0}
+IfMore (action ∷ rest) it = it
+
+-- The actions are those of the next own steps of a worker that knows this. Where the batch goes on behind a step, the
+-- value found is one that the step may take, so that nothing is done behind one that no world can have; and the step
+-- says nothing of the kind behind which the batch is to end.
+abbrev pub Foretells : Shape → ℕ → Private → List FlatAction → Type 0
+Foretells shape until private [] = Unit {0}
+Foretells shape until private (action ∷ rest) =
     (private.stage ≢ Resting)
-    × (action ≡ flat_action shape (action_of shape private))
-    × MayFollow (action_of shape private) rest
-    × ((value : ℕ) → Takes shape private.stage value → IsSilent rest (note_after shape private value) × Foretells shape (private_after shape private value) rest)
+    × Does shape action (action_of shape private)
+    × ((value : ℕ)
+    → GoesOn action value
+    → IfMore rest (Takes shape private.stage value × (Stops until (note_after shape private value) → ⊥)) × Foretells shape until (private_after shape private value) rest)
+
+-- What completes a batch for a worker that is there completes, behind these actions, one for a worker that is here.
+abbrev pub LeadsTo : Shape → ℕ → Private → List FlatAction → Private → Type 0
+LeadsTo shape until here told there = (rest : List FlatAction) → Foretells shape until there rest → Foretells shape until here (told ++ rest)
+
+-- The same where it is not known which of these workers is there.
+abbrev pub Reaches : Shape → ℕ → Private → List FlatAction → (Private → Type 0) → Type 0
+Reaches shape until here told IsThere = (rest : List FlatAction) → ((there : Private) → IsThere there → Foretells shape until there rest) → Foretells shape until here (told ++ rest)
+
+abbrev pub at_stage : ℕ → ℕ → Stage → Private
+at_stage worker begun stage = record { worker = worker; begun = begun; stage = stage }
+
+-- The worker wants a lock, and holds so many nodes.
+abbrev pub climbing : ℕ → ℕ → ℕ → ℕ → Private
+climbing worker begun lock held = at_stage worker begun (Climbing record { lock = lock; held = held })
 
 -- The worker is about to load a word of its slate, and a named cell.
-pub record LoadsSlate (worker operations : ℕ) (private : Private) (at : ℕ) : Type 0 where
+pub record LoadsSlate (worker operations at : ℕ) (private : Private) : Type 0 where
   pub lock : ℕ
   pub turn : ℕ
   pub words : List ℕ
   pub here : private.stage ≡ Logging (LoadSlate lock turn operations words at)
   pub own : private.worker ≡ worker
 
-pub record LoadsCells (lock named : ℕ) (private : Private) (cell : ℕ) : Type 0 where
+pub record LoadsCells (lock named cell : ℕ) (private : Private) : Type 0 where
   pub turn : ℕ
   pub script : Program
   pub row : List ℕ

@@ -23,11 +23,27 @@ use Rattle.rme_c.specs.declared.flat.FlatAction.{FlatAction}
 use Rattle.rme_c.specs.declared.flat.FlatNote.{FlatNote}
 use Rattle.rme_c.specs.declared.flat.Stance.{Stance}
 
--- 1 loads, 2 stores, 3 swaps; the word by its number among the words of the shape.
+-- A plain load, a load that is expected to find this, and one that is expected to find an even number below 2^32.
+abbrev pub plain_load : ℕ → FlatAction
+plain_load word = record { kind = 1; word = word; first = 0; second = 0 }
+
+abbrev pub expecting_load : ℕ → ℕ → FlatAction
+expecting_load word value = record { kind = 4; word = word; first = value; second = 0 }
+
+abbrev pub even_load : ℕ → FlatAction
+even_load word = record { kind = 5; word = word; first = 0; second = 0 }
+
+abbrev pub flat_store : ℕ → ℕ → FlatAction
+flat_store word value = record { kind = 2; word = word; first = value; second = 0 }
+
+abbrev pub flat_swap : ℕ → ℕ → ℕ → FlatAction
+flat_swap word from to = record { kind = 3; word = word; first = from; second = to }
+
+-- The plain form of an action, on the word by its number among the words of the shape.
 abbrev pub flat_action : Shape → Action → FlatAction
-flat_action shape (Load address) = record { kind = 1; word = word shape address; first = 0; second = 0 }
-flat_action shape (Store address value) = record { kind = 2; word = word shape address; first = value; second = 0 }
-flat_action shape (Swap address from to) = record { kind = 3; word = word shape address; first = from; second = to }
+flat_action shape (Load address) = plain_load (word shape address)
+flat_action shape (Store address value) = flat_store (word shape address) value
+flat_action shape (Swap address from to) = flat_swap (word shape address) from to
 
 abbrev pub lock_note : ℕ → ℕ → FlatNote
 lock_note kind lock = record { kind = kind; worker = 0; lock = lock; number = 0; place = 0; reply = 0 }

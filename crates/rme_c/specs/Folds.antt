@@ -1,34 +1,87 @@
--- What the values of several own steps, one after another, make of a worker.
-use Rattle.std.specs.Prelude.{◌≡◌, ℕ, ◌<◌, List, [], ◌∷◌, length, take, slice_index}
+-- What the values of several own steps, one after another, make of a worker, and what these steps say.
+use Rattle.std.specs.Prelude.{◌≡◌, ℕ, ◌<◌, ◌≤◌, List, [], ◌∷◌, length, take, map, slice_index}
 use Rattle.rme_words.specs.declared.shape.Shape.{Shape}
 use Rattle.rme_program.specs.declared.note.Note.{Note}
-use Rattle.rme_program.specs.declared.note.Note.TheVariants.{Quiet}
+use Rattle.rme_program.specs.declared.note.Note.TheVariants.{Quiet, Asked, Blocked, Entered, Reentered, Finished, Left, Ready, Withdrew}
 use Rattle.rme_program.specs.declared.private.Private.{Private}
-use Rattle.rme_program.specs.Conditions.{Takes}
+use Rattle.rme_program.specs.Conditions.{IsPrivate, Takes}
 use Rattle.rme_program.specs.Steps.{private_after, note_after}
+use Rattle.rme_c.specs.declared.flat.FlatNote.{FlatNote}
+use Rattle.rme_c.specs.declared.flat.Outcome.{Outcome}
+use Rattle.rme_c.specs.Flat.{flat_note}
 
--- What a worker knows after its steps found these values, and the note of the last of them, which is `note` where
--- there are none.
-unfoldable pub steps_on : Shape → Private × Note → List ℕ → Private × Note
-steps_on shape state [] = state
-steps_on shape state (value ∷ rest) = steps_on shape (private_after shape state.0 value, note_after shape state.0 value) rest
+-- What a worker knows after its steps found these values.
+unfoldable pub led_to : Shape → Private → List ℕ → Private
+led_to shape private [] = private
+led_to shape private (value ∷ rest) = led_to shape (private_after shape private value) rest
 
-abbrev pub steps_from : Shape → Private → List ℕ → Private × Note
-steps_from shape private values = steps_on shape (private, Quiet) values
+-- A note before others, where it says something.
+abbrev pub noted : Note → List Note → List Note
+noted Quiet rest = rest
+noted (Asked number) rest = Asked number ∷ rest
+noted Blocked rest = Blocked ∷ rest
+noted (Entered lock) rest = Entered lock ∷ rest
+noted (Reentered lock) rest = Reentered lock ∷ rest
+noted (Finished receipt) rest = Finished receipt ∷ rest
+noted (Left lock) rest = Left lock ∷ rest
+noted Ready rest = Ready ∷ rest
+noted (Withdrew number) rest = Withdrew number ∷ rest
+
+-- What these steps say, in order.
+unfoldable pub said : Shape → Private → List ℕ → List Note
+said shape private [] = []
+said shape private (value ∷ rest) = noted (note_after shape private value) (said shape (private_after shape private value) rest)
+
+-- The notes of an outcome that count, and these notes as plain numbers.
+abbrev pub notes_told : Outcome → List FlatNote
+notes_told outcome = take outcome.count outcome.notes
+
+abbrev pub flat_notes : List Note → List FlatNote
+flat_notes notes = map flat_note notes
 
 -- Each value is one that the step which finds it may take.
 abbrev pub AllTaken : Shape → Private → List ℕ → Type 0
 AllTaken shape private [] = Unit {0}
 AllTaken shape private (value ∷ rest) = Takes shape private.stage value × AllTaken shape (private_after shape private value) rest
 
--- One of the values may not be taken; what the worker knows is what the values before it made of it.
-pub record IsDamaged (shape : Shape) (old : Private) (values : List ℕ) (new : Private) : Type 0 where
+-- The worker takes each of these values, says this, and then knows this.
+pub record TakesTo (shape : Shape) (old : Private) (values : List ℕ) (notes : List Note) (new : Private) : Type 0 where
+  pub all : AllTaken shape old values
+  pub leads : new ≡ led_to shape old values
+  pub says : notes ≡ said shape old values
+
+-- The same with the notes as plain numbers.
+pub record TakesAll (shape : Shape) (old : Private) (values : List ℕ) (notes : List FlatNote) (new : Private) : Type 0 where
+  pub all : AllTaken shape old values
+  pub leads : new ≡ led_to shape old values
+  pub says : notes ≡ flat_notes (said shape old values)
+
+-- One of the values may not be taken; the worker takes those before it.
+pub record IsDamaged (shape : Shape) (old : Private) (values : List ℕ) (notes : List FlatNote) (new : Private) : Type 0 where
   pub at : ℕ
   pub there : at < length values
-  pub before : AllTaken shape old (take at values)
+  pub before : TakesAll shape old (take at values) notes new
   pub refused : Takes shape new.stage (slice_index values at) → ⊥
-  pub left : new ≡ (steps_from shape old (take at values)).0
 
 -- So many steps lead from one private state to another and say nothing, whatever they find.
 abbrev pub LeadsBlindly : Shape → Private → ℕ → Private → Type 0
-LeadsBlindly shape old count new = (values : List ℕ) → length values ≡ count → AllTaken shape old values × ((new, Quiet) ≡ steps_from shape old values)
+LeadsBlindly shape old count new = (values : List ℕ) → length values ≡ count → TakesTo shape old values [] new
+
+-- The worker takes so many of the values, and these two notes are all that it says.
+pub record Jumps (shape : Shape) (old : Private) (values : List ℕ) (count : ℕ) (before note : Note) (new : Private) : Type 0 where
+  pub within : count ≤ length values
+  pub takes : TakesTo shape old (take count values) (noted before (noted note [])) new
+  pub few : length (noted before (noted note [])) ≤ count
+  pub private : IsPrivate shape new
+
+-- The same of at least one value.
+pub record TookSome (shape : Shape) (old : Private) (values : List ℕ) (count : ℕ) (before note : Note) (new : Private) : Type 0 where
+  pub some : 1 ≤ count
+  pub within : count ≤ length values
+  pub takes : TakesTo shape old (take count values) (noted before (noted note [])) new
+  pub few : length (noted before (noted note [])) ≤ count
+
+-- The first of the values may not be taken, and the worker is as it was.
+pub record Refuses (shape : Shape) (old : Private) (values : List ℕ) (new : Private) : Type 0 where
+  pub refused : Takes shape old.stage (slice_index values 0) → ⊥
+  pub same : new ≡ old

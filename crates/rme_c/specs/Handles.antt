@@ -3,7 +3,7 @@ use Rattle.std.specs.Prelude.{◌≡◌, ◌≢◌, ◌⊎◌, ℕ, ◌<◌, ◌
 use Rattle.rme_words.specs.declared.shape.Shape.{Shape}
 use Rattle.rme_words.specs.Shapes.{IsWithinLimits}
 use Rattle.rme_c.specs.declared.handle.Handle.{Handle}
-use Rattle.rme_c.specs.Workers.{IsWorker, restarted_worker}
+use Rattle.rme_c.specs.Workers.{IsWorker, Restarted}
 
 -- There is a worker behind it.
 pub record IsLive (handle : Handle) : Type 0 where
@@ -23,7 +23,7 @@ pub record Opened (workers locks cells jobs worker : ℕ) (before : Handle) (res
   pub answers : (result ≡ 0) ⊎ ((result ≡ 5) ⊎ ((result ≡ 6) ⊎ (result ≡ 20)))
   pub live : result ≡ 0 → IsLive after
   pub numbers : result ≡ 0 → HasNumbers workers locks cells jobs after.value.shape
-  pub restarted : result ≡ 0 → after.value ≡ restarted_worker after.value.shape worker
+  pub restarted : result ≡ 0 → Restarted after.value.shape worker after.value
   pub bad_shape : result ≡ 5 → IsWithinLimits workers locks cells jobs → ⊥
   pub good_shape : result ≢ 5 → IsWithinLimits workers locks cells jobs
   pub no_worker : result ≡ 6 → workers ≤ worker

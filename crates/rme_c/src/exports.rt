@@ -6,10 +6,10 @@
 
 ghost use Rattle.std.specs.Prelude.{◌≡◌};
 ghost use Rattle.rme_c.specs.Handles.{IsLive, Opened};
-ghost use Rattle.rme_c.specs.Workers.{restarted_worker};
+ghost use Rattle.rme_c.specs.Workers.{Restarted};
 ghost use Rattle.rme_c.specs.Calls.{Told, TookBack, Stood, Posted, Withdrew};
 
-use crate::flat::{Batch, FlatNote, Stance};
+use crate::flat::{Batch, Outcome, Stance};
 use crate::handle::Handle;
 use crate::worker::Worker;
 use rme_script::SLATE_WORDS;
@@ -56,40 +56,48 @@ pub extern "C" fn rme_core_free(handle: Handle)
     drop(handle.into_box());
 }
 
-/// Fills the batch with the worker's next own steps, at least one and at most 32.
+/// Fills the batch with the worker's next own steps, at least one and at most 96: none behind one that says
+/// something of the kind `until`. The steps behind a swap that puts nothing, or a load that does not find what it should, are
+/// not made.
 ///
 /// Answers 0, 102 while a batch is outstanding, or 10 (`Idle`) where the worker is ready; neither changes anything.
 #[unsafe(no_mangle)]
-pub extern "C" fn rme_core_next(alloc: Global, handle: &mut Handle, batch: &mut Batch) -> u32
+pub extern "C" fn rme_core_next(
+    alloc: Global,
+    handle: &mut Handle,
+    until: u32,
+    batch: &mut Batch,
+) -> u32
     requires { IsLive handle.old }
-    ensures told { Told handle.old.value batch.old result handle.new.value batch.new }
+    ensures told { Told handle.old.value until batch.old result handle.new.value batch.new }
     ensures live { IsLive handle.new }
 {
     let mut worker = handle.open(alloc);
-    let answer = worker.tell(batch);
+    let answer = worker.tell(until, batch);
     handle.close(worker);
     answer
 }
 
-/// Takes back what the steps of a batch found, and writes what came of the last of them.
+/// Takes back what the steps of a batch found, and writes what came of them.
 ///
-/// `count` is the count of the batch that is outstanding. Answers 0; 100 where a value is one that no world can have:
-/// the worker then is as after the steps before it, and the note is quiet; or 101 where no batch of this count is
-/// outstanding, which changes nothing. After 0 and 100 no batch is outstanding.
+/// `count` is how many of the steps of the batch that is outstanding were made, at least one: all, or those as far as the
+/// first that ended it. Answers 0; 100 where a value is one that no world can have: the worker then is as after the steps
+/// before it; or 101 where no batch of so many steps is outstanding, which changes nothing. After 0
+/// and 100 no batch is outstanding.
 #[unsafe(no_mangle)]
 pub extern "C" fn rme_core_after(
     alloc: Global,
     handle: &mut Handle,
     batch: &Batch,
     count: u32,
-    note: &mut FlatNote,
+    outcome: &mut Outcome,
 ) -> u32
     requires { IsLive handle.old }
-    ensures took { TookBack handle.old.value batch.now count note.old result handle.new.value note.new }
+    ensures took { TookBack handle.old.value batch.now count outcome.old result handle.new.value outcome.new }
     ensures live { IsLive handle.new }
 {
     let mut worker = handle.open(alloc);
-    let answer = worker.take_back(batch, count, note);
+    let answer = worker.take_back(batch, count, outcome);
     handle.close(worker);
     answer
 }
@@ -152,7 +160,7 @@ pub extern "C" fn rme_core_withdraw(alloc: Global, handle: &mut Handle) -> u32
 #[unsafe(no_mangle)]
 pub extern "C" fn rme_core_restart(alloc: Global, handle: &mut Handle)
     requires { IsLive handle.old }
-    ensures restarted { handle.new.value ≡ restarted_worker handle.old.value.shape handle.old.value.private.worker }
+    ensures restarted { Restarted handle.old.value.shape handle.old.value.private.worker handle.new.value }
     ensures live { IsLive handle.new }
 {
     let mut worker = handle.open(alloc);

@@ -1,15 +1,17 @@
 //! What C reads and writes: structs of plain numbers.
 
 /// The most actions of one batch.
-pub const MOST_ACTIONS: u32 = 32;
+pub const MOST_ACTIONS: u32 = 96;
 
 /// One own step of a worker: one operation on one shared word, of this number.
 #[repr(C)]
 #[derive(Clone, Copy)]
 pub struct FlatAction {
-    /// 1 loads the word, 2 stores `first` into it, 3 puts `second` into it exactly where it has `first`.
+    /// 1 loads the word, 2 stores `first` into it, 3 puts `second` into it exactly where it has `first`; 4 and 5 load it
+    /// too. A batch ends behind a 3 that did not find `first`, behind a 4 that did not find `first`, and behind a 5 that
+    /// did not find an even number below 2^32.
     pub kind: u32,
-    pub word: u32,
+    pub word: usize,
     pub first: u64,
     pub second: u64,
 }
@@ -18,25 +20,36 @@ pub struct FlatAction {
 #[repr(C)]
 #[derive(Drop)]
 pub struct Batch {
-    /// How many of the actions count, and of the values.
+    /// How many of the actions count.
     pub count: u32,
-    pub actions: [FlatAction; 32],
+    pub actions: [FlatAction; 96],
     /// What each load read, and what each swap met; for a store it may be any number.
-    pub values: [u64; 32],
+    pub values: [u64; 96],
 }
 
-/// What the last step of a batch brought about.
+/// What a step brought about that another can see.
 #[repr(C)]
 #[derive(Clone, Copy)]
 pub struct FlatNote {
-    /// 0 nothing that another can see, 1 asked, 2 blocked, 3 entered, 4 reentered, 5 finished, 6 left, 7 ready,
-    /// 8 withdrew. What a note of this kind does not say is 0 below.
+    /// 1 asked, 2 blocked, 3 entered, 4 reentered, 5 finished, 6 left, 7 ready, 8 withdrew. What a note of this kind does
+    /// not say is 0 below.
     pub kind: u32,
     pub worker: u32,
     pub lock: u32,
     pub number: u64,
     pub place: u64,
     pub reply: u64,
+}
+
+/// What the steps of a batch brought about.
+#[repr(C)]
+#[derive(Drop)]
+pub struct Outcome {
+    /// How many of the notes count, in the order of the steps: one a step at most.
+    pub count: u32,
+    /// Where the worker is now, as in a stance.
+    pub phase: u32,
+    pub notes: [FlatNote; 97],
 }
 
 /// Where a worker is.

@@ -1,16 +1,40 @@
 //! Notes, phases and locks as plain numbers.
 
-ghost use Rattle.std.specs.Prelude.{◌≡◌};
+ghost use Rattle.std.specs.Prelude.{◌≡◌, ◌<◌, ◌≤◌, ◌+◌, ◌++◌, [], length};
 ghost use Rattle.rme_c.specs.Flat.{flat_note, phase_number, lock_number, lock_of_log, lock_of_redo, lock_of_departure};
+ghost use Rattle.rme_c.specs.Folds.{flat_notes, noted, notes_told};
 
-use crate::flat::FlatNote;
+use crate::flat::{FlatNote, Outcome};
 use rme_program::{Departure, Log, Note, Phase, Receipt, Recovery, Redo, Stage};
 
 /// Where a worker knows of no lock.
 const NO_LOCK: u32 = u32::MAX;
 
+/// The kinds of notes behind which a batch may be told to end.
+pub const ASKED: u32 = 1;
+
+pub const ENTERED: u32 = 3;
+
+pub const FINISHED: u32 = 5;
+
+pub const LEFT: u32 = 6;
+
+/// Writes one more note down, where it says something.
+pub fn put_note(outcome: &mut Outcome, note: Note)
+    requires room { outcome.old.count < 97 }
+    ensures told { notes_told outcome.new ≡ notes_told outcome.old ++ flat_notes (noted note []) }
+    ensures count { outcome.new.count ≡ outcome.old.count + length (noted note []) }
+{
+    if let Note::Quiet = note {
+        return;
+    }
+    let place = outcome.count as usize;
+    write_note(&mut outcome.notes[place], note);
+    outcome.count += 1;
+}
+
 /// Writes a note down as plain numbers.
-pub fn write_note(flat: &mut FlatNote, note: Note)
+fn write_note(flat: &mut FlatNote, note: Note)
     ensures { flat.new ≡ flat_note note }
 {
     match note {

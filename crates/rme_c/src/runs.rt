@@ -1,75 +1,185 @@
-//! Runs of stores that are known before the first of them: a whole post, and a whole receipt. What `batch.rt` would tell
-//! of them step by step is told at once, which is faster.
+//! What is known before the first step of it: a post, the way in, and the way out.
 
-ghost use Rattle.std.specs.Prelude.{◌≡◌, ◌≢◌, ◌≤◌};
+ghost use Rattle.std.specs.Prelude.{◌≡◌, ◌≢◌, ◌<◌, ◌≤◌, ◌+◌, ◌-◌, ◌^◌, ℕ};
+ghost use Rattle.rme_program.specs.declared.private.Private.{Private};
 ghost use Rattle.rme_program.specs.declared.stage.Stage.{Stage};
+ghost use Rattle.rme_program.specs.declared.stage.Log.{Log};
+ghost use Rattle.rme_program.specs.declared.stage.Departure.{Departure};
 ghost use Rattle.rme_program.specs.Conditions.{IsPrivate};
-ghost use Rattle.rme_c.specs.Batches.{Foretells, actions_told};
+ghost use Rattle.rme_c.specs.Batches.{Foretells, LeadsTo, actions_told, at_stage, climbing};
+ghost use Rattle.rme_c.specs.Guesses.{IsGuess};
 
-use crate::batch::{put, tell_stores};
+use crate::actions::{expect, put, store, swap};
 use crate::flat::Batch;
-use rme_program::{Action, Private, Redo, Slate, Stage};
-use rme_script::slate_words;
-use rme_words::{Address, Shape};
+use crate::guess::Guess;
+use crate::loads::tell_section;
+use crate::notes::{ASKED, ENTERED, LEFT};
+use rme_program::{Private, Slate};
+use rme_script::slate_word;
+use rme_tree::{node, side};
+use rme_words::Shape;
+
+/// A post, and what comes then.
+pub fn tell_post(
+    shape: Shape,
+    private: &Private,
+    slate: &Slate,
+    guess: &Guess,
+    until: u32,
+    batch: &mut Batch,
+)
+    requires private { IsPrivate shape private.now }
+    requires guess { IsGuess shape guess.now }
+    requires here { private.now.stage ≡ Stage.Posting slate.now }
+    requires begins { slate.now.stored ≡ 0 }
+    requires fresh { batch.old.count ≡ 0 }
+    ensures foretells { Foretells shape until private.now (actions_told batch.new) }
+    ensures some { 1 ≤ batch.new.count }
+    ensures few { batch.new.count ≤ 96 }
+{
+    tell_slate_stores(shape, private, slate, until, batch);
+    if until != ASKED {
+        tell_way_in(
+            shape,
+            private.worker,
+            slate.job.lock,
+            0,
+            guess,
+            until,
+            batch,
+        );
+    }
+}
 
 /// The stores of a post: the slate's lock, its length and its words, and then `Begun`.
-pub fn tell_post(shape: Shape, private: &Private, slate: &Slate, batch: &mut Batch)
+fn tell_slate_stores(shape: Shape, private: &Private, slate: &Slate, until: u32, batch: &mut Batch)
     requires private { IsPrivate shape private.now }
     requires here { private.now.stage ≡ Stage.Posting slate.now }
     requires begins { slate.now.stored ≡ 0 }
     requires fresh { batch.old.count ≡ 0 }
-    ensures foretells { Foretells shape private.now (actions_told batch.new) }
+    ensures foretells { Foretells shape until private.now (actions_told batch.new) }
+    ensures leads { until ≢ 1 → LeadsTo shape until private.now (actions_told batch.new) (climbing private.now.worker (private.now.begun + 1) slate.now.job.lock 0) }
     ensures some { 1 ≤ batch.new.count }
-    ensures few { batch.new.count ≤ 32 }
+    ensures few { batch.new.count ≤ 27 }
 {
     let worker = private.worker;
-    let words = slate_words(&slate.job.script);
-    let n = slate.job.script.n();
+    let script = &slate.job.script;
+    let n = script.n();
     put(
-        shape,
         batch,
-        Action::Store(Address::SlateLock(worker), u64::from(slate.job.lock)),
+        store(shape.slate_lock_at(worker), u64::from(slate.job.lock)),
     );
-    put(
-        shape,
-        batch,
-        Action::Store(Address::SlateLen(worker), u64::from(n)),
-    );
+    put(batch, store(shape.slate_len_at(worker), u64::from(n)));
     for at in 0..3 * n {
-        let word = Address::SlateWord(worker, at / 3, at % 3);
-        put(shape, batch, Action::Store(word, words[at as usize]));
+        let word = shape.slate_at(worker, at / 3, at % 3);
+        put(batch, store(word, slate_word(script, at)));
     }
     put(
-        shape,
         batch,
-        Action::Store(Address::Begun(worker), u64::from(private.begun) + 1),
+        store(shape.begun_at(worker), u64::from(private.begun) + 1),
     );
 }
 
-/// The stores of a receipt: the reply, the place, the lock, and then `Done`.
-pub fn tell_receipt(shape: Shape, private: &Private, batch: &mut Batch)
-    requires private { IsPrivate shape private.now }
-    requires busy { private.now.stage ≢ Stage.Resting }
-    requires fresh { batch.old.count ≡ 0 }
-    ensures foretells { Foretells shape private.now (actions_told batch.new) }
+/// The way in of a worker that holds so many nodes, and what comes then.
+pub fn tell_way_in(
+    shape: Shape,
+    worker: u32,
+    lock: u32,
+    held: u32,
+    guess: &Guess,
+    until: u32,
+    batch: &mut Batch,
+)
+    requires worker { worker < shape.workers }
+    requires lock { lock < shape.locks }
+    requires held { held < shape.height }
+    requires guess { IsGuess shape guess.now }
+    requires room { batch.old.count ≤ 27 }
+    ensures foretells { (start : Private) (begun : ℕ) → LeadsTo shape until start (actions_told batch.old) (climbing worker begun lock held) → Foretells shape until start (actions_told batch.new) }
     ensures some { 1 ≤ batch.new.count }
-    ensures few { batch.new.count ≤ 32 }
+    ensures few { batch.new.count ≤ 96 }
 {
-    let Stage::Copying(Redo::StoreReply { visit, reply, .. }) = &private.stage else {
-        return tell_stores(shape, private, batch);
-    };
-    let worker = private.worker;
-    let place = u64::from(visit.turn / 2);
-    put(shape, batch, Action::Store(Address::Reply(worker), *reply));
-    put(shape, batch, Action::Store(Address::Place(worker), place));
-    put(
-        shape,
-        batch,
-        Action::Store(Address::At(worker), u64::from(visit.lock)),
-    );
-    put(
-        shape,
-        batch,
-        Action::Store(Address::Done(worker), u64::from(private.begun)),
-    );
+    tell_swaps(shape, worker, lock, held, until, batch);
+    if until != ENTERED {
+        tell_section(shape, worker, lock, guess, until, batch);
+    }
+}
+
+/// The swaps of the nodes that the worker does not hold yet.
+fn tell_swaps(shape: Shape, worker: u32, lock: u32, held: u32, until: u32, batch: &mut Batch)
+    requires worker { worker < shape.workers }
+    requires lock { lock < shape.locks }
+    requires held { held < shape.height }
+    requires room { batch.old.count ≤ 27 }
+    ensures foretells { (start : Private) (begun : ℕ) → LeadsTo shape until start (actions_told batch.old) (climbing worker begun lock held) → Foretells shape until start (actions_told batch.new) }
+    ensures leads { until ≢ 3 → (start : Private) (begun : ℕ) → LeadsTo shape until start (actions_told batch.old) (climbing worker begun lock held)
+        → LeadsTo shape until start (actions_told batch.new) (at_stage worker begun (Stage.Logging (Log.LoadTurn lock))) }
+    ensures some { 1 ≤ batch.new.count }
+    ensures few { batch.new.count ≤ batch.old.count + 8 }
+{
+    for level in held + 1..shape.height {
+        let word = shape.node_at(lock, node(shape, worker, level));
+        put(batch, swap(word, 0, side(shape, worker, level)));
+    }
+    let root = shape.height;
+    let word = shape.node_at(lock, node(shape, worker, root));
+    put(batch, swap(word, 0, side(shape, worker, root)));
+}
+
+/// The way out of a section of this place: the turn is counted up, and then the nodes are freed.
+pub fn tell_out(shape: Shape, worker: u32, lock: u32, place: u32, until: u32, batch: &mut Batch)
+    requires worker { worker < shape.workers }
+    requires lock { lock < shape.locks }
+    requires place { place < 2 ^ 31 }
+    requires room { batch.old.count + 10 ≤ 96 }
+    ensures foretells { (start : Private) (begun : ℕ) → LeadsTo shape until start (actions_told batch.old) (at_stage worker begun (Stage.Leaving (Departure.LoadExitTurn lock)))
+        → Foretells shape until start (actions_told batch.new) }
+    ensures some { 1 ≤ batch.new.count }
+    ensures few { batch.new.count ≤ 96 }
+{
+    tell_root(shape, worker, lock, place, until, batch);
+    if until != LEFT && shape.height > 1 {
+        tell_clears(shape, worker, lock, shape.height - 1, until, batch);
+    }
+}
+
+/// The way out as far as the store that frees the root's node, and so the lock.
+fn tell_root(shape: Shape, worker: u32, lock: u32, place: u32, until: u32, batch: &mut Batch)
+    requires worker { worker < shape.workers }
+    requires lock { lock < shape.locks }
+    requires place { place < 2 ^ 31 }
+    requires room { batch.old.count + 10 ≤ 96 }
+    ensures foretells { (start : Private) (begun : ℕ) → LeadsTo shape until start (actions_told batch.old) (at_stage worker begun (Stage.Leaving (Departure.LoadExitTurn lock)))
+        → Foretells shape until start (actions_told batch.new) }
+    ensures leads { until ≢ 6 → 1 < shape.height → (start : Private) (begun : ℕ) → LeadsTo shape until start (actions_told batch.old) (at_stage worker begun (Stage.Leaving (Departure.LoadExitTurn lock)))
+        → LeadsTo shape until start (actions_told batch.new) (at_stage worker begun (Stage.Leaving (Departure.Clear lock (shape.height - 1)))) }
+    ensures count { batch.new.count ≡ batch.old.count + 3 }
+{
+    let turn = 2 * u64::from(place) + 1;
+    let root = node(shape, worker, shape.height);
+    put(batch, expect(shape.turn_at(lock), turn));
+    put(batch, store(shape.turn_at(lock), turn + 1));
+    put(batch, store(shape.node_at(lock, root), 0));
+}
+
+/// The stores that free the nodes from a level below the root's on.
+pub fn tell_clears(shape: Shape, worker: u32, lock: u32, level: u32, until: u32, batch: &mut Batch)
+    requires worker { worker < shape.workers }
+    requires lock { lock < shape.locks }
+    requires some { 1 ≤ level }
+    requires below { level < shape.height }
+    requires room { batch.old.count + 7 ≤ 96 }
+    ensures foretells { (start : Private) (begun : ℕ) → LeadsTo shape until start (actions_told batch.old) (at_stage worker begun (Stage.Leaving (Departure.Clear lock level)))
+        → Foretells shape until start (actions_told batch.new) }
+    ensures some { 1 ≤ batch.new.count }
+    ensures few { batch.new.count ≤ 96 }
+{
+    for cleared in 0..level - 1 {
+        let at = level - cleared;
+        put(
+            batch,
+            store(shape.node_at(lock, node(shape, worker, at)), 0),
+        );
+    }
+    put(batch, store(shape.node_at(lock, node(shape, worker, 1)), 0));
 }

@@ -1,15 +1,19 @@
 //! Which values a step may take, and what the values of several steps make of a worker.
 
-ghost use Rattle.std.specs.Prelude.{◌≡◌, ◌↔◌, ◌^◌, ◌<◌, ◌≤◌, ◌+◌, ◌*◌, ℕ, List, length, IsTrue, MatchOption, IfSome, slice_set};
+ghost use Rattle.std.specs.Prelude.{◌≡◌, ◌↔◌, ◌^◌, ◌<◌, ◌≤◌, ◌+◌, ◌*◌, ℕ, List, length, IsTrue, IsFalse, MatchOption, slice_set};
 ghost use Rattle.rme_script.specs.Programs.{Program};
 ghost use Rattle.rme_script.specs.Scripts.{IsScript};
 ghost use Rattle.rme_script.specs.Slates.{script_of};
 ghost use Rattle.rme_program.specs.declared.stage.Stage.{Stage};
-ghost use Rattle.rme_program.specs.declared.note.Note.{Note};
 ghost use Rattle.rme_program.specs.Conditions.{IsPrivate, IsLog, Takes};
-ghost use Rattle.rme_c.specs.Folds.{AllTaken, IsDamaged, LeadsBlindly, steps_from};
+ghost use Rattle.rme_c.specs.Folds.{IsDamaged, Refuses, TakesAll, TookSome, notes_told};
+ghost use Rattle.rme_c.specs.Guesses.{IsGuess};
 
-use rme_program::{Departure, Log, Note, Private, Recovery, Redo, Slate, Stage, after};
+use crate::flat::Outcome;
+use crate::guess::Guess;
+use crate::jumps::{Taken, jump};
+use crate::notes::put_note;
+use rme_program::{Departure, Log, Note, Private, Recovery, Stage, after};
 use rme_script::{SLATE_WORDS, from_slate};
 use rme_words::Shape;
 
@@ -80,85 +84,61 @@ fn ends_slate(
     }
 }
 
-/// Has a worker make the stores of a run that come before its last step, where that many values are at hand and more, and
-/// answers how many those are. What a store finds does not matter, and these say nothing, so none is made by itself.
-fn skip(shape: Shape, private: &mut Private, count: usize) -> usize
-    requires private { IsPrivate shape private.old }
-    requires some { 1 ≤ count }
-    ensures private { IsPrivate shape private.new }
-    ensures below { result < count }
-    ensures skips { LeadsBlindly shape private.old result private.new }
-{
-    if count <= 3 {
-        return 0;
-    }
-    if let Stage::Posting(slate) = &mut private.stage {
-        return skip_post(slate, count);
-    }
-    skip_three(shape, private)
-}
-
-/// The stores of a slate's words.
-fn skip_post(slate: &mut Slate, count: usize) -> usize
-    requires whole { slate.old.stored ≤ 2 + 3 * slate.old.job.script.n }
-    requires some { 1 ≤ count }
-    ensures below { result < count }
-    ensures skips { slate.new ≡ record { job = slate.old.job; stored = slate.old.stored + result } }
-    ensures whole { slate.new.stored ≤ 2 + 3 * slate.new.job.script.n }
-{
-    let left = 2 + 3 * slate.job.script.n() - slate.stored;
-    if count <= left as usize {
-        return 0;
-    }
-    slate.stored += left;
-    left as usize
-}
-
-/// The stores of the shadow reply, the mask and the turn, and those of the reply, the place and the lock.
-fn skip_three(shape: Shape, private: &mut Private) -> usize
-    requires private { IsPrivate shape private.old }
-    ensures private { IsPrivate shape private.new }
-    ensures few { result ≤ 3 }
-    ensures skips { LeadsBlindly shape private.old result private.new }
-{
-    match &mut private.stage {
-        Stage::Logging(log) => {
-            let Log::StoreShadowReply { visit, .. } = *log else {
-                return 0;
-            };
-            private.stage = Stage::Copying(Redo::LoadMask { visit });
-            3
-        }
-        Stage::Copying(redo) => {
-            let Redo::StoreReply { visit, mask, reply } = *redo else {
-                return 0;
-            };
-            *redo = Redo::StoreDone { visit, mask, reply };
-            3
-        }
-        _ => 0,
-    }
-}
-
-/// Has a worker take the values that its next steps found, one after another, and answers the note of the last step.
+/// Has a worker take the values of a run, or else the first value.
 ///
-/// It answers `None` at the first value that the step may not take, and the worker is as it was before that step.
-pub fn take_all(shape: Shape, private: &mut Private, values: &[u64]) -> Option<Note>
-    requires { IsPrivate shape private.old }
+/// It answers `None` where the next step may not take the first value, which changes nothing.
+fn take_some(shape: Shape, guess: &Guess, private: &mut Private, values: &[u64]) -> Option<Taken>
+    requires private { IsPrivate shape private.old }
+    requires guess { IsGuess shape guess.now }
+    requires some { 1 ≤ length values.now }
     ensures private { IsPrivate shape private.new }
-    ensures taken { MatchOption result (IsDamaged shape private.old values.now private.new) (λ note. AllTaken shape private.old values.now) }
-    ensures steps { IfSome result (λ note. (private.new, note) ≡ steps_from shape private.old values.now) }
+    ensures taken { MatchOption result (Refuses shape private.old values.now private.new) (λ taken. TookSome shape private.old values.now taken.count taken.before taken.note private.new) }
 {
-    let mut note = Note::Quiet;
+    let taken = jump(shape, guess, values, private);
+    if taken.count > 0 {
+        return Some(taken);
+    }
+    let value = values[0];
+    if !may_take(shape, private, value) {
+        return None;
+    }
+    let note = after(shape, private, value);
+    Some(Taken {
+        count: 1,
+        before: Note::Quiet,
+        note,
+    })
+}
+
+/// Has a worker take the values that its next steps found, one after another, and writes down what the steps said.
+///
+/// It answers false at the first value that the step may not take, and the worker is as it was before that step.
+pub fn take_all(
+    shape: Shape,
+    guess: &mut Guess,
+    private: &mut Private,
+    values: &[u64],
+    outcome: &mut Outcome,
+) -> bool
+    requires private { IsPrivate shape private.old }
+    requires guess { IsGuess shape guess.old }
+    requires few { length values.now ≤ 96 }
+    ensures guess { IsGuess shape guess.new }
+    ensures private { IsPrivate shape private.new }
+    ensures taken { IsTrue result → TakesAll shape private.old values.now (notes_told outcome.new) private.new }
+    ensures damaged { IsFalse result → IsDamaged shape private.old values.now (notes_told outcome.new) private.new }
+{
+    outcome.count = 0;
     let mut at = 0;
     while at < values.len() {
-        at += skip(shape, private, values.len() - at);
-        let value = values[at];
-        if !may_take(shape, private, value) {
-            return None;
-        }
-        note = after(shape, private, value);
-        at += 1;
+        let Some(taken) = take_some(shape, guess, private, &values[at..]) else {
+            return false;
+        };
+        guess.learn(taken.before);
+        guess.learn(taken.note);
+        put_note(outcome, taken.before);
+        put_note(outcome, taken.note);
+        at += taken.count;
     }
-    Some(note)
+    true
 }

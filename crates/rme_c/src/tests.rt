@@ -1,9 +1,11 @@
+ghost use Rattle.rme_c.specs.Handles.{IsLive};
+
 use crate::answers::{BATCH_OUT, DAMAGED, NO_BATCH, NO_WORD};
 use crate::exports::{
     rme_core_after, rme_core_free, rme_core_new, rme_core_next, rme_core_restart, rme_core_stance,
     rme_core_submit, rme_core_withdraw,
 };
-use crate::flat::{Batch, FlatAction, FlatNote, Stance};
+use crate::flat::{Batch, FlatAction, FlatNote, Outcome, Stance};
 use crate::handle::Handle;
 use crate::words::{rme_core_word, rme_core_words};
 use std::test::Fail;
@@ -18,19 +20,25 @@ const NO_ACTION: FlatAction = FlatAction {
 fn no_batch() -> Batch {
     Batch {
         count: 0,
-        actions: [NO_ACTION; 32],
-        values: [0; 32],
+        actions: [NO_ACTION; 96],
+        values: [0; 96],
     }
 }
 
-fn no_note() -> FlatNote {
-    FlatNote {
-        kind: 0,
-        worker: 0,
-        lock: 0,
-        number: 0,
-        place: 0,
-        reply: 0,
+const NO_NOTE: FlatNote = FlatNote {
+    kind: 0,
+    worker: 0,
+    lock: 0,
+    number: 0,
+    place: 0,
+    reply: 0,
+};
+
+fn no_outcome() -> Outcome {
+    Outcome {
+        count: 0,
+        phase: 0,
+        notes: [NO_NOTE; 97],
     }
 }
 
@@ -42,89 +50,202 @@ fn no_stance() -> Stance {
     }
 }
 
+/// Two workers, a lock, a cell: 31 words of each worker, and then a node, the turn, the cell, its shadow, the shadow reply
+/// and the mask.
+const WORDS: usize = 68;
+
+/// The script that adds 5 to the cell.
+const ADD_FIVE: [u64; 24] = [
+    2, 0, 5, 0, 0, 0, 0, 0, 0, 0, 0, 0, 0, 0, 0, 0, 0, 0, 0, 0, 0, 0, 0, 0,
+];
+
+/// Does one action on the words, and answers what it found and whether the batch goes on.
+fn act(words: &mut [u64; WORDS], action: FlatAction) -> (u64, bool) {
+    let Some(word) = words.get_mut(action.word) else {
+        return (0, false);
+    };
+    let found = *word;
+    match action.kind {
+        2 => {
+            *word = action.first;
+            (found, true)
+        }
+        3 => {
+            if found == action.first {
+                *word = action.second;
+            }
+            (found, found == action.first)
+        }
+        4 => (found, found == action.first),
+        5 => (found, found % 2 == 0 && found < 1 << 32),
+        _ => (found, true),
+    }
+}
+
+/// Does the actions of a batch, as C does, and answers how many it did.
+fn make(words: &mut [u64; WORDS], batch: &mut Batch) -> u32 {
+    for at in 0..batch.count.min(96) {
+        let (found, goes_on) = act(words, batch.actions[at as usize]);
+        batch.values[at as usize] = found;
+        if !goes_on {
+            return at + 1;
+        }
+    }
+    batch.count
+}
+
+/// Has a worker make its next own steps on the words.
+fn step(
+    rt: &HostRuntime,
+    handle: &mut Handle,
+    until: u32,
+    words: &mut [u64; WORDS],
+    batch: &mut Batch,
+    outcome: &mut Outcome,
+) -> u32
+    requires { IsLive handle.old }
+    ensures { IsLive handle.new }
+{
+    let refusal = rme_core_next(rt.alloc(), handle, until, batch);
+    if refusal != 0 {
+        return refusal;
+    }
+    let made = make(words, batch);
+    rme_core_after(rt.alloc(), handle, batch, made, outcome)
+}
+
 #[test]
-fn recovers(rt: HostRuntime) -> Result<(), Fail> {
+fn makes_a_job(rt: HostRuntime) -> Result<(), Fail> {
     let mut handle = Handle::dead(rt.alloc());
+    let mut words = [0; WORDS];
     let mut batch = no_batch();
-    let mut note = no_note();
+    let mut outcome = no_outcome();
+    let mut number = 0;
     assert_eq!(rt; rme_core_new(rt.alloc(), 2, 1, 1, 10, 1, &mut handle), 0);
-    assert_eq!(rt; rme_core_next(rt.alloc(), &mut handle, &mut batch), 0);
-    assert_eq!(rt; batch.count, 1);
-    assert_eq!(rt; batch.actions[0].kind, 1);
-    assert_eq!(rt; batch.actions[0].word, 31);
     assert_eq!(rt;
-        rme_core_next(rt.alloc(), &mut handle, &mut batch),
-        BATCH_OUT
-    );
-    batch.values[0] = 11;
-    assert_eq!(rt;
-        rme_core_after(rt.alloc(), &mut handle, &batch, 1, &mut note),
-        DAMAGED
-    );
-    assert_eq!(rt; rme_core_next(rt.alloc(), &mut handle, &mut batch), 0);
-    batch.values[0] = 0;
-    assert_eq!(rt;
-        rme_core_after(rt.alloc(), &mut handle, &batch, 1, &mut note),
+        step(&rt, &mut handle, 0, &mut words, &mut batch, &mut outcome),
         0
     );
-    assert_eq!(rt; rme_core_next(rt.alloc(), &mut handle, &mut batch), 0);
     assert_eq!(rt;
-        rme_core_after(rt.alloc(), &mut handle, &batch, 1, &mut note),
+        step(&rt, &mut handle, 0, &mut words, &mut batch, &mut outcome),
         0
     );
-    assert_eq!(rt; note.kind, 7);
-    assert_eq!(rt; rme_core_next(rt.alloc(), &mut handle, &mut batch), 10);
     assert_eq!(rt;
-        rme_core_after(rt.alloc(), &mut handle, &batch, 1, &mut note),
-        NO_BATCH
+        (outcome.count, outcome.notes[0].kind, outcome.phase),
+        (1, 7, 5)
     );
+    assert_eq!(rt;
+        rme_core_submit(rt.alloc(), &mut handle, 0, 1, &ADD_FIVE, &mut number),
+        0
+    );
+    // The post, the way in and the loads; then the stores, the copy, the receipt and the way out.
+    assert_eq!(rt;
+        step(&rt, &mut handle, 0, &mut words, &mut batch, &mut outcome),
+        0
+    );
+    assert_eq!(rt; (batch.count, outcome.count, outcome.phase), (13, 2, 3));
+    assert_eq!(rt; (outcome.notes[0].kind, outcome.notes[1].kind), (1, 3));
+    assert_eq!(rt;
+        step(&rt, &mut handle, 0, &mut words, &mut batch, &mut outcome),
+        0
+    );
+    assert_eq!(rt; (batch.count, outcome.count, outcome.phase), (15, 2, 5));
+    assert_eq!(rt; (outcome.notes[0].kind, outcome.notes[0].reply), (5, 5));
+    assert_eq!(rt; outcome.notes[1].kind, 6);
+    assert_eq!(rt; (words[33], words[62], words[63], words[64]), (5, 0, 2, 5));
     rme_core_free(handle);
     Ok(())
 }
 
 #[test]
-fn posts_and_withdraws(rt: HostRuntime) -> Result<(), Fail> {
+fn ends_where_it_is_told_to(rt: HostRuntime) -> Result<(), Fail> {
     let mut handle = Handle::dead(rt.alloc());
+    let mut words = [0; WORDS];
     let mut batch = no_batch();
-    let mut note = no_note();
-    let mut stance = no_stance();
+    let mut outcome = no_outcome();
     let mut number = 0;
-    let add_one = [
-        2, 0, 1, 0, 0, 0, 0, 0, 0, 0, 0, 0, 0, 0, 0, 0, 0, 0, 0, 0, 0, 0, 0, 0,
-    ];
     assert_eq!(rt; rme_core_new(rt.alloc(), 2, 1, 1, 10, 1, &mut handle), 0);
     assert_eq!(rt;
-        rme_core_submit(rt.alloc(), &mut handle, 0, 1, &add_one, &mut number),
+        step(&rt, &mut handle, 0, &mut words, &mut batch, &mut outcome),
+        0
+    );
+    assert_eq!(rt;
+        step(&rt, &mut handle, 0, &mut words, &mut batch, &mut outcome),
+        0
+    );
+    assert_eq!(rt;
+        rme_core_submit(rt.alloc(), &mut handle, 0, 1, &ADD_FIVE, &mut number),
+        0
+    );
+    assert_eq!(rt;
+        step(&rt, &mut handle, 1, &mut words, &mut batch, &mut outcome),
+        0
+    );
+    assert_eq!(rt; (batch.count, outcome.phase), (6, 2));
+    // The node is another's: the batch ends behind the swap.
+    words[62] = 1;
+    assert_eq!(rt;
+        step(&rt, &mut handle, 3, &mut words, &mut batch, &mut outcome),
+        0
+    );
+    assert_eq!(rt; (outcome.count, outcome.notes[0].kind), (1, 2));
+    words[62] = 0;
+    assert_eq!(rt;
+        step(&rt, &mut handle, 3, &mut words, &mut batch, &mut outcome),
+        0
+    );
+    assert_eq!(rt; (batch.count, outcome.notes[0].kind, words[62]), (1, 3, 2));
+    // The slate has a word of no script: what was guessed is not found, and the word is damage.
+    words[38] = 9;
+    assert_eq!(rt;
+        step(&rt, &mut handle, 0, &mut words, &mut batch, &mut outcome),
+        0
+    );
+    assert_eq!(rt;
+        step(&rt, &mut handle, 0, &mut words, &mut batch, &mut outcome),
+        DAMAGED
+    );
+    assert_eq!(rt; (outcome.count, outcome.phase), (0, 3));
+    rme_core_free(handle);
+    Ok(())
+}
+
+#[test]
+fn refuses_what_does_not_come_now(rt: HostRuntime) -> Result<(), Fail> {
+    let mut handle = Handle::dead(rt.alloc());
+    let mut batch = no_batch();
+    let mut outcome = no_outcome();
+    let mut stance = no_stance();
+    let mut number = 0;
+    assert_eq!(rt; rme_core_new(rt.alloc(), 2, 1, 1, 10, 1, &mut handle), 0);
+    assert_eq!(rt;
+        rme_core_submit(rt.alloc(), &mut handle, 0, 1, &ADD_FIVE, &mut number),
         9
     );
-    assert_eq!(rt; rme_core_next(rt.alloc(), &mut handle, &mut batch), 0);
+    assert_eq!(rt; rme_core_next(rt.alloc(), &mut handle, 0, &mut batch), 0);
     assert_eq!(rt;
-        rme_core_after(rt.alloc(), &mut handle, &batch, 1, &mut note),
-        0
-    );
-    assert_eq!(rt; rme_core_next(rt.alloc(), &mut handle, &mut batch), 0);
-    assert_eq!(rt;
-        rme_core_after(rt.alloc(), &mut handle, &batch, 1, &mut note),
-        0
+        (batch.count, batch.actions[0].kind, batch.actions[0].word),
+        (1, 1, 31)
     );
     assert_eq!(rt;
-        rme_core_submit(rt.alloc(), &mut handle, 0, 1, &add_one, &mut number),
-        0
+        rme_core_next(rt.alloc(), &mut handle, 0, &mut batch),
+        BATCH_OUT
     );
-    assert_eq!(rt; number, 1);
-    assert_eq!(rt; rme_core_next(rt.alloc(), &mut handle, &mut batch), 0);
-    assert_eq!(rt; batch.count, 6);
-    assert_eq!(rt; batch.actions[5].word, 31);
-    assert_eq!(rt; batch.actions[5].first, 1);
     assert_eq!(rt; rme_core_withdraw(rt.alloc(), &mut handle), BATCH_OUT);
+    batch.values[0] = 11;
     assert_eq!(rt;
-        rme_core_after(rt.alloc(), &mut handle, &batch, 6, &mut note),
-        0
+        rme_core_after(rt.alloc(), &mut handle, &batch, 1, &mut outcome),
+        DAMAGED
     );
-    assert_eq!(rt; (note.kind, note.number), (1, 1));
+    assert_eq!(rt;
+        rme_core_after(rt.alloc(), &mut handle, &batch, 1, &mut outcome),
+        NO_BATCH
+    );
     assert_eq!(rt; rme_core_stance(rt.alloc(), &mut handle, &mut stance), 0);
-    assert_eq!(rt; (stance.phase, stance.lock, stance.number), (2, 0, 1));
-    assert_eq!(rt; rme_core_withdraw(rt.alloc(), &mut handle), 0);
+    assert_eq!(rt;
+        (stance.phase, stance.lock, stance.number),
+        (0, u32::MAX, 0)
+    );
     rme_core_restart(rt.alloc(), &mut handle);
     rme_core_free(handle);
     Ok(())

@@ -2,10 +2,11 @@
 
 use crate::answers::{BATCH_OUT, DAMAGED, NO_BATCH};
 use crate::batch::tell;
-use crate::flat::{Batch, FlatNote, Stance};
-use crate::notes::{lock_number, phase_number, write_note};
+use crate::flat::{Batch, Outcome, Stance};
+use crate::guess::Guess;
+use crate::notes::{lock_number, phase_number};
 use crate::taking::take_all;
-use rme_program::{Note, Phase, Private, Stage, phase};
+use rme_program::{Private, Slate, Stage, mask_of, phase};
 use rme_script::{Job, SLATE_WORDS, from_slate};
 use rme_words::{Refusal, Shape};
 
@@ -16,36 +17,39 @@ pub struct Worker {
     pub private: Private,
     /// How many actions of the last batch are outstanding; 0 where none are.
     pub told: u32,
+    /// What its loads are told to expect.
+    pub guess: Guess,
 }
 
 impl Worker {
     ghost use Rattle.std.specs.Prelude.{◌≡◌, ◌<◌, IfOk};
     ghost use Rattle.rme_program.specs.declared.stage.Stage.{Stage};
     ghost use Rattle.rme_program.specs.Conditions.{IsJob};
-    ghost use Rattle.rme_c.specs.Workers.{IsWorker, restarted_worker};
+    ghost use Rattle.rme_c.specs.Workers.{IsWorker, Restarted};
     ghost use Rattle.rme_c.specs.Calls.{Told, TookBack, Stood, Posted, Withdrew};
     ghost use Rattle.rme_c.specs.Jobs.{job_of};
-    ghost use Rattle.rme_script.specs.Slates.{script_of};
+    ghost use Rattle.rme_script.specs.Slates.{script_of, IsSlate};
 
     /// A worker that comes up: it knows its own number alone.
     pub fn restarted(shape: Shape, worker: u32) -> Worker
         requires { worker < shape.workers }
-        ensures restarted { result ≡ restarted_worker shape worker }
+        ensures restarted { Restarted shape worker result }
         ensures worker { IsWorker result }
     {
         Worker {
             shape,
             private: Private::restart(worker),
             told: 0,
+            guess: Guess::nothing(),
         }
     }
 
     /// Tells the next own steps.
     ///
     /// Refused by `BATCH_OUT` while a batch is outstanding, then by `Idle` where the worker is ready.
-    pub fn tell(&mut self, batch: &mut Batch) -> u32
+    pub fn tell(&mut self, until: u32, batch: &mut Batch) -> u32
         requires { IsWorker self.old }
-        ensures told { Told self.old batch.old result self.new batch.new }
+        ensures told { Told self.old until batch.old result self.new batch.new }
         ensures worker { IsWorker self.new }
     {
         if self.told > 0 {
@@ -54,31 +58,30 @@ impl Worker {
         if let Stage::Resting = self.private.stage {
             return Refusal::Idle.code();
         }
-        tell(self.shape, &self.private, batch);
+        tell(self.shape, &self.private, &self.guess, until, batch);
         self.told = batch.count;
         0
     }
 
-    /// Takes back the values of the batch that is outstanding.
-    pub fn take_back(&mut self, batch: &Batch, count: u32, note: &mut FlatNote) -> u32
+    /// Takes back the first values of the batch that is outstanding.
+    pub fn take_back(&mut self, batch: &Batch, count: u32, outcome: &mut Outcome) -> u32
         requires { IsWorker self.old }
-        ensures took { TookBack self.old batch.now count note.old result self.new note.new }
+        ensures took { TookBack self.old batch.now count outcome.old result self.new outcome.new }
         ensures worker { IsWorker self.new }
     {
-        if count == 0 || count != self.told {
+        if count == 0 || count > self.told {
             return NO_BATCH;
         }
         self.told = 0;
-        let Some(last) = take_all(
+        let taken = take_all(
             self.shape,
+            &mut self.guess,
             &mut self.private,
             &batch.values[..count as usize],
-        ) else {
-            write_note(note, Note::Quiet);
-            return DAMAGED;
-        };
-        write_note(note, last);
-        0
+            outcome,
+        );
+        outcome.phase = phase_number(phase(&self.private));
+        if taken { 0 } else { DAMAGED }
     }
 
     /// Where the worker is.
@@ -93,7 +96,7 @@ impl Worker {
     /// Loses all but the worker's number: its recovery begins.
     pub fn restart(&mut self)
         requires { IsWorker self.old }
-        ensures restarted { self.new ≡ restarted_worker self.old.shape self.old.private.worker }
+        ensures restarted { Restarted self.old.shape self.old.private.worker self.new }
         ensures worker { IsWorker self.new }
     {
         self.private = Private::restart(self.private.worker);
@@ -141,7 +144,10 @@ impl Worker {
             Err(refusal) => return refusal.code(),
         };
         *number = u64::from(self.private.begun) + 1;
-        self.private = Private::submit(self.private, job);
+        self.guess.script = job.script;
+        self.guess.words = *words;
+        self.guess.named = mask_of(&job.script);
+        self.private.stage = Stage::Posting(Slate { job, stored: 0 });
         0
     }
 
@@ -154,6 +160,7 @@ impl Worker {
     ) -> Result<Job, Refusal>
         ensures job { result ≡ job_of self.now.shape self.now.private lock (script_of operations words.now) }
         ensures ready { IfOk result (λ job. (self.now.private.stage ≡ Stage.Resting) × (self.now.private.begun < self.now.shape.jobs) × IsJob self.now.shape job) }
+        ensures slate { IfOk result (λ job. IsSlate operations words.now job.script) }
     {
         let Stage::Resting = self.private.stage else {
             return Err(Refusal::Busy);

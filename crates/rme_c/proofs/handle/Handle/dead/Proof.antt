@@ -28,7 +28,9 @@ use Rattle.rme_c.proofs.handle.Handle.dead.Statement.{statement}
 use Rattle.rme_c.proofs.handle.Handle.dead.Code as code
 use Rattle.rme_words.specs.Shapes.{IsShape}
 use Rattle.rme_program.specs.Steps.{restarted_private}
+use Rattle.std.specs.Prelude.{replicate, []}
 use Rattle.rme_c.specs.declared.worker.Worker.{Worker}
+use Rattle.rme_c.specs.declared.guess.Guess.{Guess}
 
 -- Some worker: a handle that is not live says nothing of it.
 one_of_each : IsShape 1 1 1 1 2 1
@@ -37,8 +39,11 @@ one_of_each = record {
   tree = record { is_power = refl; some_level = omega arith; few_levels = omega arith; few_leaves = omega arith; enough = omega arith; least = λ h. omega (arith, h) };
 }
 
+abbrev no_guess : Guess
+no_guess = record { script = record { n = 0; ops = [] }; words = replicate 24 0; named = 0; place = 0 }
+
 abbrev no_worker : Worker
-no_worker = record { shape = record { workers = 1; locks = 1; cells = 1; jobs = 1; leaves = 2; height = 1; counted = one_of_each }; private = restarted_private 0; told = 0 }
+no_worker = record { shape = record { workers = 1; locks = 1; cells = 1; jobs = 1; leaves = 2; height = 1; counted = one_of_each }; private = restarted_private 0; told = 0; guess = no_guess }
 
 pub dead_spec : {M : Type 1} → statement M
 dead_spec 𝓤 𝓛 𝓜 𝓡 wired =

@@ -1,0 +1,163 @@
+-- Values taken one after another, that lead from one private state to another.
+use Rattle.std.proofs.Common.{◌≡◌, ℕ, ◌+◌, ◌<◌, ◌≤◌, List, [], ◌∷◌, ◌++◌, length, take, drop, length-take-le, take-add, refl, sym, ap, subst, ◌∙◌, arith}
+use Rattle.std.specs.Prelude.{slice_index, ◌==◌, false}
+use Rattle.std.proofs.lemmas.List.{take_more, take_all}
+use Rattle.rme_words.specs.declared.shape.Shape.{Shape}
+use Rattle.rme_program.specs.declared.note.Note.{Note}
+use Rattle.rme_program.specs.declared.note.Note.TheVariants.{Quiet, Asked, Blocked, Entered, Reentered, Finished, Left, Ready, Withdrew}
+use Rattle.rme_program.specs.declared.private.Private.{Private}
+use Rattle.rme_program.specs.Conditions.{IsPrivate, Takes}
+use Rattle.rme_program.specs.Steps.{private_after, note_after}
+use Rattle.rme_c.specs.Folds.{AllTaken, LeadsBlindly, TakesTo, Jumps, TookSome, led_to, said, noted}
+use Rattle.rme_c.specs.declared.jumps.Taken.{Taken}
+use Rattle.rme_script.specs.Programs.{Program}
+use Rattle.rme_program.specs.Masks.{first_cell}
+use Rattle.rme_program.specs.declared.stage.Stage.TheVariants.{Logging, Copying}
+use Rattle.rme_program.specs.declared.stage.Log.TheVariants.{StoreShadows}
+use Rattle.rme_program.specs.declared.stage.Redo.TheVariants.{LoadMask}
+use Rattle.rme_program.specs.declared.stage.Visit.{Visit}
+use Rattle.rme_program.specs.Steps.{shadows_from, copies_from, cells_from_here}
+use Rattle.rme_c.specs.Batches.{at_stage}
+use Rattle.rme_c.proofs.Telling.{Goes}
+
+pub led_append : (shape : Shape) (start : Private) (values more : List ℕ) → led_to shape start (values ++ more) ≡ led_to shape (led_to shape start values) more
+unfolding led_to
+led_append shape start [] more = refl
+led_append shape start (value ∷ rest) more = led_append shape (private_after shape start value) rest more
+
+pub taken_append : (shape : Shape) (start : Private) (values more : List ℕ) → AllTaken shape start values → AllTaken shape (led_to shape start values) more → AllTaken shape start (values ++ more)
+unfolding led_to
+taken_append shape start [] more all others = others
+taken_append shape start (value ∷ rest) more all others = (all.0, taken_append shape (private_after shape start value) rest more all.1 others)
+
+pub noted_append : (note : Note) (rest more : List Note) → noted note rest ++ more ≡ noted note (rest ++ more)
+noted_append Quiet rest more = refl
+noted_append (Asked number) rest more = refl
+noted_append Blocked rest more = refl
+noted_append (Entered lock) rest more = refl
+noted_append (Reentered lock) rest more = refl
+noted_append (Finished receipt) rest more = refl
+noted_append (Left lock) rest more = refl
+noted_append Ready rest more = refl
+noted_append (Withdrew number) rest more = refl
+
+pub said_append : (shape : Shape) (start : Private) (values more : List ℕ) → said shape start (values ++ more) ≡ said shape start values ++ said shape (led_to shape start values) more
+unfolding led_to said
+said_append shape start [] more = refl
+said_append shape start (value ∷ rest) more =
+    let next : Private = private_after shape start value in
+    ap (λ (l : List Note). noted (note_after shape start value) l) (said_append shape next rest more) ∙ sym (noted_append (note_after shape start value) (said shape next rest) (said shape (led_to shape next rest) more))
+
+takes_this_from : (shape : Shape) (start : Private) (value : ℕ) (note : Note) (next : Private) → Goes shape start value note (λ p. p ≡ next) → TakesTo shape start (value ∷ []) (noted note []) next
+unfolding led_to said
+takes_this_from shape start value note next goes = record { all = (goes.takes, tt); leads = sym goes.next; says = ap (λ (n : Note). noted n []) (sym goes.says) }
+
+module _ (shape : Shape) (start : Private) where
+  pub takes_none : TakesTo shape start [] [] start
+  unfolding led_to said
+  takes_none = record { all = tt; leads = refl; says = refl }
+
+  pub takes_append : (values more : List ℕ) (notes others : List Note) (mid next : Private) → TakesTo shape start values notes mid → TakesTo shape mid more others next → TakesTo shape start (values ++ more) (notes ++ others) next
+  takes_append values more notes others mid next so then_so =
+      let A : Private → Type 0 = λ p. AllTaken shape p more in
+      record {
+        all = taken_append shape start values more so.all (subst A so.leads then_so.all);
+        leads = then_so.leads ∙ ap (λ (p : Private). led_to shape p more) so.leads ∙ sym (led_append shape start values more);
+        says = ap (λ (l : List Note). l ++ others) so.says ∙ ap (λ (l : List Note). said shape start values ++ l) (then_so.says ∙ ap (λ (p : Private). said shape p more) so.leads) ∙ sym (said_append shape start values more);
+      }
+
+  module _ (values : List ℕ) (i : ℕ) (notes : List Note) (mid next : Private) (so : TakesTo shape start (take i values) notes mid) where
+    pub takes_run : (count : ℕ) (others : List Note) → TakesTo shape mid (take count (drop i values)) others next → TakesTo shape start (take (i + count) values) (notes ++ others) next
+    takes_run count others run =
+        let P : List ℕ → Type 0 = λ vs. TakesTo shape start vs (notes ++ others) next in
+        subst P (sym (take-add i count values)) (takes_append (take i values) (take count (drop i values)) notes others mid next so run)
+
+    pub takes_noted : i < length values → (note : Note) → Goes shape mid (slice_index values i) note (λ p. p ≡ next) → TakesTo shape start (take (i + 1) values) (notes ++ noted note []) next
+    takes_noted within note goes =
+        let P : List ℕ → Type 0 = λ vs. TakesTo shape start vs (notes ++ noted note []) next in
+        subst P (sym (take_more values i 0 within)) (takes_append (take i values) (slice_index values i ∷ []) notes (noted note []) mid next so (takes_this_from shape mid (slice_index values i) note next goes))
+
+  pub takes_there : (values : List ℕ) (notes : List Note) (mid next : Private) → mid ≡ next → TakesTo shape start values notes mid → TakesTo shape start values notes next
+  takes_there values notes mid next is so = let P : Private → Type 0 = λ p. TakesTo shape start values notes p in subst P is so
+
+module _ (shape : Shape) (start : Private) where
+  -- One more step that says nothing.
+  pub takes_one : (values : List ℕ) (i : ℕ) (mid next : Private) → TakesTo shape start (take i values) [] mid → i < length values → Goes shape mid (slice_index values i) Quiet (λ p. p ≡ next) → TakesTo shape start (take (i + 1) values) [] next
+  takes_one values i mid next so within goes = takes_noted shape start values i [] mid next so within Quiet goes
+
+  -- ---- whatever is found
+
+  pub blind_none : LeadsBlindly shape start 0 start
+  blind_none [] long = takes_none shape start
+  blind_none (v ∷ rest) long = let never : ⊥ = omega (arith, long) in absurd never
+
+  pub blind_more : (count : ℕ) (mid next : Private) → LeadsBlindly shape start count mid → ((value : ℕ) → Goes shape mid value Quiet (λ p. p ≡ next)) → LeadsBlindly shape start (count + 1) next
+  blind_more count mid next so goes values long =
+      let few : count ≤ length values = omega (arith, long) in
+      let P : List ℕ → Type 0 = λ vs. TakesTo shape start vs [] next in
+      subst P (take_all (count + 1) values (omega (arith, long)))
+      (takes_one values count mid next (so (take count values) (length-take-le count values few)) (omega (arith, long)) (goes (slice_index values count)))
+
+  pub blind_there : (count : ℕ) (mid next : Private) → mid ≡ next → LeadsBlindly shape start count mid → LeadsBlindly shape start count next
+  blind_there count mid next is so = let P : Private → Type 0 = λ p. LeadsBlindly shape start count p in subst P is so
+
+  pub blind_taken : (values : List ℕ) (count : ℕ) (next : Private) → count ≤ length values → LeadsBlindly shape start count next → TakesTo shape start (take count values) [] next
+  blind_taken values count next within so = so (take count values) (length-take-le count values within)
+
+-- ---- jumps
+
+pub jumps_nothing : (shape : Shape) (private : Private) (values : List ℕ) → IsPrivate shape private → Jumps shape private values 0 Quiet Quiet private
+jumps_nothing shape private values is = record { within = omega arith; takes = takes_none shape private; few = omega arith; private = is }
+
+-- Nothing was taken, as a call says it.
+pub jumps_none : (shape : Shape) (private : Private) (values : List ℕ) (taken : Taken) → taken ≡ record { count = 0; before = Quiet; note = Quiet } → IsPrivate shape private → Jumps shape private values taken.count taken.before taken.note private
+jumps_none shape private values taken none is = let P : Taken → Type 0 = λ t. Jumps shape private values t.count t.before t.note private in subst P (sym none) (jumps_nothing shape private values is)
+
+pub not_jumped : (shape : Shape) (private new : Private) (values : List ℕ) (count : ℕ) (before note : Note) → count ≡ 0 → Jumps shape private values count before note new → new ≡ private
+unfolding led_to
+not_jumped shape private new values count before note none so =
+    let P : ℕ → Type 0 = λ k. TakesTo shape private (take k values) (noted before (noted note [])) new in
+    let nothing : TakesTo shape private [] (noted before (noted note [])) new = subst P none so.takes in
+    nothing.leads
+
+-- One note at most is said of a step.
+pub one_note : (note : Note) (rest : List Note) → length (noted note rest) ≤ length rest + 1
+one_note Quiet rest = omega arith
+one_note (Asked number) rest = omega arith
+one_note Blocked rest = omega arith
+one_note (Entered lock) rest = omega arith
+one_note (Reentered lock) rest = omega arith
+one_note (Finished receipt) rest = omega arith
+one_note (Left lock) rest = omega arith
+one_note Ready rest = omega arith
+one_note (Withdrew number) rest = omega arith
+
+pub took_one : (shape : Shape) (private : Private) (values : List ℕ) (note : Note) (new : Private) → 1 ≤ length values → Takes shape private.stage (slice_index values 0) → new ≡ private_after shape private (slice_index values 0)
+    → note ≡ note_after shape private (slice_index values 0) → TookSome shape private values 1 Quiet note new
+took_one shape private [] note new some takes is says = let never : ⊥ = omega (arith, some) in absurd never
+took_one shape private (v ∷ rest) note new some takes is says =
+    record { some = omega arith; within = some; takes = takes_this_from shape private v note new record { takes = takes; says = sym says; next = sym is }; few = one_note note [] }
+
+pub not_empty : (values : List ℕ) → false ≡ (length values == 0) → 1 ≤ length values
+not_empty [] not = cc
+not_empty (v ∷ rest) not = omega arith
+
+-- ---- the loops
+
+pub record CountsShadows (shape : Shape) (named cell at count : ℕ) : Type 0 where
+  pub blind : (worker begun : ℕ) (visit : Visit) (row : List ℕ) (reply : ℕ) → LeadsBlindly shape (at_stage worker begun (Logging (StoreShadows visit named row reply cell))) count
+      (at_stage worker begun (shadows_from visit named row reply (first_cell named (at + 1) shape.cells)))
+  pub few : count ≤ at + 1
+  pub below : at < shape.cells
+
+pub record FindsCopies (shape : Shape) (named from : ℕ) (values : List ℕ) (count : ℕ) : Type 0 where
+  pub takes : (worker begun : ℕ) (visit : Visit) → TakesTo shape (at_stage worker begun (Copying (LoadMask visit))) (take count values) [] (at_stage worker begun (copies_from visit named (first_cell named from shape.cells)))
+  pub within : count ≤ length values
+  pub from_within : from ≤ shape.cells
+
+pub record ReadsCells (shape : Shape) (named from : ℕ) (before : List ℕ) (values : List ℕ) (count : ℕ) (row : List ℕ) : Type 0 where
+  pub takes : (worker begun lock turn : ℕ) (script : Program) → TakesTo shape (at_stage worker begun (cells_from_here shape lock turn script named before (first_cell named 0 shape.cells))) (take count values) []
+      (at_stage worker begun (cells_from_here shape lock turn script named row (first_cell named from shape.cells)))
+  pub within : count ≤ length values
+  pub from_within : from ≤ shape.cells
+  pub whole : length row ≡ shape.cells

@@ -1,0 +1,30 @@
+use Rattle.std.proofs.Common.{◌≡◌, ◌≤◌, ◌<◌, ◌+◌, ◌-◌, ◌*◌, ◌/◌, [], ◌∷◌, ◌++◌, ℕ, List, length, take, drop, replicate, ap, sym, subst, refl, ◌∙◌, arith}
+use Rattle.std.specs.Prelude.{slice_index}
+use Rattle.rme_program.specs.declared.private.Private.{Private}
+use Rattle.rme_program.specs.declared.stage.Stage.{Stage}
+use Rattle.rme_program.specs.declared.stage.Stage.TheVariants.{Posting, Climbing, Logging, Copying, Leaving}
+use Rattle.rme_program.specs.declared.stage.Log.TheVariants.{LoadTurn, StoreShadows}
+use Rattle.rme_program.specs.declared.stage.Redo.TheVariants.{LoadMask}
+use Rattle.rme_program.specs.declared.stage.Departure.TheVariants.{LoadExitTurn}
+use Rattle.rme_program.specs.declared.note.Note.TheVariants.{Quiet, Asked, Entered, Finished, Left}
+use Rattle.rme_program.specs.Conditions.{IsPrivate, IsStage}
+use Rattle.rme_program.specs.Masks.{first_cell}
+use Rattle.rme_program.specs.Steps.{cells_from_here, run_stage, finished, clear_stage}
+use Rattle.rme_c.specs.Batches.{at_stage, climbing}
+use Rattle.rme_c.specs.Folds.{TakesTo, Jumps}
+use Rattle.rme_c.specs.Guesses.{FindsGuess, FreesRoot}
+use Rattle.rme_c.proofs.Led.{takes_run}
+use Rattle.rme_c.proofs.Jumping.{in_led, led_rest}
+use Rattle.rme_c.proofs.jumps.enter.Goals as goal
+
+pub returns-clause-enters : goal.returns-clause-enters
+returns-clause-enters c = λ some worker begun.
+    let shape = c.args.shape in let lock = c.args.lock in let held = c.args.held in let values : List ℕ = c.args.values.now in
+    let swaps : ℕ = shape.height - held in let loads = c.take_loads-loads.result in
+    let start : Private = climbing worker begun lock held in let mid : Private = at_stage worker begun (Logging (LoadTurn lock)) in let next : Private = at_stage worker begun c.take_loads-loads.new.stage in
+    takes_run shape start values swaps (Entered lock ∷ []) mid next
+    (in_led shape worker begun lock held values swaps (omega (arith, c.requires.held)) c.requires.held c.if-values-swaps.false (c.are_free.ensures c.if-not-are_free.false))
+    loads [] (led_rest shape mid values swaps loads [] next (c.take_loads-loads.ensures.loads c.if-loads-eq0.false worker begun))
+
+pub returns-clause-stage : goal.returns-clause-stage
+returns-clause-stage c = λ some begun. c.take_loads-loads.ensures.stage c.if-loads-eq0.false begun

@@ -1,0 +1,5 @@
+use Rattle.rme_c.proofs.Going.{TellsPost}
+use Rattle.rme_c.proofs.runs.tell_slate_stores.Given as goal
+
+abbrev pub invariant-loop-at : goal.invariant-loop-at
+invariant-loop-at l = TellsPost l.shape l.until l.private l.slate.job l.at l.batch

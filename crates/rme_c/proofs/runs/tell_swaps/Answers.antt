@@ -1,0 +1,63 @@
+use Rattle.std.proofs.Common.{◌≡◌, ◌+◌, ◌++◌, [], ◌∷◌, ℕ, List, sym, ap, ◌∙◌, arith}
+use Rattle.rme_words.specs.Words.{word}
+use Rattle.rme_program.specs.declared.private.Private.{Private}
+use Rattle.rme_c.specs.declared.flat.FlatAction.{FlatAction}
+use Rattle.rme_tree.specs.Paths.{node}
+use Rattle.rme_words.specs.declared.address.Address.TheVariants.{Node}
+use Rattle.rme_program.specs.declared.note.Note.TheVariants.{Entered}
+use Rattle.rme_program.specs.declared.stage.Stage.TheVariants.{Logging}
+use Rattle.rme_program.specs.declared.stage.Log.TheVariants.{LoadTurn}
+use Rattle.rme_c.specs.Flat.{flat_swap}
+use Rattle.rme_c.specs.Batches.{actions_told, at_stage, climbing}
+use Rattle.rme_c.proofs.Telling.{leads_more, leads_on, leads_end, ends_of}
+use Rattle.rme_c.proofs.Going.{node_swap, climb_step, climb_last}
+use Rattle.rme_c.proofs.runs.tell_swaps.Goals as goal
+
+pub loop-level-preserved : goal.loop-level-preserved
+loop-level-preserved c =
+    let shape = c.args.shape in let worker = c.args.worker in let lock = c.args.lock in let told : List FlatAction = actions_told c.loop-level.batch in
+    let it = c.loop-level.invariant in
+    let level = c.loop-level.level in
+    let action : FlatAction = node_swap shape worker lock (it.below + 1) in
+    let at : FlatAction = node_swap shape worker lock level in
+    let is : actions_told c.put.new.batch ≡ told ++ action ∷ [] =
+    c.put.ensures.told ∙ ap (λ (a : FlatAction). told ++ a ∷ [])
+    (c.swap.ensures ∙ ap (λ (w : ℕ). flat_swap w 0 c.side.result) c.node_at-word.ensures ∙ ap (λ (v : ℕ). flat_swap (word shape (Node lock v)) 0 c.side.result) c.node.ensures.node
+    ∙ ap (λ (v : ℕ). flat_swap (word shape (Node lock (node shape.leaves worker level))) 0 v) c.side.ensures.side ∙ ap (λ (l : ℕ). node_swap shape worker lock l) it.next) in
+    record {
+      below = it.below + 1;
+      next = omega (arith, it.next);
+      leads = λ start begun leads.
+          leads_more shape c.args.until start told (climbing worker begun lock it.below) (it.leads start begun leads) action (actions_told c.put.new.batch) is (climbing worker begun lock (it.below + 1))
+          (climb_step shape worker begun lock it.below (omega (arith, it.next, c.loop-level-test.true)));
+      within = omega (arith, c.loop-level-test.true);
+      few = omega (arith, it.few, c.put.ensures.count);
+    }
+
+-- The last swap takes the root's node.
+module _ (c : goal.After-put-2) where
+  at_root : c.loop-level.invariant.below + 1 ≡ c.args.shape.height
+  at_root = omega (arith, c.loop-level.invariant.next, c.loop-level.invariant.within, c.loop-level-test.false)
+
+  abbrev root : FlatAction
+  root = node_swap c.args.shape c.args.worker c.args.lock (c.loop-level.invariant.below + 1)
+
+  told_root : actions_told c.put-2.new.batch ≡ actions_told c.loop-level.batch ++ root ∷ []
+  told_root =
+      let shape = c.args.shape in let worker = c.args.worker in let lock = c.args.lock in let told : List FlatAction = actions_told c.loop-level.batch in
+      c.put-2.ensures.told ∙ ap (λ (a : FlatAction). told ++ a ∷ [])
+      (c.swap-2.ensures ∙ ap (λ (w : ℕ). flat_swap w 0 c.side-2.result) c.node_at-word-2.ensures ∙ ap (λ (v : ℕ). flat_swap (word shape (Node lock v)) 0 c.side-2.result) c.node-2.ensures.node
+      ∙ ap (λ (v : ℕ). flat_swap (word shape (Node lock (node shape.leaves worker shape.height))) 0 v) c.side-2.ensures.side ∙ ap (λ (l : ℕ). node_swap shape worker lock l) (sym at_root))
+
+pub returns-clause-foretells : goal.returns-clause-foretells
+returns-clause-foretells c = λ start begun leads.
+    let shape = c.args.shape in let worker = c.args.worker in let lock = c.args.lock in let it = c.loop-level.invariant in
+    let there : Private = at_stage worker begun (Logging (LoadTurn lock)) in
+    leads_end shape c.args.until start (actions_told c.loop-level.batch) (climbing worker begun lock it.below) (it.leads start begun leads) (root c) (actions_told c.put-2.new.batch) (told_root c)
+    (ends_of shape (climbing worker begun lock it.below) (root c) (Entered lock) (λ p. p ≡ there) (climb_last shape worker begun lock it.below (at_root c)))
+
+pub returns-clause-leads : goal.returns-clause-leads
+returns-clause-leads c = λ goes_on start begun leads.
+    let shape = c.args.shape in let worker = c.args.worker in let lock = c.args.lock in let it = c.loop-level.invariant in
+    leads_on shape c.args.until start (actions_told c.loop-level.batch) (climbing worker begun lock it.below) (it.leads start begun leads) (root c) (actions_told c.put-2.new.batch) (told_root c) (Entered lock)
+    (at_stage worker begun (Logging (LoadTurn lock))) goes_on (climb_last shape worker begun lock it.below (at_root c))

@@ -1,0 +1,84 @@
+//! The loads of a section whose turn is even: the turn, the slate and the named cells.
+
+ghost use Rattle.std.specs.Prelude.{◌≡◌, ◌<◌, ◌≤◌, ◌+◌, ◌*◌, ℕ};
+ghost use Rattle.rme_program.specs.declared.private.Private.{Private};
+ghost use Rattle.rme_program.specs.declared.stage.Stage.{Stage};
+ghost use Rattle.rme_program.specs.declared.stage.Log.{Log};
+ghost use Rattle.rme_c.specs.Batches.{Foretells, LeadsTo, Reaches, LoadsSlate, LoadsCells, actions_told, at_stage};
+ghost use Rattle.rme_c.specs.Guesses.{IsGuess};
+
+use crate::actions::{expect, expect_even, load, put};
+use crate::flat::Batch;
+use crate::guess::Guess;
+use rme_program::first_cell;
+use rme_words::Shape;
+
+/// All the loads, where the slate has the words that are guessed.
+pub fn tell_section(
+    shape: Shape,
+    worker: u32,
+    lock: u32,
+    guess: &Guess,
+    until: u32,
+    batch: &mut Batch,
+)
+    requires worker { worker < shape.workers }
+    requires lock { lock < shape.locks }
+    requires guess { IsGuess shape guess.now }
+    requires room { batch.old.count ≤ 35 }
+    ensures foretells { (start : Private) (begun : ℕ) → LeadsTo shape until start (actions_told batch.old) (at_stage worker begun (Stage.Logging (Log.LoadTurn lock))) → Foretells shape until start (actions_told batch.new) }
+    ensures some { 1 ≤ batch.new.count }
+    ensures few { batch.new.count ≤ 96 }
+{
+    let n = guess.script.n();
+    put(batch, expect_even(shape.turn_at(lock)));
+    put(batch, expect(shape.slate_len_at(worker), u64::from(n)));
+    for at in 0..3 * n {
+        let word = shape.slate_at(worker, at / 3, at % 3);
+        put(batch, expect(word, guess.words[at as usize]));
+    }
+    if let Some(cell) = first_cell(guess.named, 0, shape.cells) {
+        tell_cells(shape, lock, guess.named, cell, until, batch);
+    }
+}
+
+/// The loads of the words of a slate from `loaded` on.
+pub fn tell_slate(
+    shape: Shape,
+    worker: u32,
+    operations: u32,
+    loaded: u32,
+    until: u32,
+    batch: &mut Batch,
+)
+    requires worker { worker < shape.workers }
+    requires few { operations ≤ 8 }
+    requires loaded { loaded < 3 * operations }
+    requires fresh { batch.old.count ≡ 0 }
+    ensures foretells { (private : Private) → LoadsSlate worker operations loaded private → Foretells shape until private (actions_told batch.new) }
+    ensures some { 1 ≤ batch.new.count }
+    ensures few { batch.new.count ≤ 96 }
+{
+    let last = 3 * operations - 1;
+    for at in loaded..last {
+        put(batch, load(shape.slate_at(worker, at / 3, at % 3)));
+    }
+    put(batch, load(shape.slate_at(worker, last / 3, last % 3)));
+}
+
+/// The loads of the named cells from `cell` on.
+pub fn tell_cells(shape: Shape, lock: u32, named: u64, cell: u32, until: u32, batch: &mut Batch)
+    requires lock { lock < shape.locks }
+    requires cell { cell < shape.cells }
+    requires room { batch.old.count + shape.cells ≤ 96 }
+    ensures foretells { (private : Private) → Reaches shape until private (actions_told batch.old) (LoadsCells lock named cell) → Foretells shape until private (actions_told batch.new) }
+    ensures some { 1 ≤ batch.new.count }
+    ensures few { batch.new.count ≤ 96 }
+{
+    let mut at = cell;
+    while let Some(next) = first_cell(named, at + 1, shape.cells) {
+        put(batch, load(shape.cell_at(lock, at)));
+        at = next;
+    }
+    put(batch, load(shape.cell_at(lock, at)));
+}
