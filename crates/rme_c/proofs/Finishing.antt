@@ -14,7 +14,8 @@ use Rattle.rme_program.specs.declared.stage.Visit.{Visit}
 use Rattle.rme_program.specs.Steps.{shadows_from, copies_from, finished}
 use Rattle.rme_c.specs.Flat.{flat_store, expecting_load}
 use Rattle.rme_c.specs.declared.flat.Batch.{Batch}
-use Rattle.rme_c.specs.Batches.{LeadsTo, actions_told, at_stage}
+use Rattle.rme_c.specs.Batches.{actions_told}
+use Rattle.rme_c.specs.Runs.{LeadsTo, at_stage}
 use Rattle.rme_c.proofs.Telling.{Goes, Steps}
 
 module _ (shape : Shape) (worker begun : ℕ) (visit : Visit) where

@@ -10,7 +10,8 @@ use Rattle.rme_program.specs.Conditions.{IsPrivate, Takes}
 use Rattle.rme_c.specs.declared.flat.FlatNote.{FlatNote}
 use Rattle.rme_c.specs.declared.flat.Outcome.{Outcome}
 use Rattle.rme_c.specs.Flat.{flat_note}
-use Rattle.rme_c.specs.Folds.{IsDamaged, TakesTo, TakesAll, TookSome, Refuses, noted, flat_notes, notes_told}
+use Rattle.rme_c.specs.Folds.{IsDamaged, TakesAll, noted, flat_notes, notes_told}
+use Rattle.rme_c.specs.Runs.{TakesTo, TookSome, Refuses}
 use Rattle.rme_c.specs.declared.guess.Guess.{Guess}
 use Rattle.rme_c.specs.Guesses.{IsGuess}
 use Rattle.rme_c.proofs.Led.{takes_run, noted_append}

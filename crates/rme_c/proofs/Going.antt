@@ -22,7 +22,8 @@ use Rattle.rme_program.specs.Steps.{action_of, private_after, note_after, after_
 use Rattle.rme_c.specs.declared.flat.FlatAction.{FlatAction}
 use Rattle.rme_c.specs.Flat.{flat_store, flat_swap, expecting_load}
 use Rattle.rme_c.specs.declared.flat.Batch.{Batch}
-use Rattle.rme_c.specs.Batches.{Does, LeadsTo, actions_told, at_stage, climbing}
+use Rattle.rme_c.specs.Batches.{Does, actions_told}
+use Rattle.rme_c.specs.Runs.{LeadsTo, at_stage, climbing}
 use Rattle.rme_c.proofs.Telling.{Goes, Steps, Ends}
 
 -- ---- a post

@@ -19,8 +19,7 @@ use Rattle.rme_program.specs.Conditions.{IsPrivate, IsStage}
 use Rattle.rme_program.specs.Steps.{private_after, script_stage, cells_from_here, run_stage, finished, clear_stage}
 use Rattle.rme_c.specs.declared.guess.Guess.{Guess}
 use Rattle.rme_c.specs.declared.jumps.Taken.{Taken}
-use Rattle.rme_c.specs.Batches.{at_stage, climbing}
-use Rattle.rme_c.specs.Folds.{TakesTo, LeadsBlindly, Jumps}
+use Rattle.rme_c.specs.Runs.{at_stage, climbing, TakesTo, LeadsBlindly, Jumps}
 use Rattle.rme_c.specs.Guesses.{IsGuess, FindsGuess, FreesRoot}
 use Rattle.rme_c.proofs.Telling.{Goes}
 use Rattle.rme_c.proofs.Going.{posting, clearing, post_goes_on, post_asks, climb_goes_on, climb_enters, turn_goes_on, settle_goes_on, root_goes, clear_goes, lowest_goes}

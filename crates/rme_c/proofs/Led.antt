@@ -8,7 +8,7 @@ use Rattle.rme_program.specs.declared.note.Note.TheVariants.{Quiet, Asked, Block
 use Rattle.rme_program.specs.declared.private.Private.{Private}
 use Rattle.rme_program.specs.Conditions.{IsPrivate, Takes}
 use Rattle.rme_program.specs.Steps.{private_after, note_after}
-use Rattle.rme_c.specs.Folds.{AllTaken, LeadsBlindly, TakesTo, Jumps, TookSome, led_to, said, noted}
+use Rattle.rme_c.specs.Folds.{AllTaken, led_to, said, noted}
 use Rattle.rme_c.specs.declared.jumps.Taken.{Taken}
 use Rattle.rme_script.specs.Programs.{Program}
 use Rattle.rme_program.specs.Masks.{first_cell}
@@ -17,7 +17,7 @@ use Rattle.rme_program.specs.declared.stage.Log.TheVariants.{StoreShadows}
 use Rattle.rme_program.specs.declared.stage.Redo.TheVariants.{LoadMask}
 use Rattle.rme_program.specs.declared.stage.Visit.{Visit}
 use Rattle.rme_program.specs.Steps.{shadows_from, copies_from, cells_from_here}
-use Rattle.rme_c.specs.Batches.{at_stage}
+use Rattle.rme_c.specs.Runs.{LeadsBlindly, TakesTo, Jumps, TookSome, at_stage}
 use Rattle.rme_c.proofs.Telling.{Goes}
 
 pub led_append : (shape : Shape) (start : Private) (values more : List ℕ) → led_to shape start (values ++ more) ≡ led_to shape (led_to shape start values) more

@@ -26,7 +26,8 @@ use Rattle.rme_program.specs.Steps.{slate_stage, script_stage, cells_from_here, 
 use Rattle.rme_c.specs.declared.flat.FlatAction.{FlatAction}
 use Rattle.rme_c.specs.Flat.{plain_load, expecting_load, even_load}
 use Rattle.rme_c.specs.declared.flat.Batch.{Batch}
-use Rattle.rme_c.specs.Batches.{LeadsTo, Reaches, LoadsSlate, LoadsCells, actions_told, at_stage}
+use Rattle.rme_c.specs.Batches.{actions_told}
+use Rattle.rme_c.specs.Runs.{LeadsTo, Reaches, LoadsSlate, LoadsCells, at_stage}
 use Rattle.rme_c.specs.Guesses.{IsGuess}
 use Rattle.rme_c.proofs.Telling.{Goes, Steps, Ends}
 

@@ -18,7 +18,8 @@ use Rattle.rme_program.specs.Steps.{action_at, action_of, after_at, begun_after,
 use Rattle.rme_c.specs.declared.flat.FlatAction.{FlatAction}
 use Rattle.rme_c.specs.declared.flat.Batch.{Batch}
 use Rattle.rme_c.specs.Flat.{flat_action}
-use Rattle.rme_c.specs.Batches.{Does, GoesOn, Stops, IfMore, Foretells, LeadsTo, Reaches, actions_told}
+use Rattle.rme_c.specs.Batches.{Does, GoesOn, Stops, IfMore, Foretells, actions_told}
+use Rattle.rme_c.specs.Runs.{LeadsTo, Reaches}
 
 -- The worker takes a value, says this, and then is as `Next` says.
 pub record Goes (shape : Shape) (private : Private) (value : ℕ) (note : Note) (Next : Private → Type 0) : Type 0 where

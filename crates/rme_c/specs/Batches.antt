@@ -1,5 +1,5 @@
 -- Which actions a batch tells: those of a worker's next own steps, one after another, for as long as the batch goes on.
-use Rattle.std.specs.Prelude.{◌≡◌, ◌≢◌, ◌⊎◌, ◌<◌, ◌%◌, ◌^◌, ℕ, List, [], ◌∷◌, ◌++◌, take}
+use Rattle.std.specs.Prelude.{◌≡◌, ◌≢◌, ◌⊎◌, ◌<◌, ◌%◌, ◌^◌, ℕ, List, [], ◌∷◌, take}
 use Rattle.rme_words.specs.declared.shape.Shape.{Shape}
 use Rattle.rme_words.specs.Words.{word}
 use Rattle.rme_program.specs.declared.action.Action.{Action}
@@ -7,10 +7,7 @@ use Rattle.rme_program.specs.declared.action.Action.TheVariants.{Load, Store, Sw
 use Rattle.rme_program.specs.declared.note.Note.{Note}
 use Rattle.rme_program.specs.declared.note.Note.TheVariants.{Quiet, Asked, Blocked, Entered, Reentered, Finished, Left, Ready, Withdrew}
 use Rattle.rme_program.specs.declared.private.Private.{Private}
-use Rattle.rme_program.specs.declared.stage.Stage.{Stage}
-use Rattle.rme_program.specs.declared.stage.Stage.TheVariants.{Resting, Climbing, Logging}
-use Rattle.rme_program.specs.declared.stage.Log.TheVariants.{LoadSlate, LoadCells}
-use Rattle.rme_script.specs.Programs.{Program}
+use Rattle.rme_program.specs.declared.stage.Stage.TheVariants.{Resting}
 use Rattle.rme_program.specs.Conditions.{Takes}
 use Rattle.rme_program.specs.Steps.{action_of, private_after, note_after}
 use Rattle.rme_c.specs.declared.flat.FlatAction.{FlatAction}
@@ -64,32 +61,3 @@ Foretells shape until private (action ∷ rest) =
     × ((value : ℕ)
     → GoesOn action value
     → IfMore rest (Takes shape private.stage value × (Stops until (note_after shape private value) → ⊥)) × Foretells shape until (private_after shape private value) rest)
-
--- What completes a batch for a worker that is there completes, behind these actions, one for a worker that is here.
-abbrev pub LeadsTo : Shape → ℕ → Private → List FlatAction → Private → Type 0
-LeadsTo shape until here told there = (rest : List FlatAction) → Foretells shape until there rest → Foretells shape until here (told ++ rest)
-
--- The same where it is not known which of these workers is there.
-abbrev pub Reaches : Shape → ℕ → Private → List FlatAction → (Private → Type 0) → Type 0
-Reaches shape until here told IsThere = (rest : List FlatAction) → ((there : Private) → IsThere there → Foretells shape until there rest) → Foretells shape until here (told ++ rest)
-
-abbrev pub at_stage : ℕ → ℕ → Stage → Private
-at_stage worker begun stage = record { worker = worker; begun = begun; stage = stage }
-
--- The worker wants a lock, and holds so many nodes.
-abbrev pub climbing : ℕ → ℕ → ℕ → ℕ → Private
-climbing worker begun lock held = at_stage worker begun (Climbing record { lock = lock; held = held })
-
--- The worker is about to load a word of its slate, and a named cell.
-pub record LoadsSlate (worker operations at : ℕ) (private : Private) : Type 0 where
-  pub lock : ℕ
-  pub turn : ℕ
-  pub words : List ℕ
-  pub here : private.stage ≡ Logging (LoadSlate lock turn operations words at)
-  pub own : private.worker ≡ worker
-
-pub record LoadsCells (lock named cell : ℕ) (private : Private) : Type 0 where
-  pub turn : ℕ
-  pub script : Program
-  pub row : List ℕ
-  pub here : private.stage ≡ Logging (LoadCells lock turn script named row cell)

@@ -1,10 +1,10 @@
 -- What the values of several own steps, one after another, make of a worker, and what these steps say.
-use Rattle.std.specs.Prelude.{◌≡◌, ℕ, ◌<◌, ◌≤◌, List, [], ◌∷◌, length, take, map, slice_index}
+use Rattle.std.specs.Prelude.{◌≡◌, ℕ, ◌<◌, List, [], ◌∷◌, length, take, map, slice_index}
 use Rattle.rme_words.specs.declared.shape.Shape.{Shape}
 use Rattle.rme_program.specs.declared.note.Note.{Note}
 use Rattle.rme_program.specs.declared.note.Note.TheVariants.{Quiet, Asked, Blocked, Entered, Reentered, Finished, Left, Ready, Withdrew}
 use Rattle.rme_program.specs.declared.private.Private.{Private}
-use Rattle.rme_program.specs.Conditions.{IsPrivate, Takes}
+use Rattle.rme_program.specs.Conditions.{Takes}
 use Rattle.rme_program.specs.Steps.{private_after, note_after}
 use Rattle.rme_c.specs.declared.flat.FlatNote.{FlatNote}
 use Rattle.rme_c.specs.declared.flat.Outcome.{Outcome}
@@ -45,12 +45,6 @@ AllTaken shape private [] = Unit {0}
 AllTaken shape private (value ∷ rest) = Takes shape private.stage value × AllTaken shape (private_after shape private value) rest
 
 -- The worker takes each of these values, says this, and then knows this.
-pub record TakesTo (shape : Shape) (old : Private) (values : List ℕ) (notes : List Note) (new : Private) : Type 0 where
-  pub all : AllTaken shape old values
-  pub leads : new ≡ led_to shape old values
-  pub says : notes ≡ said shape old values
-
--- The same with the notes as plain numbers.
 pub record TakesAll (shape : Shape) (old : Private) (values : List ℕ) (notes : List FlatNote) (new : Private) : Type 0 where
   pub all : AllTaken shape old values
   pub leads : new ≡ led_to shape old values
@@ -62,26 +56,3 @@ pub record IsDamaged (shape : Shape) (old : Private) (values : List ℕ) (notes 
   pub there : at < length values
   pub before : TakesAll shape old (take at values) notes new
   pub refused : Takes shape new.stage (slice_index values at) → ⊥
-
--- So many steps lead from one private state to another and say nothing, whatever they find.
-abbrev pub LeadsBlindly : Shape → Private → ℕ → Private → Type 0
-LeadsBlindly shape old count new = (values : List ℕ) → length values ≡ count → TakesTo shape old values [] new
-
--- The worker takes so many of the values, and these two notes are all that it says.
-pub record Jumps (shape : Shape) (old : Private) (values : List ℕ) (count : ℕ) (before note : Note) (new : Private) : Type 0 where
-  pub within : count ≤ length values
-  pub takes : TakesTo shape old (take count values) (noted before (noted note [])) new
-  pub few : length (noted before (noted note [])) ≤ count
-  pub private : IsPrivate shape new
-
--- The same of at least one value.
-pub record TookSome (shape : Shape) (old : Private) (values : List ℕ) (count : ℕ) (before note : Note) (new : Private) : Type 0 where
-  pub some : 1 ≤ count
-  pub within : count ≤ length values
-  pub takes : TakesTo shape old (take count values) (noted before (noted note [])) new
-  pub few : length (noted before (noted note [])) ≤ count
-
--- The first of the values may not be taken, and the worker is as it was.
-pub record Refuses (shape : Shape) (old : Private) (values : List ℕ) (new : Private) : Type 0 where
-  pub refused : Takes shape old.stage (slice_index values 0) → ⊥
-  pub same : new ≡ old

@@ -1,4 +1,4 @@
-//! Values taken together where the steps that found them say nothing: nothing is decided for each of them alone.
+//! The values of whole runs, taken together: nothing is decided for each of them alone.
 
 ghost use Rattle.std.specs.Prelude.{◌≡◌, ◌<◌, ◌≤◌, ◌+◌, ◌*◌, ℕ, List, IsTrue, IfSome, length, take, slice_index, [], ◌∷◌};
 ghost use Rattle.rme_script.specs.Programs.{Program};
@@ -12,8 +12,7 @@ ghost use Rattle.rme_program.specs.declared.note.Note.{Note};
 ghost use Rattle.rme_program.specs.Masks.{first_cell};
 ghost use Rattle.rme_program.specs.Steps.{cells_from_here, run_stage, finished, clear_stage};
 ghost use Rattle.rme_program.specs.Conditions.{IsPrivate, IsStage};
-ghost use Rattle.rme_c.specs.Batches.{at_stage, climbing};
-ghost use Rattle.rme_c.specs.Folds.{Jumps, LeadsBlindly, TakesTo};
+ghost use Rattle.rme_c.specs.Runs.{at_stage, climbing, Jumps, LeadsBlindly, TakesTo};
 ghost use Rattle.rme_c.specs.Guesses.{IsGuess, FindsGuess, FreesRoot};
 
 use crate::guess::Guess;
@@ -23,8 +22,8 @@ use rme_program::{
 use rme_script::{Row, eval};
 use rme_words::Shape;
 
-/// Some values that were taken together, and what their steps said: two notes at most, the second of the last step that said
-/// something.
+/// Some values that were taken together, and what their steps said, in order: two notes at most, and quiet ones for those that
+/// are wanting.
 #[derive(Drop)]
 pub struct Taken {
     pub count: usize,

@@ -4,7 +4,8 @@ ghost use Rattle.std.specs.Prelude.{◌≡◌, ◌<◌, ◌≤◌, ◌+◌, ◌*
 ghost use Rattle.rme_program.specs.declared.private.Private.{Private};
 ghost use Rattle.rme_program.specs.declared.stage.Stage.{Stage};
 ghost use Rattle.rme_program.specs.declared.stage.Log.{Log};
-ghost use Rattle.rme_c.specs.Batches.{Foretells, LeadsTo, Reaches, LoadsSlate, LoadsCells, actions_told, at_stage};
+ghost use Rattle.rme_c.specs.Batches.{Foretells, actions_told};
+ghost use Rattle.rme_c.specs.Runs.{LeadsTo, Reaches, LoadsSlate, LoadsCells, at_stage};
 ghost use Rattle.rme_c.specs.Guesses.{IsGuess};
 
 use crate::actions::{expect, expect_even, load, put};

@@ -6,7 +6,8 @@ ghost use Rattle.rme_program.specs.declared.stage.Stage.{Stage};
 ghost use Rattle.rme_program.specs.declared.stage.Log.{Log};
 ghost use Rattle.rme_program.specs.declared.stage.Departure.{Departure};
 ghost use Rattle.rme_program.specs.Conditions.{IsPrivate};
-ghost use Rattle.rme_c.specs.Batches.{Foretells, LeadsTo, actions_told, at_stage, climbing};
+ghost use Rattle.rme_c.specs.Batches.{Foretells, actions_told};
+ghost use Rattle.rme_c.specs.Runs.{LeadsTo, at_stage, climbing};
 ghost use Rattle.rme_c.specs.Guesses.{IsGuess};
 
 use crate::actions::{expect, put, store, swap};

@@ -9,7 +9,8 @@ ghost use Rattle.rme_program.specs.declared.stage.Departure.{Departure};
 ghost use Rattle.rme_program.specs.Conditions.{IsPrivate};
 ghost use Rattle.rme_program.specs.Steps.{copies_from};
 ghost use Rattle.rme_program.specs.Masks.{first_cell};
-ghost use Rattle.rme_c.specs.Batches.{Foretells, LeadsTo, actions_told, at_stage};
+ghost use Rattle.rme_c.specs.Batches.{Foretells, actions_told};
+ghost use Rattle.rme_c.specs.Runs.{LeadsTo, at_stage};
 
 use crate::actions::{expect, put, store};
 use crate::flat::Batch;

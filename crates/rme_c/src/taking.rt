@@ -6,7 +6,8 @@ ghost use Rattle.rme_script.specs.Scripts.{IsScript};
 ghost use Rattle.rme_script.specs.Slates.{script_of};
 ghost use Rattle.rme_program.specs.declared.stage.Stage.{Stage};
 ghost use Rattle.rme_program.specs.Conditions.{IsPrivate, IsLog, Takes};
-ghost use Rattle.rme_c.specs.Folds.{IsDamaged, Refuses, TakesAll, TookSome, notes_told};
+ghost use Rattle.rme_c.specs.Folds.{IsDamaged, TakesAll, notes_told};
+ghost use Rattle.rme_c.specs.Runs.{Refuses, TookSome};
 ghost use Rattle.rme_c.specs.Guesses.{IsGuess};
 
 use crate::flat::Outcome;

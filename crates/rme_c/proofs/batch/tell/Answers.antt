@@ -1,6 +1,6 @@
 use Rattle.std.proofs.Common.{[], subst, refl}
 use Rattle.rme_program.specs.declared.stage.Stage.{Stage}
-use Rattle.rme_c.specs.Batches.{LeadsTo, at_stage}
+use Rattle.rme_c.specs.Runs.{LeadsTo, at_stage}
 use Rattle.rme_c.proofs.Telling.{leads_fresh}
 use Rattle.rme_c.proofs.batch.tell.Goals as goal
 

@@ -1,7 +1,8 @@
 use Rattle.std.proofs.Common.{◌≡◌, [], ℕ, List, take, ap, subst, ◌∙◌}
 use Rattle.rme_program.specs.declared.stage.Stage.{Stage}
 use Rattle.rme_c.specs.declared.flat.FlatAction.{FlatAction}
-use Rattle.rme_c.specs.Batches.{LeadsTo, actions_told, at_stage}
+use Rattle.rme_c.specs.Batches.{actions_told}
+use Rattle.rme_c.specs.Runs.{LeadsTo, at_stage}
 use Rattle.rme_c.proofs.Telling.{leads_fresh}
 use Rattle.rme_program.specs.declared.stage.Stage.TheVariants.{Logging}
 use Rattle.rme_c.proofs.batch.tell_log.Goals as goal

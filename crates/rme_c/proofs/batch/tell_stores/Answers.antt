@@ -3,7 +3,8 @@ use Rattle.rme_program.specs.declared.action.Action.{Action}
 use Rattle.rme_program.specs.Steps.{action_of}
 use Rattle.rme_c.specs.declared.flat.FlatAction.{FlatAction}
 use Rattle.rme_c.specs.Flat.{flat_action}
-use Rattle.rme_c.specs.Batches.{LeadsTo, actions_told}
+use Rattle.rme_c.specs.Batches.{actions_told}
+use Rattle.rme_c.specs.Runs.{LeadsTo}
 use Rattle.rme_c.proofs.Telling.{IsStore, leads_more, leads_end, plain_does, store_steps}
 use Rattle.rme_c.proofs.batch.tell_stores.Goals as goal
 

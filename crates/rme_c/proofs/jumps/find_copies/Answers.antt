@@ -8,8 +8,7 @@ use Rattle.rme_program.specs.declared.private.Private.{Private}
 use Rattle.rme_program.specs.declared.stage.Stage.TheVariants.{Copying}
 use Rattle.rme_program.specs.declared.stage.Redo.TheVariants.{LoadMask, StoreCell, LoadReply, StoreReply, StorePlace, StoreAt, StoreDone}
 use Rattle.rme_program.specs.Steps.{copies_from, finished}
-use Rattle.rme_c.specs.Batches.{at_stage}
-use Rattle.rme_c.specs.Folds.{TakesTo}
+use Rattle.rme_c.specs.Runs.{at_stage, TakesTo}
 use Rattle.rme_c.proofs.Telling.{Goes}
 use Rattle.rme_c.proofs.Led.{not_empty, takes_none, takes_one, takes_noted, takes_there}
 use Rattle.rme_c.proofs.Finishing.{mask_load_goes, copy_load_goes, copy_goes, copies_made, reply_load_goes, reply_goes, place_goes, at_goes, done_goes}

@@ -2,7 +2,7 @@ use Rattle.rme_program.specs.declared.stage.Stage.TheVariants.{Resting, Leaving}
 use Rattle.rme_program.specs.declared.stage.Departure.TheVariants.{Clear}
 use Rattle.rme_program.specs.declared.note.Note.TheVariants.{Quiet, Ready}
 use Rattle.rme_program.specs.Conditions.{IsPrivate}
-use Rattle.rme_c.specs.Batches.{at_stage}
+use Rattle.rme_c.specs.Runs.{at_stage}
 use Rattle.rme_c.proofs.Led.{jumps_none}
 use Rattle.rme_c.proofs.Jumping.{clears_jumps, private_at, jumps_at}
 use Rattle.rme_c.proofs.jumps.jump_clears.Goals as goal

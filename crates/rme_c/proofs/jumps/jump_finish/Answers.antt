@@ -1,18 +1,15 @@
-use Rattle.std.proofs.Common.{◌≡◌, ◌≤◌, ◌<◌, ◌+◌, ◌-◌, ◌*◌, ◌/◌, [], ◌∷◌, ◌++◌, ℕ, List, length, take, drop, replicate, ap, sym, subst, refl, ◌∙◌, arith}
-use Rattle.std.specs.Prelude.{slice_index}
+use Rattle.std.proofs.Common.{◌≤◌, ◌+◌, ◌-◌, ◌/◌, [], ◌∷◌, ℕ, List, length, drop, ap, sym, subst, ◌∙◌, arith}
 use Rattle.rme_program.specs.declared.private.Private.{Private}
 use Rattle.rme_program.specs.declared.stage.Stage.{Stage}
-use Rattle.rme_program.specs.declared.stage.Stage.TheVariants.{Posting, Climbing, Logging, Copying, Leaving}
-use Rattle.rme_program.specs.declared.stage.Log.TheVariants.{LoadTurn, StoreShadows}
+use Rattle.rme_program.specs.declared.stage.Stage.TheVariants.{Logging, Copying, Leaving}
+use Rattle.rme_program.specs.declared.stage.Log.TheVariants.{StoreShadows}
 use Rattle.rme_program.specs.declared.stage.Redo.TheVariants.{LoadMask}
 use Rattle.rme_program.specs.declared.stage.Departure.TheVariants.{LoadExitTurn}
-use Rattle.rme_program.specs.declared.note.Note.TheVariants.{Quiet, Asked, Entered, Finished, Left}
-use Rattle.rme_program.specs.Conditions.{IsPrivate, IsStage}
-use Rattle.rme_program.specs.Masks.{first_cell}
-use Rattle.rme_program.specs.Steps.{cells_from_here, run_stage, finished, clear_stage}
-use Rattle.rme_c.specs.Batches.{at_stage, climbing}
-use Rattle.rme_c.specs.Folds.{TakesTo, Jumps}
-use Rattle.rme_c.specs.Guesses.{FindsGuess, FreesRoot}
+use Rattle.rme_program.specs.declared.note.Note.TheVariants.{Quiet, Left}
+use Rattle.rme_program.specs.Conditions.{IsPrivate}
+use Rattle.rme_program.specs.Steps.{finished, clear_stage}
+use Rattle.rme_c.specs.Runs.{at_stage, Jumps}
+use Rattle.rme_c.specs.Guesses.{FreesRoot}
 use Rattle.std.proofs.lemmas.List.{take_rest}
 use Rattle.rme_c.proofs.Led.{jumps_none, takes_run}
 use Rattle.rme_c.proofs.Jumping.{finish_led, root_led, cleared_private, led_rest, rest_within, private_at, jumps_at}

@@ -1,18 +1,9 @@
-use Rattle.std.proofs.Common.{◌≡◌, ◌≤◌, ◌<◌, ◌+◌, ◌-◌, ◌*◌, ◌/◌, [], ◌∷◌, ◌++◌, ℕ, List, length, take, drop, replicate, ap, sym, subst, refl, ◌∙◌, arith}
-use Rattle.std.specs.Prelude.{slice_index}
-use Rattle.rme_program.specs.declared.private.Private.{Private}
-use Rattle.rme_program.specs.declared.stage.Stage.{Stage}
-use Rattle.rme_program.specs.declared.stage.Stage.TheVariants.{Posting, Climbing, Logging, Copying, Leaving}
-use Rattle.rme_program.specs.declared.stage.Log.TheVariants.{LoadTurn, StoreShadows}
-use Rattle.rme_program.specs.declared.stage.Redo.TheVariants.{LoadMask}
-use Rattle.rme_program.specs.declared.stage.Departure.TheVariants.{LoadExitTurn}
-use Rattle.rme_program.specs.declared.note.Note.TheVariants.{Quiet, Asked, Entered, Finished, Left}
-use Rattle.rme_program.specs.Conditions.{IsPrivate, IsStage}
-use Rattle.rme_program.specs.Masks.{first_cell}
-use Rattle.rme_program.specs.Steps.{cells_from_here, run_stage, finished, clear_stage}
-use Rattle.rme_c.specs.Batches.{at_stage, climbing}
-use Rattle.rme_c.specs.Folds.{TakesTo, Jumps}
-use Rattle.rme_c.specs.Guesses.{FindsGuess, FreesRoot}
+use Rattle.std.proofs.Common.{◌≡◌, ◌<◌, ◌-◌, ℕ, arith}
+use Rattle.rme_program.specs.declared.stage.Stage.TheVariants.{Climbing, Logging}
+use Rattle.rme_program.specs.declared.stage.Log.TheVariants.{LoadTurn}
+use Rattle.rme_program.specs.declared.note.Note.TheVariants.{Quiet, Entered}
+use Rattle.rme_program.specs.Conditions.{IsPrivate}
+use Rattle.rme_c.specs.Runs.{at_stage}
 use Rattle.rme_c.proofs.Led.{jumps_none}
 use Rattle.rme_c.proofs.Jumping.{in_led, private_at, jumps_at, still}
 use Rattle.rme_c.proofs.jumps.jump_in.Goals as goal

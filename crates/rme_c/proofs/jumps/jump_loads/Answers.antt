@@ -1,20 +1,10 @@
-use Rattle.std.proofs.Common.{◌≡◌, ◌≤◌, ◌<◌, ◌+◌, ◌-◌, ◌*◌, ◌/◌, [], ◌∷◌, ◌++◌, ℕ, List, length, take, drop, replicate, ap, sym, subst, refl, ◌∙◌, arith}
-use Rattle.std.specs.Prelude.{slice_index}
-use Rattle.rme_program.specs.declared.private.Private.{Private}
-use Rattle.rme_program.specs.declared.stage.Stage.{Stage}
-use Rattle.rme_program.specs.declared.stage.Stage.TheVariants.{Posting, Climbing, Logging, Copying, Leaving}
-use Rattle.rme_program.specs.declared.stage.Log.TheVariants.{LoadTurn, StoreShadows}
-use Rattle.rme_program.specs.declared.stage.Redo.TheVariants.{LoadMask}
-use Rattle.rme_program.specs.declared.stage.Departure.TheVariants.{LoadExitTurn}
-use Rattle.rme_program.specs.declared.note.Note.TheVariants.{Quiet, Asked, Entered, Finished, Left}
-use Rattle.rme_program.specs.Conditions.{IsPrivate, IsStage}
-use Rattle.rme_program.specs.Masks.{first_cell}
-use Rattle.rme_program.specs.Steps.{cells_from_here, run_stage, finished, clear_stage}
-use Rattle.rme_c.specs.Batches.{at_stage, climbing}
-use Rattle.rme_c.specs.Folds.{TakesTo, Jumps}
-use Rattle.rme_c.specs.Guesses.{FindsGuess, FreesRoot}
+use Rattle.std.proofs.Common.{arith}
+use Rattle.rme_program.specs.declared.stage.Stage.TheVariants.{Logging}
+use Rattle.rme_program.specs.declared.stage.Log.TheVariants.{LoadTurn}
+use Rattle.rme_program.specs.declared.note.Note.TheVariants.{Quiet}
+use Rattle.rme_c.specs.Runs.{at_stage}
 use Rattle.rme_c.proofs.Led.{jumps_none}
-use Rattle.rme_c.proofs.Jumping.{private_at, jumps_at, still}
+use Rattle.rme_c.proofs.Jumping.{jumps_at, still}
 use Rattle.rme_c.proofs.jumps.jump_loads.Goals as goal
 
 pub returns-then-loads-eq0 : goal.returns-then-loads-eq0

@@ -4,7 +4,7 @@ use Rattle.std.proofs.lemmas.List.{length-set}
 use Rattle.rme_program.proofs.Firsts.{first_some}
 use Rattle.rme_program.specs.Masks.{first_cell}
 use Rattle.rme_program.specs.Steps.{cells_from_here}
-use Rattle.rme_c.specs.Batches.{at_stage}
+use Rattle.rme_c.specs.Runs.{at_stage}
 use Rattle.rme_c.proofs.Led.{ReadsCells, takes_none, takes_one}
 use Rattle.rme_c.proofs.Loading.{cell_goes}
 use Rattle.rme_c.proofs.jumps.read_cells.Goals as goal

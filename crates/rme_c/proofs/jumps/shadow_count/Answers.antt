@@ -5,8 +5,7 @@ use Rattle.rme_program.specs.Masks.{first_cell}
 use Rattle.rme_program.specs.declared.stage.Stage.TheVariants.{Logging}
 use Rattle.rme_program.specs.declared.stage.Log.TheVariants.{StoreShadows}
 use Rattle.rme_program.specs.Steps.{shadows_from}
-use Rattle.rme_c.specs.Batches.{at_stage}
-use Rattle.rme_c.specs.Folds.{LeadsBlindly}
+use Rattle.rme_c.specs.Runs.{at_stage, LeadsBlindly}
 use Rattle.rme_c.proofs.Led.{blind_none, blind_more}
 use Rattle.rme_c.proofs.Finishing.{shadow_goes}
 use Rattle.rme_c.proofs.jumps.shadow_count.Goals as goal

@@ -1,18 +1,12 @@
-use Rattle.std.proofs.Common.{◌≡◌, ◌≤◌, ◌<◌, ◌+◌, ◌-◌, ◌*◌, ◌/◌, [], ◌∷◌, ◌++◌, ℕ, List, length, take, drop, replicate, ap, sym, subst, refl, ◌∙◌, arith}
+use Rattle.std.proofs.Common.{◌+◌, ◌*◌, [], ℕ, List, take, drop, replicate, sym, subst}
 use Rattle.std.specs.Prelude.{slice_index}
 use Rattle.rme_program.specs.declared.private.Private.{Private}
-use Rattle.rme_program.specs.declared.stage.Stage.{Stage}
-use Rattle.rme_program.specs.declared.stage.Stage.TheVariants.{Posting, Climbing, Logging, Copying, Leaving}
-use Rattle.rme_program.specs.declared.stage.Log.TheVariants.{LoadTurn, StoreShadows}
-use Rattle.rme_program.specs.declared.stage.Redo.TheVariants.{LoadMask}
-use Rattle.rme_program.specs.declared.stage.Departure.TheVariants.{LoadExitTurn}
-use Rattle.rme_program.specs.declared.note.Note.TheVariants.{Quiet, Asked, Entered, Finished, Left}
-use Rattle.rme_program.specs.Conditions.{IsPrivate, IsStage}
+use Rattle.rme_program.specs.declared.stage.Stage.TheVariants.{Logging}
+use Rattle.rme_program.specs.declared.stage.Log.TheVariants.{LoadTurn}
 use Rattle.rme_program.specs.Masks.{first_cell}
-use Rattle.rme_program.specs.Steps.{cells_from_here, run_stage, finished, clear_stage}
-use Rattle.rme_c.specs.Batches.{at_stage, climbing}
-use Rattle.rme_c.specs.Folds.{TakesTo, Jumps}
-use Rattle.rme_c.specs.Guesses.{FindsGuess, FreesRoot}
+use Rattle.rme_program.specs.Steps.{cells_from_here, run_stage}
+use Rattle.rme_c.specs.Runs.{at_stage, TakesTo}
+use Rattle.rme_c.specs.Guesses.{FindsGuess}
 use Rattle.rme_c.proofs.Jumping.{loads_led, led_rest}
 use Rattle.rme_c.proofs.jumps.take_loads.Goals as goal
 

@@ -4,7 +4,8 @@ use Rattle.rme_words.specs.declared.address.Address.TheVariants.{Cell}
 use Rattle.rme_words.specs.Words.{word}
 use Rattle.rme_c.specs.declared.flat.FlatAction.{FlatAction}
 use Rattle.rme_c.specs.Flat.{plain_load}
-use Rattle.rme_c.specs.Batches.{LoadsCells, actions_told}
+use Rattle.rme_c.specs.Batches.{actions_told}
+use Rattle.rme_c.specs.Runs.{LoadsCells}
 use Rattle.rme_c.proofs.Telling.{reaches_more}
 use Rattle.rme_c.proofs.Loading.{cell_step}
 use Rattle.rme_c.proofs.loads.tell_cells.Goals as goal

@@ -7,7 +7,8 @@ use Rattle.rme_words.specs.declared.address.Address.TheVariants.{SlateLen, Slate
 use Rattle.rme_program.specs.declared.stage.Stage.TheVariants.{Logging}
 use Rattle.rme_program.specs.declared.stage.Log.TheVariants.{LoadTurn}
 use Rattle.rme_c.specs.Flat.{expecting_load, even_load}
-use Rattle.rme_c.specs.Batches.{actions_told, at_stage}
+use Rattle.rme_c.specs.Batches.{actions_told}
+use Rattle.rme_c.specs.Runs.{at_stage}
 use Rattle.rme_c.proofs.Telling.{Steps, leads_reach, reaches_more, reaches_alone}
 use Rattle.rme_program.specs.declared.note.Note.TheVariants.{Quiet}
 use Rattle.rme_c.proofs.Loading.{KnowsTurn, ReadsAtTurn, even_step, length_step, word_step, slate_known, loads_cells}

@@ -3,7 +3,8 @@ use Rattle.rme_words.specs.declared.address.Address.TheVariants.{SlateWord}
 use Rattle.rme_words.specs.Words.{word}
 use Rattle.rme_c.specs.declared.flat.FlatAction.{FlatAction}
 use Rattle.rme_c.specs.Flat.{plain_load}
-use Rattle.rme_c.specs.Batches.{LoadsSlate, actions_told}
+use Rattle.rme_c.specs.Batches.{actions_told}
+use Rattle.rme_c.specs.Runs.{LoadsSlate}
 use Rattle.rme_c.proofs.Telling.{reaches_more}
 use Rattle.rme_c.proofs.Loading.{slate_step}
 use Rattle.rme_c.proofs.loads.tell_slate.Goals as goal

@@ -4,7 +4,8 @@ use Rattle.rme_c.specs.declared.flat.FlatAction.{FlatAction}
 use Rattle.rme_tree.specs.Paths.{node}
 use Rattle.rme_words.specs.declared.address.Address.TheVariants.{Node}
 use Rattle.rme_c.specs.Flat.{flat_store}
-use Rattle.rme_c.specs.Batches.{LeadsTo, actions_told}
+use Rattle.rme_c.specs.Batches.{actions_told}
+use Rattle.rme_c.specs.Runs.{LeadsTo}
 use Rattle.rme_c.proofs.Telling.{leads_more, leads_end}
 use Rattle.rme_c.proofs.Going.{clearing, node_clear, clear_step, clear_end}
 use Rattle.rme_c.proofs.runs.tell_clears.Goals as goal

@@ -10,7 +10,8 @@ use Rattle.rme_program.specs.declared.stage.Stage.TheVariants.{Resting, Leaving}
 use Rattle.rme_program.specs.declared.stage.Departure.TheVariants.{LoadExitTurn, StoreExitTurn, Clear}
 use Rattle.rme_program.specs.Steps.{clear_stage}
 use Rattle.rme_c.specs.Flat.{flat_store, expecting_load}
-use Rattle.rme_c.specs.Batches.{LeadsTo, actions_told, at_stage}
+use Rattle.rme_c.specs.Batches.{actions_told}
+use Rattle.rme_c.specs.Runs.{LeadsTo, at_stage}
 use Rattle.rme_c.proofs.Telling.{leads_more, leads_on}
 use Rattle.rme_c.proofs.Going.{clearing, node_clear, turn_step, settle_step, root_step}
 use Rattle.rme_c.proofs.runs.tell_root.Goals as goal

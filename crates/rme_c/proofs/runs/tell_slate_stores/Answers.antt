@@ -6,7 +6,8 @@ use Rattle.rme_program.specs.declared.note.Note.TheVariants.{Asked}
 use Rattle.rme_script.specs.Slates.{slate_of}
 use Rattle.rme_c.specs.declared.flat.FlatAction.{FlatAction}
 use Rattle.rme_c.specs.Flat.{flat_store}
-use Rattle.rme_c.specs.Batches.{LeadsTo, actions_told, climbing}
+use Rattle.rme_c.specs.Batches.{actions_told}
+use Rattle.rme_c.specs.Runs.{LeadsTo, climbing}
 use Rattle.rme_c.proofs.Telling.{leads_more, leads_on}
 use Rattle.rme_c.proofs.Going.{posting, post_word, post_begun}
 use Rattle.rme_c.proofs.runs.tell_slate_stores.Goals as goal

@@ -8,7 +8,8 @@ use Rattle.rme_program.specs.declared.note.Note.TheVariants.{Entered}
 use Rattle.rme_program.specs.declared.stage.Stage.TheVariants.{Logging}
 use Rattle.rme_program.specs.declared.stage.Log.TheVariants.{LoadTurn}
 use Rattle.rme_c.specs.Flat.{flat_swap}
-use Rattle.rme_c.specs.Batches.{actions_told, at_stage, climbing}
+use Rattle.rme_c.specs.Batches.{actions_told}
+use Rattle.rme_c.specs.Runs.{at_stage, climbing}
 use Rattle.rme_c.proofs.Telling.{leads_more, leads_on, leads_end, ends_of}
 use Rattle.rme_c.proofs.Going.{node_swap, climb_step, climb_last}
 use Rattle.rme_c.proofs.runs.tell_swaps.Goals as goal

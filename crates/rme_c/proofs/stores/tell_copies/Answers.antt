@@ -9,7 +9,8 @@ use Rattle.rme_words.specs.declared.address.Address.TheVariants.{Shadow, Cell}
 use Rattle.rme_words.specs.Words.{word}
 use Rattle.rme_c.specs.declared.flat.FlatAction.{FlatAction}
 use Rattle.rme_c.specs.Flat.{flat_store, expecting_load}
-use Rattle.rme_c.specs.Batches.{actions_told, at_stage}
+use Rattle.rme_c.specs.Batches.{actions_told}
+use Rattle.rme_c.specs.Runs.{at_stage}
 use Rattle.rme_c.proofs.Telling.{leads_more}
 use Rattle.rme_c.proofs.Finishing.{copy_load_step, copy_step}
 use Rattle.rme_c.proofs.stores.tell_copies.Goals as goal

@@ -7,7 +7,8 @@ use Rattle.rme_program.specs.declared.stage.Log.TheVariants.{StoreShadows}
 use Rattle.rme_program.specs.declared.stage.Redo.TheVariants.{LoadReply, StoreReply}
 use Rattle.rme_words.specs.declared.address.Address.TheVariants.{ShadowReply}
 use Rattle.rme_c.specs.Flat.{expecting_load}
-use Rattle.rme_c.specs.Batches.{LeadsTo, actions_told, at_stage}
+use Rattle.rme_c.specs.Batches.{actions_told}
+use Rattle.rme_c.specs.Runs.{LeadsTo, at_stage}
 use Rattle.rme_c.proofs.Telling.{leads_more, leads_fresh}
 use Rattle.rme_c.proofs.Finishing.{reply_load_step}
 use Rattle.rme_c.proofs.stores.tell_rest.Goals as goal

@@ -8,7 +8,8 @@ use Rattle.rme_words.specs.declared.address.Address.TheVariants.{Shadow}
 use Rattle.rme_words.specs.Words.{word}
 use Rattle.rme_c.specs.declared.flat.FlatAction.{FlatAction}
 use Rattle.rme_c.specs.Flat.{flat_store}
-use Rattle.rme_c.specs.Batches.{LeadsTo, actions_told, at_stage}
+use Rattle.rme_c.specs.Batches.{actions_told}
+use Rattle.rme_c.specs.Runs.{LeadsTo, at_stage}
 use Rattle.rme_c.proofs.Telling.{leads_more}
 use Rattle.rme_c.proofs.Finishing.{shadow_step}
 use Rattle.rme_c.proofs.stores.tell_shadows.Goals as goal

@@ -9,7 +9,8 @@ use Rattle.rme_program.specs.declared.stage.Redo.TheVariants.{LoadMask}
 use Rattle.rme_program.specs.Masks.{first_cell}
 use Rattle.rme_program.specs.Steps.{copies_from}
 use Rattle.rme_c.specs.Flat.{flat_store, expecting_load}
-use Rattle.rme_c.specs.Batches.{actions_told, at_stage}
+use Rattle.rme_c.specs.Batches.{actions_told}
+use Rattle.rme_c.specs.Runs.{at_stage}
 use Rattle.rme_c.proofs.Telling.{leads_more}
 use Rattle.rme_c.proofs.Finishing.{shadow_reply_step, mask_step, odd_step, mask_load_step}
 use Rattle.rme_c.proofs.stores.tell_turn.Goals as goal

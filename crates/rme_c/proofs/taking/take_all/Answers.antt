@@ -1,6 +1,6 @@
 use Rattle.std.proofs.Common.{[], ℕ, List, refl, subst, arith}
 use Rattle.std.proofs.lemmas.List.{take_rest}
-use Rattle.rme_c.specs.Folds.{TookSome}
+use Rattle.rme_c.specs.Runs.{TookSome}
 use Rattle.rme_c.proofs.Led.{takes_none}
 use Rattle.rme_c.proofs.Folding.{takes_some}
 use Rattle.rme_c.proofs.taking.take_all.Goals as goal

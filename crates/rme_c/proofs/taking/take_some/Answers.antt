@@ -1,6 +1,6 @@
 use Rattle.std.proofs.Common.{◌≡◌, refl, subst, false, true, arith}
 use Rattle.rme_program.specs.declared.private.Private.{Private}
-use Rattle.rme_c.specs.Folds.{TookSome, Refuses}
+use Rattle.rme_c.specs.Runs.{TookSome, Refuses}
 use Rattle.rme_program.specs.declared.note.Note.TheVariants.{Quiet}
 use Rattle.rme_c.proofs.Led.{not_jumped, took_one}
 use Rattle.rme_c.proofs.taking.take_some.Goals as goal
