@@ -1,18 +1,17 @@
 -- Which actions a batch tells: those of a worker's next own steps, one after another, for as long as the batch goes on.
-use Rattle.std.specs.Prelude.{◌≡◌, ◌≢◌, ◌⊎◌, ◌<◌, ◌%◌, ◌^◌, ℕ, List, [], ◌∷◌, take}
+use Rattle.std.specs.Prelude.{◌≡◌, ◌≢◌, ◌⊎◌, ◌<◌, ◌%◌, ◌^◌, ℕ, zero, suc, List, [], ◌∷◌, take}
 use Rattle.rme_words.specs.declared.shape.Shape.{Shape}
 use Rattle.rme_words.specs.Words.{word}
 use Rattle.rme_program.specs.declared.action.Action.{Action}
 use Rattle.rme_program.specs.declared.action.Action.TheVariants.{Load, Store, Swap}
 use Rattle.rme_program.specs.declared.note.Note.{Note}
-use Rattle.rme_program.specs.declared.note.Note.TheVariants.{Quiet, Asked, Blocked, Entered, Reentered, Finished, Left, Ready, Withdrew}
 use Rattle.rme_program.specs.declared.private.Private.{Private}
 use Rattle.rme_program.specs.declared.stage.Stage.TheVariants.{Resting}
 use Rattle.rme_program.specs.Conditions.{Takes}
 use Rattle.rme_program.specs.Steps.{action_of, private_after, note_after}
 use Rattle.rme_c.specs.declared.flat.FlatAction.{FlatAction}
 use Rattle.rme_c.specs.declared.flat.Batch.{Batch}
-use Rattle.rme_c.specs.Flat.{flat_action}
+use Rattle.rme_c.specs.Flat.{flat_action, flat_note}
 
 -- The actions of a batch that count.
 abbrev pub actions_told : Batch → List FlatAction
@@ -34,17 +33,14 @@ pub record GoesOn (action : FlatAction) (found : ℕ) : Type 0 where
   pub expected : action.kind ≡ 4 → found ≡ action.first
   pub even : action.kind ≡ 5 → (found < 2 ^ 32) × (found % 2 ≡ 0)
 
+-- It is this kind of note, and no quiet one.
+abbrev pub IsKind : ℕ → ℕ → Type 0
+IsKind until zero = ⊥
+IsKind until (suc kind) = until ≡ suc kind
+
 -- A batch ends at the latest with a step that says something of this kind.
 abbrev pub Stops : ℕ → Note → Type 0
-Stops until Quiet = ⊥
-Stops until (Asked number) = until ≡ 1
-Stops until Blocked = until ≡ 2
-Stops until (Entered lock) = until ≡ 3
-Stops until (Reentered lock) = until ≡ 4
-Stops until (Finished receipt) = until ≡ 5
-Stops until (Left lock) = until ≡ 6
-Stops until Ready = until ≡ 7
-Stops until (Withdrew number) = until ≡ 8
+Stops until note = IsKind until (flat_note note).kind
 
 abbrev pub IfMore : List FlatAction → Type 0 → Type 0
 IfMore [] it = Unit {0}

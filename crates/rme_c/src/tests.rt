@@ -94,65 +94,77 @@ fn make(words: &mut [u64; WORDS], batch: &mut Batch) -> u32 {
     batch.count
 }
 
+/// What C has beside a handle: the words, and what goes to and fro.
+#[derive(Drop)]
+struct Host {
+    words: [u64; WORDS],
+    batch: Batch,
+    outcome: Outcome,
+}
+
+impl Host {
+    fn new() -> Host {
+        Host {
+            words: [0; WORDS],
+            batch: no_batch(),
+            outcome: no_outcome(),
+        }
+    }
+}
+
+/// How many steps were told, how many notes came of them, and the phase.
+fn summary(host: &Host) -> (u32, u32, u32) {
+    (host.batch.count, host.outcome.count, host.outcome.phase)
+}
+
+/// The kinds of the first two notes.
+fn kinds(host: &Host) -> (u32, u32) {
+    (host.outcome.notes[0].kind, host.outcome.notes[1].kind)
+}
+
 /// Has a worker make its next own steps on the words.
-fn step(
-    rt: &HostRuntime,
-    handle: &mut Handle,
-    until: u32,
-    words: &mut [u64; WORDS],
-    batch: &mut Batch,
-    outcome: &mut Outcome,
-) -> u32
+fn step(rt: &HostRuntime, handle: &mut Handle, until: u32, host: &mut Host) -> u32
     requires { IsLive handle.old }
     ensures { IsLive handle.new }
 {
-    let refusal = rme_core_next(rt.alloc(), handle, until, batch);
+    let refusal = rme_core_next(rt.alloc(), handle, until, &mut host.batch);
     if refusal != 0 {
         return refusal;
     }
-    let made = make(words, batch);
-    rme_core_after(rt.alloc(), handle, batch, made, outcome)
+    let made = make(&mut host.words, &mut host.batch);
+    rme_core_after(rt.alloc(), handle, &host.batch, made, &mut host.outcome)
 }
 
 #[test]
 fn makes_a_job(rt: HostRuntime) -> Result<(), Fail> {
     let mut handle = Handle::dead(rt.alloc());
-    let mut words = [0; WORDS];
-    let mut batch = no_batch();
-    let mut outcome = no_outcome();
+    let mut host = Host::new();
     let mut number = 0;
     assert_eq!(rt; rme_core_new(rt.alloc(), 2, 1, 1, 10, 1, &mut handle), 0);
-    assert_eq!(rt;
-        step(&rt, &mut handle, 0, &mut words, &mut batch, &mut outcome),
-        0
-    );
-    assert_eq!(rt;
-        step(&rt, &mut handle, 0, &mut words, &mut batch, &mut outcome),
-        0
-    );
-    assert_eq!(rt;
-        (outcome.count, outcome.notes[0].kind, outcome.phase),
-        (1, 7, 5)
-    );
+    assert_eq!(rt; step(&rt, &mut handle, 0, &mut host), 0);
+    assert_eq!(rt; step(&rt, &mut handle, 0, &mut host), 0);
+    assert_eq!(rt; (host.outcome.count, host.outcome.phase), (1, 5));
+    assert_eq!(rt; kinds(&host).0, 7);
     assert_eq!(rt;
         rme_core_submit(rt.alloc(), &mut handle, 0, 1, &ADD_FIVE, &mut number),
         0
     );
     // The post, the way in and the loads; then the stores, the copy, the receipt and the way out.
+    assert_eq!(rt; step(&rt, &mut handle, 0, &mut host), 0);
+    assert_eq!(rt; summary(&host), (13, 2, 3));
+    assert_eq!(rt; kinds(&host), (1, 3));
+    assert_eq!(rt; step(&rt, &mut handle, 0, &mut host), 0);
+    assert_eq!(rt; summary(&host), (15, 2, 5));
+    assert_eq!(rt; (kinds(&host), host.outcome.notes[0].reply), ((5, 6), 5));
     assert_eq!(rt;
-        step(&rt, &mut handle, 0, &mut words, &mut batch, &mut outcome),
-        0
+        (
+            host.words[33],
+            host.words[62],
+            host.words[63],
+            host.words[64]
+        ),
+        (5, 0, 2, 5)
     );
-    assert_eq!(rt; (batch.count, outcome.count, outcome.phase), (13, 2, 3));
-    assert_eq!(rt; (outcome.notes[0].kind, outcome.notes[1].kind), (1, 3));
-    assert_eq!(rt;
-        step(&rt, &mut handle, 0, &mut words, &mut batch, &mut outcome),
-        0
-    );
-    assert_eq!(rt; (batch.count, outcome.count, outcome.phase), (15, 2, 5));
-    assert_eq!(rt; (outcome.notes[0].kind, outcome.notes[0].reply), (5, 5));
-    assert_eq!(rt; outcome.notes[1].kind, 6);
-    assert_eq!(rt; (words[33], words[62], words[63], words[64]), (5, 0, 2, 5));
     rme_core_free(handle);
     Ok(())
 }
@@ -160,52 +172,32 @@ fn makes_a_job(rt: HostRuntime) -> Result<(), Fail> {
 #[test]
 fn ends_where_it_is_told_to(rt: HostRuntime) -> Result<(), Fail> {
     let mut handle = Handle::dead(rt.alloc());
-    let mut words = [0; WORDS];
-    let mut batch = no_batch();
-    let mut outcome = no_outcome();
+    let mut host = Host::new();
     let mut number = 0;
     assert_eq!(rt; rme_core_new(rt.alloc(), 2, 1, 1, 10, 1, &mut handle), 0);
-    assert_eq!(rt;
-        step(&rt, &mut handle, 0, &mut words, &mut batch, &mut outcome),
-        0
-    );
-    assert_eq!(rt;
-        step(&rt, &mut handle, 0, &mut words, &mut batch, &mut outcome),
-        0
-    );
+    assert_eq!(rt; step(&rt, &mut handle, 0, &mut host), 0);
+    assert_eq!(rt; step(&rt, &mut handle, 0, &mut host), 0);
     assert_eq!(rt;
         rme_core_submit(rt.alloc(), &mut handle, 0, 1, &ADD_FIVE, &mut number),
         0
     );
-    assert_eq!(rt;
-        step(&rt, &mut handle, 1, &mut words, &mut batch, &mut outcome),
-        0
-    );
-    assert_eq!(rt; (batch.count, outcome.phase), (6, 2));
+    assert_eq!(rt; step(&rt, &mut handle, 1, &mut host), 0);
+    assert_eq!(rt; (host.batch.count, host.outcome.phase), (6, 2));
     // The node is another's: the batch ends behind the swap.
-    words[62] = 1;
+    host.words[62] = 1;
+    assert_eq!(rt; step(&rt, &mut handle, 3, &mut host), 0);
+    assert_eq!(rt; (host.outcome.count, host.outcome.notes[0].kind), (1, 2));
+    host.words[62] = 0;
+    assert_eq!(rt; step(&rt, &mut handle, 3, &mut host), 0);
     assert_eq!(rt;
-        step(&rt, &mut handle, 3, &mut words, &mut batch, &mut outcome),
-        0
+        (host.batch.count, host.outcome.notes[0].kind, host.words[62]),
+        (1, 3, 2)
     );
-    assert_eq!(rt; (outcome.count, outcome.notes[0].kind), (1, 2));
-    words[62] = 0;
-    assert_eq!(rt;
-        step(&rt, &mut handle, 3, &mut words, &mut batch, &mut outcome),
-        0
-    );
-    assert_eq!(rt; (batch.count, outcome.notes[0].kind, words[62]), (1, 3, 2));
     // The slate has a word of no script: what was guessed is not found, and the word is damage.
-    words[38] = 9;
-    assert_eq!(rt;
-        step(&rt, &mut handle, 0, &mut words, &mut batch, &mut outcome),
-        0
-    );
-    assert_eq!(rt;
-        step(&rt, &mut handle, 0, &mut words, &mut batch, &mut outcome),
-        DAMAGED
-    );
-    assert_eq!(rt; (outcome.count, outcome.phase), (0, 3));
+    host.words[38] = 9;
+    assert_eq!(rt; step(&rt, &mut handle, 0, &mut host), 0);
+    assert_eq!(rt; step(&rt, &mut handle, 0, &mut host), DAMAGED);
+    assert_eq!(rt; (host.outcome.count, host.outcome.phase), (0, 3));
     rme_core_free(handle);
     Ok(())
 }
