@@ -15,13 +15,12 @@ struct rme_core_worker {
 
 enum rme_core_operation { RME_CORE_LOAD = 1, RME_CORE_STORE, RME_CORE_SWAP, RME_CORE_EXPECT, RME_CORE_EXPECT_EVEN };
 
-/* One operation on the word of this number: a load; a store of `first`; a swap, which puts `second` where the word has
-   `first`; a load that is expected to find `first`, and one that is expected to find an even number below 2^32. */
+/* One operation on the word of this number: a load; a store of `value`; a swap, which puts `value` where the word has 0;
+   a load that is expected to find `value`, and one that is expected to find an even number below 2^32. */
 struct rme_core_action {
     uint32_t kind;
     size_t word;
-    uint64_t first;
-    uint64_t second;
+    uint64_t value;
 };
 
 /* Own steps that come one after the other as long as each swap puts its value and each load finds what is expected; and
@@ -94,9 +93,9 @@ enum rme_core_word_kind {
     RME_CORE_CELL
 };
 
-_Static_assert(sizeof(struct rme_core_action) == 32 && sizeof(struct rme_core_batch) == 3848,
+_Static_assert(sizeof(struct rme_core_action) == 24 && sizeof(struct rme_core_batch) == 3080,
                "as the crate lays it out");
-_Static_assert(offsetof(struct rme_core_batch, values) == 3080 && sizeof(struct rme_core_note) == 40, "likewise");
+_Static_assert(offsetof(struct rme_core_batch, values) == 2312 && sizeof(struct rme_core_note) == 40, "likewise");
 _Static_assert(sizeof(struct rme_core_standing) == 16 && sizeof(struct rme_core_outcome) == 3888, "likewise");
 
 uint32_t rme_core_new(uint32_t workers, uint32_t locks, uint32_t cells, uint32_t jobs, uint32_t worker,

@@ -13,6 +13,7 @@ struct rme_handle {
     atomic_int busy;             /* 1 while a thread is in a call */
     volatile unsigned char *own; /* 1 in the process that attached, 0 in a child of it */
     struct rme_receipt receipt;  /* of the section that was finished last */
+    uint64_t slate[3 * RME_MOST_OPERATIONS]; /* of the job that was handed over last, and behind it what was there */
     struct rme_core_batch batch;
     struct rme_core_outcome outcome; /* of the batch that was made last */
 };

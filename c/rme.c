@@ -37,35 +37,35 @@ static int told(uint32_t refusal) {
 /* Does the operations of a batch, one after the other, as far as the first that found what ends it, and answers how many.
    Of a store no value is read. */
 static uint32_t make_batch(_Atomic uint64_t *words, struct rme_core_batch *batch) {
-    const struct rme_core_action *action = batch->actions, *end = action + batch->count;
-    for (; action < end; action++) {
-        _Atomic uint64_t *word = &words[action->word];
-        uint64_t found = action->first;
-        if (action->kind == RME_CORE_STORE) {
-            atomic_store(word, found);
+    const uint32_t count = batch->count;
+    for (uint32_t i = 0; i < count; i++) {
+        const struct rme_core_action action = batch->actions[i];
+        _Atomic uint64_t *word = &words[action.word];
+        if (action.kind == RME_CORE_STORE) {
+            atomic_store(word, action.value);
             continue;
         }
-        uint64_t *value = &batch->values[action - batch->actions];
+        uint64_t found = 0;
         int goes_on = 1;
-        if (action->kind == RME_CORE_SWAP) {
-            goes_on = atomic_compare_exchange_strong(word, &found, action->second);
+        if (action.kind == RME_CORE_SWAP) {
+            goes_on = atomic_compare_exchange_strong(word, &found, action.value);
         } else {
             found = atomic_load(word);
-            goes_on = action->kind == RME_CORE_EXPECT        ? found == action->first
-                      : action->kind == RME_CORE_EXPECT_EVEN ? found % 2 == 0 && found >> 32 == 0
-                                                             : 1;
+            goes_on = action.kind == RME_CORE_EXPECT        ? found == action.value
+                      : action.kind == RME_CORE_EXPECT_EVEN ? found % 2 == 0 && found >> 32 == 0
+                                                            : 1;
         }
-        *value = found;
+        batch->values[i] = found;
         if (!goes_on) {
-            return (uint32_t)(action - batch->actions) + 1;
+            return i + 1;
         }
     }
-    return batch->count;
+    return count;
 }
 
 /* Makes the worker's next own steps, at least one, as far as one that says something of the kind `until`; RME_IDLE where
    it is ready and has none. The receipt of a section that is finished on the way is kept, also where damage ends it. */
-static int step(struct rme_handle *self, uint32_t until) {
+static inline int step(struct rme_handle *self, uint32_t until) {
     uint32_t refusal = rme_core_next(&self->core, until, &self->batch);
     if (refusal != 0) {
         return told(refusal);
@@ -164,16 +164,16 @@ static int recover(struct rme_handle *self) {
     return phase == RME_CORE_EXITS ? go_on(self, RME_CORE_QUIET, RME_FOREVER) : 0;
 }
 
-/* Hands over a job, which is not posted yet. */
+/* Hands over a job, which is not posted yet. Of the words the crate reads three for each operation. */
 static int hand(struct rme_handle *self, uint32_t lock, const struct rme_operation *operations, uint32_t count,
                 uint64_t *number) {
-    uint64_t words[3 * RME_MOST_OPERATIONS] = {0};
+    uint64_t *word = self->slate;
     for (uint32_t i = 0; i < count && count <= RME_MOST_OPERATIONS; i++) {
-        words[3 * i] = operations[i].kind;
-        words[3 * i + 1] = operations[i].cell;
-        words[3 * i + 2] = operations[i].value;
+        *word++ = operations[i].kind;
+        *word++ = operations[i].cell;
+        *word++ = operations[i].value;
     }
-    return told(rme_core_submit(&self->core, lock, count, words, number));
+    return told(rme_core_submit(&self->core, lock, count, self->slate, number));
 }
 
 static int submit(struct rme_handle *self, uint32_t lock, const struct rme_operation *operations, uint32_t count,

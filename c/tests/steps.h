@@ -45,8 +45,9 @@ uint32_t __wrap_rme_core_next(struct rme_core_worker *core, uint32_t until, stru
 static int goes_on(const struct rme_core_action *action, uint64_t found) {
     switch (action->kind) {
     case RME_CORE_SWAP:
+        return found == 0;
     case RME_CORE_EXPECT:
-        return found == action->first;
+        return found == action->value;
     case RME_CORE_EXPECT_EVEN:
         return found % 2 == 0 && found >> 32 == 0;
     default:

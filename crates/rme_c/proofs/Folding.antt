@@ -1,7 +1,7 @@
 -- Some more values after others.
-use Rattle.std.proofs.Common.{◌≡◌, ℕ, ◌+◌, ◌-◌, ◌<◌, ◌≤◌, List, [], ◌++◌, length, append_assoc, take, drop, sym, ap, subst, ◌∙◌, arith}
+use Rattle.std.proofs.Common.{◌≡◌, ℕ, ◌+◌, ◌-◌, ◌<◌, ◌≤◌, List, ◌++◌, length, append-nil, take, drop, sym, ap, subst, ◌∙◌, arith}
 use Rattle.std.specs.Prelude.{slice_index}
-use Rattle.std.proofs.lemmas.List.{length-drop, length-append, get_or-drop}
+use Rattle.std.proofs.lemmas.List.{length-drop, get_or-drop}
 use Rattle.std.proofs.lemmas.List.{map-append}
 use Rattle.rme_words.specs.declared.shape.Shape.{Shape}
 use Rattle.rme_program.specs.declared.note.Note.{Note}
@@ -10,11 +10,9 @@ use Rattle.rme_program.specs.Conditions.{IsPrivate, Takes}
 use Rattle.rme_c.specs.declared.flat.FlatNote.{FlatNote}
 use Rattle.rme_c.specs.declared.flat.Outcome.{Outcome}
 use Rattle.rme_c.specs.Flat.{flat_note}
-use Rattle.rme_c.specs.Folds.{IsDamaged, TakesAll, noted, flat_notes, notes_told}
+use Rattle.rme_c.specs.Folds.{IsDamaged, TakesAll, flat_notes, notes_told}
 use Rattle.rme_c.specs.Runs.{TakesTo, TookSome, Refuses}
-use Rattle.rme_c.specs.declared.guess.Guess.{Guess}
-use Rattle.rme_c.specs.Guesses.{IsGuess}
-use Rattle.rme_c.proofs.Led.{takes_run, noted_append}
+use Rattle.rme_c.proofs.Led.{takes_run}
 
 -- What a worker that took the first values knows, and what it said.
 pub record HasTaken (shape : Shape) (start now : Private) (outcome : Outcome) (values : List ℕ) (i : ℕ) : Type 0 where
@@ -33,31 +31,25 @@ all_taken shape start now outcome values i so = record { all = so.takes.all; lea
 
 module _ (shape : Shape) (start now : Private) (outcome : Outcome) (values : List ℕ) (i : ℕ) (so : HasTaken shape start now outcome values i) where
   -- Some more values are taken.
-  pub takes_some : (count : ℕ) (before note : Note) (new : Private) (one more : Outcome) → IsPrivate shape new → TookSome shape now (drop i values) count before note new → notes_told one ≡ notes_told outcome ++ flat_notes (noted before [])
-      → notes_told more ≡ notes_told one ++ flat_notes (noted note []) → one.count ≡ outcome.count + length (noted before []) → more.count ≡ one.count + length (noted note []) → HasTaken shape start new more values (i + count)
-  takes_some count before note new one more private took told_one told_more count_one count_more =
-      let enough : count ≤ length values - i = rw (sym (length-drop i values)) took.within in
-      let both : noted before [] ++ noted note [] ≡ noted before (noted note []) = noted_append before [] (noted note []) in
+  pub takes_some : (count : ℕ) (new : Private) (more : Outcome) → TookSome shape now (drop i values) count outcome new more → HasTaken shape start new more values (i + count)
+  takes_some count new more took =
+      let jumps = took.jumps in
+      let enough : count ≤ length values - i = rw (sym (length-drop i values)) jumps.within in
       record {
         within = omega (arith, so.within, enough);
-        private = private;
-        notes = so.notes ++ noted before (noted note []);
-        takes = takes_run shape start values i so.notes now new so.takes count (noted before (noted note [])) took.takes;
-        told = told_more ∙ ap (λ (l : List FlatNote). l ++ flat_notes (noted note [])) (told_one ∙ ap (λ (l : List FlatNote). l ++ flat_notes (noted before [])) so.told)
-            ∙ append_assoc (flat_notes so.notes) (flat_notes (noted before [])) (flat_notes (noted note [])) ∙ ap (λ (l : List FlatNote). flat_notes so.notes ++ l) (sym (map-append flat_note (noted before []) (noted note [])))
-            ∙ ap (λ (l : List Note). flat_notes so.notes ++ flat_notes l) both ∙ sym (map-append flat_note so.notes (noted before (noted note [])));
-        few = omega (arith, so.few, took.few, count_one, count_more, sym (length-append (noted before []) (noted note [])), ap (λ (l : List Note). length l) both);
+        private = jumps.private;
+        notes = so.notes ++ jumps.notes;
+        takes = takes_run shape start values i so.notes now new so.takes count jumps.notes jumps.takes;
+        told = jumps.writes.told ∙ ap (λ (l : List FlatNote). l ++ flat_notes jumps.notes) so.told ∙ sym (map-append flat_note so.notes jumps.notes);
+        few = omega (arith, so.few, jumps.few, jumps.writes.count);
       }
 
-  pub refuses_next : i < length values → (new : Private) → Refuses shape now (drop i values) new → IsDamaged shape start values (notes_told outcome) new
-  refuses_next within new refuses =
+  pub refuses_next : i < length values → (new : Private) (after : Outcome) → Refuses shape now (drop i values) outcome new after → IsDamaged shape start values (notes_told after) new
+  refuses_next within new after refuses =
       let first : slice_index (drop i values) 0 ≡ slice_index values i = index_drop values i in
+      let quiet : notes_told after ≡ notes_told outcome = refuses.quiet.told ∙ append-nil (notes_told outcome) in
       let T : ℕ → Type 0 = λ v. Takes shape now.stage v → ⊥ in
       let R : Private → Type 0 = λ p. Takes shape p.stage (slice_index values i) → ⊥ in
       let A : Private → Type 0 = λ p. TakesAll shape start (take i values) (notes_told outcome) p in
-      record { at = i; there = within; before = subst A (sym refuses.same) (all_taken shape start now outcome values i so); refused = subst R (sym refuses.same) (subst T first refuses.refused) }
-
--- The loop over the values.
-pub record TakesOn (shape : Shape) (start now : Private) (guess : Guess) (outcome : Outcome) (values : List ℕ) (i : ℕ) : Type 0 where
-  pub so : HasTaken shape start now outcome values i
-  pub guess_is : IsGuess shape guess
+      let N : List FlatNote → Type 0 = λ l. TakesAll shape start (take i values) l new in
+      record { at = i; there = within; before = subst N (sym quiet) (subst A (sym refuses.same) (all_taken shape start now outcome values i so)); refused = subst R (sym refuses.same) (subst T first refuses.refused) }

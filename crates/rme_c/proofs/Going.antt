@@ -96,7 +96,7 @@ module _ (shape : Shape) (worker begun : ℕ) (job : Job) where
 -- ---- the way up
 
 abbrev pub node_swap : Shape → ℕ → ℕ → ℕ → FlatAction
-node_swap shape worker lock level = flat_swap (word shape (Node lock (node shape.leaves worker level))) 0 (side shape.leaves worker level)
+node_swap shape worker lock level = flat_swap (word shape (Node lock (node shape.leaves worker level))) (side shape.leaves worker level)
 
 module _ (shape : Shape) (worker begun lock held : ℕ) where
   pub climb_goes_on : held + 1 < shape.height → Goes shape (climbing worker begun lock held) 0 Quiet (λ p. p ≡ climbing worker begun lock (held + 1))
@@ -109,7 +109,7 @@ module _ (shape : Shape) (worker begun lock held : ℕ) where
   pub climb_step : held + 1 < shape.height → Steps shape (climbing worker begun lock held) (node_swap shape worker lock (held + 1)) Quiet (λ p. p ≡ climbing worker begun lock (held + 1))
   climb_step below = record {
     busy = λ e. cc;
-    does = refl;
+    does = (refl, refl);
     goes = λ value goes. let P : ℕ → Type 0 = λ v. Goes shape (climbing worker begun lock held) v Quiet (λ p. p ≡ climbing worker begun lock (held + 1)) in subst P (sym (goes.swapped refl)) (climb_goes_on below);
   }
 
@@ -123,7 +123,7 @@ module _ (shape : Shape) (worker begun lock held : ℕ) where
   pub climb_last : held + 1 ≡ shape.height → Steps shape (climbing worker begun lock held) (node_swap shape worker lock (held + 1)) (Entered lock) (λ p. p ≡ at_stage worker begun (Logging (LoadTurn lock)))
   climb_last whole = record {
     busy = λ e. cc;
-    does = refl;
+    does = (refl, refl);
     goes = λ value goes. let P : ℕ → Type 0 = λ v. Goes shape (climbing worker begun lock held) v (Entered lock) (λ p. p ≡ at_stage worker begun (Logging (LoadTurn lock))) in subst P (sym (goes.swapped refl)) (climb_enters whole);
   }
 

@@ -18,8 +18,8 @@ use Rattle.rme_program.specs.declared.stage.Departure.TheVariants.{LoadExitTurn,
 use Rattle.rme_program.specs.Conditions.{IsPrivate, IsStage}
 use Rattle.rme_program.specs.Steps.{private_after, script_stage, cells_from_here, run_stage, finished, clear_stage}
 use Rattle.rme_c.specs.declared.guess.Guess.{Guess}
-use Rattle.rme_c.specs.declared.jumps.Taken.{Taken}
-use Rattle.rme_c.specs.Runs.{at_stage, climbing, TakesTo, LeadsBlindly, Jumps}
+use Rattle.rme_c.specs.declared.flat.Outcome.{Outcome}
+use Rattle.rme_c.specs.Runs.{at_stage, climbing, TakesTo, LeadsBlindly, Writes, Jumps}
 use Rattle.rme_c.specs.Guesses.{IsGuess, FindsGuess, FreesRoot}
 use Rattle.rme_c.proofs.Telling.{Goes}
 use Rattle.rme_c.proofs.Going.{posting, clearing, post_goes_on, post_asks, climb_goes_on, climb_enters, turn_goes_on, settle_goes_on, root_goes, clear_goes, lowest_goes}
@@ -225,8 +225,9 @@ module _ (shape : Shape) (worker begun lock : ℕ) (values : List ℕ) where
       subst P more (takes_one shape start values k (clearing worker begun lock (rest + 1)) (clearing worker begun lock rest) (subst Q here (clears_taken level k below (omega (arith, less)) (omega (arith, within)))) (omega (arith, within))
       (clear_goes shape worker begun lock rest (slice_index values k) (omega (arith, below, less)) (omega (arith, less))))
 
-  pub clears_jumps : (level : ℕ) → level < shape.height → level ≤ length values → IsPrivate shape (clearing worker begun lock level) → Jumps shape (clearing worker begun lock level) values level Quiet Ready (at_stage worker begun Resting)
-  clears_jumps level below within is =
+  pub clears_jumps : (level : ℕ) (before after : Outcome) → level < shape.height → level ≤ length values → Writes before (Ready ∷ []) after → IsPrivate shape (clearing worker begun lock level)
+      → Jumps shape (clearing worker begun lock level) values level before (at_stage worker begun Resting) after
+  clears_jumps level before after below within writes is =
       let some : 1 ≤ level = is.stage.1 in
       let k : ℕ = level - 1 in
       let more : k + 1 ≡ level = omega (arith, some) in
@@ -236,9 +237,11 @@ module _ (shape : Shape) (worker begun lock : ℕ) (values : List ℕ) where
       let Q : ℕ → Type 0 = λ l. TakesTo shape start (take k values) [] (clearing worker begun lock l) in
       record {
         within = within;
+        notes = Ready ∷ [];
         takes = subst P more (takes_noted shape start values k [] (clearing worker begun lock 1) (at_stage worker begun Resting) (subst Q one (clears_taken level k below (omega (arith, more)) (omega (arith, within, more))))
             (omega (arith, within, more)) Ready (lowest_goes shape worker begun lock (slice_index values k) (omega (arith, below, some))));
         few = omega (arith, some);
+        writes = writes;
         private = record { worker = is.worker; begun = is.begun; stage = tt };
       }
 
@@ -261,14 +264,13 @@ module _ (shape : Shape) (private : Private) (stage : Stage) (here : private.sta
   pub private_at : IsPrivate shape private → IsPrivate shape (at_stage private.worker private.begun stage)
   private_at is = let P : Private → Type 0 = λ p. IsPrivate shape p in subst P (sym there) is
 
-  pub jumps_at : (values : List ℕ) (count : ℕ) (before note : Note) (new : Private) → Jumps shape (at_stage private.worker private.begun stage) values count before note new → Jumps shape private values count before note new
-  jumps_at values count before note new so = let P : Private → Type 0 = λ p. Jumps shape p values count before note new in subst P there so
+  pub jumps_at : (values : List ℕ) (count : ℕ) (before : Outcome) (new : Private) (after : Outcome) → Jumps shape (at_stage private.worker private.begun stage) values count before new after → Jumps shape private values count before new after
+  jumps_at values count before new after so = let P : Private → Type 0 = λ p. Jumps shape p values count before new after in subst P there so
 
 -- Nothing was taken, and the stage is what it was.
-pub still : (shape : Shape) (private : Private) (values : List ℕ) (taken : Taken) (stage : Stage) → stage ≡ private.stage → Jumps shape private values taken.count taken.before taken.note private
-    → Jumps shape private values taken.count taken.before taken.note (at_stage private.worker private.begun stage)
-still shape private values taken stage same so =
-    let P : Stage → Type 0 = λ s. Jumps shape private values taken.count taken.before taken.note (at_stage private.worker private.begun s) in subst P (sym same) so
+pub still : (shape : Shape) (private : Private) (values : List ℕ) (outcome : Outcome) (stage : Stage) → stage ≡ private.stage → Jumps shape private values 0 outcome private outcome
+    → Jumps shape private values 0 outcome (at_stage private.worker private.begun stage) outcome
+still shape private values outcome stage same so = let P : Stage → Type 0 = λ s. Jumps shape private values 0 outcome (at_stage private.worker private.begun s) outcome in subst P (sym same) so
 
 -- A slice to the end.
 pub led_rest : (shape : Shape) (start : Private) (values : List ℕ) (i count : ℕ) (notes : List Note) (next : Private) → TakesTo shape start (take count (take (length values - i) (drop i values))) notes next

@@ -1,15 +1,18 @@
 -- Values taken one after another, that lead from one private state to another.
 use Rattle.std.proofs.Common.{◌≡◌, ℕ, ◌+◌, ◌<◌, ◌≤◌, List, [], ◌∷◌, ◌++◌, length, take, drop, length-take-le, take-add, refl, sym, ap, subst, ◌∙◌, arith}
 use Rattle.std.specs.Prelude.{slice_index, ◌==◌, false}
-use Rattle.std.proofs.lemmas.List.{take_more, take_all}
+use Rattle.std.proofs.Common.{append-nil, append_assoc}
+use Rattle.std.proofs.lemmas.List.{take_more, take_all, length-append, map-append}
 use Rattle.rme_words.specs.declared.shape.Shape.{Shape}
 use Rattle.rme_program.specs.declared.note.Note.{Note}
 use Rattle.rme_program.specs.declared.note.Note.TheVariants.{Quiet, Asked, Blocked, Entered, Reentered, Finished, Left, Ready, Withdrew}
 use Rattle.rme_program.specs.declared.private.Private.{Private}
 use Rattle.rme_program.specs.Conditions.{IsPrivate, Takes}
 use Rattle.rme_program.specs.Steps.{private_after, note_after}
-use Rattle.rme_c.specs.Folds.{AllTaken, led_to, said, noted}
-use Rattle.rme_c.specs.declared.jumps.Taken.{Taken}
+use Rattle.rme_c.specs.Folds.{AllTaken, led_to, said, noted, flat_notes, notes_told}
+use Rattle.rme_c.specs.declared.flat.FlatNote.{FlatNote}
+use Rattle.rme_c.specs.declared.flat.Outcome.{Outcome}
+use Rattle.rme_c.specs.Flat.{flat_note}
 use Rattle.rme_script.specs.Programs.{Program}
 use Rattle.rme_program.specs.Masks.{first_cell}
 use Rattle.rme_program.specs.declared.stage.Stage.TheVariants.{Logging, Copying}
@@ -17,7 +20,7 @@ use Rattle.rme_program.specs.declared.stage.Log.TheVariants.{StoreShadows}
 use Rattle.rme_program.specs.declared.stage.Redo.TheVariants.{LoadMask}
 use Rattle.rme_program.specs.declared.stage.Visit.{Visit}
 use Rattle.rme_program.specs.Steps.{shadows_from, copies_from, cells_from_here}
-use Rattle.rme_c.specs.Runs.{LeadsBlindly, TakesTo, Jumps, TookSome, at_stage}
+use Rattle.rme_c.specs.Runs.{LeadsBlindly, TakesTo, Writes, Jumps, TookSome, at_stage}
 use Rattle.rme_c.proofs.Telling.{Goes}
 
 pub led_append : (shape : Shape) (start : Private) (values more : List ℕ) → led_to shape start (values ++ more) ≡ led_to shape (led_to shape start values) more
@@ -106,19 +109,37 @@ module _ (shape : Shape) (start : Private) where
 
 -- ---- jumps
 
-pub jumps_nothing : (shape : Shape) (private : Private) (values : List ℕ) → IsPrivate shape private → Jumps shape private values 0 Quiet Quiet private
-jumps_nothing shape private values is = record { within = omega arith; takes = takes_none shape private; few = omega arith; private = is }
+pub writes_none : (outcome : Outcome) → Writes outcome [] outcome
+writes_none outcome = record { told = sym (append-nil (notes_told outcome)); count = omega arith }
 
--- Nothing was taken, as a call says it.
-pub jumps_none : (shape : Shape) (private : Private) (values : List ℕ) (taken : Taken) → taken ≡ record { count = 0; before = Quiet; note = Quiet } → IsPrivate shape private → Jumps shape private values taken.count taken.before taken.note private
-jumps_none shape private values taken none is = let P : Taken → Type 0 = λ t. Jumps shape private values t.count t.before t.note private in subst P (sym none) (jumps_nothing shape private values is)
+pub writes_one : (before after : Outcome) (flat : FlatNote) (note : Note) → flat ≡ flat_note note → notes_told after ≡ notes_told before ++ flat ∷ [] → after.count ≡ before.count + 1 → Writes before (note ∷ []) after
+writes_one before after flat note is told count = record { told = told ∙ ap (λ (n : FlatNote). notes_told before ++ n ∷ []) is; count = count }
 
-pub not_jumped : (shape : Shape) (private new : Private) (values : List ℕ) (count : ℕ) (before note : Note) → count ≡ 0 → Jumps shape private values count before note new → new ≡ private
-unfolding led_to
-not_jumped shape private new values count before note none so =
-    let P : ℕ → Type 0 = λ k. TakesTo shape private (take k values) (noted before (noted note [])) new in
-    let nothing : TakesTo shape private [] (noted before (noted note [])) new = subst P none so.takes in
-    nothing.leads
+pub writes_then : (before mid after : Outcome) (notes more : List Note) → Writes before notes mid → Writes mid more after → Writes before (notes ++ more) after
+writes_then before mid after notes more so then_so = record {
+  told = then_so.told ∙ ap (λ (l : List FlatNote). l ++ flat_notes more) so.told ∙ append_assoc (notes_told before) (flat_notes notes) (flat_notes more)
+      ∙ ap (λ (l : List FlatNote). notes_told before ++ l) (sym (map-append flat_note notes more));
+  count = omega (arith, so.count, then_so.count, length-append notes more);
+}
+
+-- Nothing was taken.
+pub jumps_none : (shape : Shape) (private : Private) (values : List ℕ) (outcome : Outcome) → IsPrivate shape private → Jumps shape private values 0 outcome private outcome
+jumps_none shape private values outcome is = record { within = omega arith; notes = []; takes = takes_none shape private; few = omega arith; writes = writes_none outcome; private = is }
+
+nothing_said : (notes : List Note) → length notes ≤ 0 → notes ≡ []
+nothing_said [] few = refl
+nothing_said (note ∷ rest) few = let never : ⊥ = omega (arith, few) in absurd never
+
+module _ (shape : Shape) (private new : Private) (values : List ℕ) (count : ℕ) (before after : Outcome) (none : count ≡ 0) (so : Jumps shape private values count before new after) where
+  pub not_jumped : new ≡ private
+  unfolding led_to
+  not_jumped =
+      let P : ℕ → Type 0 = λ k. TakesTo shape private (take k values) so.notes new in
+      let nothing : TakesTo shape private [] so.notes new = subst P none so.takes in
+      nothing.leads
+
+  pub not_said : Writes before [] after
+  not_said = let P : List Note → Type 0 = λ l. Writes before l after in subst P (nothing_said so.notes (omega (arith, so.few, none))) so.writes
 
 -- One note at most is said of a step.
 pub one_note : (note : Note) (rest : List Note) → length (noted note rest) ≤ length rest + 1
@@ -132,11 +153,22 @@ one_note (Left lock) rest = omega arith
 one_note Ready rest = omega arith
 one_note (Withdrew number) rest = omega arith
 
-pub took_one : (shape : Shape) (private : Private) (values : List ℕ) (note : Note) (new : Private) → 1 ≤ length values → Takes shape private.stage (slice_index values 0) → new ≡ private_after shape private (slice_index values 0)
-    → note ≡ note_after shape private (slice_index values 0) → TookSome shape private values 1 Quiet note new
-took_one shape private [] note new some takes is says = let never : ⊥ = omega (arith, some) in absurd never
-took_one shape private (v ∷ rest) note new some takes is says =
-    record { some = omega arith; within = some; takes = takes_this_from shape private v note new record { takes = takes; says = sym says; next = sym is }; few = one_note note [] }
+pub took_one : (shape : Shape) (private : Private) (values : List ℕ) (note : Note) (new : Private) (before after : Outcome) → 1 ≤ length values → Takes shape private.stage (slice_index values 0)
+    → new ≡ private_after shape private (slice_index values 0) → note ≡ note_after shape private (slice_index values 0) → Writes before (noted note []) after → IsPrivate shape new
+    → TookSome shape private values 1 before new after
+took_one shape private [] note new before after some takes is says writes private_is = let never : ⊥ = omega (arith, some) in absurd never
+took_one shape private (v ∷ rest) note new before after some takes is says writes private_is =
+    record {
+      some = omega arith;
+      jumps = record {
+        within = some;
+        notes = noted note [];
+        takes = takes_this_from shape private v note new record { takes = takes; says = sym says; next = sym is };
+        few = one_note note [];
+        writes = writes;
+        private = private_is;
+      };
+    }
 
 pub not_empty : (values : List ℕ) → false ≡ (length values == 0) → 1 ≤ length values
 not_empty [] not = cc

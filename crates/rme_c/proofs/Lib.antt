@@ -1,5 +1,6 @@
 mod Telling
 mod Going
+mod Handing
 mod Loading
 mod Finishing
 mod Led

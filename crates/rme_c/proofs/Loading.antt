@@ -220,13 +220,14 @@ module _ (shape : Shape) (worker n at : ℕ) (p : Private) (loads : LoadsSlate w
 
 -- ---- a guess
 
-pub nothing_guessed : (shape : Shape) (script : Program) → script ≡ record { n = 0; ops = [] } → IsGuess shape record { script = script; words = replicate 24 0; named = 0; place = 0 }
+pub nothing_guessed : (shape : Shape) (script : Program) → script ≡ record { n = 0; ops = [] } → IsGuess shape record { script = script; words = replicate 24 0; named = 0 }
 unfolding mask_of
 nothing_guessed shape script is =
     let empty : Program = record { n = 0; ops = [] } in
-    let P : Program → Type 0 = λ p. IsGuess shape record { script = p; words = replicate 24 0; named = 0; place = 0 } in
+    let P : Program → Type 0 = λ p. IsGuess shape record { script = p; words = replicate 24 0; named = 0 } in
     subst P (sym is) record {
       script = record { few = omega arith; counted = refl; within = All-nil (IsWithin shape.cells) };
+      checked = refl;
       slate = record { counted = refl; script = record { few = omega arith; counted = refl; within = All-nil (IsWithin (2 ^ 32)) }; first = refl };
       named = refl;
     }

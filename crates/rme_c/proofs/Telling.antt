@@ -1,7 +1,11 @@
 -- One more action behind others.
-use Rattle.std.proofs.Common.{◌≡◌, ◌≢◌, inl, ℕ, ◌≤◌, true, false, List, [], ◌∷◌, ◌++◌, refl, sym, ap, subst, ◌∙◌}
+use Rattle.std.proofs.Common.{◌≡◌, ◌≢◌, inl, ℕ, ◌≤◌, ◌+◌, ◌-◌, ◌*◌, ◌/◌, ◌%◌, nat_lt, true, false, List, [], ◌∷◌, ◌++◌, refl, sym, ap, subst, ◌∙◌}
+use Rattle.std.specs.Prelude.{Bool, ◌==◌, if◌then◌else◌, slice_index}
 use Rattle.std.proofs.Common.{append-nil, append_assoc}
 use Rattle.rme_words.specs.declared.shape.Shape.{Shape}
+use Rattle.rme_words.specs.declared.address.Address.TheVariants.{Begun, SlateLock, SlateLen, SlateWord}
+use Rattle.rme_script.specs.Slates.{slate_of}
+use Rattle.rme_program.specs.declared.stage.Slate.{Slate}
 use Rattle.rme_program.specs.declared.action.Action.{Action}
 use Rattle.rme_program.specs.declared.action.Action.TheVariants.{Load, Store, Swap}
 use Rattle.rme_program.specs.declared.note.Note.{Note}
@@ -148,11 +152,65 @@ stores_blindly shape worker begun (Leaving (WithdrawAt lock held)) store = recor
 stores_blindly shape worker begun (Leaving (WithdrawReply lock held)) store = record { takes = λ v. tt; leads = λ v w. refl; knows = λ v w. refl }
 stores_blindly shape worker begun (Leaving (WithdrawDone lock held)) store = record { takes = λ v. tt; leads = λ v w. refl; knows = λ v w. refl }
 
--- The plain form of an action does it.
-pub plain_does : (shape : Shape) (action : Action) → Does shape (flat_action shape action) action
-plain_does shape (Load address) = (inl refl, refl)
-plain_does shape (Store address value) = refl
-plain_does shape (Swap address from to) = refl
+-- A swap is one from 0.
+abbrev FromZero : Action → Type 0
+FromZero (Load address) = Unit {0}
+FromZero (Store address value) = Unit {0}
+FromZero (Swap address from to) = from ≡ 0
+
+slate_from_zero : (worker begun : ℕ) (slate : Slate) (first second below : Bool)
+    → FromZero (if first then Store (SlateLock worker) slate.job.lock else if second then Store (SlateLen worker) slate.job.script.n
+    else if below then Store (SlateWord worker ((slate.stored - 2) / 3) ((slate.stored - 2) % 3)) (slice_index (slate_of slate.job.script.ops) (slate.stored - 2)) else Store (Begun worker) (begun + 1))
+slate_from_zero worker begun slate true second below = tt
+slate_from_zero worker begun slate false true below = tt
+slate_from_zero worker begun slate false false true = tt
+slate_from_zero worker begun slate false false false = tt
+
+from_zero : (shape : Shape) (worker begun : ℕ) (stage : Stage) → FromZero (action_at shape worker begun stage)
+from_zero shape worker begun Resting = tt
+from_zero shape worker begun (Recovering LoadBegun) = tt
+from_zero shape worker begun (Recovering LoadDone) = tt
+from_zero shape worker begun (Recovering (LoadLock true)) = tt
+from_zero shape worker begun (Recovering (LoadLock false)) = tt
+from_zero shape worker begun (Recovering (LoadPath pending lock held)) = tt
+from_zero shape worker begun (Posting slate) = slate_from_zero worker begun slate (slate.stored == 0) (slate.stored == 1) (nat_lt slate.stored (2 + 3 * slate.job.script.n))
+from_zero shape worker begun (Climbing ascent) = refl
+from_zero shape worker begun (Logging (LoadTurn lock)) = tt
+from_zero shape worker begun (Logging (LoadLen lock turn)) = tt
+from_zero shape worker begun (Logging (LoadSlate lock turn operations words loaded)) = tt
+from_zero shape worker begun (Logging (LoadCells lock turn script named row cell)) = tt
+from_zero shape worker begun (Logging (StoreShadows visit named row reply cell)) = tt
+from_zero shape worker begun (Logging (StoreShadowReply visit named reply)) = tt
+from_zero shape worker begun (Logging (StoreMask visit named)) = tt
+from_zero shape worker begun (Logging (StoreTurn visit)) = tt
+from_zero shape worker begun (Copying (LoadMask visit)) = tt
+from_zero shape worker begun (Copying (LoadShadow visit mask cell)) = tt
+from_zero shape worker begun (Copying (StoreCell visit mask cell value)) = tt
+from_zero shape worker begun (Copying (LoadReply visit mask)) = tt
+from_zero shape worker begun (Copying (StoreReply visit mask reply)) = tt
+from_zero shape worker begun (Copying (StorePlace visit mask reply)) = tt
+from_zero shape worker begun (Copying (StoreAt visit mask reply)) = tt
+from_zero shape worker begun (Copying (StoreDone visit mask reply)) = tt
+from_zero shape worker begun (Leaving (LoadExitTurn lock)) = tt
+from_zero shape worker begun (Leaving (StoreExitTurn lock turn)) = tt
+from_zero shape worker begun (Leaving (Clear lock level)) = tt
+from_zero shape worker begun (Leaving (WithdrawPlace lock held)) = tt
+from_zero shape worker begun (Leaving (WithdrawAt lock held)) = tt
+from_zero shape worker begun (Leaving (WithdrawReply lock held)) = tt
+from_zero shape worker begun (Leaving (WithdrawDone lock held)) = tt
+
+does_flat : (shape : Shape) (action : Action) → FromZero action → Does shape (flat_action shape action) action
+does_flat shape (Load address) zero = (inl refl, refl)
+does_flat shape (Store address value) zero = refl
+does_flat shape (Swap address from to) zero = (zero, refl)
+
+-- The plain form of a worker's action does it.
+pub plain_does : (shape : Shape) (private : Private) → Does shape (flat_action shape (action_of shape private)) (action_of shape private)
+plain_does shape private = does_flat shape (action_of shape private) (from_zero shape private.worker private.begun private.stage)
+
+-- Several actions behind others are one, and the rest behind it.
+pub more_told : (before : List FlatAction) (one : FlatAction) (rest : List FlatAction) → before ++ one ∷ rest ≡ (before ++ one ∷ []) ++ rest
+more_told before one rest = sym (append_assoc before (one ∷ []) rest)
 
 -- A worker makes its store, and goes on.
 pub store_steps : (shape : Shape) (private now : Private) → IsStore (action_of shape private) → private.stage ≢ Resting → now ≡ private_after shape private 0 → note_after shape private 0 ≡ Quiet
@@ -161,7 +219,7 @@ store_steps shape private now store busy is quiet =
     let blind : IsBlind shape private.worker private.begun private.stage = stores_blindly shape private.worker private.begun private.stage store in
     record {
       busy = busy;
-      does = plain_does shape (action_of shape private);
+      does = plain_does shape private;
       goes = λ value goes. record {
         takes = blind.takes value;
         says = ap (λ (s : Stage × Note). s.1) (blind.leads value 0) ∙ quiet;

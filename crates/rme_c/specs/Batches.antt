@@ -21,16 +21,16 @@ actions_told batch = take batch.count batch.actions
 abbrev pub IsLoad : ℕ → Type 0
 IsLoad kind = (kind ≡ 1) ⊎ ((kind ≡ 4) ⊎ (kind ≡ 5))
 
--- What C does is the operation of a step, on the same word.
+-- What C does is the operation of a step, on the same word. A swap is one from 0.
 abbrev pub Does : Shape → FlatAction → Action → Type 0
 Does shape flat (Load address) = IsLoad flat.kind × (flat.word ≡ word shape address)
 Does shape flat (Store address value) = flat ≡ flat_action shape (Store address value)
-Does shape flat (Swap address from to) = flat ≡ flat_action shape (Swap address from to)
+Does shape flat (Swap address from to) = (from ≡ 0) × (flat ≡ flat_action shape (Swap address from to))
 
 -- A batch goes on behind an action that found this: a swap that put its value, a load that found what it expected.
 pub record GoesOn (action : FlatAction) (found : ℕ) : Type 0 where
-  pub swapped : action.kind ≡ 3 → found ≡ action.first
-  pub expected : action.kind ≡ 4 → found ≡ action.first
+  pub swapped : action.kind ≡ 3 → found ≡ 0
+  pub expected : action.kind ≡ 4 → found ≡ action.value
   pub even : action.kind ≡ 5 → (found < 2 ^ 32) × (found % 2 ≡ 0)
 
 -- It is this kind of note, and no quiet one.

@@ -25,25 +25,26 @@ use Rattle.rme_c.specs.declared.flat.Stance.{Stance}
 
 -- A plain load, a load that is expected to find this, and one that is expected to find an even number below 2^32.
 abbrev pub plain_load : ℕ → FlatAction
-plain_load word = record { kind = 1; word = word; first = 0; second = 0 }
+plain_load word = record { kind = 1; word = word; value = 0 }
 
 abbrev pub expecting_load : ℕ → ℕ → FlatAction
-expecting_load word value = record { kind = 4; word = word; first = value; second = 0 }
+expecting_load word value = record { kind = 4; word = word; value = value }
 
 abbrev pub even_load : ℕ → FlatAction
-even_load word = record { kind = 5; word = word; first = 0; second = 0 }
+even_load word = record { kind = 5; word = word; value = 0 }
 
 abbrev pub flat_store : ℕ → ℕ → FlatAction
-flat_store word value = record { kind = 2; word = word; first = value; second = 0 }
+flat_store word value = record { kind = 2; word = word; value = value }
 
-abbrev pub flat_swap : ℕ → ℕ → ℕ → FlatAction
-flat_swap word from to = record { kind = 3; word = word; first = from; second = to }
+-- A swap of a word that should have 0, as all of them are.
+abbrev pub flat_swap : ℕ → ℕ → FlatAction
+flat_swap word value = record { kind = 3; word = word; value = value }
 
 -- The plain form of an action, on the word by its number among the words of the shape.
 abbrev pub flat_action : Shape → Action → FlatAction
 flat_action shape (Load address) = plain_load (word shape address)
 flat_action shape (Store address value) = flat_store (word shape address) value
-flat_action shape (Swap address from to) = flat_swap (word shape address) from to
+flat_action shape (Swap address from to) = flat_swap (word shape address) to
 
 abbrev pub lock_note : ℕ → ℕ → FlatNote
 lock_note kind lock = record { kind = kind; worker = 0; lock = lock; number = 0; place = 0; reply = 0 }

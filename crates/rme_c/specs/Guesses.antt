@@ -1,7 +1,7 @@
 -- What a worker guesses of its own job, and what its loads find where the guess is right.
-use Rattle.std.specs.Prelude.{◌≡◌, ℕ, ◌+◌, ◌*◌, ◌%◌, ◌^◌, ◌<◌, ◌≤◌, List, length, take, drop, slice_index}
+use Rattle.std.specs.Prelude.{◌≡◌, ℕ, ◌+◌, ◌*◌, ◌%◌, ◌^◌, ◌<◌, ◌≤◌, List, length, take, drop, slice_index, Ok}
 use Rattle.rme_words.specs.declared.shape.Shape.{Shape}
-use Rattle.rme_script.specs.Scripts.{IsScript}
+use Rattle.rme_script.specs.Scripts.{IsScript, check_of}
 use Rattle.rme_script.specs.Slates.{IsSlate}
 use Rattle.rme_program.specs.Masks.{mask_of}
 use Rattle.rme_c.specs.declared.guess.Guess.{Guess}
@@ -9,6 +9,7 @@ use Rattle.rme_c.specs.declared.guess.Guess.{Guess}
 -- The words are the slate of the script, which is one of the shape's cells, and the mask has the cells that it names.
 pub record IsGuess (shape : Shape) (guess : Guess) : Type 0 where
   pub script : IsScript shape.cells guess.script
+  pub checked : check_of shape.cells guess.script ≡ Ok tt
   pub slate : IsSlate guess.script.n guess.words guess.script
   pub named : guess.named ≡ mask_of guess.script.ops
 

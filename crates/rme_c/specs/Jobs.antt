@@ -9,19 +9,24 @@ use Rattle.rme_script.specs.Scripts.{check_of}
 use Rattle.rme_program.specs.declared.private.Private.{Private}
 use Rattle.rme_program.specs.declared.stage.Stage.{Stage}
 use Rattle.rme_program.specs.declared.stage.Stage.TheVariants.{Resting, Recovering, Posting, Climbing, Logging, Copying, Leaving}
+use Rattle.rme_c.specs.declared.guess.Guess.{Guess}
 
-abbrev pub unless_checked : Result (Unit {0}) Refusal → Result Job Refusal → Result Job Refusal
-unless_checked (Ok tt) rest = rest
-unless_checked (Err refusal) rest = Err refusal
+abbrev pub unless_checked : Result (Unit {0}) Refusal → Program → Result Program Refusal
+unless_checked (Ok tt) script = Ok script
+unless_checked (Err refusal) script = Err refusal
 
--- The script is one of the shape's cells, and there is a number left for the job.
-abbrev pub checked_job : Shape → ℕ → ℕ → Option Program → Result Job Refusal
-checked_job shape begun lock None = Err BadScript
-checked_job shape begun lock (Some script) =
-    unless_checked (check_of shape.cells script) (if nat_lt begun shape.jobs then Ok record { lock = lock; script = script } else Err TooManyJobs)
+-- The slate has a script, and that is one of the shape's cells.
+abbrev pub checked_script : Shape → Option Program → Result Program Refusal
+checked_script shape None = Err BadScript
+checked_script shape (Some script) = unless_checked (check_of shape.cells script) script
+
+-- There is a number left for the job.
+abbrev pub numbered_job : Shape → ℕ → ℕ → Result Program Refusal → Result Job Refusal
+numbered_job shape begun lock (Ok script) = if nat_lt begun shape.jobs then Ok record { lock = lock; script = script } else Err TooManyJobs
+numbered_job shape begun lock (Err refusal) = Err refusal
 
 abbrev pub ready_job : Shape → ℕ → ℕ → Option Program → Result Job Refusal
-ready_job shape begun lock script = if nat_lt lock shape.locks then checked_job shape begun lock script else Err NoLock
+ready_job shape begun lock script = if nat_lt lock shape.locks then numbered_job shape begun lock (checked_script shape script) else Err NoLock
 
 -- The job that a worker is handed, or why it is not: it is not ready, or for the lock, the script or the number.
 abbrev pub job_at : Shape → ℕ → Stage → ℕ → Option Program → Result Job Refusal
@@ -55,3 +60,8 @@ step_refusal (Climbing ascent) = None
 step_refusal (Logging log) = None
 step_refusal (Copying redo) = None
 step_refusal (Leaving departure) = None
+
+-- The script of a guess that is made, or why it is not.
+abbrev pub script_guessed : Result Guess Refusal → Result Program Refusal
+script_guessed (Ok guess) = Ok guess.script
+script_guessed (Err refusal) = Err refusal

@@ -1,5 +1,5 @@
 -- What the functions below the calls promise of batches and of values: how far actions lead, and values.
-use Rattle.std.specs.Prelude.{◌≡◌, ◌≤◌, ℕ, List, [], ◌++◌, length, take, slice_index}
+use Rattle.std.specs.Prelude.{◌≡◌, ◌≤◌, ◌+◌, ℕ, List, [], ◌++◌, length, take, slice_index}
 use Rattle.rme_words.specs.declared.shape.Shape.{Shape}
 use Rattle.rme_script.specs.Programs.{Program}
 use Rattle.rme_program.specs.declared.note.Note.{Note}
@@ -10,7 +10,8 @@ use Rattle.rme_program.specs.declared.stage.Log.TheVariants.{LoadSlate, LoadCell
 use Rattle.rme_program.specs.Conditions.{IsPrivate, Takes}
 use Rattle.rme_c.specs.declared.flat.FlatAction.{FlatAction}
 use Rattle.rme_c.specs.Batches.{Foretells}
-use Rattle.rme_c.specs.Folds.{AllTaken, led_to, said, noted}
+use Rattle.rme_c.specs.declared.flat.Outcome.{Outcome}
+use Rattle.rme_c.specs.Folds.{AllTaken, led_to, said, flat_notes, notes_told}
 
 -- ACTIONS
 
@@ -55,21 +56,27 @@ pub record TakesTo (shape : Shape) (old : Private) (values : List ℕ) (notes : 
 abbrev pub LeadsBlindly : Shape → Private → ℕ → Private → Type 0
 LeadsBlindly shape old count new = (values : List ℕ) → length values ≡ count → TakesTo shape old values [] new
 
--- The worker takes so many of the values, and these two notes are all that it says.
-pub record Jumps (shape : Shape) (old : Private) (values : List ℕ) (count : ℕ) (before note : Note) (new : Private) : Type 0 where
+-- These notes are written down behind those that are there.
+pub record Writes (before : Outcome) (notes : List Note) (after : Outcome) : Type 0 where
+  pub told : notes_told after ≡ notes_told before ++ flat_notes notes
+  pub count : after.count ≡ before.count + length notes
+
+-- The worker takes so many of the values, and what it says is written down.
+pub record Jumps (shape : Shape) (old : Private) (values : List ℕ) (count : ℕ) (before : Outcome) (new : Private) (after : Outcome) : Type 0 where
   pub within : count ≤ length values
-  pub takes : TakesTo shape old (take count values) (noted before (noted note [])) new
-  pub few : length (noted before (noted note [])) ≤ count
+  pub notes : List Note
+  pub takes : TakesTo shape old (take count values) notes new
+  pub few : length notes ≤ count
+  pub writes : Writes before notes after
   pub private : IsPrivate shape new
 
 -- The same of at least one value.
-pub record TookSome (shape : Shape) (old : Private) (values : List ℕ) (count : ℕ) (before note : Note) (new : Private) : Type 0 where
+pub record TookSome (shape : Shape) (old : Private) (values : List ℕ) (count : ℕ) (before : Outcome) (new : Private) (after : Outcome) : Type 0 where
   pub some : 1 ≤ count
-  pub within : count ≤ length values
-  pub takes : TakesTo shape old (take count values) (noted before (noted note [])) new
-  pub few : length (noted before (noted note [])) ≤ count
+  pub jumps : Jumps shape old values count before new after
 
--- The first of the values may not be taken, and the worker is as it was.
-pub record Refuses (shape : Shape) (old : Private) (values : List ℕ) (new : Private) : Type 0 where
+-- The first of the values may not be taken, the worker is as it was, and nothing is said.
+pub record Refuses (shape : Shape) (old : Private) (values : List ℕ) (before : Outcome) (new : Private) (after : Outcome) : Type 0 where
   pub refused : Takes shape old.stage (slice_index values 0) → ⊥
   pub same : new ≡ old
+  pub quiet : Writes before [] after

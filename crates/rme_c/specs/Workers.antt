@@ -1,11 +1,15 @@
 -- What stands behind a handle.
-use Rattle.std.specs.Prelude.{◌≡◌, ℕ, ◌≤◌}
+use Rattle.std.specs.Prelude.{◌≡◌, ℕ, ◌<◌, ◌≤◌, Option, Result, Ok, Err}
 use Rattle.rme_words.specs.declared.shape.Shape.{Shape}
+use Rattle.rme_words.specs.declared.refusal.Refusal.{Refusal}
+use Rattle.rme_script.specs.Programs.{Program}
+use Rattle.rme_program.specs.declared.stage.Stage.TheVariants.{Resting}
 use Rattle.rme_program.specs.declared.private.Private.{Private}
 use Rattle.rme_program.specs.Conditions.{IsPrivate}
 use Rattle.rme_program.specs.Steps.{restarted_private}
 use Rattle.rme_c.specs.declared.worker.Worker.{Worker}
 use Rattle.rme_c.specs.Guesses.{IsGuess}
+use Rattle.rme_c.specs.Jobs.{job_of}
 
 -- A private state of the shape, of which at most a batch is outstanding.
 pub record IsWorker (worker : Worker) : Type 0 where
@@ -22,3 +26,13 @@ pub record Knows (worker : Worker) (shape : Shape) (private : Private) (told : �
 -- It comes up and knows its number alone.
 abbrev pub Restarted : Shape → ℕ → Worker → Type 0
 Restarted shape worker new = Knows new shape (restarted_private worker) 0
+
+-- The worker guesses the slate of the job that it may be handed; or it is handed none, and is as it was.
+abbrev pub MayPost : Worker → ℕ → Option Program → Result (Unit {0}) Refusal → Worker → Type 0
+MayPost old lock script (Ok tt) new =
+    (job_of old.shape old.private lock script ≡ Ok record { lock = lock; script = new.guess.script })
+    × Knows new old.shape old.private old.told
+    × (old.private.stage ≡ Resting)
+    × (lock < old.shape.locks)
+    × (old.private.begun < old.shape.jobs)
+MayPost old lock script (Err refusal) new = (job_of old.shape old.private lock script ≡ Err refusal) × (new ≡ old)

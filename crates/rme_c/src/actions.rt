@@ -1,20 +1,22 @@
-//! The actions of a batch, one more at a time.
+//! The actions of a batch, some more at a time.
 
-ghost use Rattle.std.specs.Prelude.{◌≡◌, ◌<◌, ◌+◌, ◌++◌, [], ◌∷◌};
+ghost use Rattle.std.specs.Prelude.{◌≡◌, ◌≤◌, ◌+◌, ◌++◌};
 ghost use Rattle.rme_c.specs.Flat.{plain_load, expecting_load, even_load, flat_store, flat_swap};
 ghost use Rattle.rme_c.specs.Batches.{actions_told};
 
 use crate::flat::{Batch, FlatAction};
 
-/// Puts one more action into the batch.
-pub fn put(batch: &mut Batch, action: FlatAction)
-    requires room { batch.old.count < 96 }
-    ensures told { actions_told batch.new ≡ actions_told batch.old ++ action ∷ [] }
-    ensures count { batch.new.count ≡ batch.old.count + 1 }
+/// Puts some more actions into the batch.
+pub fn put<const N: usize>(batch: &mut Batch, actions: [FlatAction; N])
+    requires room { batch.old.count + N ≤ 96 }
+    ensures told { actions_told batch.new ≡ actions_told batch.old ++ actions.entry }
+    ensures count { batch.new.count ≡ batch.old.count + N }
 {
     let place = batch.count as usize;
-    batch.actions[place] = action;
-    batch.count += 1;
+    for at in 0..N {
+        batch.actions[place + at] = actions[at];
+    }
+    batch.count += N as u32;
 }
 
 /// A load that may find anything.
@@ -24,8 +26,7 @@ pub fn load(word: usize) -> FlatAction
     FlatAction {
         kind: 1,
         word,
-        first: 0,
-        second: 0,
+        value: 0,
     }
 }
 
@@ -36,8 +37,7 @@ pub fn expect(word: usize, value: u64) -> FlatAction
     FlatAction {
         kind: 4,
         word,
-        first: value,
-        second: 0,
+        value,
     }
 }
 
@@ -48,8 +48,7 @@ pub fn expect_even(word: usize) -> FlatAction
     FlatAction {
         kind: 5,
         word,
-        first: 0,
-        second: 0,
+        value: 0,
     }
 }
 
@@ -60,19 +59,17 @@ pub fn store(word: usize, value: u64) -> FlatAction
     FlatAction {
         kind: 2,
         word,
-        first: value,
-        second: 0,
+        value,
     }
 }
 
-/// A swap, which should find `from`.
-pub fn swap(word: usize, from: u64, to: u64) -> FlatAction
-    ensures { result ≡ flat_swap word from to }
+/// A swap, which should find 0.
+pub fn swap(word: usize, value: u64) -> FlatAction
+    ensures { result ≡ flat_swap word value }
 {
     FlatAction {
         kind: 3,
         word,
-        first: from,
-        second: to,
+        value,
     }
 }

@@ -11,11 +11,11 @@ ghost use Rattle.rme_c.specs.Flat.{flat_action};
 ghost use Rattle.rme_c.specs.Batches.{Foretells, actions_told};
 ghost use Rattle.rme_c.specs.Guesses.{IsGuess};
 
-use crate::actions::put;
+use crate::actions::{load, put, store, swap};
 use crate::flat::{Batch, FlatAction, MOST_ACTIONS};
 use crate::guess::Guess;
 use crate::loads::{tell_cells, tell_section, tell_slate};
-use crate::runs::{tell_clears, tell_out, tell_post, tell_way_in};
+use crate::runs::{tell_clears, tell_post, tell_way_in};
 use crate::stores::tell_finish;
 use rme_program::{Action, Departure, Log, Note, Private, Stage, after, next};
 use rme_words::Shape;
@@ -48,7 +48,7 @@ pub fn tell(shape: Shape, private: &Private, guess: &Guess, until: u32, batch: &
             batch,
         ),
         Stage::Logging(log) => tell_log(shape, private, log, guess, until, batch),
-        Stage::Leaving(departure) => tell_departure(shape, private, departure, guess, until, batch),
+        Stage::Leaving(departure) => tell_departure(shape, private, departure, until, batch),
         _ => tell_stores(shape, private, until, batch),
     }
 }
@@ -101,7 +101,6 @@ fn tell_departure(
     shape: Shape,
     private: &Private,
     departure: &Departure,
-    guess: &Guess,
     until: u32,
     batch: &mut Batch,
 )
@@ -113,9 +112,6 @@ fn tell_departure(
     ensures few { batch.new.count ≤ 96 }
 {
     match departure {
-        Departure::LoadExitTurn { lock } if guess.place < 1 << 31 => {
-            tell_out(shape, private.worker, *lock, guess.place, until, batch)
-        }
         Departure::Clear { lock, level } if *level < shape.height => {
             tell_clears(shape, private.worker, *lock, *level, until, batch)
         }
@@ -133,7 +129,7 @@ fn tell_stores(shape: Shape, private: &Private, until: u32, batch: &mut Batch)
     ensures few { batch.new.count ≤ 96 }
 {
     let first = next(shape, private);
-    put(batch, flat(shape, first));
+    put(batch, [flat(shape, first)]);
     let Action::Store(..) = first else {
         return;
     };
@@ -143,7 +139,7 @@ fn tell_stores(shape: Shape, private: &Private, until: u32, batch: &mut Batch)
             return;
         }
         let action = next(shape, &ahead);
-        put(batch, flat(shape, action));
+        put(batch, [flat(shape, action)]);
         let Action::Store(..) = action else {
             return;
         };
@@ -174,23 +170,8 @@ fn flat(shape: Shape, action: Action) -> FlatAction
     ensures { result ≡ flat_action shape action }
 {
     match action {
-        Action::Load(address) => FlatAction {
-            kind: 1,
-            word: shape.word(address),
-            first: 0,
-            second: 0,
-        },
-        Action::Store(address, value) => FlatAction {
-            kind: 2,
-            word: shape.word(address),
-            first: value,
-            second: 0,
-        },
-        Action::Swap(address, from, to) => FlatAction {
-            kind: 3,
-            word: shape.word(address),
-            first: from,
-            second: to,
-        },
+        Action::Load(address) => load(shape.word(address)),
+        Action::Store(address, value) => store(shape.word(address), value),
+        Action::Swap(address, _, to) => swap(shape.word(address), to),
     }
 }

@@ -7,13 +7,12 @@ pub const MOST_ACTIONS: u32 = 96;
 #[repr(C)]
 #[derive(Clone, Copy)]
 pub struct FlatAction {
-    /// 1 loads the word, 2 stores `first` into it, 3 puts `second` into it exactly where it has `first`; 4 and 5 load it
-    /// too. A batch ends behind a 3 that did not find `first`, behind a 4 that did not find `first`, and behind a 5 that
-    /// did not find an even number below 2^32.
+    /// 1 loads the word, 2 stores `value` into it, 3 puts `value` into it exactly where it has 0; 4 and 5 load it too. A
+    /// batch ends behind a 3 that did not find 0, behind a 4 that did not find `value`, and behind a 5 that did not find
+    /// an even number below 2^32.
     pub kind: u32,
     pub word: usize,
-    pub first: u64,
-    pub second: u64,
+    pub value: u64,
 }
 
 /// The next own steps of a worker, and what each of them found.

@@ -1,25 +1,26 @@
 //! What a worker guesses that its loads will find, since it stored these words itself. A batch ends where a load finds
 //! something else, so a wrong guess costs time alone.
 
-ghost use Rattle.std.specs.Prelude.{◌≡◌};
+ghost use Rattle.std.specs.Prelude.{◌≡◌, ◌*◌, IsTrue, Result, IfOk, take};
 ghost use Rattle.rme_words.specs.declared.shape.Shape.{Shape};
+ghost use Rattle.rme_script.specs.Slates.{script_of};
 ghost use Rattle.rme_c.specs.Guesses.{IsGuess};
+ghost use Rattle.rme_c.specs.Jobs.{checked_script, script_guessed};
 
-use rme_program::Note;
-use rme_script::{SLATE_WORDS, Script};
+use rme_program::mask_of;
+use rme_script::{SLATE_WORDS, Script, from_slate};
+use rme_words::{Refusal, Shape};
 
-/// A job's script with the words of its slate and the cells that it names, and the place of the section that was finished
-/// last.
+/// A job's script with the words of its slate and the cells that it names.
 #[derive(Clone, Copy)]
 pub struct Guess {
     pub script: Script,
     pub words: [u64; SLATE_WORDS],
     pub named: u64,
-    pub place: u32,
 }
 
 impl Guess {
-    /// The guess of a worker that knows of no job: the empty script, and the first section.
+    /// The guess of a worker that knows of no job: the empty script.
     pub fn nothing() -> Guess
         ensures { (shape : Shape) → IsGuess shape result }
     {
@@ -27,16 +28,39 @@ impl Guess {
             script: Script::of(&[]),
             words: [0; SLATE_WORDS],
             named: 0,
-            place: 0,
         }
     }
 
-    /// Learns the place of a section that is finished.
-    pub fn learn(&mut self, note: Note)
-        ensures { (shape : Shape) → IsGuess shape self.old → IsGuess shape self.new }
+    /// The guess of a worker that has this slate, or why no worker of this shape may have it: `BadScript`, or `NoCell`.
+    pub fn of(shape: Shape, operations: u32, words: &[u64; SLATE_WORDS]) -> Result<Guess, Refusal>
+        ensures script { script_guessed result ≡ checked_script shape (script_of operations words.now) }
+        ensures guess { IfOk result (λ guess. IsGuess shape guess) }
     {
-        if let Note::Finished(receipt) = note {
-            self.place = receipt.place;
+        let Some(script) = from_slate(u64::from(operations), words) else {
+            return Err(Refusal::BadScript);
+        };
+        if let Err(refusal) = script.check(shape) {
+            return Err(refusal);
         }
+        Ok(Guess {
+            script,
+            words: *words,
+            named: mask_of(&script),
+        })
+    }
+
+    /// These are the words of the slate.
+    pub fn is_of(&self, operations: u32, words: &[u64; SLATE_WORDS]) -> bool
+        ensures { IsTrue result → (operations ≡ self.now.script.n) × (take (3 * operations) words.now ≡ take (3 * operations) self.now.words) }
+    {
+        if operations > 8 || operations != self.script.n() {
+            return false;
+        }
+        for at in 0..3 * operations as usize {
+            if words[at] != self.words[at] {
+                return false;
+            }
+        }
+        true
     }
 }

@@ -32,11 +32,21 @@ pub fn tell_section(
     ensures few { batch.new.count ≤ 96 }
 {
     let n = guess.script.n();
-    put(batch, expect_even(shape.turn_at(lock)));
-    put(batch, expect(shape.slate_len_at(worker), u64::from(n)));
-    for at in 0..3 * n {
-        let word = shape.slate_at(worker, at / 3, at % 3);
-        put(batch, expect(word, guess.words[at as usize]));
+    let turn = expect_even(shape.turn_at(lock));
+    put(
+        batch,
+        [turn, expect(shape.slate_len_at(worker), u64::from(n))],
+    );
+    for at in 0..n {
+        let first = 3 * at as usize;
+        put(
+            batch,
+            [
+                expect(shape.slate_at(worker, at, 0), guess.words[first]),
+                expect(shape.slate_at(worker, at, 1), guess.words[first + 1]),
+                expect(shape.slate_at(worker, at, 2), guess.words[first + 2]),
+            ],
+        );
     }
     if let Some(cell) = first_cell(guess.named, 0, shape.cells) {
         tell_cells(shape, lock, guess.named, cell, until, batch);
@@ -62,9 +72,9 @@ pub fn tell_slate(
 {
     let last = 3 * operations - 1;
     for at in loaded..last {
-        put(batch, load(shape.slate_at(worker, at / 3, at % 3)));
+        put(batch, [load(shape.slate_at(worker, at / 3, at % 3))]);
     }
-    put(batch, load(shape.slate_at(worker, last / 3, last % 3)));
+    put(batch, [load(shape.slate_at(worker, last / 3, last % 3))]);
 }
 
 /// The loads of the named cells from `cell` on.
@@ -78,8 +88,8 @@ pub fn tell_cells(shape: Shape, lock: u32, named: u64, cell: u32, until: u32, ba
 {
     let mut at = cell;
     while let Some(next) = first_cell(named, at + 1, shape.cells) {
-        put(batch, load(shape.cell_at(lock, at)));
+        put(batch, [load(shape.cell_at(lock, at))]);
         at = next;
     }
-    put(batch, load(shape.cell_at(lock, at)));
+    put(batch, [load(shape.cell_at(lock, at))]);
 }

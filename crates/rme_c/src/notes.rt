@@ -1,7 +1,7 @@
 //! Notes, phases and locks as plain numbers.
 
-ghost use Rattle.std.specs.Prelude.{◌≡◌, ◌<◌, ◌≤◌, ◌+◌, ◌++◌, [], length};
-ghost use Rattle.rme_c.specs.Flat.{flat_note, phase_number, lock_number, lock_of_log, lock_of_redo, lock_of_departure};
+ghost use Rattle.std.specs.Prelude.{◌≡◌, ◌<◌, ◌+◌, ◌++◌, [], ◌∷◌, length};
+ghost use Rattle.rme_c.specs.Flat.{flat_note, lock_note, number_note, phase_number, lock_number, lock_of_log, lock_of_redo, lock_of_departure};
 ghost use Rattle.rme_c.specs.Folds.{flat_notes, noted, notes_told};
 
 use crate::flat::{FlatNote, Outcome};
@@ -19,74 +19,79 @@ pub const FINISHED: u32 = 5;
 
 pub const LEFT: u32 = 6;
 
+/// A worker that has left all nodes.
+pub const READY: u32 = 7;
+
 /// Writes one more note down, where it says something.
 pub fn put_note(outcome: &mut Outcome, note: Note)
     requires room { outcome.old.count < 97 }
     ensures told { notes_told outcome.new ≡ notes_told outcome.old ++ flat_notes (noted note []) }
     ensures count { outcome.new.count ≡ outcome.old.count + length (noted note []) }
 {
-    if let Note::Quiet = note {
-        return;
+    match note {
+        Note::Quiet => {}
+        Note::Asked(number) => put(outcome, number_note(1, number)),
+        Note::Blocked => put(outcome, number_note(2, 0)),
+        Note::Entered(lock) => put(outcome, lock_note(3, lock)),
+        Note::Reentered(lock) => put(outcome, lock_note(4, lock)),
+        Note::Finished(receipt) => put(outcome, receipt_note(receipt)),
+        Note::Left(lock) => put(outcome, lock_note(6, lock)),
+        Note::Ready => put(outcome, number_note(7, 0)),
+        Note::Withdrew(number) => put(outcome, number_note(8, number)),
     }
+}
+
+/// Writes one more note down.
+pub fn put(outcome: &mut Outcome, note: FlatNote)
+    requires room { outcome.old.count < 97 }
+    ensures told { notes_told outcome.new ≡ notes_told outcome.old ++ note ∷ [] }
+    ensures count { outcome.new.count ≡ outcome.old.count + 1 }
+{
     let place = outcome.count as usize;
-    write_note(&mut outcome.notes[place], note);
+    outcome.notes[place] = note;
     outcome.count += 1;
 }
 
-/// Writes a note down as plain numbers.
-fn write_note(flat: &mut FlatNote, note: Note)
-    ensures { flat.new ≡ flat_note note }
+/// A note of this kind that has a number, or nothing.
+pub fn number_note(kind: u32, number: u32) -> FlatNote
+    ensures { result ≡ number_note kind number }
 {
-    match note {
-        Note::Quiet => write_number(flat, 0, 0),
-        Note::Asked(number) => write_number(flat, 1, u64::from(number)),
-        Note::Blocked => write_number(flat, 2, 0),
-        Note::Entered(lock) => write_lock(flat, 3, lock),
-        Note::Reentered(lock) => write_lock(flat, 4, lock),
-        Note::Finished(receipt) => write_receipt(flat, receipt),
-        Note::Left(lock) => write_lock(flat, 6, lock),
-        Note::Ready => write_number(flat, 7, 0),
-        Note::Withdrew(number) => write_number(flat, 8, u64::from(number)),
-    }
-}
-
-fn write_number(flat: &mut FlatNote, kind: u32, number: u64)
-    ensures { flat.new ≡ record { kind = kind; worker = 0; lock = 0; number = number; place = 0; reply = 0 } }
-{
-    *flat = FlatNote {
+    FlatNote {
         kind,
         worker: 0,
         lock: 0,
-        number,
+        number: u64::from(number),
         place: 0,
         reply: 0,
-    };
+    }
 }
 
-fn write_lock(flat: &mut FlatNote, kind: u32, lock: u32)
-    ensures { flat.new ≡ record { kind = kind; worker = 0; lock = lock; number = 0; place = 0; reply = 0 } }
+/// A note of this kind that has a lock.
+pub fn lock_note(kind: u32, lock: u32) -> FlatNote
+    ensures { result ≡ lock_note kind lock }
 {
-    *flat = FlatNote {
+    FlatNote {
         kind,
         worker: 0,
         lock,
         number: 0,
         place: 0,
         reply: 0,
-    };
+    }
 }
 
-fn write_receipt(flat: &mut FlatNote, receipt: Receipt)
-    ensures { flat.new ≡ record { kind = 5; worker = receipt.worker; lock = receipt.lock; number = receipt.number; place = receipt.place; reply = receipt.reply } }
+/// The note of a section that is finished.
+pub fn receipt_note(receipt: Receipt) -> FlatNote
+    ensures { result ≡ flat_note (Note.Finished receipt) }
 {
-    *flat = FlatNote {
-        kind: 5,
+    FlatNote {
+        kind: FINISHED,
         worker: receipt.worker,
         lock: receipt.lock,
         number: u64::from(receipt.number),
         place: u64::from(receipt.place),
         reply: receipt.reply,
-    };
+    }
 }
 
 /// The number of a phase.

@@ -16,7 +16,7 @@ use crate::guess::Guess;
 use crate::loads::tell_section;
 use crate::notes::{ASKED, ENTERED, LEFT};
 use rme_program::{Private, Slate};
-use rme_script::slate_word;
+use rme_script::op_words;
 use rme_tree::{node, side};
 use rme_words::Shape;
 
@@ -66,19 +66,24 @@ fn tell_slate_stores(shape: Shape, private: &Private, slate: &Slate, until: u32,
     let worker = private.worker;
     let script = &slate.job.script;
     let n = script.n();
+    let lock = store(shape.slate_lock_at(worker), u64::from(slate.job.lock));
     put(
         batch,
-        store(shape.slate_lock_at(worker), u64::from(slate.job.lock)),
+        [lock, store(shape.slate_len_at(worker), u64::from(n))],
     );
-    put(batch, store(shape.slate_len_at(worker), u64::from(n)));
-    for at in 0..3 * n {
-        let word = shape.slate_at(worker, at / 3, at % 3);
-        put(batch, store(word, slate_word(script, at)));
+    for at in 0..n {
+        let [kind, first, second] = op_words(script.op(at));
+        put(
+            batch,
+            [
+                store(shape.slate_at(worker, at, 0), kind),
+                store(shape.slate_at(worker, at, 1), first),
+                store(shape.slate_at(worker, at, 2), second),
+            ],
+        );
     }
-    put(
-        batch,
-        store(shape.begun_at(worker), u64::from(private.begun) + 1),
-    );
+    let number = u64::from(private.begun) + 1;
+    put(batch, [store(shape.begun_at(worker), number)]);
 }
 
 /// The way in of a worker that holds so many nodes, and what comes then.
@@ -120,11 +125,11 @@ fn tell_swaps(shape: Shape, worker: u32, lock: u32, held: u32, until: u32, batch
 {
     for level in held + 1..shape.height {
         let word = shape.node_at(lock, node(shape, worker, level));
-        put(batch, swap(word, 0, side(shape, worker, level)));
+        put(batch, [swap(word, side(shape, worker, level))]);
     }
     let root = shape.height;
     let word = shape.node_at(lock, node(shape, worker, root));
-    put(batch, swap(word, 0, side(shape, worker, root)));
+    put(batch, [swap(word, side(shape, worker, root))]);
 }
 
 /// The way out of a section of this place: the turn is counted up, and then the nodes are freed.
@@ -158,9 +163,14 @@ fn tell_root(shape: Shape, worker: u32, lock: u32, place: u32, until: u32, batch
 {
     let turn = 2 * u64::from(place) + 1;
     let root = node(shape, worker, shape.height);
-    put(batch, expect(shape.turn_at(lock), turn));
-    put(batch, store(shape.turn_at(lock), turn + 1));
-    put(batch, store(shape.node_at(lock, root), 0));
+    put(
+        batch,
+        [
+            expect(shape.turn_at(lock), turn),
+            store(shape.turn_at(lock), turn + 1),
+            store(shape.node_at(lock, root), 0),
+        ],
+    );
 }
 
 /// The stores that free the nodes from a level below the root's on.
@@ -177,10 +187,9 @@ pub fn tell_clears(shape: Shape, worker: u32, lock: u32, level: u32, until: u32,
 {
     for cleared in 0..level - 1 {
         let at = level - cleared;
-        put(
-            batch,
-            store(shape.node_at(lock, node(shape, worker, at)), 0),
-        );
+        let word = shape.node_at(lock, node(shape, worker, at));
+        put(batch, [store(word, 0)]);
     }
-    put(batch, store(shape.node_at(lock, node(shape, worker, 1)), 0));
+    let lowest = shape.node_at(lock, node(shape, worker, 1));
+    put(batch, [store(lowest, 0)]);
 }

@@ -69,7 +69,7 @@ fn tell_rest(
     tell_shadows(shape, visit, named, row, cell, until, batch);
     tell_turn(shape, visit, named, reply, until, batch);
     tell_copies(shape, visit, named, row, until, batch);
-    put(batch, expect(shape.shadow_reply_at(visit.lock), reply));
+    put(batch, [expect(shape.shadow_reply_at(visit.lock), reply)]);
     tell_receipt(shape, private, visit, reply, until, batch);
 }
 
@@ -94,10 +94,10 @@ fn tell_shadows(
 {
     let lock = visit.lock;
     let mut at = cell;
-    put(batch, store(shape.shadow_at(lock, at), row.get(at)));
+    put(batch, [store(shape.shadow_at(lock, at), row.get(at))]);
     while let Some(next) = first_cell(named, at + 1, shape.cells) {
         at = next;
-        put(batch, store(shape.shadow_at(lock, at), row.get(at)));
+        put(batch, [store(shape.shadow_at(lock, at), row.get(at))]);
     }
 }
 
@@ -111,10 +111,15 @@ fn tell_turn(shape: Shape, visit: &Visit, named: u64, reply: u64, until: u32, ba
     ensures count { batch.new.count ≡ batch.old.count + 4 }
 {
     let lock = visit.lock;
-    put(batch, store(shape.shadow_reply_at(lock), reply));
-    put(batch, store(shape.mask_at(lock), named));
-    put(batch, store(shape.turn_at(lock), u64::from(visit.turn) + 1));
-    put(batch, expect(shape.mask_at(lock), named));
+    put(
+        batch,
+        [
+            store(shape.shadow_reply_at(lock), reply),
+            store(shape.mask_at(lock), named),
+            store(shape.turn_at(lock), u64::from(visit.turn) + 1),
+            expect(shape.mask_at(lock), named),
+        ],
+    );
 }
 
 /// The copies of the named cells: the load of each shadow word, and the store of the cell.
@@ -131,8 +136,8 @@ fn tell_copies(shape: Shape, visit: &Visit, named: u64, row: &Row, until: u32, b
     let mut from = 0;
     while let Some(cell) = first_cell(named, from, shape.cells) {
         let value = row.get(cell);
-        put(batch, expect(shape.shadow_at(lock, cell), value));
-        put(batch, store(shape.cell_at(lock, cell), value));
+        let shadow = expect(shape.shadow_at(lock, cell), value);
+        put(batch, [shadow, store(shape.cell_at(lock, cell), value)]);
         from = cell + 1;
     }
 }
@@ -157,17 +162,13 @@ fn tell_receipt(
     ensures count { batch.new.count ≡ batch.old.count + 4 }
 {
     let worker = private.worker;
-    put(batch, store(shape.reply_at(worker), reply));
     put(
         batch,
-        store(shape.place_at(worker), u64::from(visit.turn / 2)),
-    );
-    put(
-        batch,
-        store(shape.receipt_lock_at(worker), u64::from(visit.lock)),
-    );
-    put(
-        batch,
-        store(shape.done_at(worker), u64::from(private.begun)),
+        [
+            store(shape.reply_at(worker), reply),
+            store(shape.place_at(worker), u64::from(visit.turn / 2)),
+            store(shape.receipt_lock_at(worker), u64::from(visit.lock)),
+            store(shape.done_at(worker), u64::from(private.begun)),
+        ],
     );
 }

@@ -12,9 +12,9 @@ ghost use Rattle.rme_c.specs.Guesses.{IsGuess};
 
 use crate::flat::Outcome;
 use crate::guess::Guess;
-use crate::jumps::{Taken, jump};
+use crate::jumps::jump;
 use crate::notes::put_note;
-use rme_program::{Departure, Log, Note, Private, Recovery, Stage, after};
+use rme_program::{Departure, Log, Private, Recovery, Stage, after};
 use rme_script::{SLATE_WORDS, from_slate};
 use rme_words::Shape;
 
@@ -85,61 +85,61 @@ fn ends_slate(
     }
 }
 
-/// Has a worker take the values of a run, or else the first value.
+/// Has a worker take the values of a run, or else the first value, writes down what the steps said, and answers how many
+/// were taken.
 ///
 /// It answers `None` where the next step may not take the first value, which changes nothing.
-fn take_some(shape: Shape, guess: &Guess, private: &mut Private, values: &[u64]) -> Option<Taken>
-    requires private { IsPrivate shape private.old }
-    requires guess { IsGuess shape guess.now }
+fn take_some(
+    shape: &Shape,
+    guess: &Guess,
+    private: &mut Private,
+    values: &[u64],
+    outcome: &mut Outcome,
+) -> Option<usize>
+    requires private { IsPrivate shape.now private.old }
+    requires guess { IsGuess shape.now guess.now }
     requires some { 1 ≤ length values.now }
-    ensures private { IsPrivate shape private.new }
-    ensures taken { MatchOption result (Refuses shape private.old values.now private.new) (λ taken. TookSome shape private.old values.now taken.count taken.before taken.note private.new) }
+    requires room { outcome.old.count + length values.now ≤ 96 }
+    ensures private { IsPrivate shape.now private.new }
+    ensures taken { MatchOption result (Refuses shape.now private.old values.now outcome.old private.new outcome.new) (λ count. TookSome shape.now private.old values.now count outcome.old private.new outcome.new) }
 {
-    let taken = jump(shape, guess, values, private);
-    if taken.count > 0 {
+    let taken = jump(shape, guess, values, private, outcome);
+    if taken > 0 {
         return Some(taken);
     }
     let value = values[0];
-    if !may_take(shape, private, value) {
+    if !may_take(*shape, private, value) {
         return None;
     }
-    let note = after(shape, private, value);
-    Some(Taken {
-        count: 1,
-        before: Note::Quiet,
-        note,
-    })
+    let note = after(*shape, private, value);
+    put_note(outcome, note);
+    Some(1)
 }
 
 /// Has a worker take the values that its next steps found, one after another, and writes down what the steps said.
 ///
 /// It answers false at the first value that the step may not take, and the worker is as it was before that step.
 pub fn take_all(
-    shape: Shape,
-    guess: &mut Guess,
+    shape: &Shape,
+    guess: &Guess,
     private: &mut Private,
     values: &[u64],
     outcome: &mut Outcome,
 ) -> bool
-    requires private { IsPrivate shape private.old }
-    requires guess { IsGuess shape guess.old }
+    requires private { IsPrivate shape.now private.old }
+    requires guess { IsGuess shape.now guess.now }
     requires few { length values.now ≤ 96 }
-    ensures guess { IsGuess shape guess.new }
-    ensures private { IsPrivate shape private.new }
-    ensures taken { IsTrue result → TakesAll shape private.old values.now (notes_told outcome.new) private.new }
-    ensures damaged { IsFalse result → IsDamaged shape private.old values.now (notes_told outcome.new) private.new }
+    ensures private { IsPrivate shape.now private.new }
+    ensures taken { IsTrue result → TakesAll shape.now private.old values.now (notes_told outcome.new) private.new }
+    ensures damaged { IsFalse result → IsDamaged shape.now private.old values.now (notes_told outcome.new) private.new }
 {
     outcome.count = 0;
     let mut at = 0;
     while at < values.len() {
-        let Some(taken) = take_some(shape, guess, private, &values[at..]) else {
+        let Some(taken) = take_some(shape, guess, private, &values[at..], outcome) else {
             return false;
         };
-        guess.learn(taken.before);
-        guess.learn(taken.note);
-        put_note(outcome, taken.before);
-        put_note(outcome, taken.note);
-        at += taken.count;
+        at += taken;
     }
     true
 }

@@ -13,8 +13,7 @@ use std::test::Fail;
 const NO_ACTION: FlatAction = FlatAction {
     kind: 0,
     word: 0,
-    first: 0,
-    second: 0,
+    value: 0,
 };
 
 fn no_batch() -> Batch {
@@ -67,16 +66,16 @@ fn act(words: &mut [u64; WORDS], action: FlatAction) -> (u64, bool) {
     let found = *word;
     match action.kind {
         2 => {
-            *word = action.first;
+            *word = action.value;
             (found, true)
         }
         3 => {
-            if found == action.first {
-                *word = action.second;
+            if found == 0 {
+                *word = action.value;
             }
-            (found, found == action.first)
+            (found, found == 0)
         }
-        4 => (found, found == action.first),
+        4 => (found, found == action.value),
         5 => (found, found % 2 == 0 && found < 1 << 32),
         _ => (found, true),
     }

@@ -6,8 +6,8 @@ use crate::flat::{Batch, Outcome, Stance};
 use crate::guess::Guess;
 use crate::notes::{lock_number, phase_number};
 use crate::taking::take_all;
-use rme_program::{Private, Slate, Stage, mask_of, phase};
-use rme_script::{Job, SLATE_WORDS, from_slate};
+use rme_program::{Private, Slate, Stage, phase};
+use rme_script::{Job, SLATE_WORDS};
 use rme_words::{Refusal, Shape};
 
 /// What stands behind a handle.
@@ -22,13 +22,10 @@ pub struct Worker {
 }
 
 impl Worker {
-    ghost use Rattle.std.specs.Prelude.{◌≡◌, ◌<◌, IfOk};
-    ghost use Rattle.rme_program.specs.declared.stage.Stage.{Stage};
-    ghost use Rattle.rme_program.specs.Conditions.{IsJob};
-    ghost use Rattle.rme_c.specs.Workers.{IsWorker, Restarted};
+    ghost use Rattle.std.specs.Prelude.{◌<◌};
+    ghost use Rattle.rme_c.specs.Workers.{IsWorker, Restarted, MayPost};
     ghost use Rattle.rme_c.specs.Calls.{Told, TookBack, Stood, Posted, Withdrew};
-    ghost use Rattle.rme_c.specs.Jobs.{job_of};
-    ghost use Rattle.rme_script.specs.Slates.{script_of, IsSlate};
+    ghost use Rattle.rme_script.specs.Slates.{script_of};
 
     /// A worker that comes up: it knows its own number alone.
     pub fn restarted(shape: Shape, worker: u32) -> Worker
@@ -74,8 +71,8 @@ impl Worker {
         }
         self.told = 0;
         let taken = take_all(
-            self.shape,
-            &mut self.guess,
+            &self.shape,
+            &self.guess,
             &mut self.private,
             &batch.values[..count as usize],
             outcome,
@@ -139,28 +136,26 @@ impl Worker {
         ensures posted { Posted self.old lock operations words.now number.old result self.new number.new }
         ensures worker { IsWorker self.new }
     {
-        let job = match self.may_post(lock, operations, words) {
-            Ok(job) => job,
-            Err(refusal) => return refusal.code(),
-        };
+        if let Err(refusal) = self.may_post(lock, operations, words) {
+            return refusal.code();
+        }
         *number = u64::from(self.private.begun) + 1;
-        self.guess.script = job.script;
-        self.guess.words = *words;
-        self.guess.named = mask_of(&job.script);
+        let script = self.guess.script;
+        let job = Job { lock, script };
         self.private.stage = Stage::Posting(Slate { job, stored: 0 });
         0
     }
 
-    /// The job that the worker may be handed, or why it may not.
+    /// Has the worker guess the slate of the job that it may be handed, or answers why it may not.
     fn may_post(
-        &self,
+        &mut self,
         lock: u32,
         operations: u32,
         words: &[u64; SLATE_WORDS],
-    ) -> Result<Job, Refusal>
-        ensures job { result ≡ job_of self.now.shape self.now.private lock (script_of operations words.now) }
-        ensures ready { IfOk result (λ job. (self.now.private.stage ≡ Stage.Resting) × (self.now.private.begun < self.now.shape.jobs) × IsJob self.now.shape job) }
-        ensures slate { IfOk result (λ job. IsSlate operations words.now job.script) }
+    ) -> Result<(), Refusal>
+        requires { IsWorker self.old }
+        ensures may { MayPost self.old lock (script_of operations words.now) result self.new }
+        ensures worker { IsWorker self.new }
     {
         let Stage::Resting = self.private.stage else {
             return Err(Refusal::Busy);
@@ -168,15 +163,19 @@ impl Worker {
         if lock >= self.shape.locks {
             return Err(Refusal::NoLock);
         }
-        let Some(script) = from_slate(u64::from(operations), words) else {
-            return Err(Refusal::BadScript);
-        };
-        if let Err(refusal) = script.check(self.shape) {
-            return Err(refusal);
+        let is_over = self.private.begun >= self.shape.jobs;
+        if self.guess.is_of(operations, words) {
+            return if is_over {
+                Err(Refusal::TooManyJobs)
+            } else {
+                Ok(())
+            };
         }
-        if self.private.begun >= self.shape.jobs {
+        let guess = Guess::of(self.shape, operations, words)?;
+        if is_over {
             return Err(Refusal::TooManyJobs);
         }
-        Ok(Job { lock, script })
+        self.guess = guess;
+        Ok(())
     }
 }

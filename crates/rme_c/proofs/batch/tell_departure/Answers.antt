@@ -7,13 +7,6 @@ use Rattle.rme_c.proofs.Telling.{leads_fresh}
 use Rattle.rme_program.specs.declared.stage.Stage.TheVariants.{Leaving}
 use Rattle.rme_c.proofs.batch.tell_departure.Goals as goal
 
-pub returns-in-LoadExitTurn-clause-foretells : goal.returns-in-LoadExitTurn-clause-foretells
-returns-in-LoadExitTurn-clause-foretells c =
-    let private = c.args.private.now in let told : List FlatAction = actions_told c.args.batch.now in
-    let fresh : told ≡ [] = ap (λ (n : ℕ). take n c.args.batch.now.actions) c.requires.fresh in
-    let P : Stage → Type 0 = λ s. LeadsTo c.args.shape c.args.until private told (at_stage private.worker private.begun s) in
-    c.tell_out.ensures.foretells private private.begun (subst P (c.requires.here ∙ ap Leaving c.in-LoadExitTurn.is) (leads_fresh c.args.shape c.args.until private told fresh))
-
 pub returns-in-Clear-clause-foretells : goal.returns-in-Clear-clause-foretells
 returns-in-Clear-clause-foretells c =
     let private = c.args.private.now in let told : List FlatAction = actions_told c.args.batch.now in

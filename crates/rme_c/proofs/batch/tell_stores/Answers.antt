@@ -37,7 +37,7 @@ returns-in_default-action c =
     c.put-in-loop-batch.ensures.told ∙ ap (λ (a : FlatAction). told ++ a ∷ []) (c.flat-in-loop-batch.ensures ∙ ap (λ (a : Action). flat_action shape a) c.next-action.ensures.action) in
     record {
       foretells = leads_end shape c.args.until start told now leads (flat_action shape (action_of shape now)) (actions_told c.put-in-loop-batch.new.batch) is
-          record { busy = c.goes_on.ensures.busy c.if-not-goes_on.false; does = plain_does shape (action_of shape now) };
+          record { busy = c.goes_on.ensures.busy c.if-not-goes_on.false; does = plain_does shape now };
       some = omega (arith, c.put-in-loop-batch.ensures.count);
       few = omega (arith, c.put-in-loop-batch.ensures.count, c.loop-batch-test.true);
     }

@@ -10,7 +10,7 @@ use Rattle.rme_c.proofs.jumps.enter.Goals as goal
 
 pub returns-clause-enters : goal.returns-clause-enters
 returns-clause-enters c = λ some worker begun.
-    let shape = c.args.shape in let lock = c.args.lock in let held = c.args.held in let values : List ℕ = c.args.values.now in
+    let shape = c.args.shape.now in let lock = c.args.lock in let held = c.args.held in let values : List ℕ = c.args.values.now in
     let swaps : ℕ = shape.height - held in let loads = c.take_loads-loads.result in
     let start : Private = climbing worker begun lock held in let mid : Private = at_stage worker begun (Logging (LoadTurn lock)) in let next : Private = at_stage worker begun c.take_loads-loads.new.stage in
     takes_run shape start values swaps (Entered lock ∷ []) mid next

@@ -16,7 +16,7 @@ use Rattle.rme_c.proofs.jumps.find_copies.Goals as goal
 
 pub loop-cell-init : goal.loop-cell-init
 loop-cell-init c =
-    let shape = c.args.shape in let named = c.args.named in let values : List ℕ = c.args.values.now in
+    let shape = c.args.shape.now in let named = c.args.named in let values : List ℕ = c.args.values.now in
     let some : 1 ≤ length values = not_empty values (sym c.if-is_empty.false ∙ c.is_empty.ensures) in
     record {
       takes = λ worker begun visit.
@@ -29,12 +29,12 @@ loop-cell-init c =
 
 pub loop-cell-smaller : goal.loop-cell-smaller
 loop-cell-smaller c =
-    let below = first_some c.args.named c.loop-cell.from c.args.shape.cells c.in-Some.cell c.loop-cell.invariant.from_within (sym c.in-Some.ensures.first) in
+    let below = first_some c.args.named c.loop-cell.from c.args.shape.now.cells c.in-Some.cell c.loop-cell.invariant.from_within (sym c.in-Some.ensures.first) in
     omega (arith, below.after, below.below)
 
 pub loop-cell-preserved : goal.loop-cell-preserved
 loop-cell-preserved c =
-    let shape = c.args.shape in let named = c.args.named in let from = c.loop-cell.from in let cell = c.in-Some.cell in let values : List ℕ = c.args.values.now in let count = c.loop-cell.count in
+    let shape = c.args.shape.now in let named = c.args.named in let from = c.loop-cell.from in let cell = c.in-Some.cell in let values : List ℕ = c.args.values.now in let count = c.loop-cell.count in
     let below = first_some named from shape.cells cell c.loop-cell.invariant.from_within (sym c.in-Some.ensures.first) in
     let value : ℕ = slice_index values count in
     let two : count + 1 + 1 ≡ count + 2 = omega arith in
@@ -55,7 +55,7 @@ loop-cell-preserved c =
 
 pub returns-clause-takes : goal.returns-clause-takes
 returns-clause-takes c = λ worker begun visit.
-    let shape = c.args.shape in let named = c.args.named in let reply = c.args.reply in let from = c.loop-cell.from in let values : List ℕ = c.args.values.now in let count = c.loop-cell.count in
+    let shape = c.args.shape.now in let named = c.args.named in let reply = c.args.reply in let from = c.loop-cell.from in let values : List ℕ = c.args.values.now in let count = c.loop-cell.count in
     let enough : count + 5 ≤ length values = c.if-values-count-3.false in
     let start : Private = at_stage worker begun (Copying (LoadMask visit)) in
     let load : Private = at_stage worker begun (Copying (LoadReply visit named)) in

@@ -2,7 +2,10 @@ use Rattle.rme_c.proofs.Led.{jumps_none}
 use Rattle.rme_c.proofs.jumps.jump_section.Goals as goal
 
 pub returns-in_default : goal.returns-in_default
-returns-in_default c = jumps_none c.args.shape c.args.private.now c.args.values.now c.nothing.result c.nothing.ensures c.requires.private
+returns-in_default c = jumps_none c.args.shape.now c.args.private.now c.args.values.now c.args.outcome.now c.requires.private
 
 pub returns-in_default-log : goal.returns-in_default-log
-returns-in_default-log c = jumps_none c.args.shape c.args.private.now c.args.values.now c.nothing-in_default-log.result c.nothing-in_default-log.ensures c.requires.private
+returns-in_default-log c = jumps_none c.args.shape.now c.args.private.now c.args.values.now c.args.outcome.now c.requires.private
+
+pub returns-in-LoadTurn : goal.returns-in-LoadTurn
+returns-in-LoadTurn c = c.jump_loads.ensures c.args.outcome.now

@@ -11,7 +11,7 @@ use Rattle.rme_c.proofs.jumps.read_cells.Goals as goal
 
 pub loop-cell-init : goal.loop-cell-init
 loop-cell-init c = record {
-  takes = λ worker begun lock turn script. takes_none c.args.shape (at_stage worker begun (cells_from_here c.args.shape lock turn script c.args.named c.args.row.now (first_cell c.args.named 0 c.args.shape.cells)));
+  takes = λ worker begun lock turn script. takes_none c.args.shape.now (at_stage worker begun (cells_from_here c.args.shape.now lock turn script c.args.named c.args.row.now (first_cell c.args.named 0 c.args.shape.now.cells)));
   within = omega arith;
   from_within = omega arith;
   whole = c.requires.row;
@@ -19,12 +19,12 @@ loop-cell-init c = record {
 
 pub loop-cell-smaller : goal.loop-cell-smaller
 loop-cell-smaller c =
-    let below = first_some c.args.named c.loop-cell.from c.args.shape.cells c.in-Some.cell c.loop-cell.invariant.from_within (sym c.in-Some.ensures.first) in
+    let below = first_some c.args.named c.loop-cell.from c.args.shape.now.cells c.in-Some.cell c.loop-cell.invariant.from_within (sym c.in-Some.ensures.first) in
     omega (arith, below.after, below.below)
 
 pub loop-cell-preserved : goal.loop-cell-preserved
 loop-cell-preserved c =
-    let shape = c.args.shape in let named = c.args.named in let from = c.loop-cell.from in let cell = c.in-Some.cell in let values : List ℕ = c.args.values.now in let count = c.loop-cell.count in
+    let shape = c.args.shape.now in let named = c.args.named in let from = c.loop-cell.from in let cell = c.in-Some.cell in let values : List ℕ = c.args.values.now in let count = c.loop-cell.count in
     let below = first_some named from shape.cells cell c.loop-cell.invariant.from_within (sym c.in-Some.ensures.first) in
     let value : ℕ = slice_index values count in
     let P : List ℕ → Type 0 = λ r. ReadsCells shape named (cell + 1) c.args.row.now values (count + 1) r in

@@ -12,7 +12,7 @@ use Rattle.rme_c.proofs.jumps.shadow_count.Goals as goal
 
 pub loop-next-init : goal.loop-next-init
 loop-next-init c =
-    let shape = c.args.shape in let named = c.args.named in let cell = c.args.cell in
+    let shape = c.args.shape.now in let named = c.args.named in let cell = c.args.cell in
     record {
       blind = λ worker begun visit row reply.
           blind_more shape (at_stage worker begun (Logging (StoreShadows visit named row reply cell))) 0 (at_stage worker begun (Logging (StoreShadows visit named row reply cell)))
@@ -24,12 +24,12 @@ loop-next-init c =
 
 pub loop-next-smaller : goal.loop-next-smaller
 loop-next-smaller c =
-    let later = first_some c.args.named (c.loop-next.at + 1) c.args.shape.cells c.in-Some.next (omega (arith, c.loop-next.invariant.below)) (sym c.in-Some.ensures.first) in
+    let later = first_some c.args.named (c.loop-next.at + 1) c.args.shape.now.cells c.in-Some.next (omega (arith, c.loop-next.invariant.below)) (sym c.in-Some.ensures.first) in
     omega (arith, later.after, later.below)
 
 pub loop-next-preserved : goal.loop-next-preserved
 loop-next-preserved c =
-    let shape = c.args.shape in let named = c.args.named in let cell = c.args.cell in let at = c.loop-next.at in let next = c.in-Some.next in
+    let shape = c.args.shape.now in let named = c.args.named in let cell = c.args.cell in let at = c.loop-next.at in let next = c.in-Some.next in
     let later = first_some named (at + 1) shape.cells next (omega (arith, c.loop-next.invariant.below)) (sym c.in-Some.ensures.first) in
     record {
       blind = λ worker begun visit row reply.

@@ -12,8 +12,8 @@ use Rattle.rme_c.proofs.jumps.take_loads.Goals as goal
 
 pub returns-clause-loads : goal.returns-clause-loads
 returns-clause-loads c = λ some worker begun.
-    let shape = c.args.shape in let guess = c.args.guess.now in let n = guess.script.n in let values : List ℕ = c.args.values.now in let cells = c.in-Some.cells in let row : List ℕ = c.read_cells.new.row in
-    let lock = c.args.lock in let turn : ℕ = slice_index values 0 in let new = c.run.result in
+    let shape = c.args.shape.now in let guess = c.args.guess.now in let n = guess.script.n in let values : List ℕ = c.args.values.now in let cells = c.in-Some.cells in let row : List ℕ = c.read_cells.new.row in
+    let lock = c.args.lock in let turn : ℕ = slice_index values 0 in let new = c.run.new.stage in
     let there : Private = at_stage worker begun (run_stage shape lock turn guess.script guess.named row) in
     let finds : FindsGuess guess values = c.finds.ensures c.if-not-finds.false in
     let J : ℕ → Type 0 = λ k. TakesTo shape (at_stage worker begun (Logging (LoadTurn lock))) (take (2 + 3 * k + cells) values) [] (at_stage worker begun new) in

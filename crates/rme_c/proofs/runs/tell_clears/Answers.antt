@@ -23,7 +23,7 @@ loop-cleared-preserved c =
     let action : FlatAction = node_clear shape worker lock (rest + 1) in
     let is : actions_told c.put.new.batch ≡ told ++ action ∷ [] =
     c.put.ensures.told ∙ ap (λ (a : FlatAction). told ++ a ∷ [])
-    (c.store.ensures ∙ ap (λ (w : ℕ). flat_store w 0) c.node_at.ensures ∙ ap (λ (v : ℕ). flat_store (word shape (Node lock v)) 0) (c.node.ensures.node ∙ ap (λ (l : ℕ). node shape.leaves worker l) at)) in
+    (c.store.ensures ∙ ap (λ (w : ℕ). flat_store w 0) c.node_at-word.ensures ∙ ap (λ (v : ℕ). flat_store (word shape (Node lock v)) 0) (c.node.ensures.node ∙ ap (λ (l : ℕ). node shape.leaves worker l) at)) in
     record {
       rest = rest;
       left = omega (arith, it.left, more);
@@ -43,6 +43,6 @@ returns-clause-foretells c = λ start begun leads.
     let action : FlatAction = node_clear shape worker lock 1 in
     let is : actions_told c.put-2.new.batch ≡ told ++ action ∷ [] =
     c.put-2.ensures.told ∙ ap (λ (a : FlatAction). told ++ a ∷ [])
-    (c.store-2.ensures ∙ ap (λ (w : ℕ). flat_store w 0) c.node_at-2.ensures ∙ ap (λ (v : ℕ). flat_store (word shape (Node lock v)) 0) c.node-2.ensures.node) in
+    (c.store-2.ensures ∙ ap (λ (w : ℕ). flat_store w 0) c.node_at-lowest.ensures ∙ ap (λ (v : ℕ). flat_store (word shape (Node lock v)) 0) c.node-2.ensures.node) in
     let P : ℕ → Type 0 = λ l. LeadsTo shape c.args.until start told (clearing worker begun lock l) in
     leads_end shape c.args.until start told (clearing worker begun lock 1) (subst P one (it.leads start begun leads)) action (actions_told c.put-2.new.batch) is (clear_end shape worker begun lock 1)

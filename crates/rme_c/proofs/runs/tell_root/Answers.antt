@@ -12,30 +12,34 @@ use Rattle.rme_program.specs.Steps.{clear_stage}
 use Rattle.rme_c.specs.Flat.{flat_store, expecting_load}
 use Rattle.rme_c.specs.Batches.{actions_told}
 use Rattle.rme_c.specs.Runs.{LeadsTo, at_stage}
-use Rattle.rme_c.proofs.Telling.{leads_more, leads_on}
+use Rattle.rme_c.proofs.Telling.{more_told, leads_more, leads_on}
 use Rattle.rme_c.proofs.Going.{clearing, node_clear, turn_step, settle_step, root_step}
 use Rattle.rme_c.proofs.runs.tell_root.Goals as goal
 
 pub returns-clause-leads : goal.returns-clause-leads
 returns-clause-leads c = λ goes_on high start begun leads.
     let shape = c.args.shape in let worker = c.args.worker in let lock = c.args.lock in let until = c.args.until in
-    let before : List FlatAction = actions_told c.args.batch.now in let first : List FlatAction = actions_told c.put.new.batch in let second : List FlatAction = actions_told c.put-2.new.batch in
+    let before : List FlatAction = actions_told c.args.batch.now in let told : List FlatAction = actions_told c.put.new.batch in
     let turn : ℕ = 2 * c.args.place + 1 in
-    let one = expecting_load (word shape (Turn lock)) turn in let two = flat_store (word shape (Turn lock)) (turn + 1) in let three = node_clear shape worker lock shape.height in
-    let is_one : first ≡ before ++ one ∷ [] =
-    c.put.ensures.told ∙ ap (λ (a : FlatAction). before ++ a ∷ []) (c.expect.ensures ∙ ap (λ (w : ℕ). expecting_load w (2 * c.from.result + 1)) c.turn_at.ensures ∙ ap (λ (p : ℕ). expecting_load (word shape (Turn lock)) (2 * p + 1)) c.from.ensures) in
-    let is_two : second ≡ first ++ two ∷ [] =
-    c.put-2.ensures.told ∙ ap (λ (a : FlatAction). first ++ a ∷ []) (c.store.ensures ∙ ap (λ (w : ℕ). flat_store w (2 * c.from.result + 1 + 1)) c.turn_at-2.ensures ∙ ap (λ (p : ℕ). flat_store (word shape (Turn lock)) (2 * p + 1 + 1)) c.from.ensures) in
-    let is_three : actions_told c.put-3.new.batch ≡ second ++ three ∷ [] =
-    c.put-3.ensures.told ∙ ap (λ (a : FlatAction). second ++ a ∷ []) (c.store-2.ensures ∙ ap (λ (w : ℕ). flat_store w 0) c.node_at.ensures ∙ ap (λ (v : ℕ). flat_store (word shape (Node lock v)) 0) c.node-root.ensures.node) in
+    let one : FlatAction = expecting_load (word shape (Turn lock)) turn in let two : FlatAction = flat_store (word shape (Turn lock)) (turn + 1) in let three : FlatAction = node_clear shape worker lock shape.height in
+    let first : List FlatAction = before ++ one ∷ [] in let second : List FlatAction = first ++ two ∷ [] in
+    let is : told ≡ second ++ three ∷ [] =
+    c.put.ensures.told
+    ∙ ap (λ (a : FlatAction). before ++ a ∷ c.store.result ∷ c.store-2.result ∷ [])
+    (c.expect.ensures ∙ ap (λ (w : ℕ). expecting_load w (2 * c.from.result + 1)) c.turn_at.ensures ∙ ap (λ (p : ℕ). expecting_load (word shape (Turn lock)) (2 * p + 1)) c.from.ensures)
+    ∙ ap (λ (a : FlatAction). before ++ one ∷ a ∷ c.store-2.result ∷ [])
+    (c.store.ensures ∙ ap (λ (w : ℕ). flat_store w (2 * c.from.result + 1 + 1)) c.turn_at-2.ensures ∙ ap (λ (p : ℕ). flat_store (word shape (Turn lock)) (2 * p + 1 + 1)) c.from.ensures)
+    ∙ ap (λ (a : FlatAction). before ++ one ∷ two ∷ a ∷ [])
+    (c.store-2.ensures ∙ ap (λ (w : ℕ). flat_store w 0) c.node_at.ensures ∙ ap (λ (v : ℕ). flat_store (word shape (Node lock v)) 0) c.node-root.ensures.node)
+    ∙ more_told before one (two ∷ three ∷ []) ∙ more_told first two (three ∷ []) in
     let rest : Private = at_stage worker begun (clear_stage lock (shape.height - 1)) in
     let C : Bool → Type 0 = λ b. at_stage worker begun (if b then Resting else Leaving (Clear lock (shape.height - 1))) ≡ at_stage worker begun (Leaving (Clear lock (shape.height - 1))) in
     let more : rest ≡ at_stage worker begun (Leaving (Clear lock (shape.height - 1))) = subst C (sym (ne_eqb (shape.height - 1) 0 (λ e. omega (arith, e, high)))) refl in
-    let P : Private → Type 0 = λ p. LeadsTo shape until start (actions_told c.put-3.new.batch) p in
+    let P : Private → Type 0 = λ p. LeadsTo shape until start told p in
     subst P more
     (leads_on shape until start second (clearing worker begun lock shape.height)
     (leads_more shape until start first (at_stage worker begun (Leaving (StoreExitTurn lock turn)))
-    (leads_more shape until start before (at_stage worker begun (Leaving (LoadExitTurn lock))) leads one first is_one (at_stage worker begun (Leaving (StoreExitTurn lock turn)))
+    (leads_more shape until start before (at_stage worker begun (Leaving (LoadExitTurn lock))) leads one first refl (at_stage worker begun (Leaving (StoreExitTurn lock turn)))
     (turn_step shape worker begun lock turn (omega (arith, c.requires.place)) (omega arith)))
-    two second is_two (clearing worker begun lock shape.height) (settle_step shape worker begun lock turn))
-    three (actions_told c.put-3.new.batch) is_three (Left lock) rest goes_on (root_step shape worker begun lock))
+    two second refl (clearing worker begun lock shape.height) (settle_step shape worker begun lock turn))
+    three told is (Left lock) rest goes_on (root_step shape worker begun lock))

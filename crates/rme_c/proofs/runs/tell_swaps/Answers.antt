@@ -23,8 +23,8 @@ loop-level-preserved c =
     let at : FlatAction = node_swap shape worker lock level in
     let is : actions_told c.put.new.batch ≡ told ++ action ∷ [] =
     c.put.ensures.told ∙ ap (λ (a : FlatAction). told ++ a ∷ [])
-    (c.swap.ensures ∙ ap (λ (w : ℕ). flat_swap w 0 c.side.result) c.node_at-word.ensures ∙ ap (λ (v : ℕ). flat_swap (word shape (Node lock v)) 0 c.side.result) c.node.ensures.node
-    ∙ ap (λ (v : ℕ). flat_swap (word shape (Node lock (node shape.leaves worker level))) 0 v) c.side.ensures.side ∙ ap (λ (l : ℕ). node_swap shape worker lock l) it.next) in
+    (c.swap.ensures ∙ ap (λ (w : ℕ). flat_swap w c.side.result) c.node_at-word.ensures ∙ ap (λ (v : ℕ). flat_swap (word shape (Node lock v)) c.side.result) c.node.ensures.node
+    ∙ ap (λ (v : ℕ). flat_swap (word shape (Node lock (node shape.leaves worker level))) v) c.side.ensures.side ∙ ap (λ (l : ℕ). node_swap shape worker lock l) it.next) in
     record {
       below = it.below + 1;
       next = omega (arith, it.next);
@@ -47,8 +47,8 @@ module _ (c : goal.After-put-2) where
   told_root =
       let shape = c.args.shape in let worker = c.args.worker in let lock = c.args.lock in let told : List FlatAction = actions_told c.loop-level.batch in
       c.put-2.ensures.told ∙ ap (λ (a : FlatAction). told ++ a ∷ [])
-      (c.swap-2.ensures ∙ ap (λ (w : ℕ). flat_swap w 0 c.side-2.result) c.node_at-word-2.ensures ∙ ap (λ (v : ℕ). flat_swap (word shape (Node lock v)) 0 c.side-2.result) c.node-2.ensures.node
-      ∙ ap (λ (v : ℕ). flat_swap (word shape (Node lock (node shape.leaves worker shape.height))) 0 v) c.side-2.ensures.side ∙ ap (λ (l : ℕ). node_swap shape worker lock l) (sym at_root))
+      (c.swap-2.ensures ∙ ap (λ (w : ℕ). flat_swap w c.side-2.result) c.node_at-word-2.ensures ∙ ap (λ (v : ℕ). flat_swap (word shape (Node lock v)) c.side-2.result) c.node-2.ensures.node
+      ∙ ap (λ (v : ℕ). flat_swap (word shape (Node lock (node shape.leaves worker shape.height))) v) c.side-2.ensures.side ∙ ap (λ (l : ℕ). node_swap shape worker lock l) (sym at_root))
 
 pub returns-clause-foretells : goal.returns-clause-foretells
 returns-clause-foretells c = λ start begun leads.

@@ -1,4 +1,4 @@
-use Rattle.std.proofs.Common.{◌≡◌, ◌+◌, ◌++◌, [], ◌∷◌, ℕ, List, sym, ap, ◌∙◌, arith}
+use Rattle.std.proofs.Common.{◌≡◌, ◌+◌, ◌++◌, [], ◌∷◌, ℕ, List, refl, sym, ap, ◌∙◌, arith}
 use Rattle.rme_program.proofs.Firsts.{first_some}
 use Rattle.rme_program.specs.declared.private.Private.{Private}
 use Rattle.rme_program.specs.declared.stage.Stage.TheVariants.{Copying}
@@ -11,19 +11,14 @@ use Rattle.rme_c.specs.declared.flat.FlatAction.{FlatAction}
 use Rattle.rme_c.specs.Flat.{flat_store, expecting_load}
 use Rattle.rme_c.specs.Batches.{actions_told}
 use Rattle.rme_c.specs.Runs.{at_stage}
-use Rattle.rme_c.proofs.Telling.{leads_more}
+use Rattle.rme_c.proofs.Telling.{more_told, leads_more}
 use Rattle.rme_c.proofs.Finishing.{copy_load_step, copy_step}
 use Rattle.rme_c.proofs.stores.tell_copies.Goals as goal
 
 pub put-requires : goal.put-requires
 put-requires c =
     let below = first_some c.args.named c.loop-cell.from c.args.shape.cells c.in-Some.cell c.loop-cell.invariant.within (sym c.in-Some.ensures.first) in
-    record { room = omega (arith, c.loop-cell.invariant.few, below.after, below.below, c.requires.room) }
-
-pub put-requires-in-Some : goal.put-requires-in-Some
-put-requires-in-Some c =
-    let below = first_some c.args.named c.loop-cell.from c.args.shape.cells c.in-Some.cell c.loop-cell.invariant.within (sym c.in-Some.ensures.first) in
-    record { room = omega (arith, c.put.ensures.count, c.loop-cell.invariant.few, below.after, below.below, c.requires.room) }
+    (omega arith, omega (arith, c.loop-cell.invariant.few, below.after, below.below, c.requires.room))
 
 pub loop-cell-smaller : goal.loop-cell-smaller
 loop-cell-smaller c =
@@ -34,20 +29,21 @@ pub loop-cell-preserved : goal.loop-cell-preserved
 loop-cell-preserved c =
     let shape = c.args.shape in let visit = c.args.visit.now in let named = c.args.named in let from = c.loop-cell.from in let cell = c.in-Some.cell in
     let value : ℕ = c.get-value.result in
-    let told : List FlatAction = actions_told c.loop-cell.batch in let loaded : List FlatAction = actions_told c.put.new.batch in
+    let told : List FlatAction = actions_told c.loop-cell.batch in
     let load : FlatAction = expecting_load (word shape (Shadow visit.lock cell)) value in
     let store : FlatAction = flat_store (word shape (Cell visit.lock cell)) value in
-    let is_load : loaded ≡ told ++ load ∷ [] = c.put.ensures.told ∙ ap (λ (a : FlatAction). told ++ a ∷ []) (c.expect.ensures ∙ ap (λ (w : ℕ). expecting_load w value) c.shadow_at.ensures) in
-    let is_store : actions_told c.put-in-Some.new.batch ≡ loaded ++ store ∷ [] =
-    c.put-in-Some.ensures.told ∙ ap (λ (a : FlatAction). loaded ++ a ∷ []) (c.store.ensures ∙ ap (λ (w : ℕ). flat_store w value) c.cell_at.ensures) in
+    let loaded : List FlatAction = told ++ load ∷ [] in
+    let is : actions_told c.put.new.batch ≡ loaded ++ store ∷ [] =
+    c.put.ensures.told ∙ ap (λ (a : FlatAction). told ++ a ∷ c.store.result ∷ []) (c.expect-shadow.ensures ∙ ap (λ (w : ℕ). expecting_load w value) c.shadow_at.ensures)
+    ∙ ap (λ (a : FlatAction). told ++ load ∷ a ∷ []) (c.store.ensures ∙ ap (λ (w : ℕ). flat_store w value) c.cell_at.ensures) ∙ more_told told load (store ∷ []) in
     let below = first_some named from shape.cells cell c.loop-cell.invariant.within (sym c.in-Some.ensures.first) in
     record {
       leads = λ start worker begun leads.
           let copied : Private = at_stage worker begun (Copying (StoreCell visit named cell value)) in
           leads_more shape c.args.until start loaded copied
-          (leads_more shape c.args.until start told (at_stage worker begun (copies_from visit named (first_cell named from shape.cells))) (c.loop-cell.invariant.leads start worker begun leads) load loaded is_load copied
+          (leads_more shape c.args.until start told (at_stage worker begun (copies_from visit named (first_cell named from shape.cells))) (c.loop-cell.invariant.leads start worker begun leads) load loaded refl copied
           (copy_load_step shape worker begun visit named from cell (sym c.in-Some.ensures.first) value))
-          store (actions_told c.put-in-Some.new.batch) is_store (at_stage worker begun (copies_from visit named (first_cell named (cell + 1) shape.cells))) (copy_step shape worker begun visit named cell value);
-      few = omega (arith, c.put.ensures.count, c.put-in-Some.ensures.count, c.loop-cell.invariant.few, below.after);
+          store (actions_told c.put.new.batch) is (at_stage worker begun (copies_from visit named (first_cell named (cell + 1) shape.cells))) (copy_step shape worker begun visit named cell value);
+      few = omega (arith, c.put.ensures.count, c.loop-cell.invariant.few, below.after);
       within = omega (arith, below.below);
     }

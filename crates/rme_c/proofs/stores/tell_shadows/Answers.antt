@@ -17,7 +17,7 @@ use Rattle.rme_c.proofs.stores.tell_shadows.Goals as goal
 pub put-requires-in-Some : goal.put-requires-in-Some
 put-requires-in-Some c =
     let later = first_some c.args.named (c.loop-next.at + 1) c.args.shape.cells c.in-Some.next (omega (arith, c.loop-next.invariant.below)) (sym c.in-Some.ensures.first) in
-    record { room = omega (arith, c.loop-next.invariant.few, later.after, later.below, c.requires.room) }
+    (omega arith, omega (arith, c.loop-next.invariant.few, later.after, later.below, c.requires.room))
 
 pub loop-next-smaller : goal.loop-next-smaller
 loop-next-smaller c =

@@ -1,4 +1,4 @@
-use Rattle.std.proofs.Common.{◌≡◌, ◌+◌, ◌++◌, [], ◌∷◌, ℕ, List, ap, ◌∙◌}
+use Rattle.std.proofs.Common.{◌≡◌, ◌+◌, ◌++◌, [], ◌∷◌, ℕ, List, refl, ap, ◌∙◌}
 use Rattle.rme_words.specs.Words.{word}
 use Rattle.rme_program.specs.declared.private.Private.{Private}
 use Rattle.rme_c.specs.declared.flat.FlatAction.{FlatAction}
@@ -11,26 +11,29 @@ use Rattle.rme_program.specs.Steps.{copies_from}
 use Rattle.rme_c.specs.Flat.{flat_store, expecting_load}
 use Rattle.rme_c.specs.Batches.{actions_told}
 use Rattle.rme_c.specs.Runs.{at_stage}
-use Rattle.rme_c.proofs.Telling.{leads_more}
+use Rattle.rme_c.proofs.Telling.{more_told, leads_more}
 use Rattle.rme_c.proofs.Finishing.{shadow_reply_step, mask_step, odd_step, mask_load_step}
 use Rattle.rme_c.proofs.stores.tell_turn.Goals as goal
 
 pub returns-clause-leads : goal.returns-clause-leads
 returns-clause-leads c = λ start worker begun leads.
     let shape = c.args.shape in let visit = c.args.visit.now in let named = c.args.named in let reply = c.args.reply in let until = c.args.until in
-    let before : List FlatAction = actions_told c.args.batch.now in let first : List FlatAction = actions_told c.put.new.batch in let second : List FlatAction = actions_told c.put-2.new.batch in
-    let third : List FlatAction = actions_told c.put-3.new.batch in
+    let before : List FlatAction = actions_told c.args.batch.now in let told : List FlatAction = actions_told c.put.new.batch in
     let one : FlatAction = flat_store (word shape (ShadowReply visit.lock)) reply in let two : FlatAction = flat_store (word shape (Mask visit.lock)) named in
     let three : FlatAction = flat_store (word shape (Turn visit.lock)) (visit.turn + 1) in let four : FlatAction = expecting_load (word shape (Mask visit.lock)) named in
-    let is_one : first ≡ before ++ one ∷ [] = c.put.ensures.told ∙ ap (λ (a : FlatAction). before ++ a ∷ []) (c.store.ensures ∙ ap (λ (w : ℕ). flat_store w reply) c.shadow_reply_at.ensures) in
-    let is_two : second ≡ first ++ two ∷ [] = c.put-2.ensures.told ∙ ap (λ (a : FlatAction). first ++ a ∷ []) (c.store-2.ensures ∙ ap (λ (w : ℕ). flat_store w named) c.mask_at.ensures) in
-    let is_three : third ≡ second ++ three ∷ [] =
-    c.put-3.ensures.told ∙ ap (λ (a : FlatAction). second ++ a ∷ []) (c.store-3.ensures ∙ ap (λ (w : ℕ). flat_store w (c.from.result + 1)) c.turn_at.ensures ∙ ap (λ (v : ℕ). flat_store (word shape (Turn visit.lock)) (v + 1)) c.from.ensures) in
-    let is_four : actions_told c.put-4.new.batch ≡ third ++ four ∷ [] = c.put-4.ensures.told ∙ ap (λ (a : FlatAction). third ++ a ∷ []) (c.expect.ensures ∙ ap (λ (w : ℕ). expecting_load w named) c.mask_at-2.ensures) in
+    let first : List FlatAction = before ++ one ∷ [] in let second : List FlatAction = first ++ two ∷ [] in let third : List FlatAction = second ++ three ∷ [] in
+    let is : told ≡ third ++ four ∷ [] =
+    c.put.ensures.told
+    ∙ ap (λ (a : FlatAction). before ++ a ∷ c.store-2.result ∷ c.store-3.result ∷ c.expect.result ∷ []) (c.store.ensures ∙ ap (λ (w : ℕ). flat_store w reply) c.shadow_reply_at.ensures)
+    ∙ ap (λ (a : FlatAction). before ++ one ∷ a ∷ c.store-3.result ∷ c.expect.result ∷ []) (c.store-2.ensures ∙ ap (λ (w : ℕ). flat_store w named) c.mask_at.ensures)
+    ∙ ap (λ (a : FlatAction). before ++ one ∷ two ∷ a ∷ c.expect.result ∷ [])
+    (c.store-3.ensures ∙ ap (λ (w : ℕ). flat_store w (c.from.result + 1)) c.turn_at.ensures ∙ ap (λ (v : ℕ). flat_store (word shape (Turn visit.lock)) (v + 1)) c.from.ensures)
+    ∙ ap (λ (a : FlatAction). before ++ one ∷ two ∷ three ∷ a ∷ []) (c.expect.ensures ∙ ap (λ (w : ℕ). expecting_load w named) c.mask_at-2.ensures)
+    ∙ more_told before one (two ∷ three ∷ four ∷ []) ∙ more_told first two (three ∷ four ∷ []) ∙ more_told second three (four ∷ []) in
     let a : Private = at_stage worker begun (Logging (StoreShadowReply visit named reply)) in let b : Private = at_stage worker begun (Logging (StoreMask visit named)) in
     let d : Private = at_stage worker begun (Logging (StoreTurn visit)) in let mask : Private = at_stage worker begun (Copying (LoadMask visit)) in
     leads_more shape until start third mask
     (leads_more shape until start second d
-    (leads_more shape until start first b (leads_more shape until start before a leads one first is_one b (shadow_reply_step shape worker begun visit named reply)) two second is_two d (mask_step shape worker begun visit named))
-    three third is_three mask (odd_step shape worker begun visit))
-    four (actions_told c.put-4.new.batch) is_four (at_stage worker begun (copies_from visit named (first_cell named 0 shape.cells))) (mask_load_step shape worker begun visit named)
+    (leads_more shape until start first b (leads_more shape until start before a leads one first refl b (shadow_reply_step shape worker begun visit named reply)) two second refl d (mask_step shape worker begun visit named))
+    three third refl mask (odd_step shape worker begun visit))
+    four told is (at_stage worker begun (copies_from visit named (first_cell named 0 shape.cells))) (mask_load_step shape worker begun visit named)

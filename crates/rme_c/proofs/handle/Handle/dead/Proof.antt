@@ -40,7 +40,7 @@ one_of_each = record {
 }
 
 abbrev no_guess : Guess
-no_guess = record { script = record { n = 0; ops = [] }; words = replicate 24 0; named = 0; place = 0 }
+no_guess = record { script = record { n = 0; ops = [] }; words = replicate 24 0; named = 0 }
 
 abbrev no_worker : Worker
 no_worker = record { shape = record { workers = 1; locks = 1; cells = 1; jobs = 1; leaves = 2; height = 1; counted = one_of_each }; private = restarted_private 0; told = 0; guess = no_guess }
