@@ -37,30 +37,27 @@ static int told(uint32_t refusal) {
 /* Does the operations of a batch, one after the other, as far as the first that found what ends it, and answers how many.
    Of a store no value is read. */
 static uint32_t make_batch(_Atomic uint64_t *words, struct rme_core_batch *batch) {
-    const uint32_t count = batch->count;
-    for (uint32_t i = 0; i < count; i++) {
-        const struct rme_core_action action = batch->actions[i];
-        _Atomic uint64_t *word = &words[action.word];
-        if (action.kind == RME_CORE_STORE) {
-            atomic_store(word, action.value);
-            continue;
-        }
-        uint64_t found = 0;
+    const struct rme_core_action *action = batch->actions, *end = action + batch->count;
+    for (uint64_t *found = batch->values; action < end; action++, found++) {
+        _Atomic uint64_t *word = &words[action->word];
         int goes_on = 1;
-        if (action.kind == RME_CORE_SWAP) {
-            goes_on = atomic_compare_exchange_strong(word, &found, action.value);
+        if (action->kind == RME_CORE_STORE) {
+            atomic_store(word, action->value);
+        } else if (action->kind == RME_CORE_EXPECT) {
+            *found = atomic_load(word);
+            goes_on = *found == action->value;
+        } else if (action->kind == RME_CORE_SWAP) {
+            *found = 0;
+            goes_on = atomic_compare_exchange_strong(word, found, action->value);
         } else {
-            found = atomic_load(word);
-            goes_on = action.kind == RME_CORE_EXPECT        ? found == action.value
-                      : action.kind == RME_CORE_EXPECT_EVEN ? found % 2 == 0 && found >> 32 == 0
-                                                            : 1;
+            *found = atomic_load(word);
+            goes_on = action->kind != RME_CORE_EXPECT_EVEN || (*found % 2 == 0 && *found >> 32 == 0);
         }
-        batch->values[i] = found;
         if (!goes_on) {
-            return i + 1;
+            return (uint32_t)(action - batch->actions) + 1;
         }
     }
-    return count;
+    return batch->count;
 }
 
 /* Makes the worker's next own steps, at least one, as far as one that says something of the kind `until`; RME_IDLE where

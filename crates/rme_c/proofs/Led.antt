@@ -7,7 +7,7 @@ use Rattle.rme_words.specs.declared.shape.Shape.{Shape}
 use Rattle.rme_program.specs.declared.note.Note.{Note}
 use Rattle.rme_program.specs.declared.note.Note.TheVariants.{Quiet, Asked, Blocked, Entered, Reentered, Finished, Left, Ready, Withdrew}
 use Rattle.rme_program.specs.declared.private.Private.{Private}
-use Rattle.rme_program.specs.Conditions.{IsPrivate, Takes}
+use Rattle.rme_program.specs.Conditions.{IsPrivate}
 use Rattle.rme_program.specs.Steps.{private_after, note_after}
 use Rattle.rme_c.specs.Folds.{AllTaken, led_to, said, noted, flat_notes, notes_told}
 use Rattle.rme_c.specs.declared.flat.FlatNote.{FlatNote}
@@ -20,7 +20,7 @@ use Rattle.rme_program.specs.declared.stage.Log.TheVariants.{StoreShadows}
 use Rattle.rme_program.specs.declared.stage.Redo.TheVariants.{LoadMask}
 use Rattle.rme_program.specs.declared.stage.Visit.{Visit}
 use Rattle.rme_program.specs.Steps.{shadows_from, copies_from, cells_from_here}
-use Rattle.rme_c.specs.Runs.{LeadsBlindly, TakesTo, Writes, Jumps, TookSome, at_stage}
+use Rattle.rme_c.specs.Runs.{LeadsBlindly, TakesTo, Writes, Jumps, TakesOne, TookSome, at_stage}
 use Rattle.rme_c.proofs.Telling.{Goes}
 
 pub led_append : (shape : Shape) (start : Private) (values more : List ℕ) → led_to shape start (values ++ more) ≡ led_to shape (led_to shape start values) more
@@ -141,6 +141,11 @@ module _ (shape : Shape) (private new : Private) (values : List ℕ) (count : �
   pub not_said : Writes before [] after
   not_said = let P : List Note → Type 0 = λ l. Writes before l after in subst P (nothing_said so.notes (omega (arith, so.few, none))) so.writes
 
+-- What is said of a step is all that is written, where nothing was written before it.
+pub writes_before : (shape : Shape) (old : Private) (value : ℕ) (before mid : Outcome) (new : Private) (after : Outcome) → Writes before [] mid → TakesOne shape old value mid new after → TakesOne shape old value before new after
+writes_before shape old value before mid new after quiet one =
+    record { takes = one.takes; leads = one.leads; writes = writes_then before mid after [] (noted (note_after shape old value) []) quiet one.writes }
+
 -- One note at most is said of a step.
 pub one_note : (note : Note) (rest : List Note) → length (noted note rest) ≤ length rest + 1
 one_note Quiet rest = omega arith
@@ -153,19 +158,19 @@ one_note (Left lock) rest = omega arith
 one_note Ready rest = omega arith
 one_note (Withdrew number) rest = omega arith
 
-pub took_one : (shape : Shape) (private : Private) (values : List ℕ) (note : Note) (new : Private) (before after : Outcome) → 1 ≤ length values → Takes shape private.stage (slice_index values 0)
-    → new ≡ private_after shape private (slice_index values 0) → note ≡ note_after shape private (slice_index values 0) → Writes before (noted note []) after → IsPrivate shape new
+pub took_one : (shape : Shape) (private : Private) (values : List ℕ) (new : Private) (before after : Outcome) → 1 ≤ length values → TakesOne shape private (slice_index values 0) before new after → IsPrivate shape new
     → TookSome shape private values 1 before new after
-took_one shape private [] note new before after some takes is says writes private_is = let never : ⊥ = omega (arith, some) in absurd never
-took_one shape private (v ∷ rest) note new before after some takes is says writes private_is =
+took_one shape private [] new before after some one private_is = let never : ⊥ = omega (arith, some) in absurd never
+took_one shape private (v ∷ rest) new before after some one private_is =
+    let note : Note = note_after shape private v in
     record {
       some = omega arith;
       jumps = record {
         within = some;
         notes = noted note [];
-        takes = takes_this_from shape private v note new record { takes = takes; says = sym says; next = sym is };
+        takes = takes_this_from shape private v note new record { takes = one.takes; says = refl; next = sym one.leads };
         few = one_note note [];
-        writes = writes;
+        writes = one.writes;
         private = private_is;
       };
     }

@@ -8,10 +8,11 @@ use Rattle.rme_program.specs.declared.stage.Stage.{Stage}
 use Rattle.rme_program.specs.declared.stage.Stage.TheVariants.{Climbing, Logging}
 use Rattle.rme_program.specs.declared.stage.Log.TheVariants.{LoadSlate, LoadCells}
 use Rattle.rme_program.specs.Conditions.{IsPrivate, Takes}
+use Rattle.rme_program.specs.Steps.{private_after, note_after}
 use Rattle.rme_c.specs.declared.flat.FlatAction.{FlatAction}
 use Rattle.rme_c.specs.Batches.{Foretells}
 use Rattle.rme_c.specs.declared.flat.Outcome.{Outcome}
-use Rattle.rme_c.specs.Folds.{AllTaken, led_to, said, flat_notes, notes_told}
+use Rattle.rme_c.specs.Folds.{AllTaken, led_to, said, noted, flat_notes, notes_told}
 
 -- ACTIONS
 
@@ -74,6 +75,12 @@ pub record Jumps (shape : Shape) (old : Private) (values : List ℕ) (count : �
 pub record TookSome (shape : Shape) (old : Private) (values : List ℕ) (count : ℕ) (before : Outcome) (new : Private) (after : Outcome) : Type 0 where
   pub some : 1 ≤ count
   pub jumps : Jumps shape old values count before new after
+
+-- The worker takes this value, and what its step says is written down.
+pub record TakesOne (shape : Shape) (old : Private) (value : ℕ) (before : Outcome) (new : Private) (after : Outcome) : Type 0 where
+  pub takes : Takes shape old.stage value
+  pub leads : new ≡ private_after shape old value
+  pub writes : Writes before (noted (note_after shape old value) []) after
 
 -- The first of the values may not be taken, the worker is as it was, and nothing is said.
 pub record Refuses (shape : Shape) (old : Private) (values : List ℕ) (before : Outcome) (new : Private) (after : Outcome) : Type 0 where

@@ -7,7 +7,7 @@ ghost use Rattle.rme_script.specs.Slates.{script_of};
 ghost use Rattle.rme_program.specs.declared.stage.Stage.{Stage};
 ghost use Rattle.rme_program.specs.Conditions.{IsPrivate, IsLog, Takes};
 ghost use Rattle.rme_c.specs.Folds.{IsDamaged, TakesAll, notes_told};
-ghost use Rattle.rme_c.specs.Runs.{Refuses, TookSome};
+ghost use Rattle.rme_c.specs.Runs.{Refuses, TakesOne, TookSome};
 ghost use Rattle.rme_c.specs.Guesses.{IsGuess};
 
 use crate::flat::Outcome;
@@ -85,6 +85,26 @@ fn ends_slate(
     }
 }
 
+/// Has a worker take a value that is no run's, and writes down what its step said. What it needs of the stack and of the
+/// registers is taken only here.
+///
+/// It answers false where the step may not take the value, which changes nothing.
+#[inline(never)]
+fn take_one(shape: &Shape, private: &mut Private, value: u64, outcome: &mut Outcome) -> bool
+    requires private { IsPrivate shape.now private.old }
+    requires room { outcome.old.count < 97 }
+    ensures private { IsPrivate shape.now private.new }
+    ensures taken { IsTrue result → TakesOne shape.now private.old value outcome.old private.new outcome.new }
+    ensures refused { IsFalse result → (Takes shape.now private.old.stage value → ⊥) × (private.new ≡ private.old) × (outcome.new ≡ outcome.old) }
+{
+    if !may_take(*shape, private, value) {
+        return false;
+    }
+    let note = after(*shape, private, value);
+    put_note(outcome, note);
+    true
+}
+
 /// Has a worker take the values of a run, or else the first value, writes down what the steps said, and answers how many
 /// were taken.
 ///
@@ -107,13 +127,11 @@ fn take_some(
     if taken > 0 {
         return Some(taken);
     }
-    let value = values[0];
-    if !may_take(*shape, private, value) {
-        return None;
+    if take_one(shape, private, values[0], outcome) {
+        Some(1)
+    } else {
+        None
     }
-    let note = after(*shape, private, value);
-    put_note(outcome, note);
-    Some(1)
 }
 
 /// Has a worker take the values that its next steps found, one after another, and writes down what the steps said.
