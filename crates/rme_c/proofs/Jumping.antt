@@ -1,9 +1,11 @@
 -- The values of whole runs: a post, the loads of a section, what comes once its script was run, and the way out.
 use Rattle.std.proofs.Common.{◌≡◌, ℕ, zero, suc, ◌+◌, ◌-◌, ◌*◌, ◌<◌, ◌≤◌, List, [], ◌∷◌, length, take, drop, replicate, refl, sym, ap, subst, ◌∙◌, arith}
-use Rattle.std.specs.Prelude.{Some, Bool, true, false, ◌==◌, if◌then◌else◌, slice_index}
+use Rattle.std.specs.Prelude.{Option, Some, None, Bool, true, false, ◌==◌, if◌then◌else◌, slice_index}
 use Rattle.std.proofs.lemmas.List.{length-drop, get_or-drop, get_or-take, take_rest}
 use Rattle.rme_words.specs.declared.shape.Shape.{Shape}
 use Rattle.rme_script.specs.declared.job.Job.{Job}
+use Rattle.rme_script.specs.Programs.{Program}
+use Rattle.rme_script.specs.Eval.{Ran, eval_of}
 use Rattle.rme_program.specs.Masks.{first_cell}
 use Rattle.rme_program.specs.declared.note.Note.{Note}
 use Rattle.rme_program.specs.declared.note.Note.TheVariants.{Quiet, Asked, Entered, Left, Ready}
@@ -12,11 +14,12 @@ use Rattle.rme_program.specs.declared.stage.Stage.{Stage}
 use Rattle.rme_program.specs.declared.stage.Stage.TheVariants.{Resting, Posting, Logging, Copying, Leaving}
 use Rattle.rme_program.specs.declared.stage.Slate.{Slate}
 use Rattle.rme_program.specs.declared.stage.Visit.{Visit}
+use Rattle.rme_program.specs.declared.stage.Parity.TheVariants.{Even}
 use Rattle.rme_program.specs.declared.stage.Log.TheVariants.{LoadTurn, LoadLen, StoreShadows, StoreShadowReply, StoreMask, StoreTurn}
 use Rattle.rme_program.specs.declared.stage.Redo.TheVariants.{LoadMask}
 use Rattle.rme_program.specs.declared.stage.Departure.TheVariants.{LoadExitTurn, StoreExitTurn, Clear}
 use Rattle.rme_program.specs.Conditions.{IsPrivate, IsStage}
-use Rattle.rme_program.specs.Steps.{private_after, script_stage, cells_from_here, run_stage, finished, clear_stage}
+use Rattle.rme_program.specs.Steps.{private_after, script_stage, cells_from_here, run_stage, shadows_from, finished, clear_stage}
 use Rattle.rme_c.specs.declared.guess.Guess.{Guess}
 use Rattle.rme_c.specs.declared.flat.Outcome.{Outcome}
 use Rattle.rme_c.specs.Runs.{at_stage, climbing, TakesTo, LeadsBlindly, Writes, Jumps}
@@ -163,14 +166,30 @@ module _ (shape : Shape) (guess : Guess) (lock : ℕ) (values : List ℕ) (is : 
         subst M (sym is.named) (subst P both (takes_there shape start (take (3 * count + 2) values) [] read.mid there
         (slate_known shape worker begun lock turn count guess.words guess.script is.script.few is.slate is.script (3 * count) read.mid refl read.reads) read.takes))
 
-  pub loads_led : (worker begun cells : ℕ) (row : List ℕ) (new : Stage)
-      → TakesTo shape (at_stage worker begun (cells_from_here shape lock turn guess.script guess.named (replicate shape.cells 0) (first_cell guess.named 0 shape.cells))) (take cells (drop (2 + 3 * count) values)) []
-      (at_stage worker begun (run_stage shape lock turn guess.script guess.named row))
-      → new ≡ run_stage shape lock turn guess.script guess.named row → TakesTo shape (at_stage worker begun (Logging (LoadTurn lock))) (take (2 + 3 * count + cells) values) [] (at_stage worker begun new)
-  loads_led worker begun cells row new takes ran =
-      takes_there shape (start worker begun) (take (2 + 3 * count + cells) values) [] (at_stage worker begun (run_stage shape lock turn guess.script guess.named row)) (at_stage worker begun new) (ap (λ (s : Stage). at_stage worker begun s) (sym ran))
-      (takes_run shape (start worker begun) values (2 + 3 * count) [] (at_stage worker begun (cells_from_here shape lock turn guess.script guess.named (replicate shape.cells 0) (first_cell guess.named 0 shape.cells)))
-      (at_stage worker begun (run_stage shape lock turn guess.script guess.named row)) (slate_taken worker begun) cells [] takes)
+-- ---- the script is run
+
+module _ (shape : Shape) (lock turn n named : ℕ) (script : Program) (row out : List ℕ) (reply : ℕ) (counted : n ≡ script.n) (is : eval_of script.ops row ≡ record { row = out; reply = reply }) where
+  abbrev visit : ℕ → Visit
+  visit k = record { lock = lock; turn = turn; parity = Even k named }
+
+  ran : shadows_from (visit n) named out reply (first_cell named 0 shape.cells) ≡ run_stage shape lock turn script named row
+  ran =
+      ap (λ (k : ℕ). shadows_from (visit k) named out reply (first_cell named 0 shape.cells)) counted
+      ∙ ap (λ (r : Ran). shadows_from (visit script.n) named r.row r.reply (first_cell named 0 shape.cells)) (sym is)
+
+  pub ran_none : first_cell named 0 shape.cells ≡ None → Logging (StoreShadowReply (visit n) named reply) ≡ run_stage shape lock turn script named row
+  ran_none none = ap (λ (o : Option ℕ). shadows_from (visit n) named out reply o) (sym none) ∙ ran
+
+  pub ran_some : (cell : ℕ) → first_cell named 0 shape.cells ≡ Some cell → Logging (StoreShadows (visit n) named out reply cell) ≡ run_stage shape lock turn script named row
+  ran_some cell some = ap (λ (o : Option ℕ). shadows_from (visit n) named out reply o) (sym some) ∙ ran
+
+-- What a worker knows that is about to store a shadow word, the reply aside; of any other it is `other`.
+abbrev pub Shadows : Type 0
+Shadows = Visit × ℕ × List ℕ × ℕ
+
+unfoldable pub shadows_at : Shadows → Stage → Shadows
+shadows_at other (Logging (StoreShadows visit named row reply cell)) = (visit, named, row, cell)
+shadows_at other stage = other
 
 -- ---- what comes once the script was run
 

@@ -1,6 +1,6 @@
 //! The values of whole runs, taken together: nothing is decided for each of them alone.
 
-ghost use Rattle.std.specs.Prelude.{◌≡◌, ◌<◌, ◌≤◌, ◌+◌, ◌*◌, ℕ, List, IsTrue, IfSome, length, take, slice_index, [], ◌∷◌};
+ghost use Rattle.std.specs.Prelude.{◌≡◌, ◌<◌, ◌≤◌, ◌+◌, ◌*◌, ℕ, List, IsTrue, IfSome, length, take, replicate, slice_index, [], ◌∷◌};
 ghost use Rattle.rme_script.specs.Programs.{Program};
 ghost use Rattle.rme_script.specs.Scripts.{IsScript};
 ghost use Rattle.rme_program.specs.declared.stage.Stage.{Stage};
@@ -102,19 +102,12 @@ fn jump_in(
     let entered = enter(shape, guess, lock, held, values, &mut private.stage);
     if entered > 0 {
         put(outcome, lock_note(ENTERED, lock));
-        return entered;
     }
-    let swaps = (shape.height - held) as usize;
-    if values.len() < swaps || !are_free(values, swaps) {
-        return 0;
-    }
-    private.stage = Stage::Logging(Log::LoadTurn { lock });
-    put(outcome, lock_note(ENTERED, lock));
-    swaps
+    entered
 }
 
-/// The swaps of the nodes from this one on and the loads of the section, where all are there: 0 where they are not, and then
-/// the stage stays.
+/// The swaps of the nodes from this one on, and, where they are there, the loads of the section behind them: 0 where a swap
+/// did not put its value, and then the stage stays.
 fn enter(
     shape: &Shape,
     guess: &Guess,
@@ -135,11 +128,7 @@ fn enter(
     if values.len() < swaps || !are_free(values, swaps) {
         return 0;
     }
-    let loads = take_loads(shape, guess, lock, &values[swaps..], stage);
-    if loads == 0 {
-        return 0;
-    }
-    swaps + loads
+    swaps + take_loads(shape, guess, lock, &values[swaps..], stage)
 }
 
 /// So many values are 0.
@@ -197,26 +186,24 @@ fn jump_loads(
     take_loads(shape, guess, lock, values, &mut private.stage)
 }
 
-/// The loads of a section, where the turn is even and the slate is the one that is guessed: 0 where it is not, and then the
-/// stage stays.
+/// The loads of a section, where the turn is even and the slate is the one that is guessed; where it is not, none of them, and
+/// the worker is about to load the turn.
 fn take_loads(shape: &Shape, guess: &Guess, lock: u32, values: &[u64], stage: &mut Stage) -> usize
     requires guess { IsGuess shape.now guess.now }
     requires lock { lock < shape.now.locks }
     ensures within { result ≤ length values.now }
-    ensures none { result ≡ 0 → stage.new ≡ stage.old }
-    ensures loads { (result ≡ 0 → ⊥) → (worker begun : ℕ) → TakesTo shape.now (at_stage worker begun (Stage.Logging (Log.LoadTurn lock))) (take result values.now) [] (at_stage worker begun stage.new) }
-    ensures stage { (result ≡ 0 → ⊥) → (begun : ℕ) → IsStage shape.now begun stage.new }
+    ensures loads { (worker begun : ℕ) → TakesTo shape.now (at_stage worker begun (Stage.Logging (Log.LoadTurn lock))) (take result values.now) [] (at_stage worker begun stage.new) }
+    ensures stage { (begun : ℕ) → IsStage shape.now begun stage.new }
 {
-    if !finds(guess, values) {
-        return 0;
+    if finds(guess, values) {
+        let loads = 2 + 3 * guess.script.n() as usize;
+        let turn = values[0] as u32;
+        if let Some(cells) = run(shape, lock, turn, guess, &values[loads..], stage) {
+            return loads + cells;
+        }
     }
-    let loads = 2 + 3 * guess.script.n() as usize;
-    let mut row = Row::zeros(*shape);
-    let Some(cells) = read_cells(shape, guess.named, &values[loads..], &mut row) else {
-        return 0;
-    };
-    run(shape, lock, values[0] as u32, guess, &mut row, stage);
-    loads + cells
+    *stage = Stage::Logging(Log::LoadTurn { lock });
+    0
 }
 
 /// The values begin with an even turn and the slate that is guessed.
@@ -261,14 +248,22 @@ fn read_cells(shape: &Shape, named: u64, values: &[u64], row: &mut Row) -> Optio
     Some(count)
 }
 
-/// The script is run on the row of the named cells.
-fn run(shape: &Shape, lock: u32, turn: u32, guess: &Guess, row: &mut Row, stage: &mut Stage)
+/// The script is run on the row of the named cells, in its place, and it is answered how many there are; `None` where values
+/// are wanting, and then the stage may be any.
+fn run(
+    shape: &Shape,
+    lock: u32,
+    turn: u32,
+    guess: &Guess,
+    values: &[u64],
+    stage: &mut Stage,
+) -> Option<usize>
     requires guess { IsGuess shape.now guess.now }
-    requires row { length row.old ≡ shape.now.cells }
-    ensures run { stage.new ≡ run_stage shape.now lock turn guess.now.script guess.now.named row.old }
-    ensures stage { (begun : ℕ) → lock < shape.now.locks → IsStage shape.now begun stage.new }
+    ensures within { IfSome result (λ count. count ≤ length values.now) }
+    ensures takes { IfSome result (λ count. (worker begun : ℕ) → TakesTo shape.now (at_stage worker begun (cells_from_here shape.now lock turn guess.now.script guess.now.named (replicate shape.now.cells 0) (first_cell guess.now.named 0 shape.now.cells)))
+        (take count values.now) [] (at_stage worker begun stage.new)) }
+    ensures stage { IfSome result (λ count. (begun : ℕ) → lock < shape.now.locks → IsStage shape.now begun stage.new) }
 {
-    let reply = eval(&guess.script, row);
     let named = guess.named;
     let parity = Parity::Even {
         operations: guess.script.n(),
@@ -276,20 +271,30 @@ fn run(shape: &Shape, lock: u32, turn: u32, guess: &Guess, row: &mut Row, stage:
     };
     let visit = Visit { lock, turn, parity };
     let Some(cell) = first_cell(named, 0, shape.cells) else {
+        let reply = eval(&guess.script, &mut Row::zeros(*shape));
         *stage = Stage::Logging(Log::StoreShadowReply {
             visit,
             named,
             reply,
         });
-        return;
+        return Some(0);
     };
     *stage = Stage::Logging(Log::StoreShadows {
         visit,
         named,
-        row: *row,
-        reply,
+        row: Row::zeros(*shape),
+        reply: 0,
         cell,
     });
+    let Stage::Logging(log) = stage else {
+        return None;
+    };
+    let Log::StoreShadows { row, reply, .. } = log else {
+        return None;
+    };
+    let count = read_cells(shape, named, values, row)?;
+    *reply = eval(&guess.script, row);
+    Some(count)
 }
 
 /// The steps from a shadow word to the store that finishes the job, where the copies found what was stored, and, where they

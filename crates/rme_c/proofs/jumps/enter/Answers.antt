@@ -11,11 +11,11 @@ use Rattle.rme_c.proofs.jumps.enter.Goals as goal
 pub returns-clause-enters : goal.returns-clause-enters
 returns-clause-enters c = λ some worker begun.
     let shape = c.args.shape.now in let lock = c.args.lock in let held = c.args.held in let values : List ℕ = c.args.values.now in
-    let swaps : ℕ = shape.height - held in let loads = c.take_loads-loads.result in
-    let start : Private = climbing worker begun lock held in let mid : Private = at_stage worker begun (Logging (LoadTurn lock)) in let next : Private = at_stage worker begun c.take_loads-loads.new.stage in
+    let swaps : ℕ = shape.height - held in let loads = c.take_loads.result in
+    let start : Private = climbing worker begun lock held in let mid : Private = at_stage worker begun (Logging (LoadTurn lock)) in let next : Private = at_stage worker begun c.take_loads.new.stage in
     takes_run shape start values swaps (Entered lock ∷ []) mid next
     (in_led shape worker begun lock held values swaps (omega (arith, c.requires.held)) c.requires.held c.if-values-swaps.false (c.are_free.ensures c.if-not-are_free.false))
-    loads [] (led_rest shape mid values swaps loads [] next (c.take_loads-loads.ensures.loads c.if-loads-eq0.false worker begun))
+    loads [] (led_rest shape mid values swaps loads [] next (c.take_loads.ensures.loads worker begun))
 
 pub returns-clause-stage : goal.returns-clause-stage
-returns-clause-stage c = λ some begun. c.take_loads-loads.ensures.stage c.if-loads-eq0.false begun
+returns-clause-stage c = λ some begun. c.take_loads.ensures.stage begun

@@ -1,11 +1,9 @@
-use Rattle.std.proofs.Common.{◌≡◌, ◌<◌, ◌-◌, [], ◌∷◌, ℕ, arith}
-use Rattle.rme_program.specs.declared.stage.Stage.TheVariants.{Climbing, Logging}
-use Rattle.rme_program.specs.declared.stage.Log.TheVariants.{LoadTurn}
+use Rattle.std.proofs.Common.{◌≡◌, [], ◌∷◌, ℕ, sym, subst, arith}
+use Rattle.rme_program.specs.declared.stage.Stage.TheVariants.{Climbing}
 use Rattle.rme_program.specs.declared.note.Note.TheVariants.{Entered}
-use Rattle.rme_program.specs.Conditions.{IsPrivate}
-use Rattle.rme_c.specs.Runs.{at_stage}
+use Rattle.rme_c.specs.Runs.{Jumps, at_stage}
 use Rattle.rme_c.proofs.Led.{jumps_none, writes_one}
-use Rattle.rme_c.proofs.Jumping.{in_led, private_at, jumps_at, still}
+use Rattle.rme_c.proofs.Jumping.{jumps_at, still}
 use Rattle.rme_c.proofs.jumps.jump_in.Goals as goal
 
 pub returns-in_default : goal.returns-in_default
@@ -24,22 +22,9 @@ returns-then-entered-gt0 c =
       private = record { worker = c.requires.private.worker; begun = c.requires.private.begun; stage = c.enter-entered.ensures.stage some private.begun };
     }
 
-pub returns-then-values-swaps : goal.returns-then-values-swaps
-returns-then-values-swaps c =
-    still c.args.shape.now c.args.private.now c.args.values.now c.args.outcome.now c.enter-entered.new.stage (c.enter-entered.ensures.none (omega (arith, c.if-entered-gt0.false)))
-    (jumps_none c.args.shape.now c.args.private.now c.args.values.now c.args.outcome.now c.requires.private)
-
-pub returns : goal.returns
-returns c =
-    let shape = c.args.shape.now in let private = c.args.private.now in let ascent = c.in-Climbing.ascent in
-    let is : IsPrivate shape (at_stage private.worker private.begun (Climbing ascent)) = private_at shape private (Climbing ascent) c.in-Climbing.is c.requires.private in
-    let below : ascent.held < shape.height = is.stage.1 in
-    let count : ℕ = shape.height - ascent.held in
-    jumps_at shape private (Climbing ascent) c.in-Climbing.is c.args.values.now count c.args.outcome.now (at_stage private.worker private.begun (Logging (LoadTurn ascent.lock))) c.put-2.new.outcome record {
-      within = c.if-values-swaps.false;
-      notes = Entered ascent.lock ∷ [];
-      takes = in_led shape private.worker private.begun ascent.lock ascent.held c.args.values.now count (omega (arith, below)) below c.if-values-swaps.false (c.are_free.ensures c.if-not-are_free.false);
-      few = omega (arith, below);
-      writes = writes_one c.args.outcome.now c.put-2.new.outcome c.lock_note-2.result (Entered ascent.lock) c.lock_note-2.ensures c.put-2.ensures.told c.put-2.ensures.count;
-      private = record { worker = is.worker; begun = is.begun; stage = is.stage.0 };
-    }
+pub returns-else-entered-gt0 : goal.returns-else-entered-gt0
+returns-else-entered-gt0 c =
+    let shape = c.args.shape.now in let private = c.args.private.now in let values = c.args.values.now in let before = c.args.outcome.now in let stage = c.enter-entered.new.stage in
+    let none : c.enter-entered.result ≡ 0 = omega (arith, c.if-entered-gt0.false) in
+    let J : ℕ → Type 0 = λ k. Jumps shape private values k before (at_stage private.worker private.begun stage) before in
+    subst J (sym none) (still shape private values before stage (c.enter-entered.ensures.none none) (jumps_none shape private values before c.requires.private))
