@@ -10,17 +10,22 @@ use rme_program::{Departure, Log, Note, Phase, Receipt, Recovery, Redo, Stage};
 /// Where a worker knows of no lock.
 const NO_LOCK: u32 = u32::MAX;
 
-/// The kinds of notes behind which a batch may be told to end.
+/// The kinds of notes, by which a batch is told where to end too.
 pub const ASKED: u32 = 1;
 
+const BLOCKED: u32 = 2;
+
 pub const ENTERED: u32 = 3;
+
+const REENTERED: u32 = 4;
 
 pub const FINISHED: u32 = 5;
 
 pub const LEFT: u32 = 6;
 
-/// A worker that has left all nodes.
 pub const READY: u32 = 7;
+
+const WITHDREW: u32 = 8;
 
 /// Writes one more note down, where it says something.
 pub fn put_note(outcome: &mut Outcome, note: Note)
@@ -30,14 +35,14 @@ pub fn put_note(outcome: &mut Outcome, note: Note)
 {
     match note {
         Note::Quiet => {}
-        Note::Asked(number) => put(outcome, number_note(1, number)),
-        Note::Blocked => put(outcome, number_note(2, 0)),
-        Note::Entered(lock) => put(outcome, lock_note(3, lock)),
-        Note::Reentered(lock) => put(outcome, lock_note(4, lock)),
+        Note::Asked(number) => put(outcome, number_note(ASKED, number)),
+        Note::Blocked => put(outcome, number_note(BLOCKED, 0)),
+        Note::Entered(lock) => put(outcome, lock_note(ENTERED, lock)),
+        Note::Reentered(lock) => put(outcome, lock_note(REENTERED, lock)),
         Note::Finished(receipt) => put(outcome, receipt_note(receipt)),
-        Note::Left(lock) => put(outcome, lock_note(6, lock)),
-        Note::Ready => put(outcome, number_note(7, 0)),
-        Note::Withdrew(number) => put(outcome, number_note(8, number)),
+        Note::Left(lock) => put(outcome, lock_note(LEFT, lock)),
+        Note::Ready => put(outcome, number_note(READY, 0)),
+        Note::Withdrew(number) => put(outcome, number_note(WITHDREW, number)),
     }
 }
 
