@@ -3,7 +3,6 @@ use Rattle.std.proofs.Common.{◌≡◌, ◌≢◌, ℕ, ◌+◌, ◌-◌, ◌<�
 use Rattle.std.proofs.lemmas.Bool.{eq-eqb, ne_eqb}
 use Rattle.rme_words.specs.declared.shape.Shape.{Shape}
 use Rattle.rme_words.specs.declared.address.Address.TheVariants.{Node}
-use Rattle.rme_words.specs.Words.{word}
 use Rattle.rme_tree.specs.Paths.{node, side}
 use Rattle.rme_program.specs.declared.note.Note.{Note}
 use Rattle.rme_program.specs.declared.note.Note.TheVariants as note
@@ -11,6 +10,7 @@ use Rattle.rme_program.specs.declared.stage.Stage.{Stage}
 use Rattle.rme_program.specs.declared.stage.Stage.TheVariants.{Climbing, Logging}
 use Rattle.rme_program.specs.declared.stage.Log.TheVariants.{LoadTurn}
 use Rattle.rme_program.specs.Steps.{after_at, after_taken}
+use Rattle.rme_seats.specs.Layout.{position}
 use Rattle.rme_seats.specs.Parts.{onward}
 use Rattle.rme_seats.specs.Chances.{Tally}
 use Rattle.rme_seats.specs.Stands.{Ident, Stand}
@@ -70,7 +70,7 @@ module _ (ident : Ident) (a : Stand) (t : Tally) (lock held : ℕ) where
       below : level < ident.shape.height
       below = subst (λ (x : Shape). level < x.height) same test
 
-      pub climb_may : (worker n number own : ℕ) → worker ≡ a.part.worker → n ≡ node s.leaves worker (level + 1) → 1 ≤ n → n < s.leaves → number ≡ word s (Node lock n)
+      pub climb_may : (worker n number own : ℕ) → worker ≡ a.part.worker → n ≡ node s.leaves worker (level + 1) → 1 ≤ n → n < s.leaves → number ≡ position s (Node lock n)
           → own ≡ side s.leaves worker (level + 1) → MaySwap ident.shape onward now.part number 0 own
       climb_may worker n number own mine is one less its sided =
           subst (λ (v : ℕ). MaySwap ident.shape onward now.part number 0 v)

@@ -4,12 +4,12 @@ use Rattle.std.proofs.lemmas.Bool.{ne_eqb}
 use Rattle.rme_words.specs.declared.shape.Shape.{Shape}
 use Rattle.rme_words.specs.declared.address.Address.TheVariants.{Node}
 use Rattle.rme_program.specs.declared.action.Action.TheVariants.{Store}
-use Rattle.rme_words.specs.Words.{word}
 use Rattle.rme_tree.specs.Paths.{node}
 use Rattle.rme_program.specs.declared.stage.Stage.{Stage}
 use Rattle.rme_program.specs.declared.stage.Stage.TheVariants.{Resting, Leaving}
 use Rattle.rme_program.specs.declared.stage.Departure.TheVariants.{Clear}
 use Rattle.rme_program.specs.Steps.{clear_stage}
+use Rattle.rme_seats.specs.Layout.{position}
 use Rattle.rme_seats.specs.Parts.{onward}
 use Rattle.rme_seats.specs.Chances.{Tally}
 use Rattle.rme_seats.specs.Stands.{Ident, Stand}
@@ -38,11 +38,11 @@ module _ (ident : Ident) (a : Stand) (t : Tally) (lock levels : ℕ) where
     at_level some_level = subst (λ (st : Stage). IsAt ident.shape now.part a.part.private.begun st) (clearing_at lock level some_level) state.doing.at
 
     pub clear_may : (s : Shape) (worker n number : ℕ) → 0 < level → s ≡ ident.shape → worker ≡ a.part.worker → n ≡ node s.leaves worker level → 1 ≤ n → n < s.leaves
-        → number ≡ word s (Node lock n) → lock < ident.shape.locks → MayStore ident.shape onward now.part number 0
+        → number ≡ position s (Node lock n) → lock < ident.shape.locks → MayStore ident.shape onward now.part number 0
     clear_may s worker n number some_level same own is one below its lock_in =
         may_store ident.shape now.part a.part.private.begun (Leaving (Clear lock level)) (at_level some_level) (Node lock n) number 0 refl
         (ap (λ (v : ℕ). Store (Node lock v) 0) (sym (is ∙ ap (λ (x : Shape). node x.leaves worker level) same ∙ ap (λ (w : ℕ). node ident.shape.leaves w level) (own ∙ sym state.doing.stays.own))))
-        (lock_in, one, subst (λ (x : Shape). n < x.leaves) same below) (its ∙ ap (λ (x : Shape). word x (Node lock n)) same)
+        (lock_in, one, subst (λ (x : Shape). n < x.leaves) same below) (its ∙ ap (λ (x : Shape). position x (Node lock n)) same)
 
     pub clear_more : (next : Stand) (v : Tally) → 0 < level → MadeStep ident.shape onward now next u v 0 → Clearing ident a t lock levels next v (level - 1)
     clear_more next v some_level made =

@@ -3,7 +3,6 @@ use Rattle.std.proofs.Common.{◌≡◌, ℕ, ◌+◌, ◌*◌, ◌/◌, ◌≤�
 use Rattle.std.specs.Prelude.{true, Option, Some}
 use Rattle.rme_words.specs.declared.shape.Shape.{Shape}
 use Rattle.rme_words.specs.declared.address.Address.TheVariants.{Done}
-use Rattle.rme_words.specs.Words.{word}
 use Rattle.rme_tree.specs.Nodes.{held_in}
 use Rattle.rme_script.specs.declared.job.Job.{Job}
 use Rattle.rme_script.specs.Programs.{Program}
@@ -23,6 +22,7 @@ use Rattle.rme_program.specs.Steps.{action_of, note_after, private_after}
 use Rattle.rme_machine.specs.Views.{worker_words, lock_words, is_pending, slate_job}
 use Rattle.rme_machine.specs.Fits.{Knows}
 use Rattle.rme_machine.proofs.Returning.{sectioned}
+use Rattle.rme_seats.specs.Layout.{position}
 use Rattle.rme_seats.specs.declared.record.Part.{Part}
 use Rattle.rme_seats.specs.Parts.{advanced, onward, draft_script, entries_after}
 use Rattle.rme_seats.specs.Rule.{memory_in, privates_of}
@@ -43,7 +43,7 @@ module _ (s : Shape) (p : Part) (b mask reply : ℕ) (visit : Visit) (at : IsAt 
   finishes_note : note_after s p.private b ≡ Finished (receipt_of p.worker visit.lock b visit.turn reply)
   finishes_note = ap (λ (q : Private). note_after s q b) at.private
 
-  pub finish_may : (shape : Shape) (worker begun number : ℕ) → shape ≡ s → worker ≡ p.worker → begun ≡ b → number ≡ word shape (Done worker)
+  pub finish_may : (shape : Shape) (worker begun number : ℕ) → shape ≡ s → worker ≡ p.worker → begun ≡ b → number ≡ position shape (Done worker)
       → MayFinish s p number (receipt_of worker visit.lock begun visit.turn reply)
   finish_may shape worker begun number same own is its = record {
     address = Done p.worker;
@@ -53,7 +53,7 @@ module _ (s : Shape) (p : Part) (b mask reply : ℕ) (visit : Visit) (at : IsAt 
       count = refl;
       here = ap (action_of s) at.private ∙ ap (λ (n : ℕ). Store (Done p.worker) n) (sym is);
       within = at.stood.worker;
-      number = its ∙ ap (λ (x : Shape). word x (Done worker)) same ∙ ap (λ (w : ℕ). word s (Done w)) own;
+      lies = its ∙ ap (λ (x : Shape). position x (Done worker)) same ∙ ap (λ (w : ℕ). position s (Done w)) own;
     };
     note = ap (λ (n : ℕ). note_after s p.private n) is ∙ finishes_note ∙ ap Finished (let e : ◌≡◌ {A = Receipt} (receipt_of p.worker visit.lock b visit.turn reply) (receipt_of worker visit.lock begun visit.turn reply) =
         ap {B = Receipt} (λ (w : ℕ). receipt_of w visit.lock b visit.turn reply) (sym own) ∙ ap {B = Receipt} (λ (n : ℕ). receipt_of worker visit.lock n visit.turn reply) (sym is) in e);

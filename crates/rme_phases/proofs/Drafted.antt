@@ -5,7 +5,6 @@ use Rattle.std.specs.Prelude.{true, Some, slice_index, slice_set}
 use Rattle.rme_words.specs.declared.shape.Shape.{Shape}
 use Rattle.rme_words.specs.declared.address.Address.{Address}
 use Rattle.rme_words.specs.declared.address.Address.TheVariants.{SlateLen, SlateWord}
-use Rattle.rme_words.specs.Words.{word}
 use Rattle.rme_script.specs.declared.op.Op.{Op}
 use Rattle.rme_script.specs.Programs.{Program}
 use Rattle.rme_script.specs.Scripts.{IsScript}
@@ -19,6 +18,7 @@ use Rattle.rme_machine.specs.Views.{WorkerWords, LockWords, worker_words, lock_w
 use Rattle.rme_machine.specs.Fits.{Knows}
 use Rattle.rme_machine.proofs.Moves.{slate_read, slate_long}
 use Rattle.rme_machine.proofs.Scripts.{posted, words_more}
+use Rattle.rme_seats.specs.Layout.{position}
 use Rattle.rme_seats.specs.declared.record.Part.{Part}
 use Rattle.rme_seats.specs.Parts.{draft_script}
 use Rattle.rme_seats.specs.Rule.{memory_in}
@@ -111,8 +111,8 @@ pub drafted_script : (s : Shape) (mem : Address → ℕ) (w : ℕ) (p : Program)
 drafted_script s mem w p words drafted same = same_script p.n words (slate_of p.ops) same ∙ slate_back p (IsScript_slate s p drafted.shaped)
 
 -- A worker's word, by the numbers that the code has.
-pub own_word : (kind : ℕ → Address) (shape s : Shape) (worker own number : ℕ) → shape ≡ s → worker ≡ own → number ≡ word shape (kind worker) → number ≡ word s (kind own)
-own_word kind shape s worker own number same mine its = its ∙ ap (λ (x : Shape). word x (kind worker)) same ∙ ap (λ (w : ℕ). word s (kind w)) mine
+pub own_word : (kind : ℕ → Address) (shape s : Shape) (worker own number : ℕ) → shape ≡ s → worker ≡ own → number ≡ position shape (kind worker) → number ≡ position s (kind own)
+own_word kind shape s worker own number same mine its = its ∙ ap (λ (x : Shape). position x (kind worker)) same ∙ ap (λ (w : ℕ). position s (kind w)) mine
 
 pub seat_small : (ident service : Ident) (p : Part) → Stood ident.shape p → ident ≡ service → p.worker < service.shape.workers
 seat_small ident service p stood ours = subst (λ (x : Ident). p.worker < x.shape.workers) ours stood.worker

@@ -3,11 +3,11 @@ use Rattle.std.proofs.Common.{◌≡◌, ◌≢◌, ℕ, ◌+◌, ◌%◌, ◌^�
 use Rattle.std.proofs.lemmas.Bool.{eq-eqb, ne_eqb}
 use Rattle.rme_words.specs.declared.shape.Shape.{Shape}
 use Rattle.rme_words.specs.declared.address.Address.TheVariants.{Turn}
-use Rattle.rme_words.specs.Words.{word}
 use Rattle.rme_program.specs.declared.stage.Stage.{Stage}
 use Rattle.rme_program.specs.declared.stage.Stage.TheVariants.{Resting, Leaving}
 use Rattle.rme_program.specs.declared.stage.Departure.TheVariants.{LoadExitTurn, StoreExitTurn, Clear}
 use Rattle.rme_program.specs.Steps.{clear_stage, exit_stage}
+use Rattle.rme_seats.specs.Layout.{position}
 use Rattle.rme_seats.specs.declared.record.Part.{Part}
 use Rattle.rme_seats.specs.Parts.{onward}
 use Rattle.rme_seats.specs.Chances.{Tally}
@@ -21,9 +21,9 @@ module _ (s : Shape) (p : Part) (lock : ℕ) (at : IsBefore s p (Leaving (LoadEx
   pub exit_lock : (x : Shape) → x ≡ s → lock < x.locks
   exit_lock x same = subst (λ (y : Shape). lock < y.locks) (sym same) (is_stage s p p.private.begun (Leaving (LoadExitTurn lock)) at)
 
-  pub exit_may : (x : Shape) (number : ℕ) → x ≡ s → number ≡ word x (Turn lock) → MayLoad s onward p number
+  pub exit_may : (x : Shape) (number : ℕ) → x ≡ s → number ≡ position x (Turn lock) → MayLoad s onward p number
   exit_may x number same its =
-      may_load s p p.private.begun (Leaving (LoadExitTurn lock)) at (Turn lock) number refl refl (exit_lock s refl) (its ∙ ap (λ (y : Shape). word y (Turn lock)) same)
+      may_load s p p.private.begun (Leaving (LoadExitTurn lock)) at (Turn lock) number refl refl (exit_lock s refl) (its ∙ ap (λ (y : Shape). position y (Turn lock)) same)
 
 module _ (s : Shape) (a : Stand) (t : Tally) (lock : ℕ) (at : IsBefore s a.part (Leaving (LoadExitTurn lock))) where
   module _ (b : Stand) (u : Tally) (turn : ℕ) (made : MadeStep s onward a b t u turn) where
@@ -51,15 +51,15 @@ module _ (s : Shape) (a : Stand) (t : Tally) (lock : ℕ) (at : IsBefore s a.par
     exit_odd : turn % 2 ≢ 0 → Doing s onward a b t u 1 a.part.private.begun (Leaving (StoreExitTurn lock turn))
     exit_odd odd = subst (λ (st : Stage). Doing s onward a b t u 1 a.part.private.begun st) (rw (ne_eqb (turn % 2) 0 odd) refl) exit_loaded
 
-    pub odd_may : turn % 2 ≢ 0 → (x : Shape) (number : ℕ) → x ≡ s → number ≡ word x (Turn lock) → MayStore s onward b.part number (turn + 1)
+    pub odd_may : turn % 2 ≢ 0 → (x : Shape) (number : ℕ) → x ≡ s → number ≡ position x (Turn lock) → MayStore s onward b.part number (turn + 1)
     odd_may odd x number same its = may_store s b.part a.part.private.begun (Leaving (StoreExitTurn lock turn)) (exit_odd odd).at (Turn lock) number (turn + 1) refl refl (exit_lock s a.part lock at s refl)
-        (its ∙ ap (λ (y : Shape). word y (Turn lock)) same)
+        (its ∙ ap (λ (y : Shape). position y (Turn lock)) same)
 
     pub odd_falls : turn % 2 ≢ 0 → (c : Stand) (v : Tally) → Fallen b c u v → Falling s onward a c t v (s.height + 2)
     odd_falls odd c v fell = falls_on s a b c t u v (exit_odd odd) (falls_at s onward b c u v 1 fell (omega arith)) (omega arith)
 
     module _ (odd : turn % 2 ≢ 0) (c : Stand) (v : Tally) (stored : MadeStep s onward b c u v (turn + 1)) where
-      exit_stored : Doing s onward a c t v 2 a.part.private.begun (clear_stage lock s.height)
+      pub exit_stored : Doing s onward a c t v 2 a.part.private.begun (clear_stage lock s.height)
       exit_stored = subst (λ (st : Stage). Doing s onward a c t v 2 a.part.private.begun st) (sym whole_path)
           (then_on s a b c t u v (exit_odd odd) (did s b c u v (turn + 1) stored (exit_odd odd).at refl refl refl))
 

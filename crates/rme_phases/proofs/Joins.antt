@@ -3,12 +3,13 @@ use Rattle.std.proofs.Common.{◌≡◌, ℕ, ◌+◌, ◌≤◌, sym, ◌∙◌
 use Rattle.std.specs.Prelude.{true}
 use Rattle.rme_words.specs.declared.shape.Shape.{Shape}
 use Rattle.rme_words.specs.declared.address.Address.{Address}
-use Rattle.rme_words.specs.Words.{IsOfShape, word}
+use Rattle.rme_words.specs.Words.{IsOfShape}
 use Rattle.rme_program.specs.declared.action.Action.TheVariants.{Load, Store, Swap}
 use Rattle.rme_program.specs.declared.note.Note.{Note}
 use Rattle.rme_program.specs.declared.private.Private.{Private}
 use Rattle.rme_program.specs.declared.stage.Stage.{Stage}
 use Rattle.rme_program.specs.Steps.{action_at, after_at, begun_after}
+use Rattle.rme_seats.specs.Layout.{position}
 use Rattle.rme_seats.specs.declared.record.Part.{Part}
 use Rattle.rme_seats.specs.Parts.{onward}
 use Rattle.rme_seats.specs.Chances.{Tally}
@@ -37,9 +38,9 @@ module _ (s : Shape) (a b c : Stand) (t u v : Tally) {m n begun : ℕ} {st1 st2 
 -- Where steps have led to this stage, the next operation on a word that follows from the worker's number, and what it does.
 module _ (s : Shape) (lead : Part → Part) (a b : Stand) (t u : Tally) {m begun : ℕ} {st : Stage} (doing : Doing s lead a b t u m begun st) where
   module _ (address : ℕ → Address) (x : Shape) (worker number : ℕ) (plain : is_plain st ≡ true) (within : IsOfShape s (address a.part.worker)) (same : x ≡ s) (own : worker ≡ a.part.worker)
-      (its : number ≡ word x (address worker)) where
-    here : number ≡ word s (address a.part.worker)
-    here = its ∙ ap (λ (y : Shape). word y (address worker)) same ∙ ap (λ (w : ℕ). word s (address w)) own
+      (its : number ≡ position x (address worker)) where
+    here : number ≡ position s (address a.part.worker)
+    here = its ∙ ap (λ (y : Shape). position y (address worker)) same ∙ ap (λ (w : ℕ). position s (address w)) own
 
     pub next_load : ((w : ℕ) → action_at s w begun st ≡ Load (address w)) → MayLoad s onward b.part number
     next_load is = may_load s b.part begun st doing.at (address a.part.worker) number plain (is b.part.worker ∙ ap (λ (w : ℕ). Load (address w)) doing.stays.own) within here

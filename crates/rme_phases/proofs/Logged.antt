@@ -3,7 +3,6 @@ use Rattle.std.proofs.Common.{◌≡◌, ℕ, ◌+◌, ◌<◌, List, refl, sym,
 use Rattle.std.specs.Prelude.{slice_index, slice_set}
 use Rattle.rme_words.specs.declared.shape.Shape.{Shape}
 use Rattle.rme_words.specs.declared.address.Address.TheVariants.{Turn, Cell, Shadow, ShadowReply, Mask}
-use Rattle.rme_words.specs.Words.{word}
 use Rattle.rme_script.specs.Programs.{Program}
 use Rattle.rme_program.specs.declared.action.Action.TheVariants.{Store}
 use Rattle.rme_program.specs.declared.stage.Stage.TheVariants.{Logging, Copying}
@@ -12,6 +11,7 @@ use Rattle.rme_program.specs.declared.stage.Redo.TheVariants.{LoadMask}
 use Rattle.rme_program.specs.declared.stage.Visit.{Visit}
 use Rattle.rme_program.specs.Masks.{first_cell}
 use Rattle.rme_program.specs.Steps.{cells_from_here, shadows_from}
+use Rattle.rme_seats.specs.Layout.{position}
 use Rattle.rme_seats.specs.Parts.{onward}
 use Rattle.rme_seats.specs.Chances.{Tally}
 use Rattle.rme_seats.specs.Stands.{Stand}
@@ -21,8 +21,8 @@ use Rattle.rme_seats.proofs.Chains.{did, then_on, falls_on, falls_at, may_load, 
 -- One named cell loaded.
 module _ (s : Shape) (a : Stand) (t : Tally) (b lock turn named cell : ℕ) (script : Program) (row : List ℕ) (at : IsAt s a.part b (Logging (LoadCells lock turn script named row cell)))
     (lock_in : lock < s.locks) (small : cell < s.cells) where
-  pub named_may : (shape : Shape) (number : ℕ) → shape ≡ s → number ≡ word shape (Cell lock cell) → MayLoad s onward a.part number
-  named_may shape number same its = may_load s a.part b _ at (Cell lock cell) number refl refl (lock_in, small) (its ∙ ap (λ (x : Shape). word x (Cell lock cell)) same)
+  pub named_may : (shape : Shape) (number : ℕ) → shape ≡ s → number ≡ position shape (Cell lock cell) → MayLoad s onward a.part number
+  named_may shape number same its = may_load s a.part b _ at (Cell lock cell) number refl refl (lock_in, small) (its ∙ ap (λ (x : Shape). position x (Cell lock cell)) same)
 
   pub named_loaded : (c : Stand) (u : Tally) (value : ℕ) (later : List ℕ) → later ≡ slice_set row cell value → MadeStep s onward a c t u value
       → Doing s onward a c t u 1 b (cells_from_here s lock turn script named later (first_cell named (cell + 1) s.cells))
@@ -32,10 +32,10 @@ module _ (s : Shape) (a : Stand) (t : Tally) (b lock turn named cell : ℕ) (scr
 -- One shadow word stored.
 module _ (s : Shape) (a : Stand) (t : Tally) (b named reply cell : ℕ) (visit : Visit) (row : List ℕ) (at : IsAt s a.part b (Logging (StoreShadows visit named row reply cell)))
     (lock_in : visit.lock < s.locks) (small : cell < s.cells) where
-  pub shadow_may : (shape : Shape) (number value : ℕ) → shape ≡ s → number ≡ word shape (Shadow visit.lock cell) → value ≡ slice_index row cell → MayStore s onward a.part number value
+  pub shadow_may : (shape : Shape) (number value : ℕ) → shape ≡ s → number ≡ position shape (Shadow visit.lock cell) → value ≡ slice_index row cell → MayStore s onward a.part number value
   shadow_may shape number value same its is =
       may_store s a.part b _ at (Shadow visit.lock cell) number value refl (ap (λ (v : ℕ). Store (Shadow visit.lock cell) v) (sym is)) (lock_in, small)
-      (its ∙ ap (λ (x : Shape). word x (Shadow visit.lock cell)) same)
+      (its ∙ ap (λ (x : Shape). position x (Shadow visit.lock cell)) same)
 
   pub shadow_stored : (c : Stand) (u : Tally) (value : ℕ) → MadeStep s onward a c t u value
       → Doing s onward a c t u 1 b (shadows_from visit named row reply (first_cell named (cell + 1) s.cells))
@@ -44,15 +44,15 @@ module _ (s : Shape) (a : Stand) (t : Tally) (b named reply cell : ℕ) (visit :
 -- The shadow reply, the mask and the odd turn.
 module _ (s : Shape) (a : Stand) (t : Tally) (b named reply : ℕ) (visit : Visit) (at : IsAt s a.part b (Logging (StoreShadowReply visit named reply))) (lock_in : visit.lock < s.locks)
     (shape : Shape) (same : shape ≡ s) where
-  pub reply_may : (number : ℕ) → number ≡ word shape (ShadowReply visit.lock) → MayStore s onward a.part number reply
-  reply_may number its = may_store s a.part b _ at (ShadowReply visit.lock) number reply refl refl lock_in (its ∙ ap (λ (x : Shape). word x (ShadowReply visit.lock)) same)
+  pub reply_may : (number : ℕ) → number ≡ position shape (ShadowReply visit.lock) → MayStore s onward a.part number reply
+  reply_may number its = may_store s a.part b _ at (ShadowReply visit.lock) number reply refl refl lock_in (its ∙ ap (λ (x : Shape). position x (ShadowReply visit.lock)) same)
 
   module _ (c : Stand) (u : Tally) (made : MadeStep s onward a c t u reply) where
     replied : Doing s onward a c t u 1 b (Logging (StoreMask visit named))
     replied = did s a c t u reply made at refl refl refl
 
-    pub mask_may : (number : ℕ) → number ≡ word shape (Mask visit.lock) → MayStore s onward c.part number named
-    mask_may number its = may_store s c.part b _ replied.at (Mask visit.lock) number named refl refl lock_in (its ∙ ap (λ (x : Shape). word x (Mask visit.lock)) same)
+    pub mask_may : (number : ℕ) → number ≡ position shape (Mask visit.lock) → MayStore s onward c.part number named
+    mask_may number its = may_store s c.part b _ replied.at (Mask visit.lock) number named refl refl lock_in (its ∙ ap (λ (x : Shape). position x (Mask visit.lock)) same)
 
     pub mask_fell : (d : Stand) (v : Tally) → Fallen c d u v → Falling s onward a d t v 3
     mask_fell d v fell = falls_on s a c d t u v replied (falls_at s onward c d u v 1 fell (omega arith)) (omega arith)
@@ -61,8 +61,8 @@ module _ (s : Shape) (a : Stand) (t : Tally) (b named reply : ℕ) (visit : Visi
       masked_all : Doing s onward a d t v 2 b (Logging (StoreTurn visit))
       masked_all = then_on s a c d t u v replied (did s c d u v named masked replied.at refl refl refl)
 
-      pub turn_may : (number : ℕ) → number ≡ word shape (Turn visit.lock) → MayStore s onward d.part number (visit.turn + 1)
-      turn_may number its = may_store s d.part b _ masked_all.at (Turn visit.lock) number (visit.turn + 1) refl refl lock_in (its ∙ ap (λ (x : Shape). word x (Turn visit.lock)) same)
+      pub turn_may : (number : ℕ) → number ≡ position shape (Turn visit.lock) → MayStore s onward d.part number (visit.turn + 1)
+      turn_may number its = may_store s d.part b _ masked_all.at (Turn visit.lock) number (visit.turn + 1) refl refl lock_in (its ∙ ap (λ (x : Shape). position x (Turn visit.lock)) same)
 
       pub turn_fell : (e : Stand) (x : Tally) → Fallen d e v x → Falling s onward a e t x 3
       turn_fell e x fell = falls_on s a d e t v x masked_all (falls_at s onward d e v x 1 fell (omega arith)) (omega arith)

@@ -4,7 +4,6 @@ use Rattle.std.specs.Prelude.{Bool, true, false}
 use Rattle.std.proofs.lemmas.Bool.{eq-eqb, ne_eqb}
 use Rattle.rme_words.specs.declared.shape.Shape.{Shape}
 use Rattle.rme_words.specs.declared.address.Address.TheVariants.{Node}
-use Rattle.rme_words.specs.Words.{word}
 use Rattle.rme_tree.specs.Paths.{node, side}
 use Rattle.rme_program.specs.declared.note.Note.{Note}
 use Rattle.rme_program.specs.declared.note.Note.TheVariants.{Quiet, Reentered}
@@ -12,6 +11,7 @@ use Rattle.rme_program.specs.declared.stage.Stage.{Stage}
 use Rattle.rme_program.specs.declared.stage.Stage.TheVariants.{Recovering}
 use Rattle.rme_program.specs.declared.stage.Recovery.TheVariants.{LoadPath}
 use Rattle.rme_program.specs.Steps.{after_at, after_own, after_other, re_entry}
+use Rattle.rme_seats.specs.Layout.{position}
 use Rattle.rme_seats.specs.Parts.{onward}
 use Rattle.rme_seats.specs.Chances.{Tally}
 use Rattle.rme_seats.specs.Stands.{Ident, Stand}
@@ -66,7 +66,7 @@ module _ (ident : Ident) (a : Stand) (t : Tally) (lock : ℕ) (pending : Bool) w
       below : held < ident.shape.height
       below = subst (λ (x : Shape). held < x.height) same test
 
-      pub path_may : (worker n number : ℕ) → worker ≡ a.part.worker → n ≡ node s.leaves worker (held + 1) → 1 ≤ n → n < s.leaves → number ≡ word s (Node lock n)
+      pub path_may : (worker n number : ℕ) → worker ≡ a.part.worker → n ≡ node s.leaves worker (held + 1) → 1 ≤ n → n < s.leaves → number ≡ position s (Node lock n)
           → MayLoad ident.shape onward now.part number
       path_may worker n number mine is one less its =
           next_load ident.shape onward a now t u (looking below) (λ (w : ℕ). Node lock (node ident.shape.leaves w (held + 1))) s worker number refl

@@ -4,7 +4,6 @@ use Rattle.std.specs.Prelude.{Option}
 use Rattle.std.proofs.lemmas.Bool.{eq-eqb, ne_eqb}
 use Rattle.rme_words.specs.declared.shape.Shape.{Shape}
 use Rattle.rme_words.specs.declared.address.Address.TheVariants.{Turn}
-use Rattle.rme_words.specs.Words.{word}
 use Rattle.rme_script.specs.declared.job.Job.{Job}
 use Rattle.rme_script.specs.Cells.{cells_of}
 use Rattle.rme_script.specs.Programs.{Program}
@@ -20,6 +19,7 @@ use Rattle.rme_program.specs.declared.stage.Visit.{Visit}
 use Rattle.rme_program.specs.Phases.{cells_below}
 use Rattle.rme_program.specs.Places.{place_of_redo, section_steps}
 use Rattle.rme_program.specs.Steps.{turn_stage}
+use Rattle.rme_seats.specs.Layout.{position}
 use Rattle.rme_seats.specs.Parts.{onward, draft_script}
 use Rattle.rme_seats.specs.Chances.{Tally}
 use Rattle.rme_seats.specs.Stands.{Stand}
@@ -30,8 +30,8 @@ use Rattle.rme_phases.proofs.Parts.{stage_at}
 
 -- The turn loaded.
 module _ (s : Shape) (a : Stand) (t : Tally) (b lock : ℕ) (at : IsAt s a.part b (Logging (LoadTurn lock))) where
-  pub turn_may : (shape : Shape) (number : ℕ) → lock < s.locks → shape ≡ s → number ≡ word shape (Turn lock) → MayLoad s onward a.part number
-  turn_may shape number lock_in same its = may_load s a.part b _ at (Turn lock) number refl refl lock_in (its ∙ ap (λ (x : Shape). word x (Turn lock)) same)
+  pub turn_may : (shape : Shape) (number : ℕ) → lock < s.locks → shape ≡ s → number ≡ position shape (Turn lock) → MayLoad s onward a.part number
+  turn_may shape number lock_in same its = may_load s a.part b _ at (Turn lock) number refl refl lock_in (its ∙ ap (λ (x : Shape). position x (Turn lock)) same)
 
   module _ (c : Stand) (u : Tally) (turn : ℕ) (made : MadeStep s onward a c t u turn) where
     pub turn_small : turn < 2 ^ 32

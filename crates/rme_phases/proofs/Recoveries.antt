@@ -4,12 +4,13 @@ use Rattle.std.specs.Prelude.{Bool, true, false, nat_lt}
 use Rattle.std.proofs.lemmas.Bool.{eq-eqb, ne_eqb}
 use Rattle.rme_words.specs.declared.shape.Shape.{Shape}
 use Rattle.rme_words.specs.declared.address.Address.TheVariants.{Begun, Done}
-use Rattle.rme_words.specs.Words.{IsOfShape, word}
+use Rattle.rme_words.specs.Words.{IsOfShape}
 use Rattle.rme_program.specs.declared.action.Action.TheVariants.{Load}
 use Rattle.rme_program.specs.declared.note.Note.TheVariants.{Quiet, Ready}
 use Rattle.rme_program.specs.declared.stage.Stage.TheVariants.{Resting, Recovering}
 use Rattle.rme_program.specs.declared.stage.Recovery.TheVariants.{LoadBegun, LoadDone, LoadLock, LoadPath}
 use Rattle.rme_program.specs.Steps.{action_at, after_at}
+use Rattle.rme_seats.specs.Layout.{position}
 use Rattle.rme_seats.specs.Parts.{onward, restarted}
 use Rattle.rme_seats.specs.Steps.{Stood}
 use Rattle.rme_seats.specs.Chances.{Tally}
@@ -50,7 +51,7 @@ module _ (ident : Ident) (a : Stand) (ours : a.ident ≡ ident) (stood : Stood a
     pub is_worker : worker < x.workers
     is_worker = subst (λ (y : Shape). worker < y.workers) (sym same) (subst (λ (w : ℕ). w < ident.shape.workers) (sym mine) worker_in)
 
-    pub restart_may : (number : ℕ) → number ≡ word x (Begun worker) → MayLoad ident.shape restarted a.part number
+    pub restart_may : (number : ℕ) → number ≡ position x (Begun worker) → MayLoad ident.shape restarted a.part number
     restart_may number its = (
       Begun a.part.worker,
       record {
@@ -60,7 +61,7 @@ module _ (ident : Ident) (a : Stand) (ours : a.ident ≡ ident) (stood : Stood a
           count = refl;
           here = refl;
           within = worker_in;
-          number = its ∙ ap (λ (y : Shape). word y (Begun worker)) same ∙ ap (λ (w : ℕ). word ident.shape (Begun w)) mine;
+          lies = its ∙ ap (λ (y : Shape). position y (Begun worker)) same ∙ ap (λ (w : ℕ). position ident.shape (Begun w)) mine;
         };
         plain = refl;
         draft = refl;
@@ -79,7 +80,7 @@ module _ (ident : Ident) (a : Stand) (ours : a.ident ≡ ident) (stood : Stood a
         begun_few = let few = few_begun ident.shape b.part begun (Recovering LoadDone) restarts.at in
             let most = ident.shape.counted.limits.few_jobs in omega (arith, few, most)
 
-        pub done_may : (number : ℕ) → number ≡ word x (Done worker) → MayLoad ident.shape onward b.part number
+        pub done_may : (number : ℕ) → number ≡ position x (Done worker) → MayLoad ident.shape onward b.part number
         done_may number its = next_load ident.shape restarted a b t u restarts Done x worker number refl worker_in same mine its (λ w. refl)
 
         module _ (v : Tally) (c : Stand) where
@@ -101,7 +102,7 @@ module _ (ident : Ident) (a : Stand) (ours : a.ident ≡ ident) (stood : Stood a
               told = subst (λ (y : Bool). Doing ident.shape restarted a c t v 2 begun (Recovering (LoadLock y))) (sym is)
                   (next_did ident.shape restarted a b t u restarts c v (omega arith) two refl (some_begun ident.shape b.part.worker begun done some_job) refl)
 
-              pub lock_may : (number : ℕ) → number ≡ word x (lock_address pending worker) → MayLoad ident.shape onward c.part number
+              pub lock_may : (number : ℕ) → number ≡ position x (lock_address pending worker) → MayLoad ident.shape onward c.part number
               lock_may number its =
                   next_load ident.shape restarted a c t v told (lock_address pending) x worker number refl (lock_within ident.shape pending a.part.worker worker_in) same mine its (names_lock ident.shape pending begun)
 

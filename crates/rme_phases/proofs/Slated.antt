@@ -5,7 +5,6 @@ use Rattle.std.proofs.lemmas.Option.{same_Some}
 use Rattle.std.proofs.lemmas.Bool.{cases_Bool, ne_eqb, eq-eqb}
 use Rattle.rme_words.specs.declared.shape.Shape.{Shape}
 use Rattle.rme_words.specs.declared.address.Address.TheVariants.{SlateLen, SlateWord}
-use Rattle.rme_words.specs.Words.{word}
 use Rattle.rme_script.specs.Programs.{Program}
 use Rattle.rme_script.specs.Scripts.{IsScript}
 use Rattle.rme_script.specs.declared.op.Op.{Op}
@@ -18,6 +17,7 @@ use Rattle.rme_program.specs.Masks.{mask_of}
 use Rattle.rme_program.specs.Phases.{cells_below}
 use Rattle.rme_program.specs.declared.stage.Log.TheVariants.{LoadLen, LoadSlate}
 use Rattle.rme_program.specs.Steps.{slate_stage, script_stage}
+use Rattle.rme_seats.specs.Layout.{position}
 use Rattle.rme_seats.specs.Parts.{onward}
 use Rattle.rme_seats.specs.Chances.{Tally}
 use Rattle.rme_seats.specs.Stands.{Ident, Stand}
@@ -52,7 +52,7 @@ module _ (ident : Ident) (a : Stand) (t : Tally) (lock turn operations : ℕ) wh
     at_word : k < 3 * operations → IsAt ident.shape now.part a.part.private.begun (Logging (LoadSlate lock turn operations words k))
     at_word below = subst (λ (st : Stage). IsAt ident.shape now.part a.part.private.begun st) (stage_before ident.shape lock turn operations words k below) state.doing.at
 
-    pub read_may : (shape : Shape) (worker number : ℕ) → operations ≤ 8 → k < 3 * operations → shape ≡ ident.shape → worker ≡ a.part.worker → number ≡ word shape (SlateWord worker (k / 3) (k % 3))
+    pub read_may : (shape : Shape) (worker number : ℕ) → operations ≤ 8 → k < 3 * operations → shape ≡ ident.shape → worker ≡ a.part.worker → number ≡ position shape (SlateWord worker (k / 3) (k % 3))
         → MayLoad ident.shape onward now.part number
     read_may shape worker number few below same own its =
         let mine : worker ≡ now.part.worker = own ∙ sym state.doing.stays.own in
@@ -60,7 +60,7 @@ module _ (ident : Ident) (a : Stand) (t : Tally) (lock turn operations : ℕ) wh
         may_load ident.shape now.part a.part.private.begun _ (at_word below) (SlateWord worker (k / 3) (k % 3)) number refl
         (ap (λ (w : ℕ). Load (SlateWord w (k / 3) (k % 3))) (sym mine))
         (subst (λ (w : ℕ). w < ident.shape.workers) (sym mine) state.doing.at.stood.worker, omega (arith, small), omega arith)
-        (its ∙ ap (λ (x : Shape). word x (SlateWord worker (k / 3) (k % 3))) same)
+        (its ∙ ap (λ (x : Shape). position x (SlateWord worker (k / 3) (k % 3))) same)
 
     pub read_more : (next : Stand) (v : Tally) (value : ℕ) (later : List ℕ) → k < 3 * operations → later ≡ slice_set words k value → MadeStep ident.shape onward now next u v value
         → Reads ident a t lock turn operations later next v (k + 1)
@@ -79,9 +79,9 @@ module _ (ident : Ident) (a : Stand) (t : Tally) (lock turn operations : ℕ) wh
 
 -- The length loaded.
 module _ (s : Shape) (a : Stand) (t : Tally) (b lock turn : ℕ) (at : IsAt s a.part b (Logging (LoadLen lock turn))) where
-  pub len_may : (shape : Shape) (worker number : ℕ) → shape ≡ s → worker ≡ a.part.worker → number ≡ word shape (SlateLen worker) → MayLoad s onward a.part number
+  pub len_may : (shape : Shape) (worker number : ℕ) → shape ≡ s → worker ≡ a.part.worker → number ≡ position shape (SlateLen worker) → MayLoad s onward a.part number
   len_may shape worker number same own its = may_load s a.part b _ at (SlateLen a.part.worker) number refl refl at.stood.worker
-      (its ∙ ap (λ (x : Shape). word x (SlateLen worker)) same ∙ ap (λ (w : ℕ). word s (SlateLen w)) own)
+      (its ∙ ap (λ (x : Shape). position x (SlateLen worker)) same ∙ ap (λ (w : ℕ). position s (SlateLen w)) own)
 
   module _ (c : Stand) (u : Tally) (value : ℕ) (made : MadeStep s onward a c t u value) where
     pub len_few : value ≤ 8

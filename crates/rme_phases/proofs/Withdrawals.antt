@@ -2,11 +2,11 @@
 use Rattle.std.proofs.Common.{◌≡◌, ℕ, ◌+◌, ◌<◌, refl, sym, ◌∙◌, ap, subst, arith}
 use Rattle.rme_words.specs.declared.shape.Shape.{Shape}
 use Rattle.rme_words.specs.declared.address.Address.TheVariants.{Place, At, Reply, Done}
-use Rattle.rme_words.specs.Words.{word}
 use Rattle.rme_program.specs.declared.private.Private.{Private}
 use Rattle.rme_program.specs.declared.stage.Stage.TheVariants.{Resting, Climbing, Leaving}
 use Rattle.rme_program.specs.declared.stage.Departure.TheVariants.{WithdrawPlace, WithdrawAt, WithdrawReply, WithdrawDone}
 use Rattle.rme_program.specs.Steps.{action_of, clear_stage, withdrawn_place, withdrawing_private}
+use Rattle.rme_seats.specs.Layout.{position}
 use Rattle.rme_seats.specs.declared.record.Part.{Part}
 use Rattle.rme_seats.specs.Parts.{onward, withdrawing}
 use Rattle.rme_seats.specs.Chances.{Tally}
@@ -23,7 +23,7 @@ module _ (s : Shape) (p : Part) (lock held : ℕ) (at : IsBefore s p (Climbing r
   pub climbs_in : (lock < s.locks) × (held < s.height)
   climbs_in = is_stage s p p.private.begun (Climbing record { lock = lock; held = held }) at
 
-  pub withdraw_may : (x : Shape) (worker number : ℕ) → x ≡ s → worker ≡ p.worker → number ≡ word x (Place worker) → MayStore s withdrawing p number withdrawn_place
+  pub withdraw_may : (x : Shape) (worker number : ℕ) → x ≡ s → worker ≡ p.worker → number ≡ position x (Place worker) → MayStore s withdrawing p number withdrawn_place
   withdraw_may x worker number same own its = (
     Place p.worker,
     record {
@@ -33,7 +33,7 @@ module _ (s : Shape) (p : Part) (lock held : ℕ) (at : IsBefore s p (Climbing r
         count = refl;
         here = ap (action_of s) gives_up;
         within = at.stood.worker;
-        number = its ∙ ap (λ (y : Shape). word y (Place worker)) same ∙ ap (λ (w : ℕ). word s (Place w)) own;
+        lies = its ∙ ap (λ (y : Shape). position y (Place worker)) same ∙ ap (λ (w : ℕ). position s (Place w)) own;
       };
       plain = ap (λ (q : Private). is_plain q.stage) gives_up;
       draft = refl;
@@ -48,7 +48,7 @@ module _ (s : Shape) (a b : Stand) (t u : Tally) (lock held : ℕ) (at : IsBefor
     placed : Doing s withdrawing a b t u 1 a.part.private.begun (Leaving (WithdrawAt lock held))
     placed = did_led s withdrawing a b t u withdrawn_place a.part.private.begun (Leaving (WithdrawPlace lock held)) one (gives_up s a.part lock held at) refl refl refl refl refl refl
 
-    pub at_may : (number : ℕ) → number ≡ word x (At worker) → MayStore s onward b.part number lock
+    pub at_may : (number : ℕ) → number ≡ position x (At worker) → MayStore s onward b.part number lock
     at_may number its = next_store s withdrawing a b t u placed At x worker number refl at.stood.worker same own its lock (λ w. refl)
 
     module _ (c : Stand) (v : Tally) where
@@ -59,7 +59,7 @@ module _ (s : Shape) (a b : Stand) (t u : Tally) (lock held : ℕ) (at : IsBefor
         located : Doing s withdrawing a c t v 2 a.part.private.begun (Leaving (WithdrawReply lock held))
         located = next_did s withdrawing a b t u placed c v (omega arith) two refl refl refl
 
-        pub reply_may : (number : ℕ) → number ≡ word x (Reply worker) → MayStore s onward c.part number 0
+        pub reply_may : (number : ℕ) → number ≡ position x (Reply worker) → MayStore s onward c.part number 0
         reply_may number its = next_store s withdrawing a c t v located Reply x worker number refl at.stood.worker same own its 0 (λ w. refl)
 
         module _ (d : Stand) (w : Tally) where
@@ -70,7 +70,7 @@ module _ (s : Shape) (a b : Stand) (t u : Tally) (lock held : ℕ) (at : IsBefor
             replied : Doing s withdrawing a d t w 3 a.part.private.begun (Leaving (WithdrawDone lock held))
             replied = next_did s withdrawing a c t v located d w (omega arith) three refl refl refl
 
-            pub done_may : (number value : ℕ) → number ≡ word x (Done worker) → value ≡ a.part.private.begun → MayStore s onward d.part number value
+            pub done_may : (number value : ℕ) → number ≡ position x (Done worker) → value ≡ a.part.private.begun → MayStore s onward d.part number value
             done_may number value its is = subst (λ (n : ℕ). MayStore s onward d.part number n) (sym is)
                 (next_store s withdrawing a d t w replied Done x worker number refl at.stood.worker same own its a.part.private.begun (λ u. refl))
 

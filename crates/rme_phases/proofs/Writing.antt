@@ -5,7 +5,6 @@ use Rattle.std.proofs.lemmas.Bool.{ne_eqb, eq-eqb, lt-ltb, le-ltb}
 use Rattle.rme_words.specs.declared.shape.Shape.{Shape}
 use Rattle.rme_words.specs.declared.address.Address.{Address}
 use Rattle.rme_words.specs.declared.address.Address.TheVariants.{Begun, SlateLock, SlateLen, SlateWord}
-use Rattle.rme_words.specs.Words.{word}
 use Rattle.rme_script.specs.declared.job.Job.{Job}
 use Rattle.rme_script.specs.Slates.{slate_of}
 use Rattle.rme_program.specs.declared.action.Action.TheVariants.{Store}
@@ -15,6 +14,7 @@ use Rattle.rme_program.specs.declared.stage.Stage.{Stage}
 use Rattle.rme_program.specs.declared.stage.Stage.TheVariants.{Resting, Posting, Climbing}
 use Rattle.rme_program.specs.Conditions.{IsJob}
 use Rattle.rme_program.specs.Steps.{slate_action, after_slate, begun_after}
+use Rattle.rme_seats.specs.Layout.{position}
 use Rattle.rme_seats.specs.declared.record.Part.{Part}
 use Rattle.rme_seats.specs.Parts.{onward, submitted}
 use Rattle.rme_seats.specs.Chances.{Tally}
@@ -65,7 +65,7 @@ module _ (ident : Ident) (a : Stand) (t : Tally) (job : Job) where
     write_small n is below = let few = (is_stage ident.shape now.part a.part.private.begun _ state.doing.at).1.script.few in
         let k24 : k < 24 = omega (arith, few, is, below) in omega (arith, k24)
 
-    pub write_may : (s : Shape) (worker number value n : ℕ) → n ≡ job.script.n → k < 3 * n → s ≡ ident.shape → worker ≡ a.part.worker → number ≡ word s (SlateWord worker (k / 3) (k % 3))
+    pub write_may : (s : Shape) (worker number value n : ℕ) → n ≡ job.script.n → k < 3 * n → s ≡ ident.shape → worker ≡ a.part.worker → number ≡ position s (SlateWord worker (k / 3) (k % 3))
         → value ≡ slice_index (slate_of job.script.ops) k → MayStore ident.shape onward now.part number value
     write_may s worker number value n is below same own its stores =
         let mine : worker ≡ now.part.worker = own ∙ sym state.doing.stays.own in
@@ -74,7 +74,7 @@ module _ (ident : Ident) (a : Stand) (t : Tally) (job : Job) where
         (slate_stores now.part.worker a.part.private.begun job k small ∙ ap (λ (w : ℕ). Store (SlateWord w (k / 3) (k % 3)) (slice_index (slate_of job.script.ops) k)) (sym mine)
         ∙ ap (λ (v : ℕ). Store (SlateWord worker (k / 3) (k % 3)) v) (sym stores))
         (subst (λ (w : ℕ). w < ident.shape.workers) (sym mine) state.doing.at.stood.worker, write_small n is below, omega arith)
-        (its ∙ ap (λ (x : Shape). word x (SlateWord worker (k / 3) (k % 3))) same)
+        (its ∙ ap (λ (x : Shape). position x (SlateWord worker (k / 3) (k % 3))) same)
 
     pub write_more : (next : Stand) (v : Tally) (value n : ℕ) → n ≡ job.script.n → k < 3 * n → MadeStep ident.shape onward now next u v value → Writing ident a t job next v (k + 1)
     write_more next v value n is below made =
@@ -98,14 +98,14 @@ module _ (ident : Ident) (a : Stand) (t : Tally) (job : Job) where
 -- ---- the whole of Post
 
 module _ (s : Shape) (job : Job) (a : Stand) (t : Tally) (b : ℕ) (rests : IsAt s a.part b Resting) where
-  pub submit_may : (at : ℕ) → b < s.jobs → IsJob s job → at ≡ word s (SlateLock a.part.worker) → May s (submitted job) a.part (Store (SlateLock a.part.worker) job.lock) at
+  pub submit_may : (at : ℕ) → b < s.jobs → IsJob s job → at ≡ position s (SlateLock a.part.worker) → May s (submitted job) a.part (Store (SlateLock a.part.worker) job.lock) at
   submit_may at few good its = record {
     leads = leads_submit s a.part job (ap (λ (q : Private). q.stage) rests.private) (subst (λ (n : ℕ). n < s.jobs) (sym (ap (λ (q : Private). q.begun) rests.private)) few) good;
     entries = refl;
     count = refl;
     here = ap (λ (w : ℕ). Store (SlateLock w) job.lock) (ap (λ (q : Private). q.worker) rests.private);
     within = rests.stood.worker;
-    number = its;
+    lies = its;
   }
 
   module _ (c : Stand) (v : Tally) where
@@ -116,10 +116,10 @@ module _ (s : Shape) (job : Job) (a : Stand) (t : Tally) (b : ℕ) (rests : IsAt
         did_led s (submitted job) a c t v job.lock b (Posting record { job = job; stored = 0 }) made first refl refl refl refl
         (slate_goes a.part.worker b job 0 (omega arith)) (slate_keeps a.part.worker b job 0 job.lock (omega arith))
 
-    pub len_may : (u : Tally) (at n : ℕ) → n ≡ job.script.n → Doing s (submitted job) a c t u 1 b (Posting record { job = job; stored = 1 }) → at ≡ word s (SlateLen a.part.worker)
+    pub len_may : (u : Tally) (at n : ℕ) → n ≡ job.script.n → Doing s (submitted job) a c t u 1 b (Posting record { job = job; stored = 1 }) → at ≡ position s (SlateLen a.part.worker)
         → MayStore s onward c.part at n
     len_may u at n is one its = may_store s c.part b (Posting record { job = job; stored = 1 }) one.at (SlateLen c.part.worker) at n refl (ap (λ (x : ℕ). Store (SlateLen c.part.worker) x) (sym is)) one.at.stood.worker
-        (its ∙ ap (λ (w : ℕ). word s (SlateLen w)) (sym one.stays.own))
+        (its ∙ ap (λ (w : ℕ). position s (SlateLen w)) (sym one.stays.own))
 
     pub post_two : (d : Stand) (u : Tally) (n : ℕ) → Doing s (submitted job) a c t v 1 b (Posting record { job = job; stored = 1 }) → MadeStep s onward c d v u n
         → Doing s (submitted job) a d t u 2 b (Posting record { job = job; stored = 2 })
@@ -132,10 +132,10 @@ module _ (s : Shape) (job : Job) (a : Stand) (t : Tally) (b : ℕ) (rests : IsAt
     post_words d u two words = subst (λ (n : ℕ). Doing s (submitted job) a d t u (2 + 3 * job.script.n) n (Posting record { job = job; stored = 2 + 3 * job.script.n }))
         (ap (λ (q : Private). q.begun) two.at.private) (then_led s a c d t v u (omega arith) two words)
 
-    pub begun_may : (at m : ℕ) → Doing s (submitted job) a c t v m b (Posting record { job = job; stored = 2 + 3 * job.script.n }) → at ≡ word s (Begun a.part.worker)
+    pub begun_may : (at m : ℕ) → Doing s (submitted job) a c t v m b (Posting record { job = job; stored = 2 + 3 * job.script.n }) → at ≡ position s (Begun a.part.worker)
         → MayStore s onward c.part at (b + 1)
     begun_may at m some_words its = may_store s c.part b (Posting record { job = job; stored = 2 + 3 * job.script.n }) some_words.at (Begun c.part.worker) at (b + 1) refl (begun_stores c.part.worker b job) some_words.at.stood.worker
-        (its ∙ ap (λ (w : ℕ). word s (Begun w)) (sym some_words.stays.own))
+        (its ∙ ap (λ (w : ℕ). position s (Begun w)) (sym some_words.stays.own))
 
     pub post_last : (d : Stand) (u : Tally) → Doing s (submitted job) a c t v (2 + 3 * job.script.n) b (Posting record { job = job; stored = 2 + 3 * job.script.n })
         → MadeStep s onward c d v u (b + 1) → Doing s (submitted job) a d t u (3 + 3 * job.script.n) (b + 1) (Climbing record { lock = job.lock; held = 0 })
@@ -155,5 +155,5 @@ pub at_begun : (s : Shape) (p : Part) (st : Stage) (n : ℕ) → IsBefore s p st
 at_begun s p st n at is = subst (λ (b : ℕ). IsAt s p b st) (sym is) at
 
 -- The word of a kind is the worker's at the shape that the service has.
-pub at_word : (kind : ℕ → Address) (shape s : Shape) (worker own at : ℕ) → shape ≡ s → worker ≡ own → at ≡ word shape (kind worker) → at ≡ word s (kind own)
-at_word kind shape s worker own at same mine its = its ∙ ap (λ (x : Shape). word x (kind worker)) same ∙ ap (λ (w : ℕ). word s (kind w)) mine
+pub at_word : (kind : ℕ → Address) (shape s : Shape) (worker own at : ℕ) → shape ≡ s → worker ≡ own → at ≡ position shape (kind worker) → at ≡ position s (kind own)
+at_word kind shape s worker own at same mine its = its ∙ ap (λ (x : Shape). position x (kind worker)) same ∙ ap (λ (w : ℕ). position s (kind w)) mine

@@ -6,7 +6,7 @@ ghost use Rattle.rme_seats.specs.Parts.{onward};
 ghost use Rattle.rme_seats.specs.Doing.{Falling, IsBefore};
 ghost use Rattle.rme_phases.specs.Climbs.{Swept};
 
-use rme_seats::{Chance, Fell, Onward, Service, WorkerSeat};
+use rme_seats::{Chance, Fell, Onward, Service, WorkerSeat, layout};
 use rme_tree::{node, side};
 
 /// How a sweep ended.
@@ -35,7 +35,7 @@ pub fn climb<C: Chance>(
     let worker = seat.worker();
     let mut level = held;
     while level < shape.height {
-        let at = shape.node_at(lock, node(shape, worker, level + 1));
+        let at = layout::node_at(shape, lock, node(shape, worker, level + 1));
         let own = side(shape, worker, level + 1);
         let found = seat.swap::<Onward, C>(service, chance, at, 0, own)?;
         if found != 0 {

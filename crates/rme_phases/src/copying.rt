@@ -12,7 +12,7 @@ ghost use Rattle.rme_phases.specs.Sections.{visit_of, Completes};
 
 use rme_program::{Receipt, first_cell};
 use rme_script::Script;
-use rme_seats::{Chance, Fell, Onward, Service, WorkerSeat};
+use rme_seats::{Chance, Fell, Onward, Service, WorkerSeat, layout};
 
 /// Copies the shadow words of the mask's cells into the cells, rising.
 fn copy_cells<C: Chance>(
@@ -31,8 +31,8 @@ fn copy_cells<C: Chance>(
     let shape = service.shape();
     let mut from = 0;
     while let Some(cell) = first_cell(mask, from, shape.cells()) {
-        let value = seat.load::<Onward, C>(service, chance, shape.shadow_at(lock, cell))?;
-        seat.store::<Onward, C>(service, chance, shape.cell_at(lock, cell), value)?;
+        let value = seat.load::<Onward, C>(service, chance, layout::shadow_at(shape, lock, cell))?;
+        seat.store::<Onward, C>(service, chance, layout::cell_at(shape, lock, cell), value)?;
         from = cell + 1;
     }
     Ok(())
@@ -51,7 +51,7 @@ fn copy<C: Chance>(
     requires at { IsBefore service.now.shape seat.old.part (Copying (LoadMask (visit_of seat.old.part lock turn))) }
     ensures { MatchResult result (λ mask. Doing service.now.shape onward seat.old seat.new (C.tally chance.old) (C.tally chance.new) (1 + cells_below mask service.now.shape.cells * 2) seat.old.part.private.begun (Copying (LoadReply (visit_of seat.old.part lock turn) mask))) (λ _. Falling service.now.shape onward seat.old seat.new (C.tally chance.old) (C.tally chance.new) (1 + service.now.shape.cells * 2)) }
 {
-    let at = service.shape().mask_at(lock);
+    let at = layout::mask_at(service.shape(), lock);
     let mask = seat.load::<Onward, C>(service, chance, at)?;
     copy_cells(seat, service, chance, lock, turn, mask)?;
     Ok(mask)
@@ -73,10 +73,20 @@ fn store_receipt<C: Chance>(
 {
     let shape = service.shape();
     let worker = seat.worker();
-    let reply = seat.load::<Onward, C>(service, chance, shape.shadow_reply_at(lock))?;
-    seat.store::<Onward, C>(service, chance, shape.reply_at(worker), reply)?;
-    seat.store::<Onward, C>(service, chance, shape.place_at(worker), turn as u64 / 2)?;
-    seat.store::<Onward, C>(service, chance, shape.receipt_lock_at(worker), lock as u64)?;
+    let reply = seat.load::<Onward, C>(service, chance, layout::shadow_reply_at(shape, lock))?;
+    seat.store::<Onward, C>(service, chance, layout::reply_at(shape, worker), reply)?;
+    seat.store::<Onward, C>(
+        service,
+        chance,
+        layout::place_at(shape, worker),
+        turn as u64 / 2,
+    )?;
+    seat.store::<Onward, C>(
+        service,
+        chance,
+        layout::receipt_lock_at(shape, worker),
+        lock as u64,
+    )?;
     Ok(reply)
 }
 
@@ -108,7 +118,7 @@ pub(crate) fn complete<C: Chance>(
         place: turn / 2,
         reply,
     };
-    let at = service.shape().done_at(worker);
+    let at = layout::done_at(service.shape(), worker);
     seat.finish(service, chance, at, receipt, script)?;
     Ok(receipt)
 }

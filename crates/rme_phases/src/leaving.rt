@@ -8,7 +8,7 @@ ghost use Rattle.rme_seats.specs.Parts.{onward, withdrawing};
 ghost use Rattle.rme_seats.specs.Doing.{Doing, Falling, IsBefore};
 
 use rme_program::WITHDRAWN_PLACE;
-use rme_seats::{Chance, Fell, Onward, Service, Withdraw, WorkerSeat};
+use rme_seats::{Chance, Fell, Onward, Service, Withdraw, WorkerSeat, layout};
 use rme_tree::node;
 
 /// Releases so many nodes of the worker's path, from the highest downward, and leaves the worker ready.
@@ -29,7 +29,7 @@ pub fn clear<C: Chance>(
     let worker = seat.worker();
     let mut level = levels;
     while level > 0 {
-        let at = shape.node_at(lock, node(shape, worker, level));
+        let at = layout::node_at(shape, lock, node(shape, worker, level));
         seat.store::<Onward, C>(service, chance, at, 0)?;
         level -= 1;
     }
@@ -49,7 +49,7 @@ pub fn leave<C: Chance>(
     ensures { MatchResult result (λ _. (count : ℕ) × (service.now.shape.height + 1 ≤ count) × (count ≤ service.now.shape.height + 2) × Doing service.now.shape onward seat.old seat.new (C.tally chance.old) (C.tally chance.new) count seat.old.part.private.begun Resting) (λ _. Falling service.now.shape onward seat.old seat.new (C.tally chance.old) (C.tally chance.new) (service.now.shape.height + 2)) }
 {
     let shape = service.shape();
-    let at = shape.turn_at(lock);
+    let at = layout::turn_at(shape, lock);
     let turn = seat.load::<Onward, C>(service, chance, at)?;
     if turn % 2 == 0 {
         return clear(seat, service, chance, lock, shape.height());
@@ -76,13 +76,13 @@ pub fn withdraw<C: Chance>(
 {
     let shape = service.shape();
     let worker = seat.worker();
-    let place = shape.place_at(worker);
+    let place = layout::place_at(shape, worker);
     seat.store::<Withdraw, C>(service, chance, place, WITHDRAWN_PLACE)?;
-    let at = shape.receipt_lock_at(worker);
+    let at = layout::receipt_lock_at(shape, worker);
     seat.store::<Onward, C>(service, chance, at, lock as u64)?;
-    let reply = shape.reply_at(worker);
+    let reply = layout::reply_at(shape, worker);
     seat.store::<Onward, C>(service, chance, reply, 0)?;
-    let done = shape.done_at(worker);
+    let done = layout::done_at(shape, worker);
     seat.store::<Onward, C>(service, chance, done, begun as u64)?;
     clear(seat, service, chance, lock, held)
 }

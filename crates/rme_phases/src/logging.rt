@@ -15,7 +15,7 @@ ghost use Rattle.rme_phases.specs.Sections.{even_visit, IsRead, Logs};
 
 use rme_program::{first_cell, mask_of};
 use rme_script::{Row, Script, eval, read_slate};
-use rme_seats::{Chance, Fell, Onward, Service, WorkerSeat};
+use rme_seats::{Chance, Fell, Onward, Service, WorkerSeat, layout};
 
 /// From the load of the slate's length to the store of the odd turn: reads the script and the cells that it
 /// names, runs it, and writes down what it leaves.
@@ -32,7 +32,7 @@ pub(crate) fn log<C: Chance>(
     ensures { MatchResult result (λ _. Logs service.now.shape seat.old seat.new (C.tally chance.old) (C.tally chance.new) lock turn) (λ _. Falling service.now.shape onward seat.old seat.new (C.tally chance.old) (C.tally chance.new) (28 + service.now.shape.cells * 2)) }
 {
     let shape = service.shape();
-    let at = shape.slate_len_at(seat.worker());
+    let at = layout::slate_len_at(shape, seat.worker());
     let operations = seat.load::<Onward, C>(service, chance, at)?;
     let mut words = [0; 24];
     load_slate(
@@ -70,7 +70,7 @@ fn load_slate<C: Chance>(
     let shape = service.shape();
     let worker = seat.worker();
     for i in 0..3 * operations {
-        let at = shape.slate_at(worker, i / 3, i % 3);
+        let at = layout::slate_at(shape, worker, i / 3, i % 3);
         words[i as usize] = seat.load::<Onward, C>(service, chance, at)?;
     }
     Ok(())
@@ -130,7 +130,7 @@ fn load_cells<C: Chance>(
     let shape = service.shape();
     let mut from = 0;
     while let Some(cell) = first_cell(named, from, shape.cells()) {
-        let value = seat.load::<Onward, C>(service, chance, shape.cell_at(lock, cell))?;
+        let value = seat.load::<Onward, C>(service, chance, layout::cell_at(shape, lock, cell))?;
         row.set(cell, value);
         from = cell + 1;
     }
@@ -158,7 +158,12 @@ fn store_shadows<C: Chance>(
     let shape = service.shape();
     let mut from = 0;
     while let Some(cell) = first_cell(named, from, shape.cells()) {
-        seat.store::<Onward, C>(service, chance, shape.shadow_at(lock, cell), row.get(cell))?;
+        seat.store::<Onward, C>(
+            service,
+            chance,
+            layout::shadow_at(shape, lock, cell),
+            row.get(cell),
+        )?;
         from = cell + 1;
     }
     Ok(())
@@ -181,8 +186,13 @@ fn write_down<C: Chance>(
     ensures { MatchResult result (λ _. Doing service.now.shape onward seat.old seat.new (C.tally chance.old) (C.tally chance.new) 3 seat.old.part.private.begun (Copying (LoadMask (even_visit lock turn operations named)))) (λ _. Falling service.now.shape onward seat.old seat.new (C.tally chance.old) (C.tally chance.new) 3) }
 {
     let shape = service.shape();
-    seat.store::<Onward, C>(service, chance, shape.shadow_reply_at(lock), reply)?;
-    seat.store::<Onward, C>(service, chance, shape.mask_at(lock), named)?;
-    seat.store::<Onward, C>(service, chance, shape.turn_at(lock), turn as u64 + 1)?;
+    seat.store::<Onward, C>(service, chance, layout::shadow_reply_at(shape, lock), reply)?;
+    seat.store::<Onward, C>(service, chance, layout::mask_at(shape, lock), named)?;
+    seat.store::<Onward, C>(
+        service,
+        chance,
+        layout::turn_at(shape, lock),
+        turn as u64 + 1,
+    )?;
     Ok(())
 }

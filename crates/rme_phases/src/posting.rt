@@ -8,7 +8,7 @@ ghost use Rattle.rme_seats.specs.Parts.{onward, submitted};
 ghost use Rattle.rme_seats.specs.Doing.{Doing, Falling, IsBefore};
 
 use rme_script::{Job, slate_word};
-use rme_seats::{Chance, Fell, Onward, Posting, Service, WorkerSeat};
+use rme_seats::{Chance, Fell, Onward, Posting, Service, WorkerSeat, layout};
 
 /// Phase Post: stores the job's lock, its number of operations and their words, and then counts `begun` up, so
 /// that the job has its number. `begun` is what the ready worker knows of the word of that name.
@@ -29,12 +29,12 @@ pub fn post<J: Posting, C: Chance>(
 {
     let shape = service.shape();
     let worker = seat.worker();
-    let at = shape.slate_lock_at(worker);
+    let at = layout::slate_lock_at(shape, worker);
     seat.submit::<J, C>(service, chance, at, job.lock as u64)?;
-    let at = shape.slate_len_at(worker);
+    let at = layout::slate_len_at(shape, worker);
     seat.store::<Onward, C>(service, chance, at, job.script.n() as u64)?;
     write_operations(seat, service, chance, job)?;
-    let at = shape.begun_at(worker);
+    let at = layout::begun_at(shape, worker);
     seat.store::<Onward, C>(service, chance, at, begun as u64 + 1)?;
     Ok(())
 }
@@ -53,7 +53,7 @@ fn write_operations<C: Chance>(
     let shape = service.shape();
     let worker = seat.worker();
     for i in 0..3 * job.script.n() {
-        let at = shape.slate_at(worker, i / 3, i % 3);
+        let at = layout::slate_at(shape, worker, i / 3, i % 3);
         seat.store::<Onward, C>(service, chance, at, slate_word(&job.script, i))?;
     }
     Ok(())

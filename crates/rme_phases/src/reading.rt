@@ -6,7 +6,7 @@ ghost use Rattle.rme_seats.specs.Parts.{draft_script};
 ghost use Rattle.rme_phases.specs.Sections.{is_waiting};
 
 use rme_script::{Script, read_slate};
-use rme_seats::{Service, WorkerSeat};
+use rme_seats::{Service, WorkerSeat, layout};
 
 /// Reads the script of the job that the worker waits or is inside with from its slate. It makes no step, and
 /// changes no word.
@@ -18,7 +18,7 @@ pub fn read_script(seat: &mut WorkerSeat, service: &Service, script: &mut Script
 {
     let shape = service.shape();
     let worker = seat.worker();
-    let operations = seat.look(service, shape.slate_len_at(worker));
+    let operations = seat.look(service, layout::slate_len_at(shape, worker));
     let words = read_words(seat, service, operations as u32);
     if !read_slate(operations, &words, script) {
         unreachable!();
@@ -38,7 +38,7 @@ fn read_words(seat: &mut WorkerSeat, service: &Service, operations: u32) -> [u64
     let worker = seat.worker();
     let mut words = [0; 24];
     for i in 0..3 * operations {
-        words[i as usize] = seat.look(service, shape.slate_at(worker, i / 3, i % 3));
+        words[i as usize] = seat.look(service, layout::slate_at(shape, worker, i / 3, i % 3));
     }
     words
 }

@@ -2,7 +2,7 @@
 
 ghost use Rattle.std.specs.Prelude.{◌≡◌, ◌+◌, ◌<◌, MatchResult};
 ghost use Rattle.rme_words.specs.declared.shape.Shape.{Shape};
-ghost use Rattle.rme_words.specs.Words.{word};
+ghost use Rattle.rme_seats.specs.Layout.{position};
 ghost use Rattle.rme_program.specs.declared.stage.Stage.TheVariants.{Recovering};
 ghost use Rattle.rme_program.specs.declared.stage.Recovery.TheVariants.{LoadPath};
 ghost use Rattle.rme_program.specs.Steps.{after_other};
@@ -10,7 +10,7 @@ ghost use Rattle.rme_seats.specs.Parts.{onward, restarted};
 ghost use Rattle.rme_seats.specs.Doing.{Falling, IsBefore};
 ghost use Rattle.rme_phases.specs.Finds.{lock_address, found_stage, found_note, levels_read, steps_of_recover, Finds};
 
-use rme_seats::{Chance, Fell, Onward, Restart, Service, WorkerSeat};
+use rme_seats::{Chance, Fell, Onward, Restart, Service, WorkerSeat, layout};
 use rme_tree::{node, side};
 use rme_words::Shape;
 
@@ -34,15 +34,15 @@ pub enum Found {
     Leaving { lock: u32, level: u32 },
 }
 
-/// The number of the word that names the lock.
+/// The position of the word that names the lock.
 fn lock_at(shape: Shape, worker: u32, pending: bool) -> usize
     requires { worker < shape.workers }
-    ensures { result ≡ word shape (lock_address pending worker) }
+    ensures { result ≡ position shape (lock_address pending worker) }
 {
     if pending {
-        return shape.slate_lock_at(worker);
+        return layout::slate_lock_at(shape, worker);
     }
-    shape.receipt_lock_at(worker)
+    layout::receipt_lock_at(shape, worker)
 }
 
 /// What is found where so many nodes are the worker's, and the next is not.
@@ -75,7 +75,7 @@ fn find_path<C: Chance>(
     let worker = seat.worker();
     let mut held = 0;
     while held < shape.height {
-        let at = shape.node_at(lock, node(shape, worker, held + 1));
+        let at = layout::node_at(shape, lock, node(shape, worker, held + 1));
         let word = seat.load::<Onward, C>(service, chance, at)?;
         if word != side(shape, worker, held + 1) {
             return Ok(partly(lock, held, pending));
@@ -97,9 +97,9 @@ pub fn recover<C: Chance>(
 {
     let shape = service.shape();
     let worker = seat.worker();
-    let begun_at = shape.begun_at(worker);
+    let begun_at = layout::begun_at(shape, worker);
     let begun = seat.load::<Restart, C>(service, chance, begun_at)?;
-    let done_at = shape.done_at(worker);
+    let done_at = layout::done_at(shape, worker);
     let done = seat.load::<Onward, C>(service, chance, done_at)?;
     if begun == 0 {
         return Ok(Recovered {

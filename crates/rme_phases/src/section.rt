@@ -12,7 +12,7 @@ use crate::logging::log;
 use crate::reading::read_script;
 use rme_program::Receipt;
 use rme_script::Script;
-use rme_seats::{Chance, Fell, Onward, Service, WorkerSeat};
+use rme_seats::{Chance, Fell, Onward, Service, WorkerSeat, layout};
 
 /// Phase Section: loads the turn; where it is even, runs the script and writes down what it leaves; and then,
 /// or at once where it was odd, copies what was written down and finishes the job. `begun` is the job's number.
@@ -32,7 +32,7 @@ pub fn perform<C: Chance>(
 {
     let mut script = Script::of(&[]);
     read_script(seat, service, &mut script);
-    let at = service.shape().turn_at(lock);
+    let at = layout::turn_at(service.shape(), lock);
     let turn = seat.load::<Onward, C>(service, chance, at)? as u32;
     if turn % 2 == 1 {
         return complete(seat, service, chance, begun, lock, turn, &script);

@@ -4,7 +4,7 @@ use Rattle.std.specs.Prelude.{true, Option, Some, None}
 use Rattle.std.proofs.lemmas.List.{length-append}
 use Rattle.rme_words.specs.declared.shape.Shape.{Shape}
 use Rattle.rme_words.specs.declared.address.Address.{Address}
-use Rattle.rme_words.specs.Words.{IsOfShape, word}
+use Rattle.rme_words.specs.Words.{IsOfShape}
 use Rattle.rme_program.specs.declared.action.Action.{Action}
 use Rattle.rme_program.specs.declared.action.Action.TheVariants.{Load, Store, Swap}
 use Rattle.rme_program.specs.declared.note.Note.{Note}
@@ -15,6 +15,7 @@ use Rattle.rme_program.specs.Conditions.{IsPrivate, IsStage, Takes}
 use Rattle.rme_program.specs.Did.{address_of}
 use Rattle.rme_program.specs.Steps.{action_of, action_at, after_at, begun_after, private_after}
 use Rattle.rme_seats.specs.declared.record.Part.{Part}
+use Rattle.rme_seats.specs.Layout.{position}
 use Rattle.rme_seats.specs.Parts.{advanced, walked, led, onward}
 use Rattle.rme_seats.specs.Steps.{Stood, Stepped}
 use Rattle.rme_seats.specs.Chances.{Tally, Asks, IsCounted}
@@ -165,16 +166,16 @@ falls_at s lead a b t u most fell some_step = record {
 -- ---- one step
 
 module _ (s : Shape) (p : Part) (b : ℕ) (st : Stage) (at : IsAt s p b st) where
-  may_next : (action : Action) (number : ℕ) → is_plain st ≡ true → action_at s p.worker b st ≡ action → IsOfShape s (address_of action) → number ≡ word s (address_of action)
-      → MayPlainly s onward p action number
-  may_next action number plain is within its = record {
+  may_next : (action : Action) (spot : ℕ) → is_plain st ≡ true → action_at s p.worker b st ≡ action → IsOfShape s (address_of action) → spot ≡ position s (address_of action)
+      → MayPlainly s onward p action spot
+  may_next action spot plain is within its = record {
     may = record {
       leads = leads_onward s p (λ e. busy st plain (ap (λ (q : Private). q.stage) (sym at.private) ∙ e));
       entries = refl;
       count = refl;
       here = ap (action_of s) at.private ∙ is;
       within = within;
-      number = its;
+      lies = its;
     };
     plain = ap (λ (q : Private). is_plain q.stage) at.private ∙ plain;
     draft = refl;
@@ -183,16 +184,16 @@ module _ (s : Shape) (p : Part) (b : ℕ) (st : Stage) (at : IsAt s p b st) wher
       busy : (x : Stage) → is_plain x ≡ true → x ≢ Resting
       busy x is_plain_x e = let no : is_plain Resting ≡ true = ap is_plain (sym e) ∙ is_plain_x in cc
 
-  pub may_load : (address : Address) (number : ℕ) → is_plain st ≡ true → action_at s p.worker b st ≡ Load address → IsOfShape s address → number ≡ word s address → MayLoad s onward p number
-  may_load address number plain is within its = (address, may_next (Load address) number plain is within its)
+  pub may_load : (address : Address) (spot : ℕ) → is_plain st ≡ true → action_at s p.worker b st ≡ Load address → IsOfShape s address → spot ≡ position s address → MayLoad s onward p spot
+  may_load address spot plain is within its = (address, may_next (Load address) spot plain is within its)
 
-  pub may_store : (address : Address) (number value : ℕ) → is_plain st ≡ true → action_at s p.worker b st ≡ Store address value → IsOfShape s address → number ≡ word s address
-      → MayStore s onward p number value
-  may_store address number value plain is within its = (address, may_next (Store address value) number plain is within its)
+  pub may_store : (address : Address) (spot value : ℕ) → is_plain st ≡ true → action_at s p.worker b st ≡ Store address value → IsOfShape s address → spot ≡ position s address
+      → MayStore s onward p spot value
+  may_store address spot value plain is within its = (address, may_next (Store address value) spot plain is within its)
 
-  pub may_swap : (address : Address) (number from to : ℕ) → is_plain st ≡ true → action_at s p.worker b st ≡ Swap address from to → IsOfShape s address → number ≡ word s address
-      → MaySwap s onward p number from to
-  may_swap address number from to plain is within its = (address, may_next (Swap address from to) number plain is within its)
+  pub may_swap : (address : Address) (spot from to : ℕ) → is_plain st ≡ true → action_at s p.worker b st ≡ Swap address from to → IsOfShape s address → spot ≡ position s address
+      → MaySwap s onward p spot from to
+  may_swap address spot from to plain is within its = (address, may_next (Swap address from to) spot plain is within its)
 
 -- The step that was made, from this stage by a lead, led here.
 module _ (s : Shape) (lead : Part → Part) (a c : Stand) (t v : Tally) (value b : ℕ) (st : Stage) (made : MadeStep s lead a c t v value)

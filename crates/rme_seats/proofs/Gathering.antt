@@ -1,9 +1,9 @@
 -- All seats are put together in one, and their entries in one list.
-use Rattle.std.proofs.Common.{◌≡◌, ℕ, zero, suc, ◌+◌, ◌<◌, ◌≤◌, List, [], ◌∷◌, ◌++◌, length, take, refl, sym, ◌∙◌, ap, subst, arith}
+use Rattle.std.proofs.Common.{◌≡◌, ℕ, zero, suc, ◌+◌, ◌<◌, ◌≤◌, List, [], ◌∷◌, ◌++◌, length, refl, sym, ◌∙◌, ap, subst, arith}
 use Rattle.std.specs.Prelude.{slice_get, Some}
 use Rattle.std.proofs.lemmas.Option.{same_Some}
 use Rattle.std.proofs.lemmas.List.{length-append, append-nil, append_assoc}
-use mathlib.Core.Option.{some, some-injective, some-ne-none}
+use mathlib.Core.Option.{some}
 use lib.ListN.{get_elem?}
 use Rattle.atomic_table.specs.Table.{Me, Final, Seen, Joins}
 use Rattle.atomic_table.specs.Seated.{TableId}
@@ -12,7 +12,8 @@ use Rattle.rme_words.specs.declared.shape.Shape.{Shape}
 use Rattle.rme_program.specs.declared.note.Entry.{Entry}
 use Rattle.rme_seats.specs.declared.record.Part.{Part}
 use Rattle.rme_seats.specs.declared.record.Record.{Record}
-use Rattle.rme_seats.specs.Rule.{World, Shown, Holds, bank_words, total, parts_of, one_of, solo, all_parts, spent}
+use Rattle.rme_seats.specs.Layout.{bank_words}
+use Rattle.rme_seats.specs.Rule.{World, Shown, Holds, total, parts_of, one_of, solo, all_parts, spent}
 use Rattle.rme_seats.specs.Stands.{Ident, Stand, IsService}
 use Rattle.rme_seats.specs.Closing.{AreOf, parts_given, entries_given, seats_of, IsGiven, Gathers}
 use Rattle.rme_seats.proofs.Totals.{total_append, total_at}
@@ -154,30 +155,10 @@ first_room ident seats left seat old room ours takes wide =
     let l = length-append old (entries_given seats) in
     room_for old old (entries_given seats) (entries_given left) seat.part.entries room 0 (left_entries ident seats left seat takes ours) (omega (arith, l, wide))
 
--- One word of the table more.
-take_next : (l : List ℕ) (i v : ℕ) → get_elem? l i ≡ some v → take (suc i) l ≡ take i l ++ v ∷ []
-take_next [] i v at = absurd (some-ne-none v (sym at))
-take_next (x ∷ l) zero v at = ap (λ (y : ℕ). y ∷ []) (some-injective x v at)
-take_next (x ∷ l) (suc i) v at = ap (λ (ys : List ℕ). x ∷ ys) (take_next l i v at)
-
-bank_elem : (items : List ℕ) (i v : ℕ) → get_elem? items (suc i) ≡ some v → get_elem? (bank_words items) i ≡ some v
-bank_elem [] i v at = absurd (some-ne-none v (sym at))
-bank_elem (x ∷ items) i v at = at
-
-one_more : (i : ℕ) → i + 1 ≡ suc i
-one_more i = omega arith
-
-pub word_next : (items old words later : List ℕ) (i v : ℕ) → words ≡ old ++ take i (bank_words items) → get_elem? items (i + 1) ≡ some v → later ≡ words ++ v ∷ []
-    → later ≡ old ++ take (i + 1) (bank_words items)
-word_next items old words later i v is at grows =
-    let here = bank_elem items i v (ap (λ (k : ℕ). get_elem? items k) (sym (one_more i)) ∙ at) in
-    grows ∙ ap (λ (xs : List ℕ). xs ++ v ∷ []) is ∙ append_assoc old (take i (bank_words items)) (v ∷ [])
-    ∙ ap (λ (xs : List ℕ). old ++ xs) (sym (take_next (bank_words items) i v here)) ∙ ap (λ (k : ℕ). old ++ take k (bank_words items)) (sym (one_more i))
-
 -- What the table shows at the end.
 pub gathers : (ident : Ident) (key : Shape) (seats : List Stand) (id : ℕ) (me : Me ℕ Record) (words : List ℕ) (slots : List ℕ) (old_words new_words : List ℕ) (old new : List Entry)
     → Final (Seen (Holds key) id me.0) words slots → key ≡ ident.shape → me ≡ (record { shape = ident.shape; parts = parts_given seats }, [])
-    → new_words ≡ old_words ++ bank_words words → new ≡ old ++ entries_given seats → Gathers ident.shape seats old_words old new_words new
+    → new_words ≡ old_words ++ bank_words ident.shape words → new ≡ old ++ entries_given seats → Gathers ident.shape seats old_words old new_words new
 gathers ident key seats id me words slots old_words new_words old new (state, seen, same, long, homes) keyed is bank entries = record {
   words = words;
   parts = shown.parts;

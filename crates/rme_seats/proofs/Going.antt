@@ -8,7 +8,7 @@ use Rattle.atomic_table.specs.Table.{State, Step, keeps, Allows}
 use Rattle.atomic_table.proofs.Lists.{at_set, set_else, set_again}
 use Rattle.rme_words.specs.declared.shape.Shape.{Shape}
 use Rattle.rme_words.specs.declared.address.Address.{Address}
-use Rattle.rme_words.specs.Words.{IsOfShape, word}
+use Rattle.rme_words.specs.Words.{IsOfShape}
 use Rattle.rme_program.specs.declared.note.Entry.{Entry}
 use Rattle.rme_program.specs.Did.{address_of}
 use Rattle.rme_program.specs.Steps.{action_of, note_after}
@@ -16,6 +16,7 @@ use Rattle.rme_machine.specs.Changes.{history_after}
 use Rattle.rme_seats.specs.declared.record.Part.{Part}
 use Rattle.rme_seats.specs.declared.record.Record.{Record}
 use Rattle.rme_seats.specs.Parts.{advanced}
+use Rattle.rme_seats.specs.Layout.{position}
 use Rattle.rme_seats.specs.Rule.{World, Shown, Agrees, Holds, memory_in, updated, total, parts_of, one_of, solo}
 use Rattle.rme_seats.specs.Steps.{Leads, Stood, Stepped, Sees, Looked, Went, word_of, turned, value_of, found_in, words_after}
 use Rattle.rme_seats.proofs.Tables.{set_same, found_read}
@@ -131,6 +132,6 @@ looks s slots id p at known its table holds long there small =
     let views : table.views ≡ slice_set table.views id (solo s p) = sym (set_again table.views id (solo s p) there) in
     let rule = subst (λ (ws : List ℕ). Shown s ws (slice_set table.views id (solo s p))) words (subst (λ (vs : List Record). Shown s table.words vs) views holds) in
     let stood : Stood s p = record { words = table.words; parts = holds.parts; history = holds.history; world = holds.world; worker = own.worker; here = own.here } in
-    let sees : (address : Address) → IsOfShape s address → known.word ≡ 1 + word s address → Sees s p address (slice_index table.words at) =
+    let sees : (address : Address) → IsOfShape s address → known.word ≡ position s address → Sees s p address (slice_index table.words at) =
     λ address within number. record { at = stood; read = ap (slice_index table.words) (sym its ∙ number) ∙ found_read s table.words holds.world.long address within } in
     (solo s p, keeps, tt, rule, (refl, sees))

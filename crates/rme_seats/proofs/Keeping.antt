@@ -1,11 +1,10 @@
 -- An own step keeps the world.
-use Rattle.std.proofs.Common.{◌≡◌, ◌≢◌, ℕ, ◌+◌, ◌<◌, List, ◌∷◌, [], ◌++◌, length, refl, sym, ◌∙◌, ap, subst, inl, inr}
-use Rattle.std.specs.Prelude.{slice_index, true, Option, Some}
+use Rattle.std.proofs.Common.{◌≡◌, ◌≢◌, ℕ, ◌<◌, List, ◌∷◌, [], ◌++◌, length, refl, sym, ◌∙◌, ap, subst, inl, inr}
+use Rattle.std.specs.Prelude.{true, Option, Some}
 use Rattle.std.proofs.lemmas.Bool.{cases_eq}
 use Rattle.std.proofs.lemmas.List.{length-set}
 use Rattle.rme_words.specs.declared.shape.Shape.{Shape}
 use Rattle.rme_words.specs.declared.address.Address.{Address}
-use Rattle.rme_words.specs.Words.{word, word_count}
 use Rattle.rme_script.specs.declared.job.Job.{Job}
 use Rattle.rme_program.specs.declared.note.Entry.{Entry}
 use Rattle.rme_program.specs.declared.note.Receipt.{Receipt}
@@ -15,7 +14,7 @@ use Rattle.rme_program.specs.declared.private.Private.{Private}
 use Rattle.rme_program.specs.declared.stage.Stage.{Stage}
 use Rattle.rme_program.specs.declared.stage.Stage.TheVariants.{Resting, Copying}
 use Rattle.rme_program.specs.declared.stage.Redo.TheVariants.{StoreDone}
-use Rattle.rme_program.specs.Did.{Did, address_of}
+use Rattle.rme_program.specs.Did.{Did}
 use Rattle.rme_program.specs.Steps.{action_of, private_after, note_after}
 use Rattle.rme_program.specs.NoteLaws.{Tells}
 use Rattle.rme_program.proofs.NoteLaws.{note_law}
@@ -35,9 +34,10 @@ use Rattle.rme_machine.proofs.Taking.{taking}
 use Rattle.rme_machine.proofs.Books.{books}
 use Rattle.rme_seats.specs.declared.record.Part.{Part}
 use Rattle.rme_seats.specs.Parts.{advanced, entries_after, draft_script}
+use Rattle.rme_seats.specs.Layout.{table_size}
 use Rattle.rme_seats.specs.Rule.{World, IsBook, memory_in, privates_of, updated}
 use Rattle.rme_seats.specs.Steps.{Keeps, KeepsLaw, word_of, turned, value_of, found_in, words_after}
-use Rattle.rme_seats.proofs.Tables.{did_in, first_stays}
+use Rattle.rme_seats.proofs.Tables.{did_in}
 use Rattle.rme_seats.proofs.Worlds.{there, elsewhere, became, world_of, drafts_of}
 
 -- A step hands no job over.
@@ -162,11 +162,11 @@ module _ (s : Shape) (words new : List ℕ) (parts : ℕ → Part) (es : List En
       (λ (u : ℕ). (updated parts p.worker (advanced s p value) u).draft)
   drafts_after = drafts_of s (act_of (note_after s p.private value)) _ _ parts p (advanced s p value) goes.1 here (kept_draft (note_after s p.private value) p.draft) world.drafts
 
-  pub kept : length new ≡ 1 + word_count s → slice_index new 0 ≡ 0 → Keeps s words new parts es p value
-  kept long idle = record {
+  pub kept : length new ≡ table_size s → Keeps s words new parts es p value
+  kept long = record {
     takes = taking s (memory_in s words) (memory_in s new) (privates_of parts) es p.worker p.private value world.fact worker was busy did;
     did = did;
-    world = world_of s new (updated parts p.worker (advanced s p value)) _ long idle goes.0 books_after drafts_after;
+    world = world_of s new (updated parts p.worker (advanced s p value)) _ long goes.0 books_after drafts_after;
     does = goes.1;
   }
 
@@ -176,4 +176,3 @@ keeps s words parts es p world worker here busy within =
     let action = action_of s p.private in
     kept s words (words_after s words action) parts es p (value_of action (found_in s words action)) world worker here busy (did_in s words world.long action within)
     (length-set words (word_of s action) (turned action (found_in s words action)) ∙ world.long)
-    (first_stays words (word s (address_of action)) (turned action (found_in s words action)) ∙ world.idle)

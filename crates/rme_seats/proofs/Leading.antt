@@ -60,21 +60,21 @@ module _ (s : Shape) (p : Part) (words : List ℕ) (parts : ℕ → Part) (es : 
       let up = restarts in
       let drafts = drafts_of s Crash _ (shown s mem without es) parts p p down.1 here refl world.drafts in
       let still = drafts_same (shown s mem without es) _ (λ (u : ℕ). (parts u).draft) drafts (λ u. ap (λ (f : ℕ → Part). (f u).draft) (same_parts parts p here)) in
-      world_of s words (updated parts p.worker (restarted p)) es world.long world.idle up.0 (books_of s words parts es p (restarted p) world here refl refl)
+      world_of s words (updated parts p.worker (restarted p)) es world.long up.0 (books_of s words parts es p (restarted p) world here refl refl)
       (drafts_of s Restart _ _ parts p (restarted p) up.1 here refl still)
 
   submit_world : (job : Job) → p.private.stage ≡ Resting → p.private.begun < s.jobs → IsJob s job → World s words (updated parts p.worker (submitted job p)) es
   submit_world job rests few is =
       let mem = memory_in s words in
       let goes = submit s mem (privates_of parts) _ es p.worker p.private job world.fact worker was rests few is (became parts p.worker (submitted job p)) in
-      world_of s words (updated parts p.worker (submitted job p)) es world.long world.idle goes.0 (books_of s words parts es p (submitted job p) world here refl refl)
+      world_of s words (updated parts p.worker (submitted job p)) es world.long goes.0 (books_of s words parts es p (submitted job p) world here refl refl)
       (drafts_of s (Hand (p.private.begun + 1) job) _ _ parts p (submitted job p) goes.1 here refl world.drafts)
 
   withdraw_world : (ascent : Ascent) → p.private.stage ≡ Climbing ascent → World s words (updated parts p.worker (withdrawing p)) es
   withdraw_world ascent climbs =
       let mem = memory_in s words in
       let goes = withdraw s mem (privates_of parts) _ es p.worker p.private ascent world.fact worker was climbs (became parts p.worker (withdrawing p)) in
-      world_of s words (updated parts p.worker (withdrawing p)) es world.long world.idle goes.0 (books_of s words parts es p (withdrawing p) world here refl refl)
+      world_of s words (updated parts p.worker (withdrawing p)) es world.long goes.0 (books_of s words parts es p (withdrawing p) world here refl refl)
       (drafts_of s Wait _ _ parts p (withdrawing p) goes.1 here refl world.drafts)
 
   -- As steps of the abstract machine.

@@ -1,3 +1,4 @@
+pub mod Positions
 pub mod Tables
 pub mod Worlds
 pub mod Keeping

@@ -1,8 +1,7 @@
 -- The opening: the words are all 0, and the first seat has the parts of all workers.
-use Rattle.std.proofs.Common.{◌≡◌, ◌⊎◌, ℕ, zero, suc, ◌+◌, ◌-◌, ◌*◌, ◌^◌, ◌<◌, ◌≤◌, List, [], ◌∷◌, ◌++◌, map, length, get_or, refl, sym, ◌∙◌, ap, subst, inl, inr, arith}
+use Rattle.std.proofs.Common.{◌≡◌, ◌⊎◌, ℕ, zero, suc, ◌+◌, ◌-◌, ◌<◌, ◌≤◌, List, [], ◌∷◌, ◌++◌, map, length, get_or, refl, sym, ◌∙◌, ap, subst, inl, inr, arith}
 use Rattle.std.specs.Prelude.{false, Some, None, slice_get, replicate}
 use Rattle.std.specs.List.{range_with_len}
-use Rattle.std.proofs.Math.Nat.{mul-le-mul}
 use Rattle.std.proofs.lemmas.Bool.{cases_Bool, cases_eq, eq-eqb, ne_eqb}
 use Rattle.std.proofs.lemmas.List.{length-append}
 use Rattle.std.proofs.lemmas.Option.{same_Some}
@@ -12,7 +11,8 @@ use Rattle.atomic_table.specs.Table.{Me, Splits}
 use Rattle.atomic_table.specs.Seated.{TableId}
 use Rattle.rme_words.specs.declared.shape.Shape.{Shape}
 use Rattle.rme_words.specs.declared.address.Address.{Address}
-use Rattle.rme_words.specs.Words.{read, is_of_shape, word, word_count, lock_block}
+use Rattle.rme_words.specs.Words.{is_of_shape}
+use Rattle.rme_words.proofs.Loads.{read_outside, true-of_shape}
 use Rattle.rme_program.specs.declared.note.Entry.{Entry}
 use Rattle.rme_machine.specs.Fact.{Fact}
 use Rattle.rme_machine.specs.Machine.{State, WorkerState, opening_worker, opening_state}
@@ -21,11 +21,13 @@ use Rattle.rme_machine.specs.FurtherLaws.{AreDrafts, IsDraft}
 use Rattle.rme_machine.proofs.Opening.{opening}
 use Rattle.rme_seats.specs.declared.record.Part.{Part}
 use Rattle.rme_seats.specs.declared.record.Record.{Record}
+use Rattle.rme_seats.specs.Layout.{position, table_size, bank_words}
 use Rattle.rme_seats.specs.Parts.{fresh_part}
-use Rattle.rme_seats.specs.Rule.{World, Shown, Agrees, Holds, memory_in, privates_of, bank_words, total, parts_of, one_of, solo, lone, opening_record, other_parts, first_part}
+use Rattle.rme_seats.specs.Rule.{World, Shown, Agrees, Holds, memory_in, privates_of, total, parts_of, one_of, solo, lone, opening_record, other_parts, first_part}
 use Rattle.rme_seats.specs.Steps.{Stood}
 use Rattle.rme_seats.specs.Stands.{Ident, Stand, IsService, IsSeated}
 use Rattle.rme_seats.specs.Opening.{zeros_of, from_worker, IsFresh}
+use Rattle.rme_seats.proofs.Tables.{found_read}
 use Rattle.rme_seats.proofs.Worlds.{world_of}
 use Rattle.rme_seats.proofs.Cutting.{splits}
 
@@ -53,24 +55,14 @@ last_or_before (z ∷ xs) x (suc k) y at = elim (last_or_before xs x k y at) [
   | inr last ↦ inr (omega (arith, last.0), last.1)
 ]
 
--- The words of a shape are few.
-pub few_words : (s : Shape) → 1 + word_count s < 2 ^ 64
-few_words s =
-    let limits = s.counted.limits in
-    let tree = s.counted.tree in
-    let block : lock_block s ≤ 290 = omega (arith, limits.few_cells, tree.few_leaves) in
-    let locks : s.locks * lock_block s ≤ 16 * 290 = mul-le-mul limits.few_locks block in
-    omega (arith, locks, limits.few_workers)
-
 module _ (s : Shape) where
   blank : (a : Address) → memory_in s (zeros_of s) a ≡ 0
-  unfolding read
-  blank a =
-      let bank : bank_words (zeros_of s) ≡ replicate (word_count s) 0 = ap (λ (n : ℕ). bank_words (replicate n 0)) (one_more (word_count s)) in
-      ap (λ (words : List ℕ). read s words a) bank ∙ elim (cases_Bool (is_of_shape s a)) [
-        | inl is ↦ rw is (same_at 0 (word_count s) (word s a))
-        | inr not ↦ rw not refl
-      ]
+  blank a = elim (cases_Bool (is_of_shape s a)) [
+    | inl is ↦
+        let within = true-of_shape s a is in
+        sym (found_read s (zeros_of s) (length-replicate (table_size s) 0) a within) ∙ same_at 0 (table_size s) (position s a)
+    | inr not ↦ read_outside s (bank_words s (zeros_of s)) a not
+  ]
 
   opened : Fact s (memory_in s (zeros_of s)) (privates_of fresh_part) [] × (shown s (memory_in s (zeros_of s)) (privates_of fresh_part) [] ≡ opening_state s)
   opened = opening s (memory_in s (zeros_of s)) (privates_of fresh_part) blank (λ w worker. refl)
@@ -80,7 +72,7 @@ module _ (s : Shape) where
       (λ w me at. subst (λ (x : WorkerState). IsDraft x.stance None) (sym (all_same opening_worker me s.workers w at)) tt)
 
   pub opening_world : World s (zeros_of s) fresh_part []
-  opening_world = world_of s (zeros_of s) fresh_part [] (length-replicate (1 + word_count s) 0) (same_at 0 (1 + word_count s) 0) opened.0
+  opening_world = world_of s (zeros_of s) fresh_part [] (length-replicate (table_size s) 0) opened.0
       (λ w worker. record { own = refl; entries = refl }) drafts
 
   -- So each worker's fresh part stood in a world.

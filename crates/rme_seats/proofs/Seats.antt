@@ -8,7 +8,7 @@ use Rattle.atomic_table.specs.Table.{Me, Step, step, Allows}
 use Rattle.atomic_table.specs.Seated.{TableId}
 use Rattle.rme_words.specs.declared.shape.Shape.{Shape}
 use Rattle.rme_words.specs.declared.address.Address.{Address}
-use Rattle.rme_words.specs.Words.{IsOfShape, word, word_count}
+use Rattle.rme_words.specs.Words.{IsOfShape, word}
 use Rattle.rme_words.proofs.Places.{word_below}
 use Rattle.rme_words.specs.declared.address.Address.TheVariants.{Begun}
 use Rattle.rme_script.specs.declared.job.Job.{Job}
@@ -28,6 +28,7 @@ use Rattle.rme_program.specs.NoteLaws.{Tells}
 use Rattle.rme_program.proofs.NoteLaws.{note_law}
 use Rattle.rme_seats.specs.declared.record.Part.{Part}
 use Rattle.rme_seats.specs.declared.record.Record.{Record}
+use Rattle.rme_seats.specs.Layout.{position, table_size}
 use Rattle.rme_seats.specs.Parts.{advanced, entries_after, draft_script, onward, submitted}
 use Rattle.rme_seats.specs.Rule.{Holds, solo, lone, updated}
 use Rattle.rme_seats.specs.Steps.{Stood, Stepped, Sees, Looked, Went, went, word_of, turned, value_of}
@@ -36,6 +37,7 @@ use Rattle.rme_seats.specs.Chances.{Tally, Asks}
 use Rattle.rme_seats.specs.Doing.{is_plain, May, MayPlainly, MayFinish, MadeStep}
 use Rattle.rme_machine.specs.Histories.{entries_by, numbers_by, IsLegalAfter}
 use Rattle.rme_machine.proofs.Historical.{rises_few}
+use Rattle.rme_seats.proofs.Positions.{inside}
 use Rattle.rme_seats.proofs.Worlds.{there}
 use Rattle.rme_seats.proofs.Going.{goes, looks}
 
@@ -110,23 +112,22 @@ module _ (mine tid : TableId) (key shape : Shape) (me : Me ℕ Record) (ident : 
 
   -- The step may be made.
   pub may_go : (id : ℕ) (lead : Part → Part) (action : Action) (at : ℕ) → May ident.shape lead stand.part action at
-      → (mine ≡ tid) × (at + 1 < tid.words)
-      × Allows (Holds key) tid.slots id me (at + 1) (turned action) (λ found. λ after. Went lead no_step me (value_of action found) after)
+      → (mine ≡ tid) × (at < tid.words)
+      × Allows (Holds key) tid.slots id me at (turned action) (λ found. λ after. Went lead no_step me (value_of action found) after)
   may_go id lead action at given =
       let may = may_here lead action at given in
-      let below = word_below me.0.shape (address_of action) may.within in
-      let words : tid.words ≡ 1 + word_count me.0.shape = table.keeps.words ∙ ap (λ (s : Shape). 1 + word_count s) (sym same_shape) in
-      let inside : at + 1 < tid.words = omega (arith, below, words, may.number) in
-      let number : 1 + word me.0.shape (address_of action) ≡ at + 1 = omega (arith, may.number) in
+      let below = inside me.0.shape (word me.0.shape (address_of action)) (word_below me.0.shape (address_of action) may.within) in
+      let words : tid.words ≡ table_size me.0.shape = table.keeps.words ∙ ap (λ (s : Shape). table_size s) (sym same_shape) in
+      let within : at < tid.words = omega (arith, below, words, may.lies) in
       let go = goes me.0.shape tid.slots id (lone me.0) lead (λ _. no_step) may.leads (subst (λ (a : Action). IsOfShape me.0.shape (address_of a)) (sym may.here) may.within) in
       let A : Action → Type 0 = λ (a : Action). Allows (Holds me.0.shape) tid.slots id (solo me.0.shape (lone me.0), []) (word_of me.0.shape a) (turned a)
       (λ found. λ after. Went lead no_step (solo me.0.shape (lone me.0), []) (value_of a found) after) in
       let N : ℕ → Type 0 = λ (n : ℕ). Allows (Holds me.0.shape) tid.slots id (solo me.0.shape (lone me.0), []) n (turned action)
       (λ found. λ after. Went lead no_step (solo me.0.shape (lone me.0), []) (value_of action found) after) in
-      let K : Shape → Type 0 = λ (k : Shape). Allows (Holds k) tid.slots id (solo me.0.shape (lone me.0), []) (at + 1) (turned action)
+      let K : Shape → Type 0 = λ (k : Shape). Allows (Holds k) tid.slots id (solo me.0.shape (lone me.0), []) at (turned action)
       (λ found. λ after. Went lead no_step (solo me.0.shape (lone me.0), []) (value_of action found) after) in
-      let M : Me ℕ Record → Type 0 = λ (m : Me ℕ Record). Allows (Holds key) tid.slots id m (at + 1) (turned action) (λ found. λ after. Went lead no_step m (value_of action found) after) in
-      (same_table, inside, subst M (sym table.one) (subst K (sym same_key) (subst N number (subst A may.here go))))
+      let M : Me ℕ Record → Type 0 = λ (m : Me ℕ Record). Allows (Holds key) tid.slots id m at (turned action) (λ found. λ after. Went lead no_step m (value_of action found) after) in
+      (same_table, within, subst M (sym table.one) (subst K (sym same_key) (subst N (sym may.lies) (subst A may.here go))))
 
   -- What the seat keeps, and how its part goes on.
   module _ (worker : ℕ) (drafted : Bool) (es : List Entry) (room : ℕ) (seated : IsSeated me worker drafted es room)
@@ -271,29 +272,29 @@ script_short mine tid key shape me ident stand table worker drafted es room seat
 
 -- A reader's load may be made too.
 pub may_look : (mine tid : TableId) (key shape : Shape) (me : Me ℕ Record) (ident : Ident) (stand : Stand) (table : AtTable mine tid key shape me ident stand) (id at : ℕ) (known : Step ℕ)
-    → known.word ≡ at + 1 → (address : Address) × IsOfShape ident.shape address × (at ≡ word ident.shape address)
-    → (mine ≡ tid) × (at + 1 < tid.words) × Allows (Holds key) tid.slots id me (at + 1) (λ (n : ℕ). n) (λ found. λ after. Looked known me found after)
-may_look mine tid key shape me ident stand table id at known its (address, within, number) =
+    → known.word ≡ at → (address : Address) × IsOfShape ident.shape address × (at ≡ position ident.shape address)
+    → (mine ≡ tid) × (at < tid.words) × Allows (Holds key) tid.slots id me at (λ (n : ℕ). n) (λ found. λ after. Looked known me found after)
+may_look mine tid key shape me ident stand table id at known its (address, within, lies) =
     let here : IsOfShape me.0.shape address = subst (λ (s : Shape). IsOfShape s address) (ident_shape mine tid key shape me ident stand table) within in
-    let at_number : at ≡ word me.0.shape address = number ∙ ap (λ (s : Shape). word s address) (ident_shape mine tid key shape me ident stand table) in
-    let below = word_below me.0.shape address here in
-    let words : tid.words ≡ 1 + word_count me.0.shape = table.keeps.words ∙ ap (λ (s : Shape). 1 + word_count s) (sym (same_shape mine tid key shape me ident stand table)) in
-    let K : Shape → Type 0 = λ (k : Shape). Allows (Holds k) tid.slots id (solo me.0.shape (lone me.0), []) (at + 1) (λ (n : ℕ). n)
+    let lies_here : at ≡ position me.0.shape address = lies ∙ ap (λ (s : Shape). position s address) (ident_shape mine tid key shape me ident stand table) in
+    let below = inside me.0.shape (word me.0.shape address) (word_below me.0.shape address here) in
+    let words : tid.words ≡ table_size me.0.shape = table.keeps.words ∙ ap (λ (s : Shape). table_size s) (sym (same_shape mine tid key shape me ident stand table)) in
+    let K : Shape → Type 0 = λ (k : Shape). Allows (Holds k) tid.slots id (solo me.0.shape (lone me.0), []) at (λ (n : ℕ). n)
     (λ found. λ after. Looked known (solo me.0.shape (lone me.0), []) found after) in
-    let M : Me ℕ Record → Type 0 = λ (m : Me ℕ Record). Allows (Holds key) tid.slots id m (at + 1) (λ (n : ℕ). n) (λ found. λ after. Looked known m found after) in (
+    let M : Me ℕ Record → Type 0 = λ (m : Me ℕ Record). Allows (Holds key) tid.slots id m at (λ (n : ℕ). n) (λ found. λ after. Looked known m found after) in (
       same_table mine tid key shape me ident stand table,
-      omega (arith, below, words, at_number),
-      subst M (sym table.one) (subst K (sym (same_key mine tid key shape me ident stand table)) (looks me.0.shape tid.slots id (lone me.0) (at + 1) known its)),
+      omega (arith, below, words, lies_here),
+      subst M (sym table.one) (subst K (sym (same_key mine tid key shape me ident stand table)) (looks me.0.shape tid.slots id (lone me.0) at known its)),
     )
 
 pub look_sees : (mine tid : TableId) (key shape : Shape) (me : Me ℕ Record) (ident : Ident) (stand : Stand) (table : AtTable mine tid key shape me ident stand) (at value : ℕ) (known : Step ℕ)
-    → known.word ≡ at + 1 → (after : Me ℕ Record) → Looked known me value after → (address : Address) → IsOfShape ident.shape address → at ≡ word ident.shape address
+    → known.word ≡ at → (after : Me ℕ Record) → Looked known me value after → (address : Address) → IsOfShape ident.shape address → at ≡ position ident.shape address
     → Sees ident.shape stand.part address value
-look_sees mine tid key shape me ident stand table at value known its after told address within number =
+look_sees mine tid key shape me ident stand table at value known its after told address within lies =
     let shapes = ident_shape mine tid key shape me ident stand table in
     let here : IsOfShape me.0.shape address = subst (λ (s : Shape). IsOfShape s address) shapes within in
-    let place : at ≡ word me.0.shape address = number ∙ ap (λ (s : Shape). word s address) shapes in
-    let sees = told.1 address here (omega (arith, its, place)) in
+    let lies_here : at ≡ position me.0.shape address = lies ∙ ap (λ (s : Shape). position s address) shapes in
+    let sees = told.1 address here (its ∙ lies_here) in
     let P : Shape → Type 0 = λ (s : Shape). Sees s stand.part address value in
     let Q : Part → Type 0 = λ (p : Part). Sees me.0.shape p address value in
     subst P (sym shapes) (subst Q (same_part mine tid key shape me ident stand table) sees)

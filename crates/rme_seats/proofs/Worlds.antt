@@ -1,10 +1,9 @@
 -- Worlds: what each shows of one worker, and what makes one.
-use Rattle.std.proofs.Common.{◌≡◌, ◌≢◌, ℕ, ◌+◌, ◌<◌, List, length, refl, sym, ◌∙◌, ap, subst, inl, inr}
-use Rattle.std.specs.Prelude.{Bool, true, false, Option, Some, None, slice_index, ◌==◌, if◌then◌else◌}
+use Rattle.std.proofs.Common.{◌≡◌, ◌≢◌, ℕ, ◌<◌, List, length, refl, sym, ◌∙◌, ap, subst, inl, inr}
+use Rattle.std.specs.Prelude.{Bool, true, false, Option, Some, None, ◌==◌, if◌then◌else◌}
 use Rattle.std.proofs.lemmas.Bool.{cases_eq, eq-eqb, ne_eqb}
 use Rattle.rme_words.specs.declared.shape.Shape.{Shape}
 use Rattle.rme_words.specs.declared.address.Address.{Address}
-use Rattle.rme_words.specs.Words.{word_count}
 use Rattle.rme_script.specs.declared.job.Job.{Job}
 use Rattle.rme_program.specs.declared.note.Entry.{Entry}
 use Rattle.rme_program.specs.declared.private.Private.{Private}
@@ -19,6 +18,7 @@ use Rattle.rme_machine.specs.Machine.{State, Does}
 use Rattle.rme_machine.proofs.Shows.{shown_me}
 use Rattle.rme_machine.proofs.Books.{drafting}
 use Rattle.rme_seats.specs.declared.record.Part.{Part}
+use Rattle.rme_seats.specs.Layout.{table_size}
 use Rattle.rme_seats.specs.Rule.{World, IsBook, memory_in, privates_of, updated}
 
 -- The worker's own part, and another's.
@@ -48,12 +48,10 @@ slate_is_draft s mem privs es drafts w worker are pending =
     (are w (shown_worker s mem privs es w) (shown_me s mem privs es w worker))
 
 -- A world is made of the fact, the books and the drafts.
-pub world_of : (s : Shape) (words : List ℕ) (parts : ℕ → Part) (es : List Entry) → length words ≡ 1 + word_count s → slice_index words 0 ≡ 0
-    → Fact s (memory_in s words) (privates_of parts) es → ((w : ℕ) → w < s.workers → IsBook es w (parts w))
+pub world_of : (s : Shape) (words : List ℕ) (parts : ℕ → Part) (es : List Entry) → length words ≡ table_size s → Fact s (memory_in s words) (privates_of parts) es → ((w : ℕ) → w < s.workers → IsBook es w (parts w))
     → AreDrafts (shown s (memory_in s words) (privates_of parts) es) (λ (w : ℕ). (parts w).draft) → World s words parts es
-world_of s words parts es long idle fact books drafts = record {
+world_of s words parts es long fact books drafts = record {
   long = long;
-  idle = idle;
   fact = fact;
   books = books;
   drafts = drafts;

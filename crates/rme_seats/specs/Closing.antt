@@ -3,7 +3,8 @@ use Rattle.std.specs.Prelude.{◌≡◌, ℕ, ◌<◌, ◌≤◌, List, [], ◌�
 use Rattle.rme_words.specs.declared.shape.Shape.{Shape}
 use Rattle.rme_program.specs.declared.note.Entry.{Entry}
 use Rattle.rme_seats.specs.declared.record.Part.{Part}
-use Rattle.rme_seats.specs.Rule.{World, bank_words, total, one_of}
+use Rattle.rme_seats.specs.Layout.{bank_words}
+use Rattle.rme_seats.specs.Rule.{World, total, one_of}
 use Rattle.rme_seats.specs.Stands.{Ident, Stand}
 
 -- All seats are of this service.
@@ -37,5 +38,5 @@ pub record Gathers (shape : Shape) (seats : List Stand) (words_before : List ℕ
   pub world : World shape words parts history
   pub given : (k : ℕ) (seat : Stand) → slice_get seats k ≡ Some seat → IsGiven shape parts seat
   pub apart : (worker : ℕ) → worker < shape.workers → seats_of worker seats ≤ 1
-  pub bank : words_after ≡ words_before ++ bank_words words
+  pub bank : words_after ≡ words_before ++ bank_words shape words
   pub entries : entries_after ≡ entries_before ++ entries_given seats

@@ -2,7 +2,7 @@
 use Rattle.std.specs.Prelude.{◌≡◌, ℕ, ◌+◌, ◌<◌, Bool, true, false, List, [], ◌∷◌, length}
 use Rattle.rme_words.specs.declared.shape.Shape.{Shape}
 use Rattle.rme_words.specs.declared.address.Address.{Address}
-use Rattle.rme_words.specs.Words.{IsOfShape, word}
+use Rattle.rme_words.specs.Words.{IsOfShape}
 use Rattle.rme_program.specs.declared.action.Action.{Action}
 use Rattle.rme_program.specs.declared.action.Action.TheVariants.{Load, Store, Swap}
 use Rattle.rme_program.specs.Did.{address_of}
@@ -14,6 +14,7 @@ use Rattle.rme_program.specs.declared.note.Receipt.{Receipt}
 use Rattle.rme_program.specs.declared.note.Note.TheVariants.{Finished}
 use Rattle.rme_program.specs.Steps.{action_of, note_after}
 use Rattle.rme_seats.specs.declared.record.Part.{Part}
+use Rattle.rme_seats.specs.Layout.{position}
 use Rattle.rme_seats.specs.Parts.{led, advanced, onward}
 use Rattle.rme_seats.specs.Steps.{Leads, Stood, Stepped}
 use Rattle.rme_seats.specs.Chances.{Tally, Asks}
@@ -79,14 +80,14 @@ is_plain Resting = false
 is_plain (Copying redo) = redo_is_plain redo
 is_plain _ = true
 
--- What stands before the step may stand there, the step is this action, it makes no entry, and the word has this number.
+-- What stands before the step may stand there, the step is this action, it makes no entry, and its word lies there.
 pub record May (shape : Shape) (lead : Part → Part) (part : Part) (action : Action) (at : ℕ) : Type 0 where
   pub leads : Leads shape lead part
   pub entries : (lead part).entries ≡ part.entries
   pub count : (lead part).steps ≡ part.steps
   pub here : action_of shape (lead part).private ≡ action
   pub within : IsOfShape shape (address_of action)
-  pub number : at ≡ word shape (address_of action)
+  pub lies : at ≡ position shape (address_of action)
 
 -- The step made no entry, and nothing was handed over.
 pub record MayPlainly (shape : Shape) (lead : Part → Part) (part : Part) (action : Action) (at : ℕ) : Type 0 where

@@ -1,15 +1,15 @@
 -- A new service: its words are all 0, and each worker has a seat, with nothing done.
-use Rattle.std.specs.Prelude.{◌≡◌, ℕ, ◌+◌, ◌-◌, List, map, length, slice_get, replicate, Some}
+use Rattle.std.specs.Prelude.{◌≡◌, ℕ, ◌-◌, List, map, length, slice_get, replicate, Some}
 use Rattle.std.specs.List.{range_with_len}
 use Rattle.rme_words.specs.declared.shape.Shape.{Shape}
-use Rattle.rme_words.specs.Words.{word_count}
 use Rattle.rme_seats.specs.declared.record.Record.{Record}
+use Rattle.rme_seats.specs.Layout.{table_size}
 use Rattle.rme_seats.specs.Parts.{fresh_part}
 use Rattle.rme_seats.specs.Stands.{Ident, Stand}
 
 -- All words of the table are 0.
 abbrev pub zeros_of : Shape → List ℕ
-zeros_of shape = replicate (1 + word_count shape) 0
+zeros_of shape = replicate (table_size shape) 0
 
 -- The record of the first seat, the parts of the workers below this one being dealt out.
 abbrev pub from_worker : Shape → ℕ → Record

@@ -1,12 +1,12 @@
 -- `record`: what the words and the records of all seats show together, between any two operations.
-use Rattle.std.specs.Prelude.{◌≡◌, ℕ, ◌+◌, ◌<◌, true, ◌==◌, if◌then◌else◌, List, [], ◌∷◌, ◌++◌, map, length, slice_index, Some}
+use Rattle.std.specs.Prelude.{◌≡◌, ℕ, ◌+◌, ◌<◌, true, ◌==◌, if◌then◌else◌, List, [], ◌∷◌, ◌++◌, map, length, Some}
 use Rattle.std.specs.List.{range_with_len}
 use mathlib.Core.Option.{some}
 use lib.ListN.{get_elem?}
 use Rattle.atomic_table.specs.Table.{State}
 use Rattle.rme_words.specs.declared.shape.Shape.{Shape}
 use Rattle.rme_words.specs.declared.address.Address.{Address}
-use Rattle.rme_words.specs.Words.{read, word_count}
+use Rattle.rme_words.specs.Words.{read}
 use Rattle.rme_program.specs.declared.note.Entry.{Entry}
 use Rattle.rme_machine.specs.Histories.{entries_by}
 use Rattle.rme_machine.specs.Views.{worker_words, is_pending, slate_job}
@@ -15,16 +15,12 @@ use Rattle.rme_machine.specs.Fact.{Fact}
 use Rattle.rme_machine.specs.FurtherLaws.{AreDrafts}
 use Rattle.rme_seats.specs.declared.record.Part.{Part}
 use Rattle.rme_seats.specs.declared.record.Record.{Record}
+use Rattle.rme_seats.specs.Layout.{bank_words, table_size}
 use Rattle.rme_seats.specs.Nobody.{no_shape, nobody}
 use Rattle.rme_seats.specs.Parts.{fresh_part}
 
--- Word 1 + i of the table is the word numbered i.
-abbrev pub bank_words : List ℕ → List ℕ
-bank_words [] = []
-bank_words (first ∷ words) = words
-
 abbrev pub memory_in : Shape → List ℕ → Address → ℕ
-memory_in shape words = read shape (bank_words words)
+memory_in shape words = read shape (bank_words shape words)
 
 -- Every worker counts as up: a fallen one's private state is stale until its next recovery begins, and still fits.
 abbrev pub privates_of : (ℕ → Part) → Privates
@@ -37,8 +33,7 @@ pub record IsBook (history : List Entry) (worker : ℕ) (part : Part) : Type 0 w
 
 -- Words, a part for each worker, and a history are a world.
 pub record World (shape : Shape) (words : List ℕ) (parts : ℕ → Part) (history : List Entry) : Type 0 where
-  pub long : length words ≡ 1 + word_count shape
-  pub idle : slice_index words 0 ≡ 0
+  pub long : length words ≡ table_size shape
   pub fact : Fact shape (memory_in shape words) (privates_of parts) history
   pub books : (worker : ℕ) → worker < shape.workers → IsBook history worker (parts worker)
   pub drafts : AreDrafts (shown shape (memory_in shape words) (privates_of parts) history) (λ (worker : ℕ). (parts worker).draft)

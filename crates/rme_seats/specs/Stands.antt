@@ -1,12 +1,12 @@
 -- Which service a value is of, and what contracts see of a worker's seat.
-use Rattle.std.specs.Prelude.{◌≡◌, ℕ, ◌+◌, ◌^◌, ◌<◌, ◌≤◌, Bool, is_some, List, []}
+use Rattle.std.specs.Prelude.{◌≡◌, ℕ, ◌^◌, ◌<◌, ◌≤◌, Bool, is_some, List, []}
 use Rattle.atomic_table.specs.Seated.{TableId}
 use Rattle.atomic_table.specs.Table.{Me}
 use Rattle.rme_words.specs.declared.shape.Shape.{Shape}
-use Rattle.rme_words.specs.Words.{word_count}
 use Rattle.rme_program.specs.declared.note.Entry.{Entry}
 use Rattle.rme_seats.specs.declared.record.Part.{Part}
 use Rattle.rme_seats.specs.declared.record.Record.{Record}
+use Rattle.rme_seats.specs.Layout.{table_size}
 use Rattle.rme_seats.specs.Rule.{solo, lone}
 use Rattle.rme_seats.specs.Steps.{Stood}
 
@@ -23,9 +23,9 @@ pub record Stand : Type 0 where
 -- What every service keeps.
 pub record IsService (table : TableId) (told shape : Shape) : Type 0 where
   pub key : told ≡ shape
-  pub words : table.words ≡ 1 + word_count shape
+  pub words : table.words ≡ table_size shape
   pub slots : table.slots ≡ 0
-  pub few : 1 + word_count shape < 2 ^ 64
+  pub few : table_size shape < 2 ^ 64
 
 -- What every worker's seat keeps: its record has one part, which is its worker's and stood in a world; the seat knows
 -- whether it has a draft; its own list is the part's entries, and has room for all that may come.

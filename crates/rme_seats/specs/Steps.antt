@@ -1,10 +1,10 @@
 -- What an own step asks, and what it tells: of the world in which it was made.
-use Rattle.std.specs.Prelude.{◌≡◌, ◌≢◌, ℕ, ◌+◌, ◌<◌, ◌==◌, List, map, slice_index, slice_set}
+use Rattle.std.specs.Prelude.{◌≡◌, ◌≢◌, ℕ, ◌<◌, ◌==◌, List, map, slice_index, slice_set}
 use prog.Atomic.{either}
 use Rattle.atomic_table.specs.Table.{Step, Me}
 use Rattle.rme_words.specs.declared.shape.Shape.{Shape}
 use Rattle.rme_words.specs.declared.address.Address.{Address}
-use Rattle.rme_words.specs.Words.{word, IsOfShape}
+use Rattle.rme_words.specs.Words.{IsOfShape}
 use Rattle.rme_program.specs.declared.action.Action.{Action}
 use Rattle.rme_program.specs.declared.action.Action.TheVariants.{Load, Store, Swap}
 use Rattle.rme_program.specs.declared.note.Entry.{Entry}
@@ -18,11 +18,12 @@ use Rattle.rme_machine.specs.Shown.{shown, act_of}
 use Rattle.rme_seats.specs.declared.record.Part.{Part}
 use Rattle.rme_seats.specs.declared.record.Record.{Record}
 use Rattle.rme_seats.specs.Parts.{advanced}
+use Rattle.rme_seats.specs.Layout.{position}
 use Rattle.rme_seats.specs.Rule.{World, memory_in, privates_of, updated, lone}
 
--- The word of an action, and what the action makes of it.
+-- Where the word of an action lies, and what the action makes of it.
 abbrev pub word_of : Shape → Action → ℕ
-word_of shape action = 1 + word shape (address_of action)
+word_of shape action = position shape (address_of action)
 
 abbrev pub turned : Action → ℕ → ℕ
 turned (Load address) found = found
@@ -75,7 +76,7 @@ pub record Sees (shape : Shape) (part : Part) (address : Address) (value : ℕ) 
 -- What a reader's load tells its caller.
 abbrev pub Looked : Step ℕ → Me ℕ Record → ℕ → Me ℕ Record → Type 0
 Looked step before value after =
-    (after ≡ before) × ((address : Address) → IsOfShape before.0.shape address → step.word ≡ 1 + word before.0.shape address → Sees before.0.shape (lone before.0) address value)
+    (after ≡ before) × ((address : Address) → IsOfShape before.0.shape address → step.word ≡ position before.0.shape address → Sees before.0.shape (lone before.0) address value)
 
 -- The words after a step of this worker, and what the step finds.
 abbrev pub found_in : Shape → List ℕ → Action → ℕ

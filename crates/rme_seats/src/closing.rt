@@ -2,14 +2,17 @@
 
 ghost use Rattle.std.specs.Prelude.{◌≡◌, ◌+◌, ◌<◌, ◌≤◌, [], ◌++◌, length, vec_capacity};
 ghost use Rattle.std.specs.Slots.{slots_items, slots_len, IsFull};
-ghost use Rattle.rme_seats.specs.Rule.{bank_words};
+ghost use Rattle.rme_words.specs.Words.{word_count};
+ghost use Rattle.rme_seats.specs.Layout.{bank_words, table_size};
 
+use crate::layout::position_of;
 use crate::rule::{AllParts, Place};
 use crate::seat::WorkerSeat;
 use crate::service::Service;
 use atomic_table::Closed;
 use rme_history::EntryList;
 use rme_program::Entry;
+use rme_words::Shape;
 use std::alloc::Global;
 
 impl Service {
@@ -36,7 +39,7 @@ impl Service {
         let seat = self.join_all(seats, &mut history);
         let Service { table, shape } = self;
         let closed = table.close_with(seat);
-        let words = with_bank(words, &closed, shape.words());
+        let words = with_bank(words, &closed, shape);
         closed.free();
         (words, history)
     }
@@ -51,7 +54,7 @@ impl Service {
         let seat = self.join_places(seats);
         let Service { table, shape } = self;
         let closed = table.close_with(seat);
-        let words = with_bank(words, &closed, shape.words());
+        let words = with_bank(words, &closed, shape);
         closed.free();
         words
     }
@@ -146,15 +149,15 @@ fn put_all(history: &mut Vec<Entry>, entries: &EntryList)
     }
 }
 
-/// Puts the words of the table behind word 0 to the list, so many.
-fn with_bank(mut words: Vec<u64>, closed: &Closed<u8, Global>, count: usize) -> Vec<u64>
+/// Puts the words of the table to the list, in the order of their numbers.
+fn with_bank(mut words: Vec<u64>, closed: &Closed<u8, Global>, shape: Shape) -> Vec<u64>
     requires full { IsFull closed.now.words }
-    requires count { slots_len closed.now.words ≡ 1 + count }
-    requires room { length words.items + count ≤ vec_capacity words }
-    ensures { result.items ≡ words.items ++ bank_words (slots_items closed.now.words) }
+    requires count { slots_len closed.now.words ≡ table_size shape }
+    requires room { length words.items + word_count shape ≤ vec_capacity words }
+    ensures { result.items ≡ words.items ++ bank_words shape (slots_items closed.now.words) }
 {
-    for at in 0..count {
-        words.push_reserved(closed.word(at + 1));
+    for number in 0..shape.words() {
+        words.push_reserved(closed.word(position_of(shape, number)));
     }
     words
 }

@@ -11,6 +11,7 @@
 mod chance;
 mod closing;
 pub mod laws;
+pub mod layout;
 mod leads;
 mod opening;
 mod operation;

@@ -2,6 +2,7 @@
 
 ghost use Rattle.std.specs.Prelude.{◌≡◌, ◌≤◌, [], IfOk, vec_capacity};
 
+use crate::layout::table_size;
 use crate::rule::{FirstPart, Place};
 use crate::seat::WorkerSeat;
 use crate::service::Service;
@@ -37,7 +38,7 @@ impl Service {
         ensures service { IfOk result (λ laid. laid.0.shape ≡ shape) }
         ensures seat { IfOk result (λ laid. (laid.1.table_id ≡ laid.0.table) × (laid.1.me ≡ (from_worker shape 0, []))) }
     {
-        let Ok(words) = vec![in alloc; 0u64; 1 + shape.words()] else {
+        let Ok(words) = vec![in alloc; 0u64; table_size(shape)] else {
             return Err(NoMemory);
         };
         let Ok((table, seat)) = Table::of_words(alloc, words.as_slice(), &shape) else {

@@ -40,7 +40,8 @@ impl Model for WorkerSeat {
 impl WorkerSeat {
     ghost use Rattle.std.specs.Prelude.{◌≡◌, ◌+◌, is_some, MatchResult};
     ghost use Rattle.rme_words.specs.declared.address.Address.{Address};
-    ghost use Rattle.rme_words.specs.Words.{IsOfShape, word};
+    ghost use Rattle.rme_words.specs.Words.{IsOfShape};
+    ghost use Rattle.rme_seats.specs.Layout.{position};
     ghost use Rattle.rme_seats.specs.Parts.{onward, submitted, draft_script};
     ghost use Rattle.rme_seats.specs.Steps.{Stood, Sees};
     ghost use Rattle.rme_seats.specs.Chances.{Asks};
@@ -69,7 +70,7 @@ impl WorkerSeat {
         self.drafted
     }
 
-    /// The worker's own step that loads the word of this number.
+    /// The worker's own step that loads the word at this position.
     pub fn load<X: Lead, C: Chance>(
         &mut self,
         service: &Service,
@@ -83,11 +84,11 @@ impl WorkerSeat {
         if chance.falls() {
             return Err(Fell);
         }
-        let found = service.table.shared.load::<Goes<X>>(&mut self.seat, at + 1);
+        let found = service.table.shared.load::<Goes<X>>(&mut self.seat, at);
         Ok(found)
     }
 
-    /// The worker's own step that stores a value into the word of this number.
+    /// The worker's own step that stores a value into the word at this position.
     pub fn store<X: Lead, C: Chance>(
         &mut self,
         service: &Service,
@@ -105,11 +106,11 @@ impl WorkerSeat {
         service
             .table
             .shared
-            .store::<Goes<X>>(&mut self.seat, at + 1, value);
+            .store::<Goes<X>>(&mut self.seat, at, value);
         Ok(())
     }
 
-    /// The worker's own step that puts `to` into the word of this number where it is `from`; answers what it was.
+    /// The worker's own step that puts `to` into the word at this position where it is `from`; answers what it was.
     pub fn swap<X: Lead, C: Chance>(
         &mut self,
         service: &Service,
@@ -128,7 +129,7 @@ impl WorkerSeat {
         let found = service
             .table
             .shared
-            .compare_exchange::<Goes<X>>(&mut self.seat, at + 1, from, to);
+            .compare_exchange::<Goes<X>>(&mut self.seat, at, from, to);
         Ok(found)
     }
 
@@ -150,7 +151,7 @@ impl WorkerSeat {
         service
             .table
             .shared
-            .store::<Goes<Submit<J>>>(&mut self.seat, at + 1, lock);
+            .store::<Goes<Submit<J>>>(&mut self.seat, at, lock);
         self.drafted = true;
         Ok(())
     }
@@ -175,18 +176,18 @@ impl WorkerSeat {
         service
             .table
             .shared
-            .store::<Goes<Onward>>(&mut self.seat, at + 1, receipt.number as u64);
+            .store::<Goes<Onward>>(&mut self.seat, at, receipt.number as u64);
         self.entries.push(receipt, script);
         Ok(())
     }
 
-    /// A reader's load of the word of this number, which is no step: it changes no word and no record.
+    /// A reader's load of the word at this position, which is no step: it changes no word and no record.
     pub fn look(&mut self, service: &Service, at: usize) -> u64
         requires ours { self.old.ident ≡ service.now }
-        requires address { (address : Address) × IsOfShape service.now.shape address × (at ≡ word service.now.shape address) }
+        requires address { (address : Address) × IsOfShape service.now.shape address × (at ≡ position service.now.shape address) }
         ensures same { self.new ≡ self.old }
-        ensures sees { (address : Address) → IsOfShape service.now.shape address → at ≡ word service.now.shape address → Sees service.now.shape self.old.part address result }
+        ensures sees { (address : Address) → IsOfShape service.now.shape address → at ≡ position service.now.shape address → Sees service.now.shape self.old.part address result }
     {
-        service.table.shared.load::<Looks>(&mut self.seat, at + 1)
+        service.table.shared.load::<Looks>(&mut self.seat, at)
     }
 }

@@ -8,7 +8,7 @@ use Rattle.std.proofs.lemmas.List.Sorted.{IsPermutation-trans, All-permutation}
 use Rattle.std.proofs.lemmas.Option.{slice_get_within}
 use Rattle.rme_words.specs.declared.shape.Shape.{Shape}
 use Rattle.rme_words.specs.declared.address.Address.{Address}
-use Rattle.rme_words.specs.Words.{Memory}
+use Rattle.rme_words.specs.Words.{Memory, word_count}
 use Rattle.rme_tree.specs.Nodes.{owner_in}
 use Rattle.rme_program.specs.declared.note.Entry.{Entry}
 use Rattle.rme_machine.specs.Fact.{Fact}
@@ -19,10 +19,12 @@ use Rattle.rme_machine.proofs.Tables.{tables}
 use Rattle.rme_history.specs.Places.{place_order}
 use Rattle.rme_history.proofs.Machines.{legal_both}
 use Rattle.rme_history.proofs.Returning.{returning}
-use Rattle.rme_seats.specs.Rule.{bank_words, memory_in, privates_of}
+use Rattle.rme_seats.specs.Layout.{bank_words}
+use Rattle.rme_seats.specs.Rule.{memory_in, privates_of}
 use Rattle.rme_seats.specs.declared.record.Part.{Part}
 use Rattle.rme_seats.specs.Stands.{Stand}
 use Rattle.rme_seats.specs.Closing.{entries_given, Gathers}
+use Rattle.rme_seats.proofs.Positions.{bank_count}
 use Rattle.rme_table.specs.declared.closed.ClosedLock.{ClosedLock}
 use Rattle.rme_table.specs.Downs.{all_given}
 use Rattle.rme_table.specs.Filling.{HasRoom, HaveRoom, IsFilled, copied, is_done}
@@ -34,6 +36,11 @@ pub settled_as : (s : Shape) (mem : Address → ℕ) (privs : Privates) (es : Li
     → is_done mem owner ≡ is_settled (shown s mem privs es) lock
 settled_as s mem privs es lock None fact below is = sym (tables.free s mem privs es lock fact below is)
 settled_as s mem privs es lock (Some worker) fact below is = sym (tables.owned s mem privs es lock worker fact below is)
+
+-- As many words are gathered as the shape has.
+pub gathered_long : (s : Shape) (downs : List Stand) (before after : List ℕ) (old new : List Entry) → Gathers s downs before old after new → before ≡ [] → length after ≡ word_count s
+gathered_long s downs before after old new g none =
+    ap (λ (l : List ℕ). length l) (g.bank ∙ ap (λ (l : List ℕ). l ++ bank_words s g.words) none) ∙ bank_count s g.words
 
 module _ (s : Shape) (downs : List Stand) (before after : List ℕ) (old new sorted : List Entry) (g : Gathers s downs before old after new) (none : before ≡ []) (nothing : old ≡ [])
     (all : all_given s downs ≡ true) (mixes : IsPermutation new sorted) (order : IsSorted place_order sorted) where
@@ -80,7 +87,7 @@ module _ (s : Shape) (downs : List Stand) (before after : List ℕ) (old new sor
       let here : P s sorted = room_by (s.locks == 1) rooms have in
       subst (λ (x : Shape). P x entries) (sym shaped) (subst (λ (es : List Entry). P s es) (sym same) here)
 
-  one_lock : (lock : ℕ) (closed : ClosedLock) → lock < s.locks → IsFilled record { shape = s; words = bank_words g.words } sorted lock closed
+  one_lock : (lock : ℕ) (closed : ClosedLock) → lock < s.locks → IsFilled record { shape = s; words = bank_words s g.words } sorted lock closed
       → IsClosedLock s g.words (shown_in s g.words g.parts g.history) lock closed
   one_lock lock closed below filled =
       let mem = memory_in s g.words in
@@ -108,13 +115,13 @@ module _ (s : Shape) (downs : List Stand) (before after : List ℕ) (old new sor
         one_lock lock closed (omega (arith, within, long)) (moved lock closed (filled lock closed at));
   }
     where
-      whole : bank ≡ record { shape = s; words = bank_words g.words }
-      whole = is ∙ ap {B = Memory} (λ (ws : List ℕ). record { shape = s; words = ws }) (g.bank ∙ ap (λ (ws : List ℕ). ws ++ bank_words g.words) none)
+      whole : bank ≡ record { shape = s; words = bank_words s g.words }
+      whole = is ∙ ap {B = Memory} (λ (ws : List ℕ). record { shape = s; words = ws }) (g.bank ∙ ap (λ (ws : List ℕ). ws ++ bank_words s g.words) none)
 
       long : length locks ≡ s.locks
       long = count ∙ ap (λ (m : Memory). m.shape.locks) whole
 
-      moved : (lock : ℕ) (closed : ClosedLock) → IsFilled bank entries lock closed → IsFilled record { shape = s; words = bank_words g.words } sorted lock closed
+      moved : (lock : ℕ) (closed : ClosedLock) → IsFilled bank entries lock closed → IsFilled record { shape = s; words = bank_words s g.words } sorted lock closed
       moved lock closed fills =
           let P : Memory → List Entry → Type 0 = λ (m : Memory) (es : List Entry). IsFilled m es lock closed in
           subst (λ (m : Memory). P m sorted) whole (subst (λ (es : List Entry). P bank es) same fills)

@@ -14,7 +14,8 @@ use Rattle.rme_machine.specs.ShownCells.{ShownCells}
 use Rattle.rme_machine.specs.Views.{LockWords, WorkerWords, is_pending, lock_words, worker_words}
 use Rattle.rme_machine.proofs.Sections.{place_count}
 use Rattle.rme_machine.proofs.Tables.{tables}
-use Rattle.rme_seats.specs.Rule.{bank_words, memory_in, privates_of}
+use Rattle.rme_seats.specs.Layout.{bank_words}
+use Rattle.rme_seats.specs.Rule.{memory_in, privates_of}
 use Rattle.rme_seats.specs.Stands.{Stand}
 use Rattle.rme_seats.specs.Closing.{entries_given, Gathers}
 use Rattle.rme_seats.proofs.Opened.{last_or_before}
@@ -78,7 +79,7 @@ finished_is s mem es lock (Some worker) stands =
     owned_finished s (lock_words s mem lock) es lock worker (worker_words mem worker) (is_pending (worker_words mem worker)) stands
 
 module _ (s : Shape) (downs : List Stand) (before after : List ℕ) (g : Gathers s downs before [] after (entries_given downs)) (none : before ≡ []) (all : all_given s downs ≡ true) where
-  one_lock : (lock : ℕ) (counted : CountedLock) → lock < s.locks → IsCounted record { shape = s; words = bank_words g.words } lock counted
+  one_lock : (lock : ℕ) (counted : CountedLock) → lock < s.locks → IsCounted record { shape = s; words = bank_words s g.words } lock counted
       → IsCountedLock s g.words (shown_in s g.words g.parts g.history) lock counted
   one_lock lock counted below filled =
       let mem = memory_in s g.words in
@@ -109,8 +110,8 @@ module _ (s : Shape) (downs : List Stand) (before after : List ℕ) (g : Gathers
         one_lock lock counted (omega (arith, within, long)) (subst P whole (filled lock counted at));
   }
     where
-      whole : bank ≡ record { shape = s; words = bank_words g.words }
-      whole = is ∙ ap {B = Memory} (λ (ws : List ℕ). record { shape = s; words = ws }) (g.bank ∙ ap (λ (ws : List ℕ). ws ++ bank_words g.words) none)
+      whole : bank ≡ record { shape = s; words = bank_words s g.words }
+      whole = is ∙ ap {B = Memory} (λ (ws : List ℕ). record { shape = s; words = ws }) (g.bank ∙ ap (λ (ws : List ℕ). ws ++ bank_words s g.words) none)
 
       long : length locks ≡ s.locks
       long = count ∙ ap (λ (m : Memory). m.shape.locks) whole

@@ -11,7 +11,7 @@ use rme_history::EntryList;
 use rme_phases::post;
 use rme_program::{Receipt, WITHDRAWN_PLACE};
 use rme_script::Job;
-use rme_seats::{Chance, Posting};
+use rme_seats::{Chance, Posting, layout};
 use rme_words::Refusal;
 
 impl Ready {
@@ -129,7 +129,7 @@ impl Ready {
         ensures same { self.new ≡ self.old }
         ensures last { IsLast service.now.shape self.old.part result }
     {
-        let at = service.shape().place_at(self.seat.worker());
+        let at = layout::place_at(service.shape(), self.seat.worker());
         if self.seat.look(&service.words, at) == WITHDRAWN_PLACE {
             return None;
         }

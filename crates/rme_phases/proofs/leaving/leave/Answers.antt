@@ -1,7 +1,9 @@
-use Rattle.std.proofs.Common.{◌∙◌, ap, refl, arith}
+use Rattle.std.proofs.Common.{◌∙◌, ℕ, ap, refl, sym, arith}
 use Rattle.rme_words.specs.declared.shape.Shape.{Shape}
 use Rattle.rme_phases.proofs.Outcomes.{passed_on, ends_with}
-use Rattle.rme_phases.proofs.Exits.{exit_lock, exit_may, exit_turn, even_ends, even_falls, odd_may, odd_falls, stored_ends, stored_falls}
+use Rattle.rme_program.specs.Steps.{clear_stage}
+use Rattle.rme_phases.proofs.Parts.{before_at}
+use Rattle.rme_phases.proofs.Exits.{exit_stored, exit_lock, exit_may, exit_turn, even_ends, even_falls, odd_may, odd_falls, stored_ends, stored_falls}
 use Rattle.rme_phases.proofs.leaving.leave.Goals as goal
 
 pub turn_at-at-requires : goal.turn_at-at-requires
@@ -26,6 +28,11 @@ store-requires-clause-may g c = odd_may _ _ _ _ c.requires.at _ _ _ c.in_ok-turn
 
 pub returns-in_err-store : goal.returns-in_err-store
 returns-in_err-store g c = passed_on _ _ _ c.from_residual-in_err-store.ensures.0 (odd_falls _ _ _ _ c.requires.at _ _ _ c.in_ok-turn.ensures c.if-turn-eq0.false _ _ c.in_err-store.ensures)
+
+pub clear-requires-2-clause-at : goal.clear-requires-2-clause-at
+clear-requires-2-clause-at g c =
+    let stored = exit_stored _ _ _ _ c.requires.at _ _ _ c.in_ok-turn.ensures c.if-turn-eq0.false _ _ c.in_ok-store.ensures in
+    before_at stored.at (ap (λ (k : ℕ). clear_stage c.args.lock k) (sym (c.height-2.ensures ∙ ap (λ (y : Shape). y.height) c.shape-shape.ensures)))
 
 pub clear-requires-2-clause-lock : goal.clear-requires-2-clause-lock
 clear-requires-2-clause-lock g c = exit_lock _ _ _ c.requires.at _ refl

@@ -1,6 +1,7 @@
 use Rattle.std.proofs.Common.{arith}
 use Rattle.rme_words.specs.declared.address.Address.TheVariants.{Begun, SlateLock, SlateLen}
 use Rattle.rme_seats.proofs.Chains.{falls_at, falls_led}
+use Rattle.rme_phases.proofs.Joins.{is_before}
 use Rattle.rme_phases.proofs.Outcomes.{passed_on}
 use Rattle.rme_phases.proofs.Writing.{submit_may, post_one, len_may, post_two, post_words, begun_may, post_last, made_named, may_named, at_begun, at_word}
 use Rattle.rme_phases.proofs.posting.post.Goals as goal
@@ -28,6 +29,13 @@ returns-in_err-store g c =
     let rests = at_begun _ _ _ c.args.begun c.requires.at c.requires.begun in
     let one = post_one _ c.args.job.now c.args.seat.now (g.C.Chance.tally c.args.chance.now) _ rests _ _ (made_named _ _ c.requires.named c.in_ok-submit.ensures) in
     record { posted = passed_on _ _ _ c.from_residual-in_err-store.ensures.0 (falls_led _ _ _ _ _ _ _ (omega arith) one (falls_at _ _ _ _ _ _ 1 c.in_err-store.ensures (omega arith)) (omega arith)) }
+
+pub write_operations-requires-clause-at : goal.write_operations-requires-clause-at
+write_operations-requires-clause-at g c =
+    let rests = at_begun _ _ _ c.args.begun c.requires.at c.requires.begun in
+    let one = post_one _ c.args.job.now c.args.seat.now (g.C.Chance.tally c.args.chance.now) _ rests _ _ (made_named _ _ c.requires.named c.in_ok-submit.ensures) in
+    let two = post_two _ c.args.job.now c.args.seat.now (g.C.Chance.tally c.args.chance.now) _ rests _ _ _ _ _ one c.in_ok-store.ensures in
+    is_before _ _ _ _ two.at
 
 pub returns-in_err-write_operations : goal.returns-in_err-write_operations
 returns-in_err-write_operations g c =

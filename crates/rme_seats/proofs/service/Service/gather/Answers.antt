@@ -1,4 +1,6 @@
-use Rattle.std.proofs.Common.{◌∙◌, ap}
+use Rattle.std.proofs.Common.{◌∙◌, ◌++◌, ap}
+use Rattle.std.specs.Slots.{slots_items}
+use Rattle.rme_seats.specs.Layout.{bank_words}
 use Rattle.rme_seats.specs.Stands.{Ident}
 use Rattle.rme_seats.proofs.Gathering.{gathers}
 use Rattle.rme_seats.proofs.service.Service.gather.Goals as goal
@@ -6,4 +8,4 @@ use Rattle.rme_seats.proofs.service.Service.gather.Goals as goal
 pub returns : goal.returns
 returns c =
     gathers c.args.self _ c.args.seats.items _ _ _ _ _ _ _ _ c.close_with-closed.ensures.values.2 (c.self.invariant.key ∙ ap (λ (x : Ident). x.shape) c.self.view_is) c.join_all-seat.ensures.parts
-    c.with_bank-words.ensures c.join_all-seat.ensures.entries
+    (c.with_bank-words.ensures ∙ ap (λ (x : Ident). c.args.words.items ++ bank_words x.shape (slots_items c.close_with-closed.result.words)) c.self.view_is) c.join_all-seat.ensures.entries

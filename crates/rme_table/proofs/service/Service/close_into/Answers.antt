@@ -1,11 +1,11 @@
-use Rattle.std.proofs.Common.{◌≡◌, List, length, refl, ◌∙◌, ap, subst, ℕ, arith}
+use Rattle.std.proofs.Common.{◌≡◌, List, length, refl, sym, ◌∙◌, ap, subst, ℕ, arith}
 use Rattle.rme_words.specs.declared.shape.Shape.{Shape}
-use Rattle.rme_words.specs.Words.{Memory}
+use Rattle.rme_words.specs.Words.{Memory, word_count}
 use Rattle.rme_program.specs.declared.note.Entry.{Entry}
 use Rattle.rme_seats.specs.Stands.{Ident, Stand}
 use Rattle.rme_seats.specs.Closing.{Gathers}
 use Rattle.rme_table.proofs.Mixed.{some_given}
-use Rattle.rme_table.proofs.Closes.{still_room, still_only, closes}
+use Rattle.rme_table.proofs.Closes.{gathered_long, still_room, still_only, closes}
 use Rattle.rme_table.proofs.service.Service.close_into.Goals as goal
 
 pub gather-words-requires-clause-some_seat : goal.gather-words-requires-clause-some_seat
@@ -19,6 +19,11 @@ gathered : (one two : Ident) (seats downs : List Stand) (before after : List ℕ
     → Gathers one.shape seats before old after new → Gathers two.shape downs before old after new
 gathered one two seats downs before after old new idents same g =
     subst (λ (x : Ident). Gathers x.shape downs before old after new) idents (subst (λ (xs : List Stand). Gathers one.shape xs before old after new) same g)
+
+pub of-requires : goal.of-requires
+of-requires c =
+    let g = gathered c.self.inside.words c.args.self _ _ _ _ _ _ c.self.view_is c.all_seats.ensures c.gather-words.ensures in
+    gathered_long c.args.self.shape c.args.downs.items _ _ _ _ g c.requires.room.no_words ∙ sym (ap (λ (s : Shape). word_count s) c.shape-shape.ensures)
 
 pub fill_locks-requires-clause-room : goal.fill_locks-requires-clause-room
 fill_locks-requires-clause-room c =

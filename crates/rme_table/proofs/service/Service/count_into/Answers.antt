@@ -1,9 +1,10 @@
-use Rattle.std.proofs.Common.{◌≡◌, ℕ, List, [], length, ◌∙◌, ap, subst, arith}
+use Rattle.std.proofs.Common.{◌≡◌, ℕ, List, [], length, sym, ◌∙◌, ap, subst, arith}
 use Rattle.rme_words.specs.declared.shape.Shape.{Shape}
-use Rattle.rme_words.specs.Words.{Memory}
+use Rattle.rme_words.specs.Words.{Memory, word_count}
 use Rattle.rme_seats.specs.Stands.{Ident, Stand}
 use Rattle.rme_seats.specs.Closing.{Gathers, entries_given}
 use Rattle.rme_table.proofs.Mixed.{some_given}
+use Rattle.rme_table.proofs.Closes.{gathered_long}
 use Rattle.rme_table.proofs.Counts.{counts}
 use Rattle.rme_table.proofs.service.Service.count_into.Goals as goal
 
@@ -19,6 +20,11 @@ gathered : (one two : Ident) (seats downs : List Stand) (before after : List ℕ
 gathered one two seats downs before after idents same g =
     let P : Ident → List Stand → Type 0 = λ (x : Ident) (xs : List Stand). Gathers x.shape xs before [] after (entries_given xs) in
     subst (λ (x : Ident). P x downs) idents (subst (λ (xs : List Stand). P one xs) same g)
+
+pub of-requires : goal.of-requires
+of-requires c =
+    let g = gathered c.self.inside.words c.args.self _ _ _ _ c.self.view_is c.all_seats.ensures c.gather_words-words.ensures in
+    gathered_long c.args.self.shape c.args.downs.items _ _ _ _ g c.room.invariant.no_words ∙ sym (ap (λ (s : Shape). word_count s) c.shape-shape.ensures)
 
 pub returns : goal.returns
 returns c =

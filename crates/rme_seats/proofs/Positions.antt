@@ -1,0 +1,251 @@
+-- Where words lie: apart from each other, and within the table; the words of the table by their numbers.
+use Rattle.std.proofs.Common.{◌≡◌, ◌≢◌, ℕ, zero, suc, ◌+◌, ◌-◌, ◌*◌, ◌/◌, ◌%◌, ◌^◌, ◌<◌, ◌≤◌, List, [], ◌∷◌, ◌++◌, length, get_or, refl, sym, ◌∙◌, ap, inl, inr, arith, get_or-set_other, get_or-set_same}
+use Rattle.std.specs.Prelude.{nat_lt, slice_index, slice_set}
+use Rattle.std.proofs.Math.Nat.{mul-le-mul, div-mul-le_self, div-lt_iff_lt-mul}
+use Rattle.std.proofs.lemmas.Nat.{le-div, div-mul-add, mod-mul-add, div-add-mod'}
+use Rattle.std.proofs.lemmas.Bool.{cases_Bool, cases_eq, lt-ltb, le-ltb, ltb-true, ltb-false}
+use Rattle.std.proofs.lemmas.List.{append_assoc, ext_get_or, length-append, length-set}
+use Rattle.std.proofs.lemmas.List.FromFn.{get_or-map-range_with_len, length-map-range_with_len, map-range_with_len_more}
+use mathlib.Core.Option.{some, some-injective, some-ne-none}
+use lib.ListN.{get_elem?}
+use Rattle.rme_words.specs.declared.shape.Shape.{Shape}
+use Rattle.rme_words.specs.declared.address.Address.{Address}
+use Rattle.rme_words.specs.Words.{IsOfShape, word, word_count, lock_block, lock_start}
+use Rattle.rme_words.proofs.Places.{Spot, of_worker, of_lock, spot, number, IsInBlock, number-spot, spot-in_block, word_below}
+use Rattle.rme_words.specs.declared.address.Address.TheVariants.{Node}
+use Rattle.rme_seats.specs.Layout.{half_of, block_of, position_of, position, table_size, front_words, bank_words}
+
+-- The words of a shape are few.
+pub few_words : (s : Shape) → word_count s ≤ 13000
+few_words s =
+    let limits = s.counted.limits in
+    let tree = s.counted.tree in
+    let block : lock_block s ≤ 290 = omega (arith, limits.few_cells, tree.few_leaves) in
+    let locks : s.locks * lock_block s ≤ 16 * 290 = mul-le-mul limits.few_locks block in
+    omega (arith, locks, limits.few_workers)
+
+pub small_table : (s : Shape) → table_size s < 2 ^ 64
+small_table s =
+    let few = few_words s in
+    let limits = s.counted.limits in
+    omega (arith, few, limits.few_workers, limits.few_locks)
+
+pub some_words : (s : Shape) → 0 < lock_block s
+some_words s = omega arith
+
+pub of_worker_block : (s : Shape) (n : ℕ) → n < 31 * s.workers → block_of s n ≡ n / 31
+unfolding block_of
+of_worker_block s n own = rw (lt-ltb _ _ own) refl
+
+-- Which half of its block a lock's word is in, where it is the k-th of all locks' words.
+abbrev pub lock_half : Shape → ℕ → ℕ
+lock_half s k = 2 * (k / lock_block s) + half_of s (k % lock_block s)
+
+pub of_lock_block : (s : Shape) (n : ℕ) → 31 * s.workers ≤ n → block_of s n ≡ s.workers + lock_half s (n - 31 * s.workers)
+unfolding block_of
+of_lock_block s n past = rw (le-ltb _ _ past) refl
+
+pub first_half : (s : Shape) (o : ℕ) → o < s.leaves - 1 → half_of s o ≡ 0
+unfolding half_of
+first_half s o low = rw (lt-ltb _ _ low) refl
+
+pub other_half : (s : Shape) (o : ℕ) → s.leaves - 1 ≤ o → half_of s o ≡ 1
+unfolding half_of
+other_half s o high = rw (le-ltb _ _ high) refl
+
+half_small : (s : Shape) (o : ℕ) → half_of s o ≤ 1
+half_small s o = elim (cases_Bool (nat_lt o (s.leaves - 1))) [
+  | inl low ↦ let is = first_half s o (ltb-true _ _ low) in omega (arith, is)
+  | inr high ↦ let is = other_half s o (ltb-false _ _ high) in omega (arith, is)
+]
+
+half_mono : (s : Shape) (o p : ℕ) → o ≤ p → half_of s o ≤ half_of s p
+half_mono s o p le = elim (cases_Bool (nat_lt p (s.leaves - 1))) [
+  | inl low ↦
+      let second = ltb-true _ _ low in
+      let is = first_half s o (omega (arith, second, le)) in
+      omega (arith, is)
+  | inr high ↦
+      let is = other_half s p (ltb-false _ _ high) in
+      let small = half_small s o in
+      omega (arith, is, small)
+]
+
+pub is_position : (s : Shape) (n : ℕ) → position_of s n ≡ n + 7 * (1 + block_of s n)
+unfolding position_of
+is_position s n = refl
+
+div_mono : (i j k : ℕ) → 0 < k → i ≤ j → i / k ≤ j / k
+div_mono i j k positive le = le-div (i / k) j k positive (omega (arith, div-mul-le_self i k, le))
+
+lock_half_mono : (s : Shape) (i j : ℕ) → i ≤ j → lock_half s i ≤ lock_half s j
+lock_half_mono s i j le =
+    let b = lock_block s in
+    let whole = div_mono i j b (some_words s) le in
+    let small = half_small s (i % b) in
+    elim (cases_eq (i / b) (j / b)) [
+      | inl same ↦
+          let first = div-add-mod' i b in
+          let second = div-add-mod' j b in
+          let rows = ap (λ (q : ℕ). q * b) same in
+          let half = half_mono s (i % b) (j % b) (omega (arith, first, second, rows, le)) in
+          omega (arith, same, half)
+      | inr other ↦ omega (arith, whole, other, small)
+    ]
+
+-- Blocks are in the order of numbers.
+block_mono : (s : Shape) (i j : ℕ) → i ≤ j → block_of s i ≤ block_of s j
+block_mono s i j le = elim (cases_Bool (nat_lt i (31 * s.workers))) [
+  | inl own ↦ elim (cases_Bool (nat_lt j (31 * s.workers))) [
+    | inl also ↦
+        let first = of_worker_block s i (ltb-true _ _ own) in
+        let second = of_worker_block s j (ltb-true _ _ also) in
+        omega (arith, first, second, le)
+    | inr past ↦
+        let low = ltb-true _ _ own in
+        let first = of_worker_block s i low in
+        let second = of_lock_block s j (ltb-false _ _ past) in
+        omega (arith, first, second, low)
+  ]
+  | inr past ↦
+      let low = ltb-false _ _ past in
+      let high : 31 * s.workers ≤ j = omega (arith, low, le) in
+      let first = of_lock_block s i low in
+      let second = of_lock_block s j high in
+      let mono = lock_half_mono s (i - 31 * s.workers) (j - 31 * s.workers) (omega (arith, le)) in
+      omega (arith, first, second, mono)
+]
+
+-- A word of a larger number lies behind.
+behind : (s : Shape) (i j : ℕ) → i < j → position_of s i < position_of s j
+behind s i j less =
+    let mono = block_mono s i j (omega (arith, less)) in
+    let first = is_position s i in
+    let second = is_position s j in
+    omega (arith, mono, first, second, less)
+
+pub apart : (s : Shape) (i j : ℕ) → i ≢ j → position_of s i ≢ position_of s j
+apart s i j differ e = elim (cases_Bool (nat_lt i j)) [
+  | inl less ↦
+      let first = behind s i j (ltb-true _ _ less) in
+      absurd (omega (arith, first, e))
+  | inr not ↦
+      let low = ltb-false _ _ not in
+      let second = behind s j i (elim (cases_eq i j) [
+        | inl same ↦ absurd (differ same)
+        | inr other ↦ omega (arith, low, other)
+      ]) in
+      absurd (omega (arith, second, e))
+]
+
+-- There is a block for each worker, and two for each lock.
+pub few_blocks : (s : Shape) (n : ℕ) → n < word_count s → block_of s n < s.workers + 2 * s.locks
+few_blocks s n below = elim (cases_Bool (nat_lt n (31 * s.workers))) [
+  | inl own ↦
+      let low = ltb-true _ _ own in
+      let is = of_worker_block s n low in
+      omega (arith, is, low)
+  | inr past ↦
+      let low = ltb-false _ _ past in
+      let is = of_lock_block s n low in
+      let inside : (n - 31 * s.workers) / lock_block s < s.locks = (div-lt_iff_lt-mul (some_words s)).1 (omega (arith, below, low)) in
+      let small = half_small s ((n - 31 * s.workers) % lock_block s) in
+      omega (arith, is, inside, small)
+]
+
+pub inside : (s : Shape) (n : ℕ) → n < word_count s → position_of s n < table_size s
+inside s n below =
+    let few = few_blocks s n below in
+    let is = is_position s n in
+    omega (arith, few, is, below)
+
+-- The block of an address.
+abbrev pub block_in : Shape → Spot → ℕ
+block_in s (of_worker w o) = w
+block_in s (of_lock l o) = s.workers + (2 * l + half_of s o)
+
+block_is : (s : Shape) (p : Spot) → IsInBlock s p → block_of s (number s p) ≡ block_in s p
+block_is s (of_worker w o) h =
+    let is = of_worker_block s (31 * w + o) (omega (arith, h.0, h.1)) in
+    omega (arith, is, h.1)
+block_is s (of_lock l o) h =
+    let is = of_lock_block s (lock_start s l + o) (omega arith) in
+    let rest : lock_start s l + o - 31 * s.workers ≡ l * lock_block s + o = omega arith in
+    is ∙ ap (λ (k : ℕ). s.workers + lock_half s k) rest
+    ∙ ap (λ (k : ℕ). s.workers + (2 * k + half_of s ((l * lock_block s + o) % lock_block s))) (div-mul-add l (lock_block s) o h.1)
+    ∙ ap (λ (k : ℕ). s.workers + (2 * l + half_of s k)) (mod-mul-add l (lock_block s) o h.1)
+
+address_block : (s : Shape) (a : Address) → IsOfShape s a → block_of s (word s a) ≡ block_in s (spot s a)
+address_block s a within = ap (block_of s) (sym (number-spot s a)) ∙ block_is s (spot s a) (spot-in_block s a within)
+
+pub numbered : (s : Shape) (a : Address) (n : ℕ) → n ≡ word s a → IsOfShape s a → n < word_count s
+numbered s a n is within =
+    let below = word_below s a within in
+    omega (arith, below, is)
+
+-- The word of an address lies behind the gaps before its block.
+pub lies_there : (s : Shape) (a : Address) (n block at : ℕ) → IsOfShape s a → n ≡ word s a → block ≡ block_in s (spot s a) → at ≡ n + 7 * (1 + block) → at ≡ position s a
+lies_there s a n block at within is its laid =
+    let here = address_block s a within in
+    let there = is_position s (word s a) in
+    omega (arith, here, there, is, its, laid)
+
+-- The block of a lock's node, and of another word of it.
+pub node_block : (s : Shape) (l v : ℕ) → 1 ≤ v → v < s.leaves → s.workers + 2 * l ≡ block_in s (spot s (Node l v))
+node_block s l v low few =
+    let is = first_half s (v - 1) (omega (arith, low, few)) in
+    omega (arith, is)
+
+pub rest_block : (s : Shape) (l o : ℕ) → s.leaves - 1 ≤ o → s.workers + (2 * l + 1) ≡ block_in s (of_lock l o)
+rest_block s l o high =
+    let is = other_half s o high in
+    omega (arith, is)
+
+-- The words of a table by their numbers.
+module _ (s : Shape) (words : List ℕ) where
+  pub bank_count : length (bank_words s words) ≡ word_count s
+  bank_count = length-map-range_with_len (λ (n : ℕ). slice_index words (position_of s n)) 0 (word_count s)
+
+  pub bank_index : (n : ℕ) → n < word_count s → slice_index (bank_words s words) n ≡ slice_index words (position_of s n)
+  bank_index n below = get_or-map-range_with_len (λ (k : ℕ). slice_index words (position_of s k)) 0 (word_count s) n n 0 below (omega arith)
+
+pub bank_set : (s : Shape) (words : List ℕ) (n v : ℕ) → length words ≡ table_size s → n < word_count s
+    → bank_words s (slice_set words (position_of s n) v) ≡ slice_set (bank_words s words) n v
+bank_set s words n v long below = ext_get_or 0 _ _ (bank_count s after ∙ sym (bank_count s words) ∙ sym (length-set (bank_words s words) n v)) each
+  where
+    after : List ℕ
+    after = slice_set words (position_of s n) v
+
+    each : (k : ℕ) → k < length (bank_words s after) → get_or (bank_words s after) k 0 ≡ get_or (slice_set (bank_words s words) n v) k 0
+    each k short =
+        let count = bank_count s after in
+        let low : k < word_count s = omega (arith, short, count) in
+        bank_index s after k low ∙ elim (cases_eq k n) [
+          | inl same ↦
+              let there = inside s n below in
+              let bank = bank_count s words in
+              ap (λ (i : ℕ). get_or after (position_of s i) 0) same ∙ get_or-set_same words (position_of s n) v 0 (omega (arith, there, long))
+              ∙ sym (get_or-set_same (bank_words s words) n v 0 (omega (arith, bank, below))) ∙ ap (λ (i : ℕ). get_or (slice_set (bank_words s words) n v) i 0) (sym same)
+          | inr other ↦
+              get_or-set_other words (position_of s n) (position_of s k) v 0 (apart s k n other) ∙ sym (bank_index s words k low)
+              ∙ sym (get_or-set_other (bank_words s words) n k v 0 other)
+        ]
+
+-- One word of the bank more.
+elem_index : (l : List ℕ) (i v : ℕ) → get_elem? l i ≡ some v → slice_index l i ≡ v
+elem_index [] i v at = absurd (some-ne-none v (sym at))
+elem_index (x ∷ l) zero v at = some-injective x v at
+elem_index (x ∷ l) (suc i) v at = elem_index l i v at
+
+pub front_long : (s : Shape) (items old words : List ℕ) (n : ℕ) → words ≡ old ++ front_words s items n → length words ≡ length old + n
+front_long s items old words n is =
+    let all = ap (λ (l : List ℕ). length l) is ∙ length-append old (front_words s items n) in
+    let front = length-map-range_with_len (λ (k : ℕ). slice_index items (position_of s k)) 0 n in
+    omega (arith, all, front)
+
+pub word_next : (s : Shape) (items old words later : List ℕ) (n at v : ℕ) → words ≡ old ++ front_words s items n → at ≡ position_of s n → get_elem? items at ≡ some v → later ≡ words ++ v ∷ []
+    → later ≡ old ++ front_words s items (n + 1)
+word_next s items old words later n at v is lies here grows =
+    let more = map-range_with_len_more (λ (k : ℕ). slice_index items (position_of s k)) 0 n n (omega arith) in
+    grows ∙ ap (λ (xs : List ℕ). xs ++ v ∷ []) is ∙ append_assoc old (front_words s items n) (v ∷ [])
+    ∙ ap (λ (x : ℕ). old ++ (front_words s items n ++ x ∷ [])) (sym (ap (slice_index items) (sym lies) ∙ elem_index items at v here)) ∙ ap (λ (xs : List ℕ). old ++ xs) (sym more)

@@ -1,0 +1,36 @@
+-- Where the words of a shape lie in a service's table: in the order of their numbers, block after block. A worker's words are a block,
+-- and of a lock the nodes are one, and its other words the next. Before each block, and behind the last, lie seven words that nobody
+-- uses. So a line of a processor's cache, which has eight words, has none of two blocks.
+use Rattle.std.specs.Prelude.{ℕ, ◌+◌, ◌-◌, ◌*◌, ◌/◌, ◌%◌, nat_lt, if◌then◌else◌, List, map, slice_index}
+use Rattle.std.specs.List.{range_with_len}
+use Rattle.rme_words.specs.declared.shape.Shape.{Shape}
+use Rattle.rme_words.specs.declared.address.Address.{Address}
+use Rattle.rme_words.specs.Words.{word, word_count, lock_block}
+
+-- The first half of a lock's words are its nodes.
+unfoldable pub half_of : Shape → ℕ → ℕ
+half_of shape offset = if nat_lt offset (shape.leaves - 1) then 0 else 1
+
+-- The block of the word of a number: the workers' come first, then two for each lock.
+unfoldable pub block_of : Shape → ℕ → ℕ
+block_of shape number =
+    if nat_lt number (31 * shape.workers) then number / 31
+    else shape.workers + (2 * ((number - 31 * shape.workers) / lock_block shape) + half_of shape ((number - 31 * shape.workers) % lock_block shape))
+
+-- Where the word of a number lies, and that of an address.
+unfoldable pub position_of : Shape → ℕ → ℕ
+position_of shape number = number + 7 * (1 + block_of shape number)
+
+abbrev pub position : Shape → Address → ℕ
+position shape address = position_of shape (word shape address)
+
+-- How many words the table has.
+abbrev pub table_size : Shape → ℕ
+table_size shape = word_count shape + 7 * (1 + (shape.workers + 2 * shape.locks))
+
+-- So many words of a table, and all, in the order of their numbers.
+abbrev pub front_words : Shape → List ℕ → ℕ → List ℕ
+front_words shape words count = map (λ (number : ℕ). slice_index words (position_of shape number)) (range_with_len 0 count)
+
+abbrev pub bank_words : Shape → List ℕ → List ℕ
+bank_words shape words = front_words shape words (word_count shape)
