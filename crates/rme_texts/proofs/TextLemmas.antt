@@ -23,3 +23,9 @@ separates_all text start all out later so_far = sym (append-nil out) ∙ so_far
 pub append_three : (out first second third : List ℕ) (a b c : List ℕ) → first ≡ out ++ a → second ≡ first ++ b → third ≡ second ++ c → third ≡ out ++ (a ++ (b ++ c))
 append_three out first second third a b c e f g =
     g ∙ ap (λ l. l ++ c) (f ∙ ap (λ l. l ++ b) e) ∙ append_assoc (out ++ a) b c ∙ append_assoc out a (b ++ c)
+
+-- five texts, one after another
+pub append_five : (out first second third fourth fifth : List ℕ) (a b c d e : List ℕ) → first ≡ out ++ a → second ≡ first ++ b → third ≡ second ++ c → fourth ≡ third ++ d → fifth ≡ fourth ++ e
+    → fifth ≡ out ++ (a ++ (b ++ (c ++ (d ++ e))))
+append_five out first second third fourth fifth a b c d e f g h i j =
+    append_three out first second fifth a b (c ++ (d ++ e)) f g (append_three second third fourth fifth c d e h i j)

@@ -5,6 +5,7 @@ ghost use Rattle.rme_texts.specs.Texts as spec;
 ghost use Rattle.rme_texts.specs.Told.{receipt_told};
 
 use crate::told::ToldReceipt;
+use itoa::Buffer;
 use rme_history::EntryList;
 use rme_names::Names;
 use rme_program::{Entry, Note, Receipt};
@@ -64,18 +65,36 @@ fn push_finished(out: &mut String, names: &Names, receipt: Receipt) -> Result<()
 pub fn push_receipt(out: &mut String, names: &Names, receipt: ToldReceipt) -> Result<(), AllocError>
     ensures { OnOk result (string_bytes out.new ≡ string_bytes out.old ++ spec.receipt_text names.now (receipt_told receipt)) }
 {
-    let name = name_of(names, receipt.lock);
-    let ToldReceipt {
-        worker,
-        lock: _,
-        number,
-        place,
-        reply,
-    } = receipt;
-    write!(
-        out,
-        "{{\"lock\":\"{name}\",\"number\":{number},\"place\":{place},\"reply\":{reply},\"worker\":{worker}}}"
-    )
+    push_lock(out, name_of(names, receipt.lock))?;
+    push_then(out, "\",\"number\":", receipt.number)?;
+    push_then(out, ",\"place\":", receipt.place)?;
+    push_then(out, ",\"reply\":", receipt.reply)?;
+    push_receipt_end(out, receipt.worker)?;
+    Ok(())
+}
+
+/// Appends what stands of a receipt up to the end of its lock's name.
+fn push_lock(out: &mut String, name: &str) -> Result<(), AllocError>
+    ensures { OnOk result (string_bytes out.new ≡ string_bytes out.old ++ (codes "{\"lock\":\"" ++ name.now)) }
+{
+    out.push_str("{\"lock\":\"")?;
+    out.push_str(name)
+}
+
+/// Appends a text, and a number behind it.
+fn push_then(out: &mut String, text: &str, number: u64) -> Result<(), AllocError>
+    ensures { OnOk result (string_bytes out.new ≡ string_bytes out.old ++ (text.now ++ decimal number)) }
+{
+    out.push_str(text)?;
+    push_number(out, number)
+}
+
+/// Appends what stands of a receipt after its reply.
+fn push_receipt_end(out: &mut String, worker: u32) -> Result<(), AllocError>
+    ensures { OnOk result (string_bytes out.new ≡ string_bytes out.old ++ (codes ",\"worker\":" ++ (decimal worker ++ codes "}"))) }
+{
+    push_then(out, ",\"worker\":", u64::from(worker))?;
+    out.push_str("}")
 }
 
 /// Appends a comma where something came earlier.
@@ -88,7 +107,7 @@ fn push_comma(out: &mut String, later: bool) -> Result<(), AllocError>
 fn push_number(out: &mut String, number: u64) -> Result<(), AllocError>
     ensures { OnOk result (string_bytes out.new ≡ string_bytes out.old ++ decimal number) }
 {
-    write!(out, "{number}")
+    out.push_str(Buffer::new().format(number))
 }
 
 /// Appends an operation, as `["add",0,5]`.
