@@ -42,7 +42,7 @@ front_same words ops k i same long below =
     let all : length (words_of ops) ≡ k = omega (arith, counted, long) in
     sym (get_or-take k words i 0 below) ∙ ap (λ (xs : List ℕ). slice_index xs i) same ∙ sym (get_or_append_left (words_of ops) _ 0 i (omega (arith, all, below)))
 
-slate_of_long : (ops : List Op) → length ops ≤ 8 → length (slate_of ops) ≡ 24
+pub slate_of_long : (ops : List Op) → length ops ≤ 8 → length (slate_of ops) ≡ 24
 slate_of_long ops few = length-append (words_of ops) _ ∙ ap (λ (n : ℕ). length (words_of ops) + n) (length-replicate (24 - 3 * length ops) 0) ∙ (let long = words_length ops in omega (arith, long, few))
 
 -- What a waiting worker's slate says of the script of its draft.

@@ -23,7 +23,7 @@ use Rattle.rme_seats.specs.Layout.{position}
 use Rattle.rme_seats.specs.Parts.{onward, draft_script}
 use Rattle.rme_seats.specs.Chances.{Tally}
 use Rattle.rme_seats.specs.Stands.{Stand}
-use Rattle.rme_seats.specs.Doing.{IsAt, Doing, Fallen, MadeStep, MayLoad}
+use Rattle.rme_seats.specs.Doing.{IsAt, Doing, Falling, MadeStep, MayLoad}
 use Rattle.rme_seats.proofs.Chains.{did, walks_then, may_load, takes_value}
 use Rattle.rme_phases.specs.Sections.{parity_of_stage, Finishes, Completes, Performs}
 use Rattle.rme_phases.proofs.Parts.{stage_at}
@@ -87,11 +87,8 @@ module _ (s : Shape) (a c d : Stand) (t u v : Tally) (m b begun lock turn : ℕ)
       }
 
 -- A reader's load came before: the same seat.
-pub made_from : {s : Shape} {a r c : Stand} {t u : Tally} {value : ℕ} → r ≡ a → MadeStep s onward r c t u value → MadeStep s onward a c t u value
-made_from {s} {a} {r} {c} {t} {u} {value} same made = subst (λ (x : Stand). MadeStep s onward x c t u value) same made
+pub completes_from : {s : Shape} {a r d : Stand} {t u : Tally} {begun lock turn : ℕ} {receipt : Receipt} → r ≡ a → Completes s r d t u begun lock turn receipt → Completes s a d t u begun lock turn receipt
+completes_from {s} {a} {r} {d} {t} {u} {begun} {lock} {turn} {receipt} same completes = subst (λ (x : Stand). Completes s x d t u begun lock turn receipt) same completes
 
-pub load_from : {s : Shape} {a r : Stand} {number : ℕ} → r ≡ a → MayLoad s onward a.part number → MayLoad s onward r.part number
-load_from {s} {a} {r} {number} same may = subst (λ (x : Stand). MayLoad s onward x.part number) (sym same) may
-
-pub fallen_from : {a r c : Stand} {t u : Tally} → r ≡ a → Fallen r c t u → Fallen a c t u
-fallen_from {a} {r} {c} {t} {u} same fell = subst (λ (x : Stand). Fallen x c t u) same fell
+pub falling_from : {s : Shape} {a r d : Stand} {t u : Tally} {most : ℕ} → r ≡ a → Falling s onward r d t u most → Falling s onward a d t u most
+falling_from {s} {a} {r} {d} {t} {u} {most} same fell = subst (λ (x : Stand). Falling s onward x d t u most) same fell

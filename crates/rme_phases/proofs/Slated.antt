@@ -1,35 +1,46 @@
 -- The slate's words, loaded one after another.
-use Rattle.std.proofs.Common.{◌≡◌, ℕ, ◌+◌, ◌*◌, ◌/◌, ◌%◌, ◌<◌, ◌≤◌, List, [], refl, sym, ◌∙◌, ap, subst, inl, inr, arith}
-use Rattle.std.specs.Prelude.{slice_set, replicate, nat_lt, Option, Some, None}
+use Rattle.std.proofs.Common.{◌≡◌, ℕ, ◌+◌, ◌*◌, ◌/◌, ◌%◌, ◌<◌, ◌≤◌, List, [], length, take, refl, sym, ◌∙◌, ap, subst, inl, inr, arith}
+use Rattle.std.specs.Prelude.{true, slice_index, slice_set, replicate, nat_lt, Option, Some, None, Result, Ok, Err, OnOk}
 use Rattle.std.proofs.lemmas.Option.{same_Some}
 use Rattle.std.proofs.lemmas.Bool.{cases_Bool, ne_eqb, eq-eqb}
+use Rattle.std.proofs.lemmas.List.{length-set}
 use Rattle.rme_words.specs.declared.shape.Shape.{Shape}
 use Rattle.rme_words.specs.declared.address.Address.TheVariants.{SlateLen, SlateWord}
 use Rattle.rme_script.specs.Programs.{Program}
 use Rattle.rme_script.specs.Scripts.{IsScript}
 use Rattle.rme_script.specs.declared.op.Op.{Op}
-use Rattle.rme_script.specs.Slates.{script_of, script_by, ops_of}
+use Rattle.rme_script.specs.Slates.{script_of, script_by, ops_of, slate_of}
+use Rattle.rme_script.specs.declared.job.Job.{Job}
+use Rattle.rme_program.specs.declared.action.Action.{Action}
 use Rattle.rme_program.specs.declared.action.Action.TheVariants.{Load}
+use Rattle.rme_program.specs.declared.private.Private.{Private}
 use Rattle.rme_program.specs.declared.stage.Stage.{Stage}
 use Rattle.rme_program.specs.declared.stage.Stage.TheVariants.{Logging, Copying}
 use Rattle.rme_program.specs.declared.stage.Redo.TheVariants.{LoadMask}
 use Rattle.rme_program.specs.Masks.{mask_of}
 use Rattle.rme_program.specs.Phases.{cells_below}
 use Rattle.rme_program.specs.declared.stage.Log.TheVariants.{LoadLen, LoadSlate}
-use Rattle.rme_program.specs.Steps.{slate_stage, script_stage}
+use Rattle.rme_program.specs.Steps.{slate_stage, script_stage, action_of}
+use Rattle.rme_program.specs.Did.{Did}
+use Rattle.rme_machine.proofs.Scripts.{words_more}
 use Rattle.rme_seats.specs.Layout.{position}
-use Rattle.rme_seats.specs.Parts.{onward}
+use Rattle.rme_seats.specs.Parts.{onward, draft_script}
+use Rattle.rme_seats.specs.Rule.{memory_in}
+use Rattle.rme_seats.specs.Steps.{Stood}
 use Rattle.rme_seats.specs.Chances.{Tally}
 use Rattle.rme_seats.specs.Stands.{Ident, Stand}
 use Rattle.rme_seats.specs.Doing.{IsAt, IsBefore, Doing, Falling, Fallen, MadeStep, MayLoad}
 use Rattle.rme_seats.proofs.Chains.{nothing, did, then_on, falls_on, falls_at, may_load, takes_value}
-use Rattle.rme_phases.specs.Sections.{IsRead, Logs, even_visit}
+use Rattle.rme_phases.specs.Sections.{IsRead, Logs, even_visit, is_waiting}
+use Rattle.rme_phases.proofs.Drafted.{IsDrafted, is_drafted, slate_of_long, drafted_script}
 
--- So many words were loaded; once they are all, they are a script of the shape.
+-- So many words were loaded, which are those of the draft; once they are all, they are a script of the shape.
 pub record Reads (ident : Ident) (a : Stand) (t : Tally) (lock turn operations : ℕ) (words : List ℕ) (now : Stand) (u : Tally) (k : ℕ) : Type 0 where
   pub ours : now.ident ≡ ident
   pub doing : Doing ident.shape onward a now t u k a.part.private.begun (slate_stage ident.shape lock turn operations words k)
   pub good : k ≡ 3 * operations → IsRead ident.shape operations words
+  pub long : length words ≡ 24
+  pub drafted : take k words ≡ take k (slate_of (draft_script a.part.draft).ops)
 
 stage_before : (s : Shape) (lock turn operations : ℕ) (words : List ℕ) (k : ℕ) → k < 3 * operations → slate_stage s lock turn operations words k ≡ Logging (LoadSlate lock turn operations words k)
 stage_before s lock turn operations words k below = rw (ne_eqb k (3 * operations) (λ e. omega (arith, e, below))) refl
@@ -41,11 +52,13 @@ no_words s operations words none =
     subst P (sym none) empty
 
 module _ (ident : Ident) (a : Stand) (t : Tally) (lock turn operations : ℕ) where
-  pub read_begins : (words : List ℕ) → a.ident ≡ ident → IsBefore ident.shape a.part (slate_stage ident.shape lock turn operations words 0) → Reads ident a t lock turn operations words a t 0
-  read_begins words ours at = record {
+  pub read_begins : (words : List ℕ) → length words ≡ 24 → a.ident ≡ ident → IsBefore ident.shape a.part (slate_stage ident.shape lock turn operations words 0) → Reads ident a t lock turn operations words a t 0
+  read_begins words long ours at = record {
     ours = ours;
     doing = nothing ident.shape a t a.part.private.begun _ at;
     good = λ e. no_words ident.shape operations words (omega (arith, e));
+    long = long;
+    drafted = refl;
   }
 
   module _ (words : List ℕ) (now : Stand) (u : Tally) (k : ℕ) (state : Reads ident a t lock turn operations words now u k) where
@@ -62,17 +75,49 @@ module _ (ident : Ident) (a : Stand) (t : Tally) (lock turn operations : ℕ) wh
         (subst (λ (w : ℕ). w < ident.shape.workers) (sym mine) state.doing.at.stood.worker, omega (arith, small), omega arith)
         (its ∙ ap (λ (x : Shape). position x (SlateWord worker (k / 3) (k % 3))) same)
 
-    pub read_more : (next : Stand) (v : Tally) (value : ℕ) (later : List ℕ) → k < 3 * operations → later ≡ slice_set words k value → MadeStep ident.shape onward now next u v value
+    -- What a load finds is the draft's.
+    module _ (few : operations ≤ 8) (is : operations ≡ (draft_script a.part.draft).n) (next : Stand) (v : Tally) (value : ℕ) (below : k < 3 * operations)
+        (made : MadeStep ident.shape onward now next u v value) where
+      waits : is_waiting now.part.private.stage ≡ true
+      waits = ap (λ (q : Private). is_waiting q.stage) (at_word below).private
+
+      of_draft : IsDrafted ident.shape (memory_in ident.shape made.told.before.words) now.part.worker (draft_script a.part.draft)
+      of_draft = subst (λ (p : Program). IsDrafted ident.shape (memory_in ident.shape made.told.before.words) now.part.worker p) (ap draft_script state.doing.stays.draft)
+          (is_drafted ident.shape now.part made.told.before waits)
+
+      value_drafted : value ≡ slice_index (slate_of (draft_script a.part.draft).ops) k
+      value_drafted =
+          let D : Action → Type 0 = λ (x : Action). Did (memory_in ident.shape made.told.before.words) (memory_in ident.shape made.told.words) x value in
+          let load : D (Load (SlateWord now.part.worker (k / 3) (k % 3))) = subst D (ap (action_of ident.shape) (at_word below).private) made.told.did in
+          load.0 ∙ of_draft.words k (omega (arith, is, below))
+
+      words_drafted : take (k + 1) (slice_set words k value) ≡ take (k + 1) (slate_of (draft_script a.part.draft).ops)
+      words_drafted =
+          let counted = of_draft.shaped.counted in
+          let all : length (slate_of (draft_script a.part.draft).ops) ≡ 24 = slate_of_long (draft_script a.part.draft).ops (omega (arith, counted, is, few)) in
+          let k24 : k < 24 = omega (arith, few, below) in
+          words_more words (slate_of (draft_script a.part.draft).ops) k value (omega (arith, k24, state.long)) (omega (arith, k24, all)) value_drafted state.drafted
+
+    pub read_more : operations ≤ 8 → operations ≡ (draft_script a.part.draft).n → (next : Stand) (v : Tally) (value : ℕ) (later : List ℕ) → k < 3 * operations → later ≡ slice_set words k value → MadeStep ident.shape onward now next u v value
         → Reads ident a t lock turn operations later next v (k + 1)
-    read_more next v value later below is made =
+    read_more few counted next v value later below is made =
         let one = did ident.shape now next u v value made (at_word below) refl refl refl in
         let takes = takes_value ident.shape now.part value a.part.private.begun _ made.told (at_word below) (λ e. cc) in
         let good : k + 1 ≡ 3 * operations → IsRead ident.shape operations (slice_set words k value) = λ e. record { script = (takes e).0; read = (takes e).1; good = (takes e).2 } in
         let P : List ℕ → Type 0 = λ (xs : List ℕ). Reads ident a t lock turn operations xs next v (k + 1) in
-        subst P (sym is) record { ours = made.ident ∙ state.ours; doing = then_on ident.shape a now next t u v state.doing one; good = good }
+        subst P (sym is) record {
+          ours = made.ident ∙ state.ours;
+          doing = then_on ident.shape a now next t u v state.doing one;
+          good = good;
+          long = length-set words k value ∙ state.long;
+          drafted = words_drafted few counted next v value below made;
+        }
 
     pub read_fell : (next : Stand) (v : Tally) → k < 3 * operations → Fallen now next u v → Falling ident.shape onward a next t v (3 * operations)
     read_fell next v below fell = falls_on ident.shape a now next t u v state.doing (falls_at ident.shape onward now next u v 1 fell (omega arith)) (omega (arith, below))
+
+    pub read_words : k ≡ 3 * operations → take (3 * operations) words ≡ take (3 * operations) (slate_of (draft_script a.part.draft).ops)
+    read_words e = subst (λ (n : ℕ). take n words ≡ take n (slate_of (draft_script a.part.draft).ops)) e state.drafted
 
     pub read_all : k ≡ 3 * operations → Doing ident.shape onward a now t u (3 * operations) a.part.private.begun (slate_stage ident.shape lock turn operations words (3 * operations))
     read_all e = subst (λ (n : ℕ). Doing ident.shape onward a now t u n a.part.private.begun (slate_stage ident.shape lock turn operations words n)) e state.doing
@@ -89,6 +134,14 @@ module _ (s : Shape) (a : Stand) (t : Tally) (b lock turn : ℕ) (at : IsAt s a.
 
     pub len_loaded : Doing s onward a c t u 1 b (slate_stage s lock turn value (replicate 24 0) 0)
     len_loaded = did s a c t u value made at refl refl refl
+
+    -- It is the draft's.
+    pub len_drafted : value ≡ (draft_script c.part.draft).n
+    len_drafted =
+        let drafted = is_drafted s a.part made.told.before (ap (λ (q : Private). is_waiting q.stage) at.private) in
+        let D : Action → Type 0 = λ (x : Action). Did (memory_in s made.told.before.words) (memory_in s made.told.words) x value in
+        let load : D (Load (SlateLen a.part.worker)) = subst D (ap (action_of s) at.private) made.told.did in
+        load.0 ∙ drafted.counted ∙ ap (λ (o : Option Job). (draft_script o).n) (sym len_loaded.stays.draft)
 
 -- All words are read: the script is known.
 pub slate_known : (s : Shape) (lock turn n : ℕ) (words : List ℕ) (script : Program) → Some script ≡ script_of n words
@@ -117,3 +170,19 @@ pub logs : {s : Shape} {a c : Stand} {t u : Tally} {lock turn : ℕ} (script : P
     → Doing s onward a c t u (4 + 3 * script.n + cells_below (mask_of script.ops) s.cells * 2) a.part.private.begun (Copying (LoadMask (even_visit lock turn script.n (mask_of script.ops))))
     → Logs s a c t u lock turn
 logs script good doing = record { script = script; good = good; doing = doing }
+
+-- The script that was read is the draft's.
+pub script_drafted : (s : Shape) (a c : Stand) (words : List ℕ) (n : ℕ) (script : Program) → Stood s a.part → is_waiting a.part.private.stage ≡ true → c.part.draft ≡ a.part.draft
+    → n ≡ (draft_script c.part.draft).n → take (3 * n) words ≡ take (3 * n) (slate_of (draft_script c.part.draft).ops) → Some script ≡ script_of n words → script ≡ draft_script a.part.draft
+script_drafted s a c words n script stood waits same counted front read =
+    let drafts : draft_script c.part.draft ≡ draft_script a.part.draft = ap draft_script same in
+    let drafted = is_drafted s a.part stood waits in
+    let is : n ≡ (draft_script a.part.draft).n = counted ∙ ap (λ (p : Program). p.n) drafts in
+    let all = front ∙ ap (λ (p : Program). take (3 * n) (slate_of p.ops)) drafts in
+    let P : ℕ → Type 0 = λ (k : ℕ). take (3 * k) words ≡ take (3 * k) (slate_of (draft_script a.part.draft).ops) in
+    let its = drafted_script s _ _ (draft_script a.part.draft) words drafted (subst P is all) in
+    same_Some script (draft_script a.part.draft) (read ∙ ap (λ (k : ℕ). script_of k words) is ∙ its)
+
+pub on_ok : {T E : Type 0} (result : Result T E) (P : Type 0) → P → OnOk result P
+on_ok (Ok x) P it = it
+on_ok (Err e) P it = tt

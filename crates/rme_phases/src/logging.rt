@@ -1,6 +1,6 @@
 //! Phase Section until the turn is odd: the worker runs its script, and writes down what it leaves.
 
-ghost use Rattle.std.specs.Prelude.{◌≡◌, ℕ, ◌+◌, ◌*◌, ◌%◌, ◌<◌, ◌≤◌, Some, MatchResult, length};
+ghost use Rattle.std.specs.Prelude.{◌≡◌, ℕ, ◌+◌, ◌*◌, ◌%◌, ◌<◌, ◌≤◌, Some, MatchResult, OnOk, length, take};
 ghost use Rattle.rme_script.specs.Programs.{Program};
 ghost use Rattle.rme_script.specs.Scripts.{IsScript};
 ghost use Rattle.rme_program.specs.declared.stage.Stage.TheVariants.{Logging, Copying};
@@ -9,7 +9,8 @@ ghost use Rattle.rme_program.specs.declared.stage.Redo.TheVariants.{LoadMask};
 ghost use Rattle.rme_program.specs.Phases.{cells_below};
 ghost use Rattle.rme_program.specs.Masks.{mask_of, first_cell};
 ghost use Rattle.rme_program.specs.Steps.{slate_stage, script_stage, cells_from_here, run_stage, shadows_from};
-ghost use Rattle.rme_seats.specs.Parts.{onward};
+ghost use Rattle.rme_script.specs.Slates.{slate_of};
+ghost use Rattle.rme_seats.specs.Parts.{onward, draft_script};
 ghost use Rattle.rme_seats.specs.Doing.{Doing, Falling, IsBefore};
 ghost use Rattle.rme_phases.specs.Sections.{even_visit, IsRead, Logs};
 
@@ -18,18 +19,20 @@ use rme_script::{Row, Script, eval, read_slate};
 use rme_seats::{Chance, Fell, Onward, Service, WorkerSeat, layout};
 
 /// From the load of the slate's length to the store of the odd turn: reads the script and the cells that it
-/// names, runs it, and writes down what it leaves.
+/// names, runs it, and writes down what it leaves. The script is that of the worker's job.
 pub(crate) fn log<C: Chance>(
     seat: &mut WorkerSeat,
     service: &Service,
     chance: &mut C,
     lock: u32,
     turn: u32,
+    script: &mut Script,
 ) -> Result<(), Fell>
     requires ours { seat.old.ident ≡ service.now }
     requires lock { lock < service.now.shape.locks }
     requires at { IsBefore service.now.shape seat.old.part (Logging (LoadLen lock turn)) }
-    ensures { MatchResult result (λ _. Logs service.now.shape seat.old seat.new (C.tally chance.old) (C.tally chance.new) lock turn) (λ _. Falling service.now.shape onward seat.old seat.new (C.tally chance.old) (C.tally chance.new) (28 + service.now.shape.cells * 2)) }
+    ensures script { OnOk result (script.new ≡ draft_script seat.old.part.draft) }
+    ensures logs { MatchResult result (λ _. Logs service.now.shape seat.old seat.new (C.tally chance.old) (C.tally chance.new) lock turn) (λ _. Falling service.now.shape onward seat.old seat.new (C.tally chance.old) (C.tally chance.new) (28 + service.now.shape.cells * 2)) }
 {
     let shape = service.shape();
     let at = layout::slate_len_at(shape, seat.worker());
@@ -44,11 +47,10 @@ pub(crate) fn log<C: Chance>(
         operations as u32,
         &mut words,
     )?;
-    let mut script = Script::of(&[]);
-    if !read_slate(operations, &words, &mut script) {
+    if !read_slate(operations, &words, script) {
         unreachable!();
     }
-    run(seat, service, chance, lock, turn, &script)
+    run(seat, service, chance, lock, turn, script)
 }
 
 /// Loads the words of the slate's operations.
@@ -63,8 +65,11 @@ fn load_slate<C: Chance>(
 ) -> Result<(), Fell>
     requires ours { seat.old.ident ≡ service.now }
     requires few { operations ≤ 8 }
+    requires operations { operations ≡ (draft_script seat.old.part.draft).n }
+    requires long { length words.old ≡ 24 }
     requires at { IsBefore service.now.shape seat.old.part (slate_stage service.now.shape lock turn operations words.old 0) }
     ensures read { MatchResult result (λ _. IsRead service.now.shape operations words.new) (λ _. Unit {0}) }
+    ensures drafted { MatchResult result (λ _. take (3 * operations) words.new ≡ take (3 * operations) (slate_of (draft_script seat.old.part.draft).ops)) (λ _. Unit {0}) }
     ensures loads { MatchResult result (λ _. Doing service.now.shape onward seat.old seat.new (C.tally chance.old) (C.tally chance.new) (3 * operations) seat.old.part.private.begun (slate_stage service.now.shape lock turn operations words.new (3 * operations))) (λ _. Falling service.now.shape onward seat.old seat.new (C.tally chance.old) (C.tally chance.new) (3 * operations)) }
 {
     let shape = service.shape();

@@ -30,13 +30,13 @@ pub fn perform<C: Chance>(
     requires at { IsBefore service.now.shape seat.old.part (Logging (LoadTurn lock)) }
     ensures { MatchResult result (λ receipt. Performs service.now.shape seat.old seat.new (C.tally chance.old) (C.tally chance.new) begun lock receipt) (λ _. Falling service.now.shape onward seat.old seat.new (C.tally chance.old) (C.tally chance.new) (35 + service.now.shape.cells * 4)) }
 {
-    let mut script = Script::of(&[]);
-    read_script(seat, service, &mut script);
     let at = layout::turn_at(service.shape(), lock);
     let turn = seat.load::<Onward, C>(service, chance, at)? as u32;
+    let mut script = Script::of(&[]);
     if turn % 2 == 1 {
+        read_script(seat, service, &mut script);
         return complete(seat, service, chance, begun, lock, turn, &script);
     }
-    log(seat, service, chance, lock, turn)?;
+    log(seat, service, chance, lock, turn, &mut script)?;
     complete(seat, service, chance, begun, lock, turn, &script)
 }

@@ -7,40 +7,40 @@ use Rattle.rme_seats.proofs.Chains.{falls_at, falls_on}
 use Rattle.rme_phases.specs.Sections.{is_waiting}
 use Rattle.rme_phases.proofs.Outcomes.{passed_on, ends_with}
 use Rattle.rme_phases.proofs.Parts.{stage_at, then_as}
-use Rattle.rme_phases.proofs.Performed.{turn_may, turn_small, turn_even, turn_odd, performs_odd, performs_even, made_from, load_from, fallen_from}
+use Rattle.rme_phases.proofs.Performed.{turn_may, turn_small, turn_even, turn_odd, performs_odd, performs_even, completes_from, falling_from}
 use Rattle.rme_phases.proofs.section.perform.Goals as goal
 
-pub read_script-requires-clause-waiting : goal.read_script-requires-clause-waiting
-read_script-requires-clause-waiting g c = ap (λ (x : Stage). is_waiting x) (stage_at c.requires.at)
-
 pub load-requires-clause-may : goal.load-requires-clause-may
-load-requires-clause-may g c =
-    load_from c.read_script.ensures.same (turn_may _ c.args.seat.now (g.C.Chance.tally c.args.chance.now) _ _ c.requires.at _ _ c.requires.lock c.shape.ensures c.turn_at-at.ensures)
+load-requires-clause-may g c = turn_may _ c.args.seat.now (g.C.Chance.tally c.args.chance.now) _ _ c.requires.at _ _ c.requires.lock c.shape.ensures c.turn_at-at.ensures
 
 pub overflow_cast-turn : goal.overflow_cast-turn
 overflow_cast-turn g c =
-    let small = turn_small _ c.args.seat.now (g.C.Chance.tally c.args.chance.now) _ _ c.requires.at _ (g.C.Chance.tally c.load.new.chance) _ (made_from c.read_script.ensures.same c.in_ok-turn.ensures) in
+    let small = turn_small _ c.args.seat.now (g.C.Chance.tally c.args.chance.now) _ _ c.requires.at _ (g.C.Chance.tally c.load.new.chance) _ c.in_ok-turn.ensures in
     omega (arith, small)
 
 pub returns-in_err-turn : goal.returns-in_err-turn
-returns-in_err-turn g c = passed_on _ _ _ c.from_residual.ensures.0 (falls_at _ _ _ _ _ _ _ (fallen_from c.read_script.ensures.same c.in_err-turn.ensures) (omega arith))
+returns-in_err-turn g c = passed_on _ _ _ c.from_residual.ensures.0 (falls_at _ _ _ _ _ _ _ c.in_err-turn.ensures (omega arith))
+
+pub read_script-requires-clause-waiting : goal.read_script-requires-clause-waiting
+read_script-requires-clause-waiting g c =
+    let one = turn_odd _ c.args.seat.now (g.C.Chance.tally c.args.chance.now) _ _ c.requires.at _ (g.C.Chance.tally c.load.new.chance) _ c.in_ok-turn.ensures c.if-turn-eq1.true in
+    ap (λ (x : Stage). is_waiting x) (stage_at one.at)
 
 pub returns-then-turn-eq1 : goal.returns-then-turn-eq1
 returns-then-turn-eq1 g c =
-    let one = turn_odd _ c.args.seat.now (g.C.Chance.tally c.args.chance.now) _ _ c.requires.at _ (g.C.Chance.tally c.load.new.chance) _ (made_from c.read_script.ensures.same c.in_ok-turn.ensures) c.if-turn-eq1.true in
-    ends_with _ _ _ _ _ c.complete.ensures (λ receipt rest. performs_odd _ _ _ _ _ _ _ _ _ _ _ _ _ _ one rest refl refl) (λ fell. falls_on _ _ _ _ _ _ _ one fell (omega arith))
+    let one = turn_odd _ c.args.seat.now (g.C.Chance.tally c.args.chance.now) _ _ c.requires.at _ (g.C.Chance.tally c.load.new.chance) _ c.in_ok-turn.ensures c.if-turn-eq1.true in
+    ends_with _ _ _ _ _ c.complete.ensures (λ receipt rest. performs_odd _ _ _ _ _ _ _ _ _ _ _ _ _ _ one (completes_from c.read_script.ensures.same rest) refl refl)
+    (λ fell. falls_on _ _ _ _ _ _ _ one (falling_from c.read_script.ensures.same fell) (omega arith))
 
 pub returns-in_err-log : goal.returns-in_err-log
 returns-in_err-log g c =
-    let made = made_from c.read_script.ensures.same c.in_ok-turn.ensures in
-    let one = turn_even _ c.args.seat.now (g.C.Chance.tally c.args.chance.now) _ _ c.requires.at _ (g.C.Chance.tally c.load.new.chance) _ made (let odd = c.if-turn-eq1.false in omega (arith, odd)) in
-    passed_on _ _ _ c.from_residual-in_err-log.ensures.0 (falls_on _ _ _ _ _ _ _ one c.in_err-log.ensures (omega arith))
+    let one = turn_even _ c.args.seat.now (g.C.Chance.tally c.args.chance.now) _ _ c.requires.at _ (g.C.Chance.tally c.load.new.chance) _ c.in_ok-turn.ensures (let odd = c.if-turn-eq1.false in omega (arith, odd)) in
+    passed_on _ _ _ c.from_residual-in_err-log.ensures.0 (falls_on _ _ _ _ _ _ _ one c.in_err-log.ensures.logs (omega arith))
 
 pub returns : goal.returns
 returns g c =
-    let made = made_from c.read_script.ensures.same c.in_ok-turn.ensures in
-    let one = turn_even _ c.args.seat.now (g.C.Chance.tally c.args.chance.now) _ _ c.requires.at _ (g.C.Chance.tally c.load.new.chance) _ made (let odd = c.if-turn-eq1.false in omega (arith, odd)) in
-    let logs = c.in_ok-log.ensures in
+    let one = turn_even _ c.args.seat.now (g.C.Chance.tally c.args.chance.now) _ _ c.requires.at _ (g.C.Chance.tally c.load.new.chance) _ c.in_ok-turn.ensures (let odd = c.if-turn-eq1.false in omega (arith, odd)) in
+    let logs = c.in_ok-log.ensures.logs in
     let two = then_as {k = 5 + 3 * logs.script.n + cells_below (mask_of logs.script.ops) c.args.service.now.shape.cells * 2} one logs.doing refl (omega arith) in
     let most = cells_named_most (mask_of logs.script.ops) c.args.service.now.shape.cells in
     let few = logs.good.few in
