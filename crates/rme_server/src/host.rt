@@ -81,7 +81,7 @@ impl<K: Tag, H: Reach> Backend for Host<'_, K, H> {
         let (stand, replied) = obey_in_time(
             rt,
             stand,
-            order,
+            &order,
             &mut buffers.exchange,
             writer,
             client,

@@ -33,7 +33,7 @@ const QUICK_TRIES: u32 = 12;
 pub(crate) fn obey_in_time<K: Tag, R: Wait + Clock, O: Sink, C: Client>(
     rt: &R,
     stand: Stand,
-    order: Order,
+    order: &Order,
     exchange: &mut Exchange,
     writer: &mut O,
     client: &C,
@@ -42,15 +42,15 @@ pub(crate) fn obey_in_time<K: Tag, R: Wait + Clock, O: Sink, C: Client>(
     requires ours { host.now.service.now ≡ K.ident }
     requires stand { MayHold K.ident host.now.slots.now stand.value }
     ensures ours { MayHold K.ident host.now.slots.now result.0.value }
-    ensures obeys { IfOk result.1 (λ reply. ObeysFor (C.gone client.now) K.ident host.now.slots.now stand order result.0 reply) }
+    ensures obeys { IfOk result.1 (λ reply. ObeysFor (C.gone client.now) K.ident host.now.slots.now stand order.now result.0 reply) }
     ensures gathers { OnOk result.1 (Gathers (O.contents writer.old) exchange.old.pending [] (O.contents writer.new) exchange.new.pending) }
     ensures err { IfErr result.1 (λ fault. Breaks fault (O.contents writer.old) exchange.old.pending (O.contents writer.new) exchange.new.pending
         (O.took writer.old) (O.took writer.new)) }
     ensures writes { MakesWrites (O.took writer.old) (O.took writer.new) }
 {
-    let tries = first_tries(&order, exchange.keeps_back());
-    let (stand, reply) = obey_here(rt, stand, with_tries(order, tries), client, host);
-    if !goes_on(&order, tries, reply) {
+    let tries = first_tries(order, exchange.keeps_back());
+    let (stand, reply) = obey_here(rt, stand, &with_tries(*order, tries), client, host);
+    if !goes_on(order, tries, reply) {
         return (stand, Ok(reply));
     }
     if let Err(fault) = exchange.write(writer) {
@@ -97,18 +97,18 @@ fn goes_on(order: &Order, tries: u32, reply: SessionReply) -> bool
 fn obey_here<K: Tag, R: Wait, C: Client>(
     rt: &R,
     stand: Stand,
-    order: Order,
+    order: &Order,
     client: &C,
     host: &Host<'_, K, C::Handle>,
 ) -> (Stand, SessionReply)
     requires ours { host.now.service.now ≡ K.ident }
     requires stand { MayHold K.ident host.now.slots.now stand.value }
     ensures ours { MayHold K.ident host.now.slots.now result.0.value }
-    ensures obeys { Obeys K.ident host.now.slots.now stand order result.0 result.1 }
+    ensures obeys { Obeys K.ident host.now.slots.now stand order.now result.0 result.1 }
 {
     let had = stand.worker().is_some();
-    let seat = host.hall.seat(rt, asked_of(&stand, &order));
-    let turn = host.hall.turn(rt, climbed(&stand, &order));
+    let seat = host.hall.seat(rt, asked_of(&stand, order));
+    let turn = host.hall.turn(rt, climbed(&stand, order));
     let (stand, reply) = obey(rt, stand, order, host.service, host.slots);
     drop(turn);
     note(seat, client, had, stand.worker().is_some());
@@ -138,7 +138,7 @@ fn climbed(stand: &Stand, order: &Order) -> Option<u32> {
 fn go_on<K: Tag, R: Wait + Clock, C: Client>(
     rt: &R,
     stand: Stand,
-    order: Order,
+    order: &Order,
     tries: u32,
     reply: SessionReply,
     client: &C,
@@ -147,12 +147,12 @@ fn go_on<K: Tag, R: Wait + Clock, C: Client>(
     requires ours { host.now.service.now ≡ K.ident }
     requires stand { MayHold K.ident host.now.slots.now stand.value }
     requires some { 1 ≤ tries }
-    requires may { MayGoOn order reply }
+    requires may { MayGoOn order.now reply }
     ensures ours { MayHold K.ident host.now.slots.now result.0.value }
-    ensures obeys { (old : Session) → Obeys K.ident host.now.slots.now old (part.with_tries tries order) stand reply → ObeysFor (C.gone client.now) K.ident host.now.slots.now old order result.0 result.1 }
+    ensures obeys { (old : Session) → Obeys K.ident host.now.slots.now old (part.with_tries tries order.now) stand reply → ObeysFor (C.gone client.now) K.ident host.now.slots.now old order.now result.0 result.1 }
 {
     match order {
-        Order::Attach(asked) => take_over(rt, stand, asked, reply, client, host),
+        Order::Attach(asked) => take_over(rt, stand, *asked, reply, client, host),
         order => try_on(rt, stand, order, tries, reply, client, host),
     }
 }
@@ -178,7 +178,7 @@ fn take_over<K: Tag, R: Wait + Clock, C: Client>(
     for _ in rt.forever() {
         host.hall.send_away(rt, asked.worker);
         returned.wait(rt, Duration::from_micros(LONGEST));
-        let (next, reply) = obey_here(rt, stand, Order::Attach(asked), client, host);
+        let (next, reply) = obey_here(rt, stand, &Order::Attach(asked), client, host);
         if reply != SessionReply::Refused(Refusal::Taken) || client.is_gone() {
             return (next, reply);
         }
@@ -191,7 +191,7 @@ fn take_over<K: Tag, R: Wait + Clock, C: Client>(
 fn try_on<K: Tag, R: Wait + Clock, C: Client>(
     rt: &R,
     stand: Stand,
-    order: Order,
+    order: &Order,
     tries: u32,
     reply: SessionReply,
     client: &C,
@@ -202,21 +202,21 @@ fn try_on<K: Tag, R: Wait + Clock, C: Client>(
     requires some { 1 ≤ tries }
     requires waits { part.still_waits reply ≡ true }
     ensures ours { MayHold K.ident host.now.slots.now result.0.value }
-    ensures obeys { (old : Session) → Obeys K.ident host.now.slots.now old (part.with_tries tries order) stand reply → ObeysFor (C.gone client.now) K.ident host.now.slots.now old order result.0 result.1 }
+    ensures obeys { (old : Session) → Obeys K.ident host.now.slots.now old (part.with_tries tries order.now) stand reply → ObeysFor (C.gone client.now) K.ident host.now.slots.now old order.now result.0 result.1 }
 {
-    let mut pauses = Pauses::new(rt, climbed(&stand, &order), host.hall);
+    let mut pauses = Pauses::new(rt, climbed(&stand, order), host.hall);
     let mut stand = stand;
     let mut reply = reply;
-    for made in tries..most_tries(&order) {
-        pauses.pause(rt, &order);
-        let (next, last) = obey_here(rt, stand, once_more(order), client, host);
+    for made in tries..most_tries(order) {
+        pauses.pause(rt, order);
+        let (next, last) = obey_here(rt, stand, &once_more(*order), client, host);
         stand = next;
         reply = answer_as(reply, last);
         if !still_waits(reply) {
             return (stand, reply);
         }
         pauses.pass_on();
-        if pauses.are_over(rt, &order) || has_left(client, &pauses) {
+        if pauses.are_over(rt, order) || has_left(client, &pauses) {
             return (stand, reply);
         }
     }

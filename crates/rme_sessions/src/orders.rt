@@ -39,14 +39,14 @@ type Acted = (Stand, SessionReply, Option<Down>);
 pub fn obey<K: Tag, R: Wait>(
     rt: &R,
     stand: Stand,
-    order: Order,
+    order: &Order,
     service: &Service,
     slots: &Slots<K>,
 ) -> (Stand, SessionReply)
     requires service { service.now ≡ K.ident }
     requires ours { MayHold K.ident slots.now stand.value }
     ensures ours { MayHold K.ident slots.now result.0.value }
-    ensures obeys { Obeys K.ident slots.now stand order result.0 result.1 }
+    ensures obeys { Obeys K.ident slots.now stand order.now result.0 result.1 }
 {
     let (stand, reply, gone) = act(rt, stand, order, service, slots);
     give_back(rt, gone, slots);
@@ -57,7 +57,7 @@ pub fn obey<K: Tag, R: Wait>(
 fn act<K: Tag, R: Wait>(
     rt: &R,
     stand: Stand,
-    order: Order,
+    order: &Order,
     service: &Service,
     slots: &Slots<K>,
 ) -> Acted
@@ -65,17 +65,17 @@ fn act<K: Tag, R: Wait>(
     requires ours { MayHold K.ident slots.now stand.value }
     ensures ours { MayHold K.ident slots.now result.0.value }
     ensures slot { IfSome result.2 (HasSlot K.ident slots.now) }
-    ensures acts { Acts K.ident slots.now stand order result.0 result.1 result.2 }
+    ensures acts { Acts K.ident slots.now stand order.now result.0 result.1 result.2 }
 {
     match order {
-        Order::Attach(asked) => attach(rt, stand, asked, service, slots),
-        Order::Submit(submission) => submit(stand, &submission, service, slots),
-        Order::Resume(patience) => resume(stand, patience, service, slots),
-        Order::Enter(submission) => enter(stand, &submission, service, slots),
+        Order::Attach(asked) => attach(rt, stand, *asked, service, slots),
+        Order::Submit(submission) => submit(stand, submission, service, slots),
+        Order::Resume(patience) => resume(stand, *patience, service, slots),
+        Order::Enter(submission) => enter(stand, submission, service, slots),
         Order::Commit => commit(stand, service, slots),
         Order::Withdraw => withdraw(stand, service, slots),
         Order::Last => last(stand, service, slots),
-        Order::CrashAfter(steps) => crash_after(stand, steps, slots),
+        Order::CrashAfter(steps) => crash_after(stand, *steps, slots),
         Order::Detach => detach(stand, slots),
     }
 }

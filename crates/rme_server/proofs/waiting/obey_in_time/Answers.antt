@@ -10,4 +10,4 @@ returns-then-not-goes_on-clause-obeys g c =
     let count = c.args.host.now.slots.now in
     let made = c.obey_here-stand.result in
     let P : Order → Type 0 = λ its. Obeys ident count c.args.stand its made.0 made.1 in
-    inl (all_tries ident count c.first_tries-tries.result c.args.stand made.0 c.args.order made.1 (c.if-not-goes_on.ensures.all refl) (subst P c.with_tries.ensures c.obey_here-stand.ensures.obeys))
+    inl (all_tries ident count c.first_tries-tries.result c.args.stand made.0 c.args.order.now made.1 (c.if-not-goes_on.ensures.all refl) (subst P c.with_tries.ensures c.obey_here-stand.ensures.obeys))
