@@ -151,5 +151,7 @@ fn push_receipt_outcome(
 fn push_receipt_front(out: &mut String, word: &str) -> Result<(), AllocError>
     ensures { OnOk result (string_bytes out.new ≡ string_bytes out.old ++ spec.receipt_front word.now) }
 {
-    write!(out, "{{\"ok\":\"{word}\",\"receipt\":")
+    out.push_str("{\"ok\":\"")?;
+    out.push_str(word)?;
+    out.push_str("\",\"receipt\":")
 }
