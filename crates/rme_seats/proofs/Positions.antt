@@ -13,7 +13,7 @@ use Rattle.rme_words.specs.declared.address.Address.{Address}
 use Rattle.rme_words.specs.Words.{IsOfShape, word, word_count, lock_block, lock_start}
 use Rattle.rme_words.proofs.Places.{Spot, of_worker, of_lock, spot, number, IsInBlock, number-spot, spot-in_block, word_below}
 use Rattle.rme_words.specs.declared.address.Address.TheVariants.{Node}
-use Rattle.rme_seats.specs.Layout.{half_of, block_of, position_of, position, table_size, front_words, bank_words}
+use Rattle.rme_seats.specs.Layout.{GapsLaw, half_of, block_of, position_of, position, table_size, front_words, bank_words}
 
 -- The words of a shape are few.
 pub few_words : (s : Shape) → word_count s ≤ 13000
@@ -136,6 +136,18 @@ apart s i j differ e = elim (cases_Bool (nat_lt i j)) [
         | inr other ↦ omega (arith, low, other)
       ]) in
       absurd (omega (arith, second, e))
+]
+
+pub gaps : GapsLaw
+gaps s i j less = elim (cases_Bool (nat_lt i j)) [
+  | inl first ↦
+      let low = ltb-true _ _ first in
+      let one = is_position s i in
+      let two = is_position s j in
+      omega (arith, low, one, two, less)
+  | inr not ↦
+      let mono = block_mono s j i (ltb-false _ _ not) in
+      absurd (omega (arith, mono, less))
 ]
 
 -- There is a block for each worker, and two for each lock.

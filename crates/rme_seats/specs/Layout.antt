@@ -1,7 +1,7 @@
 -- Where the words of a shape lie in a service's table: in the order of their numbers, block after block. A worker's words are a block,
 -- and of a lock the nodes are one, and its other words the next. Before each block, and behind the last, lie seven words that nobody
 -- uses. So a line of a processor's cache, which has eight words, has none of two blocks.
-use Rattle.std.specs.Prelude.{ℕ, ◌+◌, ◌-◌, ◌*◌, ◌/◌, ◌%◌, nat_lt, if◌then◌else◌, List, map, slice_index}
+use Rattle.std.specs.Prelude.{ℕ, ◌+◌, ◌-◌, ◌*◌, ◌/◌, ◌%◌, ◌<◌, ◌≤◌, nat_lt, if◌then◌else◌, List, map, slice_index}
 use Rattle.std.specs.List.{range_with_len}
 use Rattle.rme_words.specs.declared.shape.Shape.{Shape}
 use Rattle.rme_words.specs.declared.address.Address.{Address}
@@ -27,6 +27,10 @@ position shape address = position_of shape (word shape address)
 -- How many words the table has.
 abbrev pub table_size : Shape → ℕ
 table_size shape = word_count shape + 7 * (1 + (shape.workers + 2 * shape.locks))
+
+-- The law of the gaps: between two words of two blocks lie seven others.
+abbrev pub GapsLaw : Type 0
+GapsLaw = (shape : Shape) (i j : ℕ) → block_of shape i < block_of shape j → position_of shape i + 8 ≤ position_of shape j
 
 -- So many words of a table, and all, in the order of their numbers.
 abbrev pub front_words : Shape → List ℕ → ℕ → List ℕ

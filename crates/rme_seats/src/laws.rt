@@ -1,9 +1,10 @@
-//! The law of a step of the running service, and that of any steps in their order.
+//! The law of a step of the running service, that of any steps in their order, and that of the gaps between words.
 //!
-//! Each function does nothing: its contract is the law of `specs/Steps.antt`, `specs/Running.antt` or `specs/Inside.antt`,
-//! proved by the lemma that the docstring names.
+//! Each function does nothing: its contract is the law of `specs/Steps.antt`, `specs/Running.antt`, `specs/Inside.antt` or
+//! `specs/Layout.antt`, proved by the lemma that the docstring names.
 
 ghost use Rattle.rme_seats.specs.Inside.{InsideLaw};
+ghost use Rattle.rme_seats.specs.Layout.{GapsLaw};
 ghost use Rattle.rme_seats.specs.Running.{RunningLaw};
 ghost use Rattle.rme_seats.specs.Steps.{KeepsLaw};
 
@@ -25,4 +26,10 @@ pub fn running()
 /// worker takes, re-enters, finishes in or leaves that lock, in whatever order all workers' operations come (lemma `inside`).
 pub fn inside()
     ensures { InsideLaw }
+{}
+
+/// Between two words of two blocks lie seven others, so that no line of the processor's cache, which has eight words, has words
+/// of both, wherever the table begins (lemma `gaps`).
+pub fn gaps()
+    ensures { GapsLaw }
 {}
