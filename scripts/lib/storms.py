@@ -48,6 +48,7 @@ class Storm:
         self.receipts = [[] for _ in range(self.WORKERS)]  # of each client, with the lock and the amount of its job
         self.inside = {}
         self.kept = b""  # the whole lines of the file when a server was killed last
+        self.unmade = []  # what servers left that were killed while they made the file
         self.wrong, self.kills, self.torn, self.epoch, self.over = [], 0, 0, 0, threading.Event()
 
     def words(self):
@@ -132,6 +133,9 @@ class Storm:
         """What was in the file stays there until it is renewed. Then bytes of a line that was not finished are appended, or
         none."""
         answered = [len(receipts) for receipts in self.receipts]
+        if not self.kept:
+            folder, name = os.path.split(self.state)
+            self.unmade = [it for it in os.listdir(folder) if it.startswith(f"{name}.") and it.endswith(".new")]
         if not os.path.exists(self.state):  # it was killed before it had made the file
             return
         held = read(self.state)
