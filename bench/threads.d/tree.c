@@ -3,10 +3,12 @@
 
    Each worker is a thread that runs its jobs, each one the script Add(0, 1): it posts the job on its slate, climbs
    the tree of the lock, runs the section and leaves. The words lie packed, one after another, as the service numbers
-   them, with word 0 unused. So neighbours share cache lines here where they do there, which counts most where each
-   thread has a lock for itself. For each finished job an entry, the receipt and the script, goes to the worker's own
-   list, which was reserved and not touched before: 160 bytes, or, compiled with SMALL, 48 as in the service. With one
-   worker a job takes 28 operations on words.
+   them, so that neighbours share cache lines, which counts most where each thread has a lock for itself. For each
+   finished job an entry, the receipt and the script, goes to the worker's own list, which was reserved and not touched
+   before: 160 bytes. With one worker a job takes 28 operations on words.
+
+   Compiled with ALIKE, it has the layout of the service: an entry of 48 bytes, and seven unused words before each block
+   of words, so that no cache line has words of two. A lock's nodes are a block, and its other words the next.
 
    It is a fair comparison since a job does on shared words what the service does, a general script included: length,
    operations and mask are read from the words, and the parity of the turn is asked. What it does not have is what the
@@ -22,6 +24,13 @@
 #include <stdatomic.h>
 
 enum { CELLS = 1, MOST_OPERATIONS = 8, WORKER_WORDS = 31 };
+
+/* How many words lie unused before the first block, and before each other one. */
+#ifdef ALIKE
+enum { FRONT = 7, GAP = 7 };
+#else
+enum { FRONT = 1, GAP = 0 };
+#endif
 
 /* Where a word stands in the block of its worker; the words of the operations follow SLATE, three for each. */
 enum { BEGUN, DONE, REPLY, PLACE, AT, SLATE_LOCK, SLATE_LEN, SLATE };
@@ -47,7 +56,7 @@ struct receipt {
     uint64_t reply;
 };
 
-#ifdef SMALL
+#ifdef ALIKE
 /* The operations of its script lie in a list of their own, `n` of them from `start` on. */
 struct entry {
     struct receipt receipt;
@@ -75,7 +84,7 @@ struct worker {
     word *own;
     struct entry *entries;
     uint32_t length;
-#ifdef SMALL
+#ifdef ALIKE
     struct operation *operations;
     uint32_t used;
 #endif
@@ -85,17 +94,17 @@ static struct run run;
 static unsigned leaves, height;
 static word *words;
 static struct entry *lists[MOST_THREADS];
-#ifdef SMALL
+#ifdef ALIKE
 static struct operation *operations[MOST_THREADS];
 #endif
 
 /* Where the block of a worker and of a lock begins. That of the lock after the last is the number of all words. */
 static size_t worker_start(unsigned worker) {
-    return 1 + WORKER_WORDS * (size_t)worker;
+    return FRONT + (WORKER_WORDS + GAP) * (size_t)worker;
 }
 
 static size_t lock_start(unsigned lock) {
-    return worker_start(run.threads) + (leaves + 2 + 2 * CELLS) * (size_t)lock;
+    return worker_start(run.threads) + (leaves + 2 + 2 * CELLS + 2 * GAP) * (size_t)lock;
 }
 
 static word *own_words(unsigned worker) {
@@ -106,29 +115,29 @@ static word *lock_words(unsigned lock) {
     return words + lock_start(lock);
 }
 
-/* The words of a lock, of which these are the first words of its block. */
+/* The words of a lock, of which these are the first words: its nodes, and behind them the others. */
 static word *node_at(word *lock, unsigned node) {
     return lock + (node - 1);
 }
 
 static word *turn_of(word *lock) {
-    return lock + (leaves - 1);
+    return lock + (leaves - 1 + GAP);
 }
 
 static word *cell_of(word *lock, unsigned cell) {
-    return lock + (leaves + cell);
+    return turn_of(lock) + (1 + cell);
 }
 
 static word *shadow_of(word *lock, unsigned cell) {
-    return lock + (leaves + CELLS + cell);
+    return turn_of(lock) + (1 + CELLS + cell);
 }
 
 static word *shadow_reply_of(word *lock) {
-    return lock + (leaves + 2 * CELLS);
+    return turn_of(lock) + (1 + 2 * CELLS);
 }
 
 static word *mask_of(word *lock) {
-    return lock + (leaves + 1 + 2 * CELLS);
+    return turn_of(lock) + (2 + 2 * CELLS);
 }
 
 /* The node of a worker's path at a level, and the side by which the path comes to it. */
@@ -281,7 +290,7 @@ static void leave(struct worker *self, word *lock) {
 
 /* Puts the entry of a finished job to the worker's list. */
 static void put(struct worker *self, struct receipt receipt, const struct script *script) {
-#ifdef SMALL
+#ifdef ALIKE
     self->entries[self->length++] = (struct entry){receipt, self->used, script->n};
     for (uint32_t i = 0; i < script->n; i++) {
         self->operations[self->used++] = script->operations[i];
@@ -293,7 +302,7 @@ static void put(struct worker *self, struct receipt receipt, const struct script
 
 static void work(unsigned number) {
     struct worker self = {.number = number, .own = own_words(number), .entries = lists[number]};
-#ifdef SMALL
+#ifdef ALIKE
     self.operations = operations[number];
 #endif
     unsigned lock = lock_of(&run, number);
@@ -345,7 +354,7 @@ int main(int count, char **arguments) {
         if (lists[worker] == NULL) {
             fail("no memory");
         }
-#ifdef SMALL
+#ifdef ALIKE
         operations[worker] = malloc((size_t)run.jobs * MOST_OPERATIONS * sizeof(struct operation));
         if (operations[worker] == NULL) {
             fail("no memory");
