@@ -2,6 +2,7 @@
 
 use crate::bell::{Bell, Listening};
 use crate::client::{Client, Reach};
+use crossbeam_utils::CachePadded;
 use rme_session_lines::{Standing, ToldOutcome, ToldReply};
 use rme_words::{NoMemory, Shape};
 use std::alloc::Global;
@@ -12,12 +13,15 @@ use std::sync::{Mutex, MutexGuard, Wait};
 pub type Seat<'a, H> = MutexGuard<'a, Option<H>>;
 
 /// Who has which worker, whose turn it is at a lock, and the bells of those who wait.
+///
+/// Each order locks its worker's seat and its lock's turn. Each of these has a line of the processor's cache for itself, so that
+/// threads at different ones don't take it from each other.
 #[derive(Drop)]
 pub struct Hall<H: Reach> {
     /// One for each worker.
-    seats: Vec<Mutex<Option<H>>>,
+    seats: Vec<CachePadded<Mutex<Option<H>>>>,
     /// One for each lock.
-    turns: Vec<Mutex<()>>,
+    turns: Vec<CachePadded<Mutex<()>>>,
     /// One for each lock. It rings when the lock may have been left.
     left: Vec<Bell>,
     /// It rings when a worker was given back.
@@ -120,24 +124,27 @@ pub fn note<C: Client>(seat: Option<Seat<'_, C::Handle>>, client: &C, had: bool,
     }
 }
 
-fn seats_for<H: Reach>(alloc: Global, count: u32) -> Result<Vec<Mutex<Option<H>>>, NoMemory> {
+fn seats_for<H: Reach>(
+    alloc: Global,
+    count: u32,
+) -> Result<Vec<CachePadded<Mutex<Option<H>>>>, NoMemory> {
     let Ok(mut seats) = Vec::with_capacity(alloc, count as usize) else {
         return Err(NoMemory);
     };
     for _ in 0..count {
-        if seats.push(Mutex::new(None)).is_err() {
+        if seats.push(CachePadded::new(Mutex::new(None))).is_err() {
             return Err(NoMemory);
         }
     }
     Ok(seats)
 }
 
-fn turns_for(alloc: Global, count: u32) -> Result<Vec<Mutex<()>>, NoMemory> {
+fn turns_for(alloc: Global, count: u32) -> Result<Vec<CachePadded<Mutex<()>>>, NoMemory> {
     let Ok(mut turns) = Vec::with_capacity(alloc, count as usize) else {
         return Err(NoMemory);
     };
     for _ in 0..count {
-        if turns.push(Mutex::new(())).is_err() {
+        if turns.push(CachePadded::new(Mutex::new(()))).is_err() {
             return Err(NoMemory);
         }
     }
