@@ -118,13 +118,12 @@ fn submit<K: Tag>(
     ensures acts { Acts K.ident slots.now stand (order.Submit submission.now) result.0 result.1 result.2 }
 {
     let Stand { value, planned } = stand;
-    match to_submit(value, submission, service) {
-        Ok(work) => {
-            let (stand, outcome, gone) = make(work, planned, service, slots);
-            (stand, SessionReply::Submitted(outcome), gone)
-        }
-        Err(refused) => refuse(refused, planned),
-    }
+    let work = match to_submit(value, submission, service) {
+        Ok(work) => work,
+        Err(refused) => return refuse(refused, planned),
+    };
+    let (stand, outcome, gone) = make(work, planned, service, slots);
+    (stand, SessionReply::Submitted(outcome), gone)
 }
 
 /// Goes on with the job that the worker has.
@@ -136,13 +135,12 @@ fn resume<K: Tag>(stand: Stand, patience: Patience, service: &Service, slots: &S
     ensures acts { Acts K.ident slots.now stand (order.Resume patience) result.0 result.1 result.2 }
 {
     let Stand { value, planned } = stand;
-    match to_resume(value, patience) {
-        Ok(work) => {
-            let (stand, outcome, gone) = make(work, planned, service, slots);
-            (stand, SessionReply::Resumed(outcome), gone)
-        }
-        Err(refused) => refuse(refused, planned),
-    }
+    let work = match to_resume(value, patience) {
+        Ok(work) => work,
+        Err(refused) => return refuse(refused, planned),
+    };
+    let (stand, outcome, gone) = make(work, planned, service, slots);
+    (stand, SessionReply::Resumed(outcome), gone)
 }
 
 /// Hands the worker a job, or goes on with the one that it has, until the worker is inside.
@@ -159,13 +157,12 @@ fn enter<K: Tag>(
     ensures acts { Acts K.ident slots.now stand (order.Enter submission.now) result.0 result.1 result.2 }
 {
     let Stand { value, planned } = stand;
-    match to_submit(value, submission, service) {
-        Ok(work) => {
-            let (stand, outcome, gone) = make(work.until_inside(), planned, service, slots);
-            (stand, SessionReply::Entered(outcome), gone)
-        }
-        Err(refused) => refuse(refused, planned),
-    }
+    let work = match to_submit(value, submission, service) {
+        Ok(work) => work.until_inside(),
+        Err(refused) => return refuse(refused, planned),
+    };
+    let (stand, outcome, gone) = make(work, planned, service, slots);
+    (stand, SessionReply::Entered(outcome), gone)
 }
 
 /// Makes the section of the job that the worker is inside with, and the way out.
@@ -177,18 +174,18 @@ fn commit<K: Tag>(stand: Stand, service: &Service, slots: &Slots<K>) -> Acted
     ensures acts { Acts K.ident slots.now stand order.Commit result.0 result.1 result.2 }
 {
     let Stand { value, planned } = stand;
-    match to_commit(value) {
-        Ok(held) => {
-            let (stand, outcome, gone) = make(Work::GoOn(held), planned, service, slots);
-            (stand, SessionReply::Committed(outcome), gone)
-        }
-        Err(refused) => refuse(refused, planned),
-    }
+    let held = match to_commit(value) {
+        Ok(held) => held,
+        Err(refused) => return refuse(refused, planned),
+    };
+    let (stand, outcome, gone) = make(Work::GoOn(held), planned, service, slots);
+    (stand, SessionReply::Committed(outcome), gone)
 }
 
 /// Lets the worker do its work. A worker that fell is let go.
+#[inline(always)]
 fn make<K: Tag>(
-    work: Work,
+    work: Work<'_>,
     planned: Planned,
     service: &Service,
     slots: &Slots<K>,
@@ -197,8 +194,8 @@ fn make<K: Tag>(
     requires ours { MayHold K.ident slots.now (holding_of work) }
     ensures ours { MayHold K.ident slots.now result.0.value }
     ensures slot { IfSome result.2 (HasSlot K.ident slots.now) }
-    ensures did { Makes service.now.shape work result.0.value result.1 × IsThrough service.now.shape (lead_by work) (record { value = holding_of work; planned = planned }) result.0 result.1 result.2 }
-    ensures tried { (most : ℕ) → HasTries most work → IsTried most (steps_of (holding_of work)) result.0.value result.1 }
+    ensures did { Makes service.now.shape work.entry result.0.value result.1 × IsThrough service.now.shape (lead_by work.entry) (record { value = holding_of work.entry; planned = planned }) result.0 result.1 result.2 }
+    ensures tried { (most : ℕ) → HasTries most work.entry → IsTried most (steps_of (holding_of work.entry)) result.0.value result.1 }
 {
     let mut counting = Counting {
         countdown: Countdown::Runs(planned),
@@ -208,6 +205,7 @@ fn make<K: Tag>(
 }
 
 /// Where the session stands after work: a worker that fell is let go, and its plan is used up.
+#[inline(always)]
 fn settle<K: Tag>(
     worked: Result<Worked, Down>,
     planned: Planned,
@@ -218,10 +216,11 @@ fn settle<K: Tag>(
     ensures slot { IfSome result.2 (HasSlot K.ident slots.now) }
     ensures settles { Settles worked planned result.0 result.1 result.2 }
 {
-    match worked {
-        Ok((value, outcome)) => (Stand { value, planned }, outcome, None),
-        Err(down) => (Stand::empty(), Outcome::Fell, Some(down)),
-    }
+    let (value, outcome) = match worked {
+        Ok(worked) => worked,
+        Err(down) => return (Stand::empty(), Outcome::Fell, Some(down)),
+    };
+    (Stand { value, planned }, outcome, None)
 }
 
 /// Takes the worker out of its slot. Its recovery cannot be cut: no crash is planned yet.

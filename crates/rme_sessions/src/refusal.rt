@@ -35,11 +35,12 @@ pub(crate) fn to_attach(value: Holding, worker: u32, shape: Shape) -> Result<(),
 }
 
 /// The work that a submission asks.
-pub(crate) fn to_submit(
+#[inline(always)]
+pub(crate) fn to_submit<'a>(
     value: Holding,
-    submission: &Submission,
+    submission: &'a Submission,
     service: &Service,
-) -> Result<Work, Refused>
+) -> Result<Work<'a>, Refused>
     requires ours { (count : ℕ) × MayHold service.now count value }
     ensures work { IfOk result (λ work. (holding_of work ≡ value) × IsSubmitted service.now.shape submission.now work) }
     ensures tries { IfOk result (HasTries (least_tries submission.now.patience)) }
@@ -55,14 +56,19 @@ pub(crate) fn to_submit(
 
 /// The work that a submission asks of a worker that is ready: its number is the next and the job may be posted, or
 /// it is the last.
-fn to_post(ready: Ready, submission: &Submission, service: &Service) -> Result<Work, Refused>
+#[inline(always)]
+fn to_post<'a>(
+    ready: Ready,
+    submission: &'a Submission,
+    service: &Service,
+) -> Result<Work<'a>, Refused>
     requires ours { ready.ident ≡ service.now }
     ensures work { IfOk result (λ work. (holding_of work ≡ holds.Ready ready) × IsSubmitted service.now.shape submission.now work) }
     ensures tries { IfOk result (HasTries (least_tries submission.now.patience)) }
     ensures refused { IfErr result (λ refused. (refused.0 ≡ holds.Ready ready) × (spec.posting_refusal service.now.shape ready.part.private.begun submission.now ≡ Some refused.1)) }
 {
     match asked_of_ready(ready.number(), submission, service.shape()) {
-        Ok(Asked::Post) => match ready.admit(service, submission.job) {
+        Ok(Asked::Post) => match ready.admit(service, &submission.job) {
             Ok(admitted) => Ok(Work::Post(admitted, submission.patience.least())),
             Err((ready, why)) => Err((Holding::Ready(ready), why)),
         },
@@ -72,7 +78,11 @@ fn to_post(ready: Ready, submission: &Submission, service: &Service) -> Result<W
 }
 
 /// The work that a submission asks of a worker that waits.
-fn to_go_in(mut climb: Climb, submission: &Submission, service: &Service) -> Result<Work, Refused>
+fn to_go_in<'a>(
+    mut climb: Climb,
+    submission: &'a Submission,
+    service: &Service,
+) -> Result<Work<'a>, Refused>
     requires ours { climb.ident ≡ service.now }
     ensures work { IfOk result (λ work. (holding_of work ≡ holds.Climb climb) × IsSubmitted service.now.shape submission.now work) }
     ensures tries { IfOk result (HasTries (least_tries submission.now.patience)) }
@@ -86,7 +96,11 @@ fn to_go_in(mut climb: Climb, submission: &Submission, service: &Service) -> Res
 }
 
 /// The work that a submission asks of a worker that is inside.
-fn to_go_on(mut held: Held, submission: &Submission, service: &Service) -> Result<Work, Refused>
+fn to_go_on<'a>(
+    mut held: Held,
+    submission: &'a Submission,
+    service: &Service,
+) -> Result<Work<'a>, Refused>
     requires ours { (count : ℕ) × MayHold service.now count (holds.Held held) }
     ensures work { IfOk result (λ work. (holding_of work ≡ holds.Held held) × IsSubmitted service.now.shape submission.now work) }
     ensures tries { IfOk result (HasTries (least_tries submission.now.patience)) }
@@ -100,7 +114,7 @@ fn to_go_on(mut held: Held, submission: &Submission, service: &Service) -> Resul
 }
 
 /// The work that is left of the job that is pending.
-pub(crate) fn to_resume(value: Holding, patience: Patience) -> Result<Work, Refused>
+pub(crate) fn to_resume(value: Holding, patience: Patience) -> Result<Work<'static>, Refused>
     ensures work { IfOk result (λ work. (holding_of work ≡ value) × IsResumed work) }
     ensures tries { IfOk result (HasTries (least_tries patience)) }
     ensures refused { IfErr result (λ refused. (refused.0 ≡ value) × (spec.resume_refusal (session_of None value) ≡ Some refused.1)) }

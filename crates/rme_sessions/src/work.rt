@@ -1,4 +1,6 @@
 //! What a session's worker does of its job, up to the end of the order.
+//!
+//! Who hands a worker on is inlined, here and in `orders.rt` and `refusal.rt`: else it would be copied by each.
 
 ghost use Rattle.std.specs.Prelude.{◌≡◌, ℕ, Some, false};
 ghost use Rattle.rme_table.specs.Calls.{is_over};
@@ -19,30 +21,30 @@ use rme_table::{Admitted, Climb, Down, Driven, Free, Held, Ready, Service, Shut,
 pub(crate) type Worked = (Holding, Outcome);
 
 /// What a session's worker is to do of its job.
-pub(crate) enum Work {
+pub(crate) enum Work<'a> {
     /// To answer the last number again.
     Repeat(Ready),
     /// To post the job, whose number is the next, and go on with it by so many tries.
-    Post(Admitted, u32),
+    Post(Admitted<'a>, u32),
     /// To go on with the job that waits, by so many tries.
     GoIn(Climb, u32),
     /// To go on with the job that it is inside with.
     GoOn(Held),
     /// To post the job, and go on until it is inside, by so many tries.
-    PostInside(Admitted, u32),
+    PostInside(Admitted<'a>, u32),
     /// To go on with the job that waits until it is inside, by so many tries.
     GoInside(Climb, u32),
     /// To stay inside.
     Stay(Held),
 }
 
-impl Work {
+impl<'a> Work<'a> {
     ghost use Rattle.std.specs.Prelude.{◌≡◌};
     ghost use Rattle.rme_sessions.specs.Tasks.{stopped_inside};
 
     /// The same work, up to the moment in which the worker is inside.
-    pub(crate) fn until_inside(self) -> Work
-        ensures { result ≡ stopped_inside self }
+    pub(crate) fn until_inside(self) -> Work<'a>
+        ensures { result ≡ stopped_inside self.entry }
     {
         match self {
             Work::Post(admitted, tries) => Work::PostInside(admitted, tries),
@@ -54,16 +56,17 @@ impl Work {
 }
 
 /// Does the work. `Err` is a fall.
+#[inline(always)]
 pub(crate) fn carry_out(
-    work: Work,
+    work: Work<'_>,
     planned: &mut Counting,
     service: &Service,
 ) -> Result<Worked, Down>
     requires ours { (count : ℕ) × MayHold service.now count (holding_of work) }
-    ensures ours { (count : ℕ) → MayHold service.now count (holding_of work) → MayWork service.now count result }
-    ensures did { Ends result (Makes service.now.shape work) }
-    ensures plan { Spends service.now.shape (lead_by work) planned.old.countdown (held_by (holding_of work)) planned.new.countdown result }
-    ensures tried { (most : ℕ) → HasTries most work → AreTried most (steps_of (holding_of work)) result }
+    ensures ours { (count : ℕ) → MayHold service.now count (holding_of work.entry) → MayWork service.now count result }
+    ensures did { Ends result (Makes service.now.shape work.entry) }
+    ensures plan { Spends service.now.shape (lead_by work.entry) planned.old.countdown (held_by (holding_of work.entry)) planned.new.countdown result }
+    ensures tried { (most : ℕ) → HasTries most work.entry → AreTried most (steps_of (holding_of work.entry)) result }
 {
     match work {
         Work::Repeat(ready) => Ok(repeat(ready, service)),
@@ -89,17 +92,18 @@ fn repeat(mut ready: Ready, service: &Service) -> Worked
 }
 
 /// Posts the job and goes on with it.
+#[inline(always)]
 fn post(
-    admitted: Admitted,
+    admitted: Admitted<'_>,
     tries: u32,
     planned: &mut Counting,
     service: &Service,
 ) -> Result<Worked, Down>
     requires ours { admitted.ready.ident ≡ service.now }
-    ensures ours { (count : ℕ) → HasSlot service.now count admitted.ready → MayWork service.now count result }
-    ensures did { Ends result (Works (next_task admitted.ready admitted.job) admitted.ready.part.entries) }
-    ensures plan { Spends service.now.shape (submitted admitted.job) planned.old.countdown (Some admitted.ready) planned.new.countdown result }
-    ensures tried { AreTried tries admitted.ready.part.steps result }
+    ensures ours { (count : ℕ) → HasSlot service.now count admitted.entry.ready → MayWork service.now count result }
+    ensures did { Ends result (Works (next_task admitted.entry.ready admitted.entry.job) admitted.entry.ready.part.entries) }
+    ensures plan { Spends service.now.shape (submitted admitted.entry.job) planned.old.countdown (Some admitted.entry.ready) planned.new.countdown result }
+    ensures tried { AreTried tries admitted.entry.ready.part.steps result }
 {
     match admitted.post(service, planned) {
         Ok(climb) => go_in(climb, tries, planned, service),
@@ -108,6 +112,7 @@ fn post(
 }
 
 /// From waiting to readiness, by so many sweeps at most, with a pause after each blocked one.
+#[inline(always)]
 fn go_in(
     climb: Climb,
     tries: u32,
@@ -130,16 +135,16 @@ fn go_in(
 
 /// Posts the job and goes on until the worker is inside.
 fn post_inside(
-    admitted: Admitted,
+    admitted: Admitted<'_>,
     tries: u32,
     planned: &mut Counting,
     service: &Service,
 ) -> Result<Worked, Down>
     requires ours { admitted.ready.ident ≡ service.now }
-    ensures ours { (count : ℕ) → HasSlot service.now count admitted.ready → MayWork service.now count result }
-    ensures did { Ends result (Arrives (next_task admitted.ready admitted.job) admitted.ready.part.entries) }
-    ensures plan { Spends service.now.shape (submitted admitted.job) planned.old.countdown (Some admitted.ready) planned.new.countdown result }
-    ensures tried { AreTried tries admitted.ready.part.steps result }
+    ensures ours { (count : ℕ) → HasSlot service.now count admitted.entry.ready → MayWork service.now count result }
+    ensures did { Ends result (Arrives (next_task admitted.entry.ready admitted.entry.job) admitted.entry.ready.part.entries) }
+    ensures plan { Spends service.now.shape (submitted admitted.entry.job) planned.old.countdown (Some admitted.entry.ready) planned.new.countdown result }
+    ensures tried { AreTried tries admitted.entry.ready.part.steps result }
 {
     match admitted.post(service, planned) {
         Ok(climb) => go_inside(climb, tries, planned, service),

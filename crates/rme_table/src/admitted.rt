@@ -11,22 +11,22 @@ use std::marker::{Brand, Model};
 ///
 /// It may be dropped. That worker never comes back then.
 #[derive(Drop)]
-pub struct Admitted {
+pub struct Admitted<'a> {
     pub(crate) ready: Ready,
-    pub(crate) job: Job,
+    pub(crate) job: &'a Job,
 }
 
-impl Model for Admitted {
+impl<'a> Model for Admitted<'a> {
     ghost use Rattle.rme_table.specs.Admissions.{Admission, MayPost};
 
     ghost Value = { Admission };
 
-    ghost view = { λ admitted. record { ready = admitted.ready; job = admitted.job } };
+    ghost view = { λ admitted. record { ready = admitted.ready; job = admitted.job.now } };
 
-    ghost invariant = { λ admitted. MayPost admitted.ready.ident.shape admitted.ready.part.private.begun admitted.job };
+    ghost invariant = { λ admitted. MayPost admitted.ready.ident.shape admitted.ready.part.private.begun admitted.job.now };
 }
 
-impl Admitted {
+impl Admitted<'_> {
     ghost use Rattle.std.specs.Prelude.{◌≡◌, ◌+◌, ◌*◌, MatchResult};
     ghost use Rattle.rme_seats.specs.Doing.{Falling};
     ghost use Rattle.rme_seats.specs.Parts.{submitted};
@@ -36,13 +36,13 @@ impl Admitted {
     /// Posts the job: it has its number then, and waits for its lock. `Err` is a fall.
     pub fn post<C: Chance>(self, service: &Service, chance: &mut C) -> Result<Climb, Down>
         requires ours { self.ready.ident ≡ service.now }
-        ensures posted { MatchResult result (λ climb. IsPosted self.ready climb self.job) (λ _. Unit {0}) }
-        ensures lead { IsLed service.now.shape self.ready.part (submitted self.job) (submit_labels self.ready.part self.job) }
+        ensures posted { MatchResult result (λ climb. IsPosted self.entry.ready climb self.entry.job) (λ _. Unit {0}) }
+        ensures lead { IsLed service.now.shape self.entry.ready.part (submitted self.entry.job) (submit_labels self.entry.ready.part self.entry.job) }
         ensures made { MatchResult result
-            (λ climb. Made service.now.shape (submitted self.job) self.ready climb (C.tally chance.old) (C.tally chance.new) (3 + 3 * self.job.script.n) (3 + 3 * self.job.script.n))
-            (λ down. Falling service.now.shape (submitted self.job) self.ready down (C.tally chance.old) (C.tally chance.new) (3 + 3 * self.job.script.n)) }
+            (λ climb. Made service.now.shape (submitted self.entry.job) self.entry.ready climb (C.tally chance.old) (C.tally chance.new) (3 + 3 * self.entry.job.script.n) (3 + 3 * self.entry.job.script.n))
+            (λ down. Falling service.now.shape (submitted self.entry.job) self.entry.ready down (C.tally chance.old) (C.tally chance.new) (3 + 3 * self.entry.job.script.n)) }
     {
         let Admitted { ready, job } = self;
-        ready.put::<Brand, C>(service, &job, chance)
+        ready.put::<Brand, C>(service, job, chance)
     }
 }

@@ -54,7 +54,7 @@ impl Ready {
         ensures posts { Posts service.now.shape job self (C.tally chance.old) (C.tally chance.new) result }
         ensures lead { post_refusal service.now.shape self.part.private.begun job ≡ None → IsLed service.now.shape self.part (submitted job) (submit_labels self.part job) }
     {
-        match self.admit(service, job) {
+        match self.admit(service, &job) {
             Ok(admitted) => match admitted.post(service, chance) {
                 Ok(climb) => Posted::Asked(climb),
                 Err(down) => Posted::Fell(down),
@@ -64,12 +64,16 @@ impl Ready {
     }
 
     /// The worker with a job that it may post; or the worker, and why `post` would refuse the job. Nothing is done.
-    pub fn admit(self, service: &Service, job: Job) -> Result<Admitted, (Ready, Refusal)>
+    pub fn admit<'a>(
+        self,
+        service: &Service,
+        job: &'a Job,
+    ) -> Result<Admitted<'a>, (Ready, Refusal)>
         requires ours { self.ident ≡ service.now }
-        ensures admitted { IfOk result (λ admitted. (admitted ≡ record { ready = self; job = job }) × (post_refusal service.now.shape self.part.private.begun job ≡ None)) }
-        ensures refused { IfErr result (λ refused. (refused.0 ≡ self) × (post_refusal service.now.shape self.part.private.begun job ≡ Some refused.1)) }
+        ensures admitted { IfOk result (λ admitted. (admitted ≡ record { ready = self; job = job.now }) × (post_refusal service.now.shape self.part.private.begun job.now ≡ None)) }
+        ensures refused { IfErr result (λ refused. (refused.0 ≡ self) × (post_refusal service.now.shape self.part.private.begun job.now ≡ Some refused.1)) }
     {
-        match self.may_post(service, &job) {
+        match self.may_post(service, job) {
             Ok(()) => Ok(Admitted { ready: self, job }),
             Err(refusal) => Err((self, refusal)),
         }

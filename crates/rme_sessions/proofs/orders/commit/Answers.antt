@@ -7,8 +7,8 @@ use Rattle.rme_sessions.specs.declared.stand.Holding.{Holding}
 use Rattle.rme_sessions.proofs.Showing.{committed}
 use Rattle.rme_sessions.proofs.orders.commit.Goals as goal
 
-pub returns-in-Ok-clause-acts : goal.returns-in-Ok-clause-acts
-returns-in-Ok-clause-acts g c =
+pub returns-clause-acts : goal.returns-clause-acts
+returns-clause-acts g c =
     let made = c.make-stand.result in
     let P : Ident → Type 0 = λ ident. Acts ident c.args.slots.now c.args.stand order.Commit made.0 (reply.Committed made.1) made.2 in
     let Q : Holding → Type 0 = λ value. Acts c.args.service.now c.args.slots.now (record { value = value; planned = c.args.stand.planned }) order.Commit made.0 (reply.Committed made.1) made.2 in

@@ -7,8 +7,8 @@ use Rattle.rme_sessions.proofs.Showing.{resumed}
 use Rattle.rme_sessions.proofs.orders.resume.Goals as goal
 use Rattle.rme_session_lines.specs.Patience.{least_tries}
 
-pub returns-in-Ok-clause-acts : goal.returns-in-Ok-clause-acts
-returns-in-Ok-clause-acts g c =
+pub returns-clause-acts : goal.returns-clause-acts
+returns-clause-acts g c =
     let made = c.make-stand.result in
     let P : Ident → Type 0 = λ ident. Acts ident c.args.slots.now c.args.stand (order.Resume c.args.patience) made.0 (reply.Resumed made.1) made.2 in
     subst P c.requires.service (resumed c.args.service.now c.args.slots.now c.in-Ok.work c.args.stand made.0 made.1 made.2 c.in-Ok.ensures.work.0 c.make-stand.ensures.did.0

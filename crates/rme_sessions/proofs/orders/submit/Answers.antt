@@ -7,8 +7,8 @@ use Rattle.rme_sessions.proofs.Showing.{submitted}
 use Rattle.rme_sessions.proofs.orders.submit.Goals as goal
 use Rattle.rme_session_lines.specs.Patience.{least_tries}
 
-pub returns-in-Ok-clause-acts : goal.returns-in-Ok-clause-acts
-returns-in-Ok-clause-acts g c =
+pub returns-clause-acts : goal.returns-clause-acts
+returns-clause-acts g c =
     let its = c.args.submission.now in
     let made = c.make-stand.result in
     let P : Ident → Type 0 = λ ident. Acts ident c.args.slots.now c.args.stand (order.Submit its) made.0 (reply.Submitted made.1) made.2 in
