@@ -1,5 +1,5 @@
 -- The order of an object whose members stand in the order of their keys.
-use Rattle.std.proofs.Common.{◌≡◌, ℕ, ◌<◌, ◌≤◌, ◌^◌, List, [], ◌∷◌, length, bytes_eq, Bool, true, false, Some, None, option_map, refl, sym, ap, subst, inl, inr, ◌∙◌, arith}
+use Rattle.std.proofs.Common.{◌≡◌, ℕ, ◌<◌, ◌≤◌, ◌^◌, List, [], ◌∷◌, length, bytes_eq, Bool, true, false, Option, Some, None, option_map, refl, sym, ap, subst, inl, inr, ◌∙◌, arith}
 use Rattle.std.proofs.lemmas.Bool.{cases_Bool, le-leb, lt-ltb}
 use Rattle.std.proofs.lemmas.Option.{none-some}
 use Rattle.std.proofs.lemmas.Slice.Eq.{bytes_eq-Decides}
@@ -24,11 +24,21 @@ use Rattle.rme_session_lines.specs.declared.order.Patience.{Patience}
 use Rattle.rme_session_lines.specs.declared.order.Patience.TheVariants.{Tries, Wait}
 use Rattle.rme_session_lines.specs.declared.order.Submission.{Submission}
 use Rattle.rme_session_lines.specs.Orders.{order_of, order_named, order_of_line, submission_of, patience_of, patience_keys, tries_of, wait_of, bare_order}
-use Rattle.rme_session_lines.specs.Tokens.{IsOrder, IsSubmission, IsPatience, handed, patience_named}
+use Rattle.rme_session_lines.specs.Tokens.{IsOrder, IsSubmission, IsPatience, patience_named}
 
 -- The order of a line whose tokens are those of an order.
 pub order_read : (names : List (List ℕ)) (most : ℕ) (line : List ℕ) (order : Order) → IsUtf8 line → IsOrder names most (tokens line) order → order_of_line names most line ≡ Some order
 order_read names most line order utf8 is = rw (value_read line is.value utf8 (whole line is.value is.is)) is.means
+
+-- The order of this word that hands over a job.
+abbrev pub handed : List ℕ → Submission → Option Order
+handed word s = if bytes_eq word (codes "submit") then Some (Submit s) else (if bytes_eq word (codes "enter") then Some (Enter s) else None)
+
+pub submit_handed : (word : List ℕ) (s : Submission) → bytes_eq word (codes "submit") ≡ true → handed word s ≡ Some (Submit s)
+submit_handed word s same = rw same refl
+
+pub enter_handed : (word : List ℕ) (s : Submission) → bytes_eq word (codes "enter") ≡ true → handed word s ≡ Some (Enter s)
+enter_handed word s same = subst (λ (w : List ℕ). handed w s ≡ Some (Enter s)) (sym ((bytes_eq-Decides word (codes "enter")).0 same)) refl
 
 -- An object of a word alone.
 abbrev alone : List ℕ → Data

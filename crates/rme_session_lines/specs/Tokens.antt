@@ -9,7 +9,6 @@ use Rattle.rme_script.specs.declared.op.Op.{Op}
 use Rattle.rme_script.specs.declared.op.Op.TheVariants.{Set, Add, Copy, Swap}
 use Rattle.rme_script.specs.Programs.{Program}
 use Rattle.rme_session_lines.specs.declared.order.Order.{Order}
-use Rattle.rme_session_lines.specs.declared.order.Order.TheVariants.{Submit, Enter}
 use Rattle.rme_session_lines.specs.declared.order.Patience.{Patience}
 use Rattle.rme_session_lines.specs.declared.order.Patience.TheVariants.{Tries, Wait}
 use Rattle.rme_session_lines.specs.declared.order.Submission.{Submission}
@@ -92,10 +91,6 @@ pub record IsSubmission (names : List (List ℕ)) (most : ℕ) (tokens : List To
   pub scripted : IsScript at_script script at_patience
   pub limited : IsPatience at_patience patience
   pub is : s ≡ record { number = number; job = record { lock = lock_number names lock; script = script }; patience = patience }
-
--- the order of this word that hands over a job
-abbrev pub handed : List ℕ → Submission → Option Order
-handed word s = if bytes_eq word (codes "submit") then Some (Submit s) else (if bytes_eq word (codes "enter") then Some (Enter s) else None)
 
 -- all of a line's tokens, whose value is this order
 pub record IsOrder (names : List (List ℕ)) (most : ℕ) (tokens : List Token) (order : Order) : Type 0 where

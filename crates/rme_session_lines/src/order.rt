@@ -103,6 +103,7 @@ pub enum Order {
 ///
 /// The names are those of the service's locks, and `most` is the largest number that a job of its may have. `NoMemory` says
 /// that there was no room for the line's value.
+#[inline(always)]
 pub fn order_of(
     values: &mut ValueReader,
     names: &Names,

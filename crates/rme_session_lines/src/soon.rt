@@ -5,7 +5,7 @@
 
 ghost use Rattle.std.specs.Prelude.{◌≡◌, Some, IfSome};
 ghost use Rattle.rme_session_lines.specs.Orders.{order_of_line};
-ghost use Rattle.rme_session_lines.specs.Tokens.{IsOrder, IsPatience, IsSubmission, handed, patience_named};
+ghost use Rattle.rme_session_lines.specs.Tokens.{IsPatience, IsSubmission, patience_named};
 
 use crate::order::{MOST_TRIES, MOST_WAIT, Order, Patience, Submission, USUAL_TRIES, bare_order};
 use crate::tokens::{
@@ -16,18 +16,16 @@ use rme_script::Job;
 use rme_wire::{Names, ValueReader, lock_number};
 
 /// The order of a line, where it is one of these.
+///
+/// What is large is taken by a `let` that returns: each `?` would copy it twice.
+#[inline(always)]
 pub fn order_soon(values: &mut ValueReader, names: &Names, most: u64, line: &[u8]) -> Option<Order>
     ensures { IfSome result (λ order. order_of_line names.now most line.now ≡ Some order) }
 {
-    let mut reader = values.tokens(line)?;
-    take_order(&mut reader, names, most)
-}
-
-/// Takes all of an order.
-#[inline(always)]
-fn take_order(reader: &mut Reader<'_>, names: &Names, most: u64) -> Option<Order>
-    ensures { IfSome result (λ order. IsOrder names.now most reader.old order) }
-{
+    let Some(mut reader) = values.tokens(line) else {
+        return None;
+    };
+    let reader = &mut reader;
     take_object(reader)?;
     take_key(reader, "do")?;
     let word = take_text(reader)?;
@@ -40,8 +38,16 @@ fn take_order(reader: &mut Reader<'_>, names: &Names, most: u64) -> Option<Order
     if key != "lock" {
         return None;
     }
-    let submission = take_submission(reader, names, most)?;
-    handed(word, submission)
+    let Some(submission) = take_submission(reader, names, most) else {
+        return None;
+    };
+    if word == "submit" {
+        return Some(Order::Submit(submission));
+    }
+    if word == "enter" {
+        return Some(Order::Enter(submission));
+    }
+    None
 }
 
 /// Takes the rest of a submission, from behind the key `lock`.
@@ -56,7 +62,9 @@ fn take_submission(reader: &mut Reader<'_>, names: &Names, most: u64) -> Option<
         return None;
     }
     take_key(reader, "script")?;
-    let script = take_script(reader)?;
+    let Some(script) = take_script(reader) else {
+        return None;
+    };
     let patience = take_patience(reader)?;
     Some(Submission {
         number,
@@ -100,18 +108,6 @@ fn patience_named(key: &str, number: u32) -> Option<Patience>
             }
             Some(Patience::Wait(number))
         }
-        _ => None,
-    }
-}
-
-/// The order of this word that hands over a job.
-#[inline(always)]
-fn handed(word: &str, submission: Submission) -> Option<Order>
-    ensures { result ≡ handed word.now submission }
-{
-    match word {
-        "submit" => Some(Order::Submit(submission)),
-        "enter" => Some(Order::Enter(submission)),
         _ => None,
     }
 }
