@@ -7,9 +7,7 @@ ghost use Rattle.std.specs.Prelude.{◌≡◌};
 ghost use Rattle.rme_orders.specs.Parts as spec;
 ghost use Rattle.rme_session_lines.specs.Told.{reply_told};
 
-use rme_session_lines::{
-    Order, Outcome, Patience, SessionReply, Submission, ToldOutcome, ToldReply,
-};
+use rme_session_lines::{Order, Outcome, Patience, SessionReply, ToldOutcome, ToldReply};
 
 /// How long an order goes on to try; `None` for one that does not wait.
 pub fn patience_of(order: &Order) -> Option<Patience>
@@ -23,22 +21,17 @@ pub fn patience_of(order: &Order) -> Option<Patience>
 }
 
 /// The same order with so many tries, whatever it asked for; one that does not wait is as it is.
-pub fn with_tries(order: Order, tries: u32) -> Order
-    ensures { result ≡ spec.with_tries tries order }
+pub fn with_tries(order: &Order, tries: u32) -> Order
+    ensures { result ≡ spec.with_tries tries order.now }
 {
-    let patience = Patience::Tries(tries);
-    match order {
-        Order::Submit(submission) => Order::Submit(Submission {
-            patience,
-            ..submission
-        }),
-        Order::Enter(submission) => Order::Enter(Submission {
-            patience,
-            ..submission
-        }),
-        Order::Resume(_) => Order::Resume(patience),
-        other => other,
+    let mut same = *order;
+    match &mut same {
+        Order::Submit(submission) => submission.patience = Patience::Tries(tries),
+        Order::Enter(submission) => submission.patience = Patience::Tries(tries),
+        Order::Resume(patience) => *patience = Patience::Tries(tries),
+        _ => {}
     }
+    same
 }
 
 /// One try more at the job of an order, which waits.
@@ -47,7 +40,7 @@ pub fn once_more(order: Order) -> Order
 {
     match order {
         Order::Submit(_) => Order::Resume(Patience::Tries(1)),
-        other => with_tries(other, 1),
+        other => with_tries(&other, 1),
     }
 }
 

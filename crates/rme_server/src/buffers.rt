@@ -51,10 +51,13 @@ impl Buffers {
         if cut == Cut::TooLong {
             return Ok(Err(Refusal::LineTooLong));
         }
-        match order_of(&mut self.values, names, most, self.exchange.line()) {
-            Ok(order) => Ok(order.ok_or(Refusal::BadLine)),
-            Err(_) => Err(NoMemory),
-        }
+        let Ok(order) = order_of(&mut self.values, names, most, self.exchange.line()) else {
+            return Err(NoMemory);
+        };
+        let Some(order) = order else {
+            return Ok(Err(Refusal::BadLine));
+        };
+        Ok(Ok(order))
     }
 
     /// Puts a reply and a newline in the place of the text. After an error the text is of no use.

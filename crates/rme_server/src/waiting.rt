@@ -49,7 +49,7 @@ pub(crate) fn obey_in_time<K: Tag, R: Wait + Clock, O: Sink, C: Client>(
     ensures writes { MakesWrites (O.took writer.old) (O.took writer.new) }
 {
     let tries = first_tries(order, exchange.keeps_back());
-    let (stand, reply) = obey_here(rt, stand, &with_tries(*order, tries), client, host);
+    let (stand, reply) = obey_here(rt, stand, &with_tries(order, tries), client, host);
     if !goes_on(order, tries, reply) {
         return (stand, Ok(reply));
     }
