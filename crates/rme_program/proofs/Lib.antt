@@ -1,3 +1,4 @@
+pub mod Blind
 pub mod Columns
 pub mod Counts
 pub mod Falls

@@ -1,6 +1,5 @@
 -- What a store finds does not matter; one event from alike worlds leads to alike worlds, and so do all; and so do walks, and the
 -- lines of a file.
-pub mod Blind
 pub mod Steps
 pub mod Events
 pub mod Still

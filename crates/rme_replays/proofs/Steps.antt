@@ -13,7 +13,7 @@ use Rattle.rme_program.specs.declared.private.Private.{Private}
 use Rattle.rme_program.specs.declared.stage.Stage.{Stage}
 use Rattle.rme_program.specs.Did.{Did}
 use Rattle.rme_program.specs.Steps.{action_of, after_at, begun_after, private_after, note_after}
-use Rattle.rme_replays.proofs.Blind.{IsStore, IsBlind, stores_blindly}
+use Rattle.rme_program.proofs.Blind.{IsStore, IsBlind, stores_blindly}
 
 -- Words that were written alike are alike.
 wrote_one : (old one other : Address → ℕ) (address : Address) (value : ℕ) → Wrote old one address value → Wrote old other address value → (at : Address) → one at ≡ other at

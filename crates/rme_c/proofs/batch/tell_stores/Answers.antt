@@ -5,7 +5,8 @@ use Rattle.rme_c.specs.declared.flat.FlatAction.{FlatAction}
 use Rattle.rme_c.specs.Flat.{flat_action}
 use Rattle.rme_c.specs.Batches.{actions_told}
 use Rattle.rme_c.specs.Runs.{LeadsTo}
-use Rattle.rme_c.proofs.Telling.{IsStore, leads_more, leads_end, plain_does, store_steps}
+use Rattle.rme_program.proofs.Blind.{IsStore}
+use Rattle.rme_c.proofs.Telling.{leads_more, leads_end, plain_does, store_steps}
 use Rattle.rme_c.proofs.batch.tell_stores.Goals as goal
 
 pub loop-batch-preserved : goal.loop-batch-preserved

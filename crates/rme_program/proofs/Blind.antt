@@ -9,6 +9,7 @@ use Rattle.rme_program.specs.declared.stage.Recovery.TheVariants.{LoadBegun, Loa
 use Rattle.rme_program.specs.declared.stage.Log.TheVariants.{LoadTurn, LoadLen, LoadSlate, LoadCells, StoreShadows, StoreShadowReply, StoreMask, StoreTurn}
 use Rattle.rme_program.specs.declared.stage.Redo.TheVariants.{LoadMask, LoadShadow, StoreCell, LoadReply, StoreReply, StorePlace, StoreAt, StoreDone}
 use Rattle.rme_program.specs.declared.stage.Departure.TheVariants.{LoadExitTurn, StoreExitTurn, Clear, WithdrawPlace, WithdrawAt, WithdrawReply, WithdrawDone}
+use Rattle.rme_program.specs.Conditions.{Takes}
 use Rattle.rme_program.specs.Steps.{action_at, after_at, begun_after}
 
 abbrev pub IsStore : Action → Type 0
@@ -17,6 +18,7 @@ IsStore (Store address value) = Unit {0}
 IsStore (Swap address from to) = ⊥
 
 pub record IsBlind (shape : Shape) (worker begun : ℕ) (stage : Stage) : Type 0 where
+  pub takes : (value : ℕ) → Takes shape stage value
   pub leads : (value other : ℕ) → after_at shape worker begun stage value ≡ after_at shape worker begun stage other
   pub knows : (value other : ℕ) → begun_after begun stage value ≡ begun_after begun stage other
 
@@ -27,28 +29,28 @@ stores_blindly shape worker begun (Recovering LoadDone) store = absurd store
 stores_blindly shape worker begun (Recovering (LoadLock true)) store = absurd store
 stores_blindly shape worker begun (Recovering (LoadLock false)) store = absurd store
 stores_blindly shape worker begun (Recovering (LoadPath pending lock held)) store = absurd store
-stores_blindly shape worker begun (Posting slate) store = record { leads = λ v w. refl; knows = λ v w. refl }
+stores_blindly shape worker begun (Posting slate) store = record { takes = λ v. tt; leads = λ v w. refl; knows = λ v w. refl }
 stores_blindly shape worker begun (Climbing ascent) store = absurd store
 stores_blindly shape worker begun (Logging (LoadTurn lock)) store = absurd store
 stores_blindly shape worker begun (Logging (LoadLen lock turn)) store = absurd store
 stores_blindly shape worker begun (Logging (LoadSlate lock turn operations words loaded)) store = absurd store
 stores_blindly shape worker begun (Logging (LoadCells lock turn script named row cell)) store = absurd store
-stores_blindly shape worker begun (Logging (StoreShadows visit named row reply cell)) store = record { leads = λ v w. refl; knows = λ v w. refl }
-stores_blindly shape worker begun (Logging (StoreShadowReply visit named reply)) store = record { leads = λ v w. refl; knows = λ v w. refl }
-stores_blindly shape worker begun (Logging (StoreMask visit named)) store = record { leads = λ v w. refl; knows = λ v w. refl }
-stores_blindly shape worker begun (Logging (StoreTurn visit)) store = record { leads = λ v w. refl; knows = λ v w. refl }
+stores_blindly shape worker begun (Logging (StoreShadows visit named row reply cell)) store = record { takes = λ v. tt; leads = λ v w. refl; knows = λ v w. refl }
+stores_blindly shape worker begun (Logging (StoreShadowReply visit named reply)) store = record { takes = λ v. tt; leads = λ v w. refl; knows = λ v w. refl }
+stores_blindly shape worker begun (Logging (StoreMask visit named)) store = record { takes = λ v. tt; leads = λ v w. refl; knows = λ v w. refl }
+stores_blindly shape worker begun (Logging (StoreTurn visit)) store = record { takes = λ v. tt; leads = λ v w. refl; knows = λ v w. refl }
 stores_blindly shape worker begun (Copying (LoadMask visit)) store = absurd store
 stores_blindly shape worker begun (Copying (LoadShadow visit mask cell)) store = absurd store
-stores_blindly shape worker begun (Copying (StoreCell visit mask cell value)) store = record { leads = λ v w. refl; knows = λ v w. refl }
+stores_blindly shape worker begun (Copying (StoreCell visit mask cell value)) store = record { takes = λ v. tt; leads = λ v w. refl; knows = λ v w. refl }
 stores_blindly shape worker begun (Copying (LoadReply visit mask)) store = absurd store
-stores_blindly shape worker begun (Copying (StoreReply visit mask reply)) store = record { leads = λ v w. refl; knows = λ v w. refl }
-stores_blindly shape worker begun (Copying (StorePlace visit mask reply)) store = record { leads = λ v w. refl; knows = λ v w. refl }
-stores_blindly shape worker begun (Copying (StoreAt visit mask reply)) store = record { leads = λ v w. refl; knows = λ v w. refl }
-stores_blindly shape worker begun (Copying (StoreDone visit mask reply)) store = record { leads = λ v w. refl; knows = λ v w. refl }
+stores_blindly shape worker begun (Copying (StoreReply visit mask reply)) store = record { takes = λ v. tt; leads = λ v w. refl; knows = λ v w. refl }
+stores_blindly shape worker begun (Copying (StorePlace visit mask reply)) store = record { takes = λ v. tt; leads = λ v w. refl; knows = λ v w. refl }
+stores_blindly shape worker begun (Copying (StoreAt visit mask reply)) store = record { takes = λ v. tt; leads = λ v w. refl; knows = λ v w. refl }
+stores_blindly shape worker begun (Copying (StoreDone visit mask reply)) store = record { takes = λ v. tt; leads = λ v w. refl; knows = λ v w. refl }
 stores_blindly shape worker begun (Leaving (LoadExitTurn lock)) store = absurd store
-stores_blindly shape worker begun (Leaving (StoreExitTurn lock turn)) store = record { leads = λ v w. refl; knows = λ v w. refl }
-stores_blindly shape worker begun (Leaving (Clear lock level)) store = record { leads = λ v w. refl; knows = λ v w. refl }
-stores_blindly shape worker begun (Leaving (WithdrawPlace lock held)) store = record { leads = λ v w. refl; knows = λ v w. refl }
-stores_blindly shape worker begun (Leaving (WithdrawAt lock held)) store = record { leads = λ v w. refl; knows = λ v w. refl }
-stores_blindly shape worker begun (Leaving (WithdrawReply lock held)) store = record { leads = λ v w. refl; knows = λ v w. refl }
-stores_blindly shape worker begun (Leaving (WithdrawDone lock held)) store = record { leads = λ v w. refl; knows = λ v w. refl }
+stores_blindly shape worker begun (Leaving (StoreExitTurn lock turn)) store = record { takes = λ v. tt; leads = λ v w. refl; knows = λ v w. refl }
+stores_blindly shape worker begun (Leaving (Clear lock level)) store = record { takes = λ v. tt; leads = λ v w. refl; knows = λ v w. refl }
+stores_blindly shape worker begun (Leaving (WithdrawPlace lock held)) store = record { takes = λ v. tt; leads = λ v w. refl; knows = λ v w. refl }
+stores_blindly shape worker begun (Leaving (WithdrawAt lock held)) store = record { takes = λ v. tt; leads = λ v w. refl; knows = λ v w. refl }
+stores_blindly shape worker begun (Leaving (WithdrawReply lock held)) store = record { takes = λ v. tt; leads = λ v w. refl; knows = λ v w. refl }
+stores_blindly shape worker begun (Leaving (WithdrawDone lock held)) store = record { takes = λ v. tt; leads = λ v w. refl; knows = λ v w. refl }
