@@ -5,7 +5,3 @@ use Rattle.std.specs.Prelude.{IfSome}
 pub each_found : {X : Type 0} (P : X → Type 0) (may is : Option X) → is ≡ may → ((x : X) → may ≡ Some x → P x) → IfSome is P
 each_found P None is e found = subst (λ o. IfSome o P) (sym e) tt
 each_found P (Some x) is e found = subst (λ o. IfSome o P) (sym e) (found x refl)
-
-pub all_found : {X : Type 0} (P Q : X → Type 0) (is : Option X) → IfSome is P → ((x : X) → P x → Q x) → IfSome is Q
-all_found P Q None true_of more = tt
-all_found P Q (Some x) true_of more = more x true_of

@@ -6,7 +6,9 @@ use Rattle.std.proofs.lemmas.Slice.Eq.{bytes_eq-Decides}
 use Rattle.std.specs.Prelude.{codes, if◌then◌else◌, nat_le, ◌&&◌}
 use Rattle.std.specs.Str.{IsUtf8}
 use Rattle.json.specs.Token.{Token}
+use Rattle.json.specs.Json.{read_key}
 use Rattle.json.specs.Lex.{tokens}
+use Rattle.json.proofs.Grammar.{read_key_is}
 use Rattle.serde_json.specs.Data.{Data, Num, number, string, array, object, Items, Members, no_members, member, put}
 use Rattle.serde_json.specs.Events.{members_len}
 use Rattle.serde_json.specs.Find.{as_u64}
@@ -252,3 +254,16 @@ module _ (names : List (List ℕ)) (most : ℕ) where
         let all : behind ≡ Token.string is.lock ∷ from_number is.numbered.text is.at_script = is.first ∙ ap (λ (ts : List Token). Token.string is.lock ∷ Token.key (codes "number") ∷ ts) is.numbered.first in
         let P : List Token → Type 0 = λ ts. IsOrder names most (Token.begin_object ∷ Token.key (codes "do") ∷ Token.string word ∷ Token.key (codes "lock") ∷ ts) order in
         subst P (sym all) (limited_here is.limited)
+
+-- The key `lock`, where it is the one that is read.
+pub lock_follows : (at : List Token) (name : List ℕ) (behind : List Token) → read_key at ≡ Some (Some name, behind) → bytes_eq name (codes "lock") ≡ true → at ≡ Token.key (codes "lock") ∷ behind
+lock_follows at name behind read same = read_key_is at (Some name) behind read ∙ ap (λ k. Token.key k ∷ behind) ((bytes_eq-Decides name (codes "lock")).0 same)
+
+-- The order of a line that begins with its word and hands over a job.
+pub handed_read : (names : List (List ℕ)) (most : ℕ) (line word : List ℕ) (s : Submission) (order : Order) (members value after behind : List Token)
+    → IsUtf8 line → tokens line ≡ Token.begin_object ∷ members → members ≡ Token.key (codes "do") ∷ value → value ≡ Token.string word ∷ after → after ≡ Token.key (codes "lock") ∷ behind
+    → IsSubmission names most behind s → handed word s ≡ Some order → order_of_line names most line ≡ Some order
+handed_read names most line word s order members value after behind utf8 opens named text lock is means =
+    let all = opens ∙ ap (λ (ts : List Token). Token.begin_object ∷ ts) (named ∙ ap (λ (ts : List Token). Token.key (codes "do") ∷ ts) (text ∙ ap (λ (ts : List Token). Token.string word ∷ ts) lock)) in
+    let P : List Token → Type 0 = λ ts. IsOrder names most ts order in
+    order_read names most line order utf8 (subst P (sym all) (handed_at names most word s order behind is means))

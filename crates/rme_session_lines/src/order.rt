@@ -102,7 +102,7 @@ pub enum Order {
 /// The order of a session's line, or `None` where the line is none.
 ///
 /// The names are those of the service's locks, and `most` is the largest number that a job of its may have. `NoMemory` says
-/// that there was no room for the line's value.
+/// that there was no room for the line's value. It is inlined so that the order is not copied once more.
 #[inline(always)]
 pub fn order_of(
     values: &mut ValueReader,

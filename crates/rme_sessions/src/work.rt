@@ -1,6 +1,6 @@
 //! What a session's worker does of its job, up to the end of the order.
 //!
-//! Who hands a worker on is inlined, here and in `orders.rt` and `refusal.rt`: else it would be copied by each.
+//! What a submission goes through is inlined, here and in `orders.rt` and `refusal.rt`: else its worker would be copied by each.
 
 ghost use Rattle.std.specs.Prelude.{◌≡◌, ℕ, Some, false};
 ghost use Rattle.rme_table.specs.Calls.{is_over};

@@ -1,5 +1,4 @@
 use Rattle.std.proofs.Common.{◌≡◌, List, [], ◌∷◌, bytes_eq, true, Some, None, ap, sym, subst, ◌∙◌, arith}
-use Rattle.std.proofs.lemmas.Slice.Eq.{bytes_eq-Decides}
 use Rattle.std.specs.Prelude.{codes}
 use Rattle.json.specs.Token.{Token}
 use Rattle.json.specs.Json.{read_key}
@@ -9,7 +8,7 @@ use Rattle.rme_session_lines.specs.declared.order.Order.TheVariants.{Submit, Ent
 use Rattle.rme_session_lines.specs.Orders.{bare_order, order_of_line}
 use Rattle.rme_session_lines.specs.Tokens.{IsOrder}
 use Rattle.rme_session_lines.proofs.Found.{each_found}
-use Rattle.rme_session_lines.proofs.OrderLemmas.{bare_at, handed_at, order_read, submit_handed, enter_handed}
+use Rattle.rme_session_lines.proofs.OrderLemmas.{bare_at, handed_read, lock_follows, order_read, submit_handed, enter_handed}
 use Rattle.rme_session_lines.proofs.soon.order_soon.Goals as goal
 
 pub returns-in_default-2 : goal.returns-in_default-2
@@ -33,44 +32,28 @@ returns-in_default-2 c =
 
 pub returns-then-eq : goal.returns-then-eq
 returns-then-eq c =
-    let names = c.args.names.now in
-    let most = c.args.most in
-    let line = c.args.line.now in
     let word = c.in_ok-word.word.now in
     let key = c.in-Some-2.key.now in
     let s = c.in-Some-take_submission.submission in
-    let behind = c.next_key.new.self in
     let opens : c.in-Some.reader ≡ Token.begin_object ∷ c.take_object.new.reader = grind arith in
     let named : c.take_object.new.reader ≡ Token.key (codes "do") ∷ c.take_key.new.reader = grind arith in
-    let text : c.take_key.new.reader ≡ Token.string word ∷ c.take_text.new.reader = c.in_ok-word.ensures in
-    let read : read_key c.take_text.new.reader ≡ Some (Some key, behind) = grind arith in
+    let read : read_key c.take_text.new.reader ≡ Some (Some key, c.next_key.new.self) = grind arith in
     let same : bytes_eq key (codes "lock") ≡ true = grind arith in
-    let is : key ≡ codes "lock" = (bytes_eq-Decides key (codes "lock")).0 same in
-    let lock : c.take_text.new.reader ≡ Token.key (codes "lock") ∷ behind = read_key_is c.take_text.new.reader (Some key) behind read ∙ ap (λ k. Token.key k ∷ behind) is in
-    let all = opens ∙ ap (λ (ts : List Token). Token.begin_object ∷ ts) (named ∙ ap (λ (ts : List Token). Token.key (codes "do") ∷ ts) (text ∙ ap (λ (ts : List Token). Token.string word ∷ ts) lock)) in
     let asks : bytes_eq word (codes "submit") ≡ true = grind arith in
-    let P : List Token → Type 0 = λ ts. IsOrder names most ts (Submit s) in
-    order_read names most line (Submit s) c.in-Some.ensures.0
-    (subst P c.in-Some.ensures.1 (subst P (sym all) (handed_at names most word s (Submit s) behind c.in-Some-take_submission.ensures (submit_handed word s asks))))
+    let lock = lock_follows c.take_text.new.reader key c.next_key.new.self read same in
+    handed_read c.args.names.now c.args.most c.args.line.now word s (Submit s) c.take_object.new.reader c.take_key.new.reader c.take_text.new.reader c.next_key.new.self
+    c.in-Some.ensures.0 (sym c.in-Some.ensures.1 ∙ opens) named c.in_ok-word.ensures lock c.in-Some-take_submission.ensures (submit_handed word s asks)
 
 pub returns-then-eq-2 : goal.returns-then-eq-2
 returns-then-eq-2 c =
-    let names = c.args.names.now in
-    let most = c.args.most in
-    let line = c.args.line.now in
     let word = c.in_ok-word.word.now in
     let key = c.in-Some-2.key.now in
     let s = c.in-Some-take_submission.submission in
-    let behind = c.next_key.new.self in
     let opens : c.in-Some.reader ≡ Token.begin_object ∷ c.take_object.new.reader = grind arith in
     let named : c.take_object.new.reader ≡ Token.key (codes "do") ∷ c.take_key.new.reader = grind arith in
-    let text : c.take_key.new.reader ≡ Token.string word ∷ c.take_text.new.reader = c.in_ok-word.ensures in
-    let read : read_key c.take_text.new.reader ≡ Some (Some key, behind) = grind arith in
+    let read : read_key c.take_text.new.reader ≡ Some (Some key, c.next_key.new.self) = grind arith in
     let same : bytes_eq key (codes "lock") ≡ true = grind arith in
-    let is : key ≡ codes "lock" = (bytes_eq-Decides key (codes "lock")).0 same in
-    let lock : c.take_text.new.reader ≡ Token.key (codes "lock") ∷ behind = read_key_is c.take_text.new.reader (Some key) behind read ∙ ap (λ k. Token.key k ∷ behind) is in
-    let all = opens ∙ ap (λ (ts : List Token). Token.begin_object ∷ ts) (named ∙ ap (λ (ts : List Token). Token.key (codes "do") ∷ ts) (text ∙ ap (λ (ts : List Token). Token.string word ∷ ts) lock)) in
     let asks : bytes_eq word (codes "enter") ≡ true = grind arith in
-    let P : List Token → Type 0 = λ ts. IsOrder names most ts (Enter s) in
-    order_read names most line (Enter s) c.in-Some.ensures.0
-    (subst P c.in-Some.ensures.1 (subst P (sym all) (handed_at names most word s (Enter s) behind c.in-Some-take_submission.ensures (enter_handed word s asks))))
+    let lock = lock_follows c.take_text.new.reader key c.next_key.new.self read same in
+    handed_read c.args.names.now c.args.most c.args.line.now word s (Enter s) c.take_object.new.reader c.take_key.new.reader c.take_text.new.reader c.next_key.new.self
+    c.in-Some.ensures.0 (sym c.in-Some.ensures.1 ∙ opens) named c.in_ok-word.ensures lock c.in-Some-take_submission.ensures (enter_handed word s asks)
