@@ -1,8 +1,8 @@
 -- What the steps of a section lead to once its script was run, where the copies find what was stored.
-use Rattle.std.proofs.Common.{◌≡◌, ◌<◌, ◌≤◌, inl, inr, ℕ, ◌+◌, ◌*◌, ◌/◌, List, refl, sym, ap, subst}
+use Rattle.std.proofs.Common.{◌≡◌, ◌<◌, ◌≤◌, inl, inr, ℕ, ◌+◌, ◌*◌, List, refl, sym, ap, subst}
 use Rattle.std.specs.Prelude.{Option, Some, None, slice_index}
 use Rattle.rme_words.specs.declared.shape.Shape.{Shape}
-use Rattle.rme_words.specs.declared.address.Address.TheVariants.{Done, Reply, Place, At, Turn, Cell, Shadow, ShadowReply, Mask}
+use Rattle.rme_words.specs.declared.address.Address.TheVariants.{Turn, Cell, Shadow, ShadowReply, Mask}
 use Rattle.rme_words.specs.Words.{word}
 use Rattle.rme_program.specs.Masks.{first_cell}
 use Rattle.rme_program.specs.declared.note.Note.TheVariants.{Quiet}
@@ -104,27 +104,14 @@ module _ (shape : Shape) (worker begun : ℕ) (visit : Visit) where
     pub reply_goes : (value : ℕ) → Goes shape (at_stage worker begun (Copying (StoreReply visit mask reply))) value Quiet (λ p. p ≡ at_stage worker begun (Copying (StorePlace visit mask reply)))
     reply_goes value = record { takes = tt; says = refl; next = refl }
 
-    pub reply_step : Steps shape (at_stage worker begun (Copying (StoreReply visit mask reply))) (flat_store (word shape (Reply worker)) reply) Quiet (λ p. p ≡ at_stage worker begun (Copying (StorePlace visit mask reply)))
-    reply_step = record { busy = λ e. cc; does = refl; goes = λ value goes. reply_goes value }
-
     pub place_goes : (value : ℕ) → Goes shape (at_stage worker begun (Copying (StorePlace visit mask reply))) value Quiet (λ p. p ≡ at_stage worker begun (Copying (StoreAt visit mask reply)))
     place_goes value = record { takes = tt; says = refl; next = refl }
-
-    pub place_step : Steps shape (at_stage worker begun (Copying (StorePlace visit mask reply))) (flat_store (word shape (Place worker)) (visit.turn / 2)) Quiet (λ p. p ≡ at_stage worker begun (Copying (StoreAt visit mask reply)))
-    place_step = record { busy = λ e. cc; does = refl; goes = λ value goes. place_goes value }
 
     pub at_goes : (value : ℕ) → Goes shape (at_stage worker begun (Copying (StoreAt visit mask reply))) value Quiet (λ p. p ≡ at_stage worker begun (Copying (StoreDone visit mask reply)))
     at_goes value = record { takes = tt; says = refl; next = refl }
 
-    pub at_step : Steps shape (at_stage worker begun (Copying (StoreAt visit mask reply))) (flat_store (word shape (At worker)) visit.lock) Quiet (λ p. p ≡ at_stage worker begun (Copying (StoreDone visit mask reply)))
-    at_step = record { busy = λ e. cc; does = refl; goes = λ value goes. at_goes value }
-
     pub done_goes : (value : ℕ) → Goes shape (at_stage worker begun (Copying (StoreDone visit mask reply))) value (finished worker begun visit reply).1 (λ p. p ≡ at_stage worker begun (finished worker begun visit reply).0)
     done_goes value = record { takes = tt; says = refl; next = refl }
-
-    pub done_step : Steps shape (at_stage worker begun (Copying (StoreDone visit mask reply))) (flat_store (word shape (Done worker)) begun) (finished worker begun visit reply).1
-        (λ p. p ≡ at_stage worker begun (finished worker begun visit reply).0)
-    done_step = record { busy = λ e. cc; does = refl; goes = λ value goes. done_goes value }
 
 -- ---- the loops
 

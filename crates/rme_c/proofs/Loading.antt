@@ -29,7 +29,7 @@ use Rattle.rme_c.specs.declared.flat.Batch.{Batch}
 use Rattle.rme_c.specs.Batches.{actions_told}
 use Rattle.rme_c.specs.Runs.{LeadsTo, Reaches, LoadsSlate, LoadsCells, at_stage}
 use Rattle.rme_c.specs.Guesses.{IsGuess}
-use Rattle.rme_c.proofs.Telling.{Goes, Steps, Ends}
+use Rattle.rme_c.proofs.Telling.{Goes, Steps}
 
 module _ (shape : Shape) (worker begun lock : ℕ) where
   -- ---- the turn and the length
@@ -186,9 +186,6 @@ module _ (shape : Shape) (lock named cell : ℕ) (p : Private) (loads : LoadsCel
         };
       }
 
-  pub cell_end : Ends shape p (plain_load (word shape (Cell lock cell)))
-  cell_end = let P : Private → Type 0 = λ q. Ends shape q (plain_load (word shape (Cell lock cell))) in subst P (sym is_loading) record { busy = λ e. cc; does = (inl refl, refl) }
-
 -- Whoever is about to load a word of a slate, whatever the words before it are.
 module _ (shape : Shape) (worker n at : ℕ) (p : Private) (loads : LoadsSlate worker n at p) where
   abbrev reading : Private
@@ -214,9 +211,6 @@ module _ (shape : Shape) (worker n at : ℕ) (p : Private) (loads : LoadsSlate w
               next = record { lock = loads.lock; turn = loads.turn; words = more; here = subst B (sym (ne_eqb (at + 1) (3 * n) (λ e. omega (arith, below, e)))) refl; own = refl };
             };
       }
-
-  pub slate_end : Ends shape p (plain_load (word shape (SlateWord worker (at / 3) (at % 3))))
-  slate_end = let P : Private → Type 0 = λ q. Ends shape q (plain_load (word shape (SlateWord worker (at / 3) (at % 3)))) in subst P (sym is_reading) record { busy = λ e. cc; does = (inl refl, refl) }
 
 -- ---- a guess
 

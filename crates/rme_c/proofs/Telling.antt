@@ -68,15 +68,7 @@ module _ (shape : Shape) (until : ℕ) (here : Private) (told : List FlatAction)
                 (if_more rest _ (it.takes, subst S (sym it.says) (λ stops. stops)), follows (private_after shape mid value) it.next),
           ))))
 
-      pub reaches_end : ((mid : Private) → Last mid → Ends shape mid action) → Foretells shape until here new
-      reaches_end ends =
-          let P : List FlatAction → Type 0 = λ l. Foretells shape until here l in
-          subst P (sym is) (so (action ∷ []) (λ mid last. let end : Ends shape mid action = ends mid last in (end.busy, end.does, λ value goes. (tt, tt))))
-
   module _ (mid : Private) (so : LeadsTo shape until here told mid) where
-    pub leads_alone : Foretells shape until here told
-    leads_alone = let P : List FlatAction → Type 0 = λ l. Foretells shape until here l in subst P (append-nil told) (so [] tt)
-
     pub leads_reach : Reaches shape until here told (λ p. p ≡ mid)
     leads_reach rest follows = so rest (follows mid refl)
 

@@ -9,7 +9,7 @@ use Rattle.rme_machine.specs.declared.stance.Stance.TheVariants as stance
 use Rattle.rme_machine.specs.declared.label.Act.{Act}
 use Rattle.rme_machine.specs.declared.label.Act.TheVariants.{Hand, Ask, Take, Finish, Leave, Withdraw, Crash, Restart, Reenter, Still, Wait}
 use Rattle.rme_machine.specs.Machine.{State, WorkerState, StepOf, Does, with_worker, with_owner, with_entry}
-use Rattle.rme_checker.specs.Deciding.{is_receipt, may_as, may, state_next}
+use Rattle.rme_checker.specs.Deciding.{may_as, may, state_next}
 use Rattle.rme_checker.specs.Keeping.{BringsJob, is_withdrawal}
 use Rattle.rme_checker.proofs.Tests.{and3, and5, is_idle_is, is_handed_is, is_waiting_is, waits_as_is, waits_on_is, finished_on_is, stays_on_is, is_stays_on, is_free_is, job_fits_is, is_job_fits, is_receipt_is, is_due_receipt}
 
@@ -173,10 +173,3 @@ no_withdrawal Restart other = refl
 no_withdrawal (Reenter lock) other = refl
 no_withdrawal Still other = refl
 no_withdrawal Wait other = refl
-
--- A finish has the receipt that is due.
-pub may_receipt : (s : Shape) (receipt : Receipt) (old : State) (w : ℕ) → may s (Finish receipt) old w ≡ true
-    → (me : WorkerState) → slice_get old.workers w ≡ Some me → is_receipt s old.history w me.stance receipt ≡ true
-may_receipt s receipt old w t me is_me =
-    let passed : may_as s (Finish receipt) old w me ≡ true = rw is_me at t in
-    (and3 me.up me.entered _ passed).2

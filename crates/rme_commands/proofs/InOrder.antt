@@ -1,6 +1,6 @@
 -- Texts of cells and of locks, written one after another.
-use Rattle.std.proofs.Common.{◌≡◌, ℕ, ◌+◌, ◌<◌, ◌≤◌, Bor, List, [], ◌∷◌, ◌++◌, length, drop, get_or, ap, ◌∙◌, refl, sym, append_assoc, append-nil}
-use Rattle.std.proofs.lemmas.List.{drop_more, drop_all}
+use Rattle.std.proofs.Common.{◌≡◌, ℕ, ◌+◌, ◌<◌, Bor, List, [], ◌∷◌, ◌++◌, length, drop, get_or, ap, ◌∙◌, refl, sym, append_assoc}
+use Rattle.std.proofs.lemmas.List.{drop_more}
 use Rattle.std.proofs.lemmas.Option.{slice_get_past, slice_get_read}
 use Rattle.std.specs.Prelude.{slice_get, Option, Some, None}
 use Rattle.std.specs.Option.{option_copied}
@@ -18,9 +18,6 @@ next_cell start cells out after index cell within here so_far grows =
     ap (λ (xs : List ℕ). xs ++ cells_text (drop (index + 1) cells)) grows ∙ append_assoc out (cell_text cell) (cells_text (drop (index + 1) cells))
     ∙ ap (λ (x : ℕ). out ++ cells_text (x ∷ drop (index + 1) cells)) here ∙ sym (ap (λ (xs : List ℕ). out ++ cells_text xs) (drop_more cells index 0 within)) ∙ so_far
 
-pub all_cells : (start cells out : List ℕ) (index : ℕ) → length cells ≤ index → CellsSoFar start cells out index → out ≡ start ++ cells_text cells
-all_cells start cells out index least so_far = sym (append-nil out) ∙ sym (ap (λ (xs : List ℕ). out ++ cells_text xs) (drop_all index cells least)) ∙ so_far
-
 -- what was written of the locks, and the text of the others, is the text of all
 abbrev pub LocksSoFar : (List ℕ → CountedLock → List ℕ) → List CountedLock → List ℕ → List (List ℕ) → List ℕ → ℕ → Type 0
 LocksSoFar text locks start names out number = out ++ in_order text locks number (drop number names) ≡ start ++ in_order text locks 0 names
@@ -32,11 +29,6 @@ next_lock text locks start names out after number within so_far grows =
     let rest = in_order text locks (number + 1) (drop (number + 1) names) in
     ap (λ (xs : List ℕ). xs ++ rest) grows ∙ append_assoc out line rest
     ∙ sym (ap (λ (xs : List (List ℕ)). out ++ in_order text locks number xs) (drop_more names number [] within)) ∙ so_far
-
-pub all_locks : (text : List ℕ → CountedLock → List ℕ) (locks : List CountedLock) (start : List ℕ) (names : List (List ℕ)) (out : List ℕ) (number : ℕ) → length names ≤ number
-    → LocksSoFar text locks start names out number → out ≡ start ++ in_order text locks 0 names
-all_locks text locks start names out number least so_far =
-    sym (append-nil out) ∙ sym (ap (λ (xs : List (List ℕ)). out ++ in_order text locks number xs) (drop_all number names least)) ∙ so_far
 
 -- the lock that a look-up by its number lends
 lent_is : (locks : List CountedLock) (number : ℕ) (lent : Option (Bor CountedLock)) → IsItemAt locks number lent → option_copied lent ≡ slice_get locks number

@@ -1,5 +1,5 @@
 -- Workers that fall one after another.
-use Rattle.std.proofs.Common.{◌≡◌, ℕ, zero, suc, ◌+◌, ◌<◌, ◌≤◌, List, [], ◌∷◌, ◌++◌, length, refl, sym, ◌∙◌, ap, subst, inl, inr, arith}
+use Rattle.std.proofs.Common.{◌≡◌, ℕ, zero, suc, ◌+◌, ◌<◌, List, [], ◌∷◌, ◌++◌, length, refl, sym, ◌∙◌, ap, subst, inl, inr, arith}
 use Rattle.std.specs.Prelude.{Option, Some, None, Ok, is_some, false, replicate, slice_get}
 use Rattle.std.proofs.lemmas.Bool.{cases_eq}
 use Rattle.std.proofs.lemmas.List.{length-replicate}
@@ -14,7 +14,7 @@ use Rattle.rme_desk.specs.Deeds.{Happened}
 use Rattle.rme_desk.specs.Desks.{AreCrashes, HasFallen}
 use Rattle.rme_desk.specs.Downs.{IsDown}
 use Rattle.rme_desk.specs.Offices.{IsTended}
-use Rattle.rme_desk.proofs.Events.{crash_happens, happens_then, nothing_happens}
+use Rattle.rme_desk.proofs.Events.{crash_happens, happens_then}
 use Rattle.rme_desk.proofs.Frames.{crash_leaves}
 use Rattle.rme_desk.proofs.Posting.{crashed_found}
 
@@ -25,9 +25,6 @@ pub record FallenTo (count : ℕ) (old now : Seen) : Type 0 where
   pub happened : Happened old events now
   pub shape : now.shape ≡ old.shape
   pub down : (worker : ℕ) → worker < count → IsDown now worker
-
-pub none_fallen : (old : Seen) → FallenTo 0 old old
-none_fallen old = record { events = []; crashes = tt; happened = nothing_happens old; shape = refl; down = λ worker less. absurd (omega (arith, less)) }
 
 one_crash : (events : List Event) (worker : ℕ) → AreCrashes events → AreCrashes (events ++ event.Crash worker ∷ [])
 one_crash [] worker are = tt
@@ -71,15 +68,6 @@ down_next count old now fallen kept within none = record {
     | inl same ↦ subst (λ (w : ℕ). IsDown now w) (sym same) (down_found now count kept within none)
     | inr apart ↦ fallen.down worker (omega (arith, less, apart))
   ];
-}
-
-pub all_fallen : (count : ℕ) (old now : Seen) → FallenTo count old now → old.shape.workers ≤ count → HasFallen old now
-all_fallen count old now fallen all = record {
-  events = fallen.events;
-  crashes = fallen.crashes;
-  happened = fallen.happened;
-  shape = fallen.shape;
-  down = λ worker less. fallen.down worker (omega (arith, less, all));
 }
 
 none_in : (count worker : ℕ) (found : Option ℕ) → slice_get (replicate count None) worker ≡ Some found → (found ≡ None) × (worker < count)

@@ -1,7 +1,7 @@
 -- A plan that is asked before each own step.
-use Rattle.std.proofs.Common.{◌≡◌, ℕ, ◌+◌, arith, refl}
-use Rattle.std.specs.Prelude.{true, false}
-use Rattle.rme_orders.specs.Plans.{IsAsked, IsDue, Leaves, left_of}
+use Rattle.std.proofs.Common.{◌≡◌, ℕ, ◌+◌, arith}
+use Rattle.std.specs.Prelude.{false}
+use Rattle.rme_orders.specs.Plans.{IsAsked, Leaves}
 use Rattle.rme_orders.specs.declared.planned.Countdown.{Countdown}
 use Rattle.rme_orders.specs.declared.planned.Countdown.TheVariants.{Runs, Fallen}
 use Rattle.rme_orders.specs.declared.planned.Planned.{Planned}
@@ -26,14 +26,3 @@ runs_on (After first) steps more (Runs Nothing) (Runs now) is on asked = absurd 
 runs_on Nothing steps more (Runs (After left)) (Runs now) is on asked = absurd on
 runs_on (After first) steps more (Runs (After left)) (Runs Nothing) is on asked = absurd asked
 runs_on (After first) steps more (Runs (After left)) (Runs (After rest)) is on asked = λ small. (let sum = on small in omega (arith, sum, asked.0, is))
-
-pub leaves_of : (planned : Planned) (steps : ℕ) (now : Countdown) → RunsOn planned steps now → Leaves planned steps (left_of now)
-leaves_of planned steps (Runs left) on = on
-leaves_of planned steps Fallen on = absurd on
-
-pub falls_due : (planned : Planned) (steps : ℕ) (old now : Countdown) → RunsOn planned steps old → IsAsked old true now → IsDue planned steps × (left_of now ≡ Nothing)
-falls_due planned steps Fallen now on asked = absurd on
-falls_due planned steps (Runs Nothing) now on asked = absurd asked
-falls_due planned steps (Runs (After left)) (Runs now) on asked = absurd asked
-falls_due Nothing steps (Runs (After left)) Fallen on asked = absurd on
-falls_due (After first) steps (Runs (After left)) Fallen on asked = ((λ small. (let sum = on small in omega (arith, sum, asked))), refl)

@@ -12,7 +12,7 @@ use Rattle.rme_orders.specs.declared.planned.Planned.{Planned}
 use Rattle.rme_session_lines.specs.declared.order.Order.{Order}
 use Rattle.rme_session_lines.specs.declared.order.Order.TheVariants.{Attach, Submit, Resume, Enter, Commit, Withdraw, Last, CrashAfter, Detach}
 use Rattle.rme_world.specs.Seen.{Seen, IsKept}
-use Rattle.rme_desk.specs.Carried.{Carries, IsOf, IsSeatStopped, IsSeated, view_with}
+use Rattle.rme_desk.specs.Carried.{Carries, IsOf, IsSeatStopped, view_with}
 use Rattle.rme_desk.specs.Desks.{seat_by, seat_of, settled_by, view_of}
 use Rattle.rme_desk.specs.Downs.{IsDown}
 use Rattle.rme_desk.specs.Offices.{IsTended, Office, is_held}
@@ -36,11 +36,6 @@ seat_held office session (Some its) worker is = elim (cases_Bool (is_held sessio
       ap (slice_get office.holders) (sym same) ∙ held_some session (slice_get office.holders its) held)
   | inr other ↦ (let at : None ≡ Some worker = rw other at is in absurd (none-some worker at))
 ]
-
--- The worker that a session has stands where an order may leave it.
-pub seat_rests : (office : Office) (stand : Stand) (seat : Option ℕ) → IsTended office → seat ≡ seat_of office stand → IsSeated office.world seat
-seat_rests office stand None tended is = tt
-seat_rests office stand (Some worker) tended is = tended.held worker stand.session (seat_held office stand.session stand.worker worker (sym is))
 
 pub seat_within : (office : Office) (stand : Stand) (seat : Option ℕ) → seat ≡ seat_of office stand → IfSome seat (λ worker. worker < length office.holders)
 seat_within office stand None is = tt

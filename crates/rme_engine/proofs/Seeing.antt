@@ -126,9 +126,6 @@ module _ (old new : Tally) (phase : Phase) (steps : ℕ) (sees : Sees old new ph
         | inr apart ↦ rw (sees.others other apart) (omega arith)
       ]
 
-  pub sees_now : phase ≢ Ready → steps ≤ most_in new phase
-  sees_now some = rw (sees.greater some) (le-max_right (most_in old phase) steps)
-
 module _ (old new : Seen) (worker : ℕ) (before : Tally) (after : Tally) (phase : Phase) (counts : Counts) (next : Phase) (note : Note) (has : HasSeen before old)
     (goes : new.counts ≡ slice_set old.counts worker counts) (counted_so : CountsAfter (counts_of old worker) phase next note counts)
     (sees : Sees before after phase (steps_of new worker phase)) where

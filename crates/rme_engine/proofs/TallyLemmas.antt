@@ -12,7 +12,7 @@ use Rattle.rme_machine.specs.Machine.{Does, Run, Step}
 use Rattle.rme_machine.specs.Shown.{act_of}
 use Rattle.rme_history.specs.declared.tally.Tally.{Tally}
 use Rattle.rme_history.specs.Tallies.{most_in}
-use Rattle.rme_world.specs.Running.{AreLabels, IsRunOfOne}
+use Rattle.rme_world.specs.Running.{AreLabels}
 use Rattle.rme_world.proofs.Happening.{shown_long}
 use Rattle.rme_world.specs.Seen.{Seen, shown_by}
 use Rattle.rme_engine.specs.Tallies.{nothing_seen}
@@ -37,6 +37,3 @@ told_there old new worker note (label ∷ told) (is, are) (mid, step, run) =
     let P : Label → Type 0 = λ l. Step old.shape l (shown_by old) mid in
     let does : Does old.shape (act_of note) (shown_by old) worker mid = subst P (sym (same_Some (Of worker (act_of note)) label is)) step in
     omega (arith, slice_get_within (shown_by old).workers worker does.me does.is_me, shown_long old)
-
-pub stepped_there : (old new : Seen) (worker : ℕ) (note : Note) → IsRunOfOne old (event.Step worker) (answer.Stepped note) new → worker < new.shape.workers
-stepped_there old new worker note run = rw run.shape (told_there old new worker note run.told run.are_labels run.run)

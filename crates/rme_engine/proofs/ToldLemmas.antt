@@ -1,5 +1,5 @@
 -- The notes of a worker are told one after another.
-use Rattle.std.proofs.Common.{◌≡◌, ◌≢◌, ℕ, List, [], ◌∷◌, ◌++◌, refl, sym, ap, ◌∙◌, append_assoc, append-nil, map}
+use Rattle.std.proofs.Common.{◌≡◌, ◌≢◌, ℕ, List, [], ◌∷◌, ◌++◌, refl, sym, ap, ◌∙◌, append_assoc, map}
 use Rattle.rme_lines.specs.declared.cut.Cut.{Cut}
 use Rattle.rme_lines.specs.declared.cut.Cut.TheVariants.{Line, TooLong, End}
 use Rattle.rme_lines.specs.Cuts.{line_read}
@@ -45,7 +45,3 @@ pub told_too_long : (old : State) (cut : Cut) (line bytes : List ℕ) → cut �
 told_too_long old Line line bytes e none = absurd (let bad : Line ≡ TooLong = e in cc)
 told_too_long old TooLong line bytes e none = (none, refl)
 told_too_long old End line bytes e none = absurd (let bad : End ≡ TooLong = e in cc)
-
--- none is left
-pub told_all : (names : List (List ℕ)) (worker : ℕ) (start : List ℕ) (all : List Note) (out : List ℕ) → Told names worker start all out [] → out ≡ start ++ events_text names (noted worker all)
-told_all names worker start all out so_far = sym (append-nil out) ∙ so_far

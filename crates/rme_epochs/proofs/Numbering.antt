@@ -1,6 +1,6 @@
 -- A worker with a job that is not finished has a number over 0.
 use Rattle.std.proofs.Common.{◌≡◌, ℕ, ◌<◌, refl, arith}
-use Rattle.std.specs.Prelude.{Bool, true, false, nat_lt, List, Option, Some, None, IfSome}
+use Rattle.std.specs.Prelude.{Bool, true, false, List, Option, Some, None}
 use Rattle.std.proofs.lemmas.Bool.{ltb-true}
 use Rattle.rme_script.specs.declared.job.Job.{Job}
 use Rattle.rme_program.specs.declared.note.Entry.{Entry}
@@ -12,7 +12,7 @@ use Rattle.rme_machine.specs.Shown.{job_of, lock_owned, stance_by, stance_outsid
 use Rattle.rme_machine.specs.Views.{is_pending, slate_job}
 use Rattle.rme_orders.specs.declared.planned.Planned.{Planned}
 use Rattle.rme_orders.specs.declared.view.Session.{Session}
-use Rattle.rme_orders.specs.declared.view.Session.TheVariants.{Nobody, Ready, Climb, Held}
+use Rattle.rme_orders.specs.declared.view.Session.TheVariants.{Climb, Held}
 use Rattle.rme_world.specs.Looks.{words_seen}
 use Rattle.rme_world.specs.Seen.{Seen, memory_seen, privates_seen}
 use Rattle.rme_desk.specs.Carried.{view_with}

@@ -1,10 +1,9 @@
 -- What is obeyed in a world is obeyed over all epochs, as clients see it.
-use Rattle.std.proofs.Common.{◌≡◌, ◌≢◌, ℕ, ◌+◌, ◌-◌, ◌<◌, ◌≤◌, arith, refl, sym, ap, ◌∙◌, subst, inl, inr}
+use Rattle.std.proofs.Common.{◌≡◌, ℕ, ◌+◌, ◌-◌, ◌<◌, arith, refl, sym, ap, ◌∙◌, subst, inl, inr}
 use Rattle.std.specs.Prelude.{◌==◌, ◌&&◌, zero, suc, nat_lt, Bool, true, false, Option, Some, None, if◌then◌else◌}
 use Rattle.std.proofs.lemmas.Bool.{and_parts, eqb-true, ne_eqb, ltb-true}
 use Rattle.std.proofs.lemmas.Option.{none-some, same_Some}
 use Rattle.rme_words.specs.declared.shape.Shape.{Shape}
-use Rattle.rme_words.specs.declared.refusal.Refusal.{Refusal}
 use Rattle.rme_words.specs.declared.refusal.Refusal.TheVariants.{Busy, NoWorker}
 use Rattle.rme_script.specs.declared.job.Job.{Job}
 use Rattle.rme_program.specs.declared.note.Receipt.{Receipt}
@@ -18,13 +17,12 @@ use Rattle.rme_session_lines.specs.declared.order.Attachment.{Attachment}
 use Rattle.rme_session_lines.specs.declared.order.Order.{Order}
 use Rattle.rme_session_lines.specs.declared.order.Order.TheVariants as order
 use Rattle.rme_session_lines.specs.declared.order.Submission.{Submission}
-use Rattle.rme_orders.specs.Obeyed.{Attaches, Commits, Does, Enters, GoesInside, GoesOn, Hands, HandsInside, IsLeft, IsTried, Lasts, ObeysBy, ObeysWithin, Repeats, Resumes, Submits, Withdraws, Works, told}
+use Rattle.rme_orders.specs.Obeyed.{Attaches, Commits, Does, Enters, GoesInside, GoesOn, Hands, HandsInside, IsLeft, IsTried, Lasts, ObeysBy, ObeysWithin, Resumes, Submits, Withdraws, Works, told}
 use Rattle.rme_orders.specs.Parts.{tried, with_tries}
-use Rattle.rme_orders.specs.Plans.{IsDue, Leaves}
 use Rattle.rme_orders.specs.Refusals.{Refuses, Sizes, attach_refusal, posting_refusal, posting_refusal_within}
-use Rattle.rme_orders.specs.Sights.{IsReceiptOf, Task, finished_with, given_up, its_task, next_task, nobody, waiting_with}
+use Rattle.rme_orders.specs.Sights.{IsReceiptOf, Task, given_up, its_task, next_task, waiting_with}
 use Rattle.rme_orders.specs.declared.planned.Planned.{Planned}
-use Rattle.rme_orders.specs.declared.planned.Planned.TheVariants.{Nothing, After}
+use Rattle.rme_orders.specs.declared.planned.Planned.TheVariants.{Nothing}
 use Rattle.rme_orders.specs.declared.view.PendingWorker.{PendingWorker}
 use Rattle.rme_orders.specs.declared.view.ReadyWorker.{ReadyWorker}
 use Rattle.rme_orders.specs.declared.view.Session.{Session}
@@ -32,7 +30,7 @@ use Rattle.rme_orders.specs.declared.view.Session.TheVariants.{Nobody, Ready, Cl
 use Rattle.rme_orders.specs.declared.view.View.{View}
 use Rattle.rme_orders.proofs.Counting.{leaves_none}
 use Rattle.rme_orders.proofs.Refusing.{last_repeated_within}
-use Rattle.rme_epochs.specs.Over.{last_over, numbers_for, order_within, outcome_over, past_of, pending_over, ready_over, receipt_over, refusal_over, reply_over, session_over, sizes_over, submission_within, view_over}
+use Rattle.rme_epochs.specs.Over.{last_over, numbers_for, order_within, outcome_over, past_of, pending_over, ready_over, receipt_over, reply_over, session_over, sizes_over, submission_within, view_over}
 use Rattle.rme_epochs.specs.Told.{is_repeat, told_of}
 use Rattle.rme_epochs.specs.declared.earlier.Earlier.{Earlier}
 use Rattle.rme_epochs.specs.declared.earlier.Past.{Past}

@@ -1,5 +1,5 @@
 -- What is answered without the world: what became of a last number.
-use Rattle.std.specs.Prelude.{◌==◌, ◌&&◌, nat_lt, Bool, true, false, Option, Some, None, if◌then◌else◌}
+use Rattle.std.specs.Prelude.{◌==◌, ◌&&◌, nat_lt, Bool, Option, Some, None, if◌then◌else◌}
 use Rattle.rme_session_lines.specs.declared.order.Order.{Order}
 use Rattle.rme_session_lines.specs.declared.order.Order.TheVariants as order
 use Rattle.rme_session_lines.specs.declared.order.Submission.{Submission}
@@ -8,7 +8,7 @@ use Rattle.rme_session_lines.specs.declared.session.SessionReply.TheVariants as 
 use Rattle.rme_orders.specs.Obeyed.{told}
 use Rattle.rme_orders.specs.declared.view.ReadyWorker.{ReadyWorker}
 use Rattle.rme_orders.specs.declared.view.Session.{Session}
-use Rattle.rme_orders.specs.declared.view.Session.TheVariants.{Nobody, Ready, Climb, Held}
+use Rattle.rme_orders.specs.declared.view.Session.TheVariants.{Ready}
 
 -- A submission asks again for the last number.
 abbrev pub is_repeat : ReadyWorker → Submission → Bool

@@ -1,5 +1,5 @@
 -- Reading items one after another, as a loop does.
-use Rattle.std.proofs.Common.{◌≡◌, ℕ, suc, ◌-◌, ◌+◌, ◌≤◌, ◌<◌, List, [], ◌∷◌, ◌++◌, Option, Some, None, refl, sym, ◌∙◌, arith}
+use Rattle.std.proofs.Common.{◌≡◌, ℕ, suc, ◌-◌, ◌+◌, ◌<◌, List, [], ◌∷◌, ◌++◌, Option, Some, None, refl, sym, ◌∙◌, arith}
 use Rattle.rme_image.specs.Reading.{many_at}
 
 module _ {A : Type 0} (read : List A → List ℕ → Option (A × List ℕ)) (n i : ℕ) (items : List A) (bytes : List ℕ) (total : Option (List A × List ℕ)) where
@@ -13,10 +13,4 @@ module _ {A : Type 0} (read : List A → List ℕ → Option (A × List ℕ)) (n
   many_ends lt h so_far =
       let k : n - i ≡ suc (n - (i + 1)) = omega arith in
       let one : many_at read (n - i) items bytes ≡ None = rw (k, h) refl in
-      sym so_far ∙ one
-
-  pub many_done : n ≤ i → many_at read (n - i) items bytes ≡ total → total ≡ Some (items, bytes)
-  many_done le so_far =
-      let k : n - i ≡ 0 = omega arith in
-      let one : many_at read (n - i) items bytes ≡ Some (items, bytes) = rw k refl in
       sym so_far ∙ one

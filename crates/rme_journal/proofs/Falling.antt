@@ -15,9 +15,6 @@ use Rattle.rme_journal.proofs.Growing.{writes_then}
 pub record FallsOn (names : List (List ℕ)) (first : List ℕ) (privates : List (Option Private)) (worker : ℕ) (now : List ℕ) : Type 0 where
   pub on : (after : List ℕ) → WritesAll names now (falls_from worker (drop worker privates)) after → WritesAll names first (falls_from 0 privates) after
 
-pub falls_first : (names : List (List ℕ)) (first : List ℕ) (privates : List (Option Private)) → FallsOn names first privates 0 first
-falls_first names first privates = record { on = λ after all. all }
-
 one_fall : (worker : ℕ) (private : Option Private) (rest : List (Option Private)) → falls_from worker (private ∷ rest) ≡ fall_commands worker (is_some private) ++ falls_from (suc worker) rest
 one_fall worker None rest = refl
 one_fall worker (Some private) rest = refl

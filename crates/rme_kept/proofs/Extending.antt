@@ -82,9 +82,6 @@ module _ (known knows : List ℕ → Type 0) (so : (lines : List ℕ) → known 
 pub served_once : (known : List ℕ → Type 0) (names : List (List ℕ)) (old : Stand) (its : Order) (now : Stand) (answer : SessionReply) → Tries known names old its now answer → Served known names old its now answer
 served_once known names old its now answer tries = (0, tries)
 
-pub extends_none : (names : List (List ℕ)) (its : Order) (stand : Stand) (answer : SessionReply) (told : List Entry) → Extends names its stand answer told stand answer told
-extends_none names its stand answer told old served = served
-
 -- One try more.
 pub extends_on : (names : List (List ℕ)) (its next : Order) (start mid now : Stand) (begun first last told : SessionReply) (from so_far by_next later : List Entry) → Extends names its start begun from mid first so_far → CanGoOn first
     → next ≡ once_more its → Tries (IsTold by_next) names mid next now last → IsPrefix so_far later → IsPrefix by_next later → told ≡ answer_as first last → Extends names its start begun from now told later

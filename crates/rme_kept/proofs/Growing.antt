@@ -1,8 +1,8 @@
 -- What was written stands behind what was there.
-use Rattle.std.proofs.Common.{◌≡◌, ℕ, ◌≤◌, List, [], ◌∷◌, ◌++◌, length, drop, Option, Some, sym, subst, ap, ◌∙◌, arith, append_assoc, length-append}
+use Rattle.std.proofs.Common.{◌≡◌, ℕ, List, [], ◌∷◌, ◌++◌, length, drop, Option, Some, sym, subst, ap, ◌∙◌, append_assoc}
 use Rattle.std.specs.Prelude.{IfSome}
 use Rattle.std.proofs.lemmas.List.{append-nil}
-use Rattle.std.proofs.Math.Seq.{drop-append_seam, drop-length}
+use Rattle.std.proofs.Math.Seq.{drop-append_seam}
 use Rattle.rme_desk.specs.Offices.{Office}
 use Rattle.rme_epochs.specs.Records.{IsWritten, record_of}
 use Rattle.rme_ledger.specs.Rules.{Telling}
@@ -21,15 +21,8 @@ module _ (names : List (List ℕ)) (old : Office) (before : List ℕ) (new : Off
   rest : (rest : List ℕ) × (after ≡ before ++ rest)
   rest = writes_rest names before (commands_done written.0) after written.2
 
-  pub written_longer : length before ≤ length after
-  written_longer = omega (arith, ap length rest.1, length-append before rest.0)
-
   pub written_behind : before ++ drop (length before) after ≡ after
   written_behind = ap (λ w. before ++ w) (ap (λ l. drop (length before) l) rest.1 ∙ drop-append_seam before rest.0) ∙ sym rest.1
-
--- nothing stands behind the end
-pub nothing_behind : (waits lines : List ℕ) (before : ℕ) → length lines ≡ before → waits ≡ waits ++ drop before lines
-nothing_behind waits lines before all = sym (ap (λ w. waits ++ w) (ap (λ n. drop n lines) (sym all) ∙ drop-length lines) ∙ append-nil waits)
 
 -- who tells has told what the desk has
 pub waits_some : (found : Option Telling) (teller : Telling) (lines : List ℕ) → found ≡ Some teller → IfSome found (λ (t : Telling). t.waits ≡ lines) → teller.waits ≡ lines

@@ -7,9 +7,6 @@ use Rattle.rme_ledger.specs.Rules.{IsMark}
 use Rattle.rme_ledger.proofs.Fronts.{prefix_self, prefix_trans, prefix_shorter}
 
 module _ {X : Type 0} (holds : X → Option (List ℕ)) where
-  pub mark_stays : (count : ℕ) (xs ys : List Entry) → IsPrefix xs ys → IsMark holds count xs → IsMark holds count ys
-  mark_stays count xs ys p is = record { start = is.start; begins = prefix_trans is.start xs ys is.begins p; counted = is.counted; held = is.held }
-
   -- a beginning of what was held was held
   pub held_before : (xs ys : List Entry) → IsPrefix xs ys → AreHeld holds ys → AreHeld holds xs
   held_before xs ys p held start q some = held start (prefix_trans start xs ys q p) some

@@ -190,12 +190,6 @@ piece_lost (Some before) None after line s k = absurd s
 piece_lost (Some before) (Some now) None line s k = absurd k
 piece_lost (Some before) (Some now) (Some after) line (seen, e, piece, kept_of) k = (seen, piece, e ∙ ap (λ l. seen ++ l) (sym k))
 
--- nothing was taken
-pub none_lost : (before after : Option (List ℕ)) → Keeps before after → TakesPiece before after
-none_lost None after k = tt
-none_lost (Some before) None k = absurd k
-none_lost (Some before) (Some after) k = ([], tt, sym k)
-
 pub whole_ended : (before now after : Option (List ℕ)) (line piece : List ℕ) → Saw 65537 before now line → IsPiece piece → Consumes now after (piece ++ 10 ∷ []) → TakesWhole before after
 whole_ended None now after line piece s p c = tt
 whole_ended (Some before) None after line piece s p c = absurd s

@@ -9,19 +9,6 @@ use Rattle.rme_lines.specs.Puts.{AppendsFront, Gathers}
 pub gathers_none : (held : Option (List ℕ)) (kept : List ℕ) → Gathers held kept [] held kept
 gathers_none held kept = record { front = []; put = Appends-nil held; rest = append-nil kept }
 
--- all that was kept back was written
-pub gathers_written : (held holds : Option (List ℕ)) (kept keeps : List ℕ) → Appends held holds kept → keeps ≡ [] → Gathers held kept [] holds keeps
-gathers_written held holds kept keeps put none = record { front = kept; put = put; rest = ap (λ l. kept ++ l) (sym none) }
-
--- bytes are kept back behind the others
-pub gathers_kept : (held : Option (List ℕ)) (kept bytes keeps : List ℕ) → keeps ≡ kept ++ bytes → Gathers held kept bytes held keeps
-gathers_kept held kept bytes keeps e = record { front = []; put = Appends-nil held; rest = sym e }
-
--- and after all the others were written
-pub gathers_alone : (held holds : Option (List ℕ)) (kept bytes mid keeps : List ℕ) → Appends held holds kept → mid ≡ [] → keeps ≡ mid ++ bytes → Gathers held kept bytes holds keeps
-gathers_alone held holds kept bytes mid keeps put none e =
-    record { front = kept; put = put; rest = ap (λ l. kept ++ l) (sym (e ∙ ap (λ l. l ++ bytes) none)) }
-
 -- all was written
 pub gathers_all : (held mid holds : Option (List ℕ)) (kept bytes keeps : List ℕ) → Appends held mid kept → Appends mid holds bytes → keeps ≡ [] → Gathers held kept bytes holds keeps
 gathers_all held mid holds kept bytes keeps put more none =

@@ -1,10 +1,8 @@
 -- A reader of lines comes to an end.
-use Rattle.std.proofs.Common.{◌≡◌, ◌≢◌, ℕ, ◌-◌, Option, Some, None, ◌<◌, ◌≤◌, List, [], length, true, false, refl, sym, ap, ◌∙◌, arith, inl, inr}
-use Rattle.std.proofs.lemmas.Bool.{cases_Bool, cases_eq, cases_lt}
+use Rattle.std.proofs.Common.{◌≡◌, ℕ, ◌-◌, Option, Some, None, ◌<◌, ◌≤◌, List, [], length, true, false, refl, sym, ap, ◌∙◌, arith, inl, inr}
+use Rattle.std.proofs.lemmas.Bool.{cases_Bool, cases_lt}
 use Rattle.std.specs.Io.KnownBytes.{IsAtEnd, prepend_known}
-use Rattle.rme_lines.specs.declared.cut.Cut.TheVariants.{End}
 use Rattle.rme_lines.specs.declared.lines.LineReader.{LineReader}
-use Rattle.rme_lines.specs.Cuts.{last_cut_of}
 use Rattle.rme_lines.specs.Readers.{FailsToRead, ReadsNoMore, TakesOn, bytes_left, most_lines, unread}
 
 -- so far in a line: some reads were made, and none where one had given no byte
@@ -26,14 +24,6 @@ pub came_no_more : {R : Type 0} (old mid new : LineReader R) → (old.ended ≡ 
 came_no_more old mid new first then e =
     let a = first e in
     let b = then a.ended in record { reader = b.reader ∙ a.reader; reads = b.reads ∙ a.reads; ended = b.ended }
-
--- a line that isn't the end has a byte, where no newline was found
-pub last_some : (line : List ℕ) → last_cut_of line ≢ End → 0 < length line
-last_some line ne =
-    elim (cases_eq (length line) 0) [
-      | inl none ↦ absurd (ne (rw none refl))
-      | inr some ↦ omega (arith, some)
-    ]
 
 -- a piece was taken after a byte was there or a read was made
 pub takes_fewer : {R : Type 0} (now mid new : LineReader R) → most_lines mid ≤ most_lines now → (mid.end ≤ mid.start → most_lines mid < most_lines now) → TakesOn mid new

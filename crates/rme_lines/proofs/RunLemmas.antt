@@ -143,10 +143,6 @@ none_wanting : (input : Option (List ℕ)) → AllButLast input input []
 none_wanting None = tt
 none_wanting (Some bytes) = ([], [], refl, lines_none, omega arith)
 
-none_read : (input : Option (List ℕ)) → WereRead input input []
-none_read None = tt
-none_read (Some bytes) = ([], refl, whole_lines_piece [] tt)
-
 -- ---- a turn's cut
 
 pub cut_off : (left later : Option (List ℕ)) (cut : Cut) (line : List ℕ) → Cuts left later cut line → (cut ≡ End → ⊥) → CutsOff left later (line_read cut line)

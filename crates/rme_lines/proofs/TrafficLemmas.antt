@@ -23,9 +23,6 @@ grows_more (Some before) (Some now) (Some after) events more g h = h ∙ ap (λ 
 pub last_after : (events more : List Event) → LastBroke more → LastBroke (events ++ more)
 last_after events more (front, e) = (events ++ front, ap (λ l. events ++ l) e ∙ sym (append_assoc events front (broke ∷ [])))
 
-pub last_one : LastBroke (broke ∷ [])
-last_one = ([], refl)
-
 -- ---- writes
 
 pub writes_none : (held : Option (List Event)) → MakesWrites held held

@@ -1,14 +1,12 @@
 -- The clauses `nodes`, `one lock each` and `numbers`, as they speak of single nodes and of what is held, against the fact.
-use Rattle.std.proofs.Common.{◌≡◌, ℕ, ◌<◌, ◌≤◌, ◌↔◌, List, sym, ◌∙◌, inl, inr, arith}
-use Rattle.std.specs.Prelude.{true, false}
-use Rattle.std.proofs.lemmas.Bool.{cases_lt, lt-ltb, le-ltb}
+use Rattle.std.proofs.Common.{◌≡◌, ℕ, ◌<◌, ◌↔◌, List, sym, ◌∙◌}
 use Rattle.rme_words.specs.declared.shape.Shape.{Shape}
 use Rattle.rme_words.specs.declared.address.Address.{Address}
 use Rattle.rme_tree.specs.Rooted.{Rooted, IsLocal}
 use Rattle.rme_tree.specs.Nodes.{nodes_of, held_in}
 use Rattle.rme_tree.proofs.Local.{local_law}
 use Rattle.rme_program.specs.declared.note.Entry.{Entry}
-use Rattle.rme_machine.specs.Views.{WorkerWords, worker_words, is_pending, site_of}
+use Rattle.rme_machine.specs.Views.{WorkerWords, worker_words, site_of}
 use Rattle.rme_machine.specs.Shown.{Privates}
 use Rattle.rme_machine.specs.Fact.{Fact}
 
@@ -38,19 +36,3 @@ pub record IsStaked (own : WorkerWords) (lock : ℕ) : Type 0 where
   pub some : 0 < own.begun
   pub pending : own.done < own.begun → own.slate_lock ≡ lock
   pub past : own.done ≡ own.begun → own.at ≡ lock
-
-pub staked : (own : WorkerWords) (lock : ℕ) → own.done ≤ own.begun → ((0 < own.begun) × (site_of own ≡ lock)) ↔ IsStaked own lock
-staked own lock few = (
-  (λ stake. record {
-    some = stake.0;
-    pending = λ less. let pending : is_pending own ≡ true = lt-ltb own.done own.begun less in rw pending at stake.1;
-    past = λ same. let past : is_pending own ≡ false = le-ltb own.done own.begun (omega arith) in rw past at stake.1;
-  }),
-  (λ is. (
-    is.some,
-    elim (cases_lt own.done own.begun) [
-      | inl less ↦ (let pending : is_pending own ≡ true = lt-ltb own.done own.begun less in rw pending (is.pending less))
-      | inr more ↦ (let past : is_pending own ≡ false = le-ltb own.done own.begun more in rw past (is.past (omega arith)))
-    ],
-  )),
-)

@@ -208,10 +208,6 @@ module _ (s : Shape) (mem mem' : Address → ℕ) (privs privs' : Privates) (es 
           (Some record { worker = w; begun = b + 1; stage = Climbing record { lock = slate.job.lock; held = 0 } }) (withdrawn_of es w (worker_words mem w).done))
           (slate_is_job all)
 
-  -- The three kinds of store of a slate.
-  next_slate : Slate
-  next_slate = record { job = slate.job; stored = slate.stored + 1 }
-
   lock_stored : Wrote mem mem' (SlateLock w) slate.job.lock → slate.stored ≡ 0
       → Became privs privs' w (Some (poster w b record { job = slate.job; stored = slate.stored + 1 })) → Goes s mem mem' privs privs' es es w act.Still
   lock_stored wrote first became =

@@ -17,7 +17,7 @@ use Rattle.rme_machine.specs.declared.stance.Stance.{Stance}
 use Rattle.rme_machine.specs.Histories.{last_by}
 use Rattle.rme_machine.specs.Shown.{Privates, lock_owned, shown, shown_worker, job_of}
 use Rattle.rme_machine.specs.Shown as shown
-use Rattle.rme_machine.specs.ShownCells.{ShownCells, ShowsTables, AreCells, owner_by, owner_at, stance_of_owner, owners_stance, is_settled, settled_by}
+use Rattle.rme_machine.specs.ShownCells.{ShownCells, AreCells, owner_by, owner_at, stance_of_owner, owners_stance, is_settled, settled_by}
 use Rattle.rme_machine.specs.ShownCells as cells
 use Rattle.rme_machine.specs.Views.{worker_words, lock_words, is_pending, slate_job}
 use Rattle.rme_machine.specs.Fact.{Fact, StandsOwned, Stands}

@@ -48,13 +48,6 @@ module _ (names : List (List ℕ)) (field : List ℕ) where
       let none : (is_padded field && may_add names (text_in field)) ≡ false = unnamed (is_padded field) (nat_lt 0 (length (text_in field)) && nat_le (length (text_in field)) 32 && list_all is_name_byte (text_in field)) (nat_lt (length names) 16) (not (list_any (bytes_eq (text_in field)) names)) e in
       rw none refl
 
-  pub not_added : may_add names (text_in field) ≡ false → None ≡ with_name names field
-  not_added e = let both : (is_padded field && may_add names (text_in field)) ≡ false = and_false (is_padded field) (may_add names (text_in field)) e in rw both refl
-    where
-      and_false : (a b : Bool) → b ≡ false → (a && b) ≡ false
-      and_false true b e = e
-      and_false false b e = refl
-
   pub added : is_padded field ≡ true → may_add names (text_in field) ≡ true → Some (names ++ text_in field ∷ []) ≡ with_name names field
   added padded may = rw (padded, may) refl
 
@@ -70,12 +63,6 @@ module _ (bytes : List ℕ) (n lock : ℕ) (names : List (List ℕ)) (total : Op
   names_end less is so_far =
       let k : n - lock ≡ suc (n - (lock + 1)) = omega arith in
       let one : with_names bytes (n - lock) lock names ≡ None = rw (k, is) refl in
-      sym so_far ∙ one
-
-  pub names_done : n ≤ lock → with_names bytes (n - lock) lock names ≡ total → total ≡ Some names
-  names_done less so_far =
-      let k : n - lock ≡ 0 = omega arith in
-      let one : with_names bytes (n - lock) lock names ≡ Some names = rw k refl in
       sym so_far ∙ one
 
 -- ---- the words

@@ -152,9 +152,6 @@ slate_known s lock turn n words script read = rw (eq-eqb (3 * n) (3 * n) refl) (
 pub good_script : (s : Shape) (n : ℕ) (words : List ℕ) (script : Program) → IsRead s n words → Some script ≡ script_of n words → IsScript s.cells script
 good_script s n words script its read = subst (λ (p : Program). IsScript s.cells p) (same_Some its.script script (sym its.read ∙ sym read)) its.good
 
-pub some_script : (s : Shape) (n : ℕ) (words : List ℕ) → IsRead s n words → None ≡ script_of n words → ⊥
-some_script s n words its none = let e : None ≡ Some its.script = none ∙ its.read in cc
-
 -- It has as many operations as was said.
 pub script_count : (n : ℕ) (words : List ℕ) (p : Program) → Some p ≡ script_of n words → p.n ≡ n
 script_count n words p read = elim (cases_Bool (nat_lt 8 n)) [

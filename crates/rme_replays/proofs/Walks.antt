@@ -1,5 +1,5 @@
 -- A walk from alike worlds.
-use Rattle.std.proofs.Common.{◌≡◌, ℕ, zero, suc, List, refl, sym, ap, subst, ◌∙◌}
+use Rattle.std.proofs.Common.{◌≡◌, ℕ, zero, suc, List, refl, sym, ap, subst}
 use Rattle.std.specs.Prelude.{Bool, true, false, Option, Some, None, Result, Ok, Err, ◌<◌}
 use Rattle.rme_words.specs.declared.refusal.Refusal.{Refusal}
 use Rattle.rme_words.specs.declared.shape.Shape.{Shape}

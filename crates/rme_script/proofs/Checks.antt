@@ -1,8 +1,7 @@
 -- The loop of `check`: what is left of the operations says what all of them say.
-use Rattle.std.proofs.Common.{◌≡◌, ℕ, ◌+◌, ◌≤◌, Bool, true, false, ◌&&◌, nat_lt, Some, List, [], ◌∷◌, length, drop, slice_get, refl, Ok, Err, sym, ap, ◌∙◌}
+use Rattle.std.proofs.Common.{◌≡◌, ℕ, ◌+◌, ◌≤◌, Bool, true, false, ◌&&◌, nat_lt, Some, List, [], ◌∷◌, drop, slice_get, refl, Err, sym, ap, ◌∙◌}
 use Rattle.std.specs.List.{All, list_all}
 use Rattle.std.proofs.lemmas.Bool.{and_parts, ltb-true, le-ltb}
-use Rattle.std.proofs.lemmas.List.{drop_all}
 use Rattle.std.proofs.lemmas.List.Elements.{All-nil, All-cons}
 use Rattle.rme_script.specs.declared.op.Op.{Op}
 use Rattle.rme_script.specs.declared.op.Op.TheVariants.{Get, Set, Add, Copy, Swap}
@@ -24,9 +23,6 @@ module _ (cells i : ℕ) (ops : List Op) (o : Op) (here : slice_get ops i ≡ So
       ∙ ap (λ (xs : List Op). list_all (fits cells) xs) (drop_at ops i o here)
       ∙ ap (λ (b : Bool). b && list_all (fits cells) (drop (i + 1) ops)) bad
 
-pub check_end : (cells i : ℕ) (ops : List Op) → length ops ≤ i → list_all (fits cells) (drop i ops) ≡ list_all (fits cells) ops → list_all (fits cells) ops ≡ true
-check_end cells i ops past so_far = sym so_far ∙ ap (λ (xs : List Op). list_all (fits cells) xs) (drop_all i ops past)
-
 fits_within : (cells : ℕ) (o : Op) → fits cells o ≡ true → IsWithin cells o
 fits_within cells (Get c) t = ltb-true c cells t
 fits_within cells (Set c v) t = ltb-true c cells t
@@ -44,6 +40,3 @@ all_within cells (o ∷ os) t =
 module _ (cells : ℕ) (p : Program) (few : p.n ≤ 8) where
   pub check_no_cell : list_all (fits cells) p.ops ≡ false → Err NoCell ≡ check_of cells p
   check_no_cell bad = let short : nat_lt 8 p.n ≡ false = le-ltb 8 p.n few in rw (short, bad) refl
-
-  pub check_ok : list_all (fits cells) p.ops ≡ true → Ok tt ≡ check_of cells p
-  check_ok good = let short : nat_lt 8 p.n ≡ false = le-ltb 8 p.n few in rw (short, good) refl

@@ -1,9 +1,8 @@
 -- The loop of `read_slate`: what was read, and what is left to read, give what all the words give.
-use Rattle.std.proofs.Common.{◌≡◌, ℕ, suc, ◌+◌, ◌-◌, ◌*◌, ◌<◌, ◌≤◌, nat_lt, false, Option, Some, None, List, [], ◌∷◌, ◌++◌, length, get_or, set, take, drop, replicate, refl, sym, ap, ◌∙◌, arith}
+use Rattle.std.proofs.Common.{◌≡◌, ℕ, suc, ◌+◌, ◌-◌, ◌*◌, ◌<◌, ◌≤◌, nat_lt, false, Option, Some, None, List, [], ◌∷◌, ◌++◌, length, get_or, set, take, drop, refl, sym, ap, ◌∙◌, arith}
 use Rattle.std.proofs.lemmas.Bool.{le-ltb}
-use Rattle.std.proofs.lemmas.List.{append_assoc, append-nil, length-set, length-replicate, take_all, drop_more, take_more_set}
+use Rattle.std.proofs.lemmas.List.{append_assoc, length-set, drop_more, take_more_set}
 use Rattle.rme_script.specs.declared.op.Op.{Op}
-use Rattle.rme_script.specs.declared.op.Op.TheVariants.{Get}
 use Rattle.rme_script.specs.Slates.{op_of, joined, ops_of, script_of}
 
 -- What was read, before what is read later.
@@ -56,25 +55,3 @@ module _ (n : ℕ) (words : List ℕ) (i : ℕ) (ops : List Op) (few : n ≤ 8) 
       let short : nat_lt 8 n ≡ false = le-ltb 8 n few in
       let all : ops_of n words ≡ None = sym r.so_far ∙ ap (λ (x : Option (List Op)). before (take i ops) x) (next ∙ ap (λ (x : Option Op). joined x rest) e) in
       rw (short, all) refl
-
-pub reading_begin : (n : ℕ) (words : List ℕ) → Reading n words 0 (replicate n (Get 0))
-reading_begin n words =
-    let all : n - 0 ≡ n = omega arith in
-    record { so_far = rw all (begun (ops_of n words)); whole = length-replicate n (Get 0) }
-  where
-    begun : (rest : Option (List Op)) → before [] rest ≡ rest
-    begun None = refl
-    begun (Some ops) = refl
-
-pub reading_end : (n : ℕ) (words : List ℕ) (i : ℕ) (ops : List Op) → n ≤ 8 → n ≤ i → i ≤ n → Reading n words i ops → Some record { n = n; ops = ops } ≡ script_of n words
-reading_end n words i ops few past up r =
-    let here : i ≡ n = omega (arith, past, up) in
-    let nothing : n - i ≡ 0 = omega (arith, past) in
-    let whole : take n ops ≡ ops = take_all n ops (omega (arith, r.whole)) in
-    let all : ops_of n words ≡ Some ops = sym r.so_far
-    ∙ ap (λ (k : ℕ). before (take i ops) (ops_of k (drop (3 * i) words))) nothing
-    ∙ ap (λ (xs : List Op). Some xs) (append-nil (take i ops))
-    ∙ ap (λ (k : ℕ). Some (take k ops)) here
-    ∙ ap (λ (xs : List Op). Some xs) whole in
-    let short : nat_lt 8 n ≡ false = le-ltb 8 n few in
-    rw (short, all) refl

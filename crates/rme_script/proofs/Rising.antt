@@ -1,8 +1,6 @@
 -- The rising list of the numbers that pass a test: its step, its length, its elements, and the cells of a mask.
-use Rattle.std.proofs.Common.{◌≡◌, ℕ, zero, suc, ◌+◌, ◌-◌, ◌<◌, ◌≤◌, Bool, true, false, ◌==◌, List, [], ◌∷◌, ◌++◌, length, refl, sym, subst, ap, ◌∙◌, inl, inr, arith, add-one}
-use Rattle.std.specs.List.{All, Contains}
+use Rattle.std.proofs.Common.{◌≡◌, ℕ, zero, suc, ◌+◌, ◌-◌, ◌<◌, ◌≤◌, Bool, true, false, ◌==◌, List, [], ◌∷◌, ◌++◌, length, refl, sym, ap, ◌∙◌, inl, inr, arith, add-one}
 use Rattle.std.proofs.lemmas.Bool.{cases_Bool, cases_eq}
-use Rattle.std.proofs.lemmas.List.Elements.{All-nil, All-cons, Contains-append_left, Contains-append_right, Contains-push}
 use Rattle.rme_script.specs.declared.op.Op.{Op}
 use Rattle.rme_script.specs.Cells.{named_by, bit_of, IsMask, has, passing, cells_named, cells_from, cells_of}
 
@@ -52,10 +50,6 @@ pub cells_named_most : (mask cells : ℕ) → length (cells_named mask cells) �
 unfolding cells_named
 cells_named_most mask cells = passing_most (has mask) 0 cells
 
-pub cells_of_most : (ops : List Op) (cells : ℕ) → length (cells_of ops cells) ≤ cells
-unfolding cells_of
-cells_of_most ops cells = passing_most (named_by ops) 0 cells
-
 -- ---- the cells of a script's mask are the script's cells
 
 passing_same : (test other : ℕ → Bool) → ((c : ℕ) → test c ≡ other c) → (from count : ℕ) → passing test from count ≡ passing other from count
@@ -101,46 +95,6 @@ pub count_end : (mask cells c count : ℕ) → cells ≤ c → count + length (c
 count_end mask cells c count past h =
     let e : length (cells_from mask c cells) ≡ 0 = ap (λ (xs : List ℕ). length xs) (cells_from_end mask c cells past) in
     omega (arith, e, h)
-
--- ---- which cells
-
-passing_all : (test : ℕ → Bool) (from count cells : ℕ) → from + count ≤ cells → All (λ (c : ℕ). (c < cells) × (test c ≡ true)) (passing test from count)
-passing_all test from zero cells l = All-nil (λ (c : ℕ). (c < cells) × (test c ≡ true))
-passing_all test from (suc count) cells l =
-    let rest : All (λ (c : ℕ). (c < cells) × (test c ≡ true)) (passing test (suc from) count) = passing_all test (suc from) count cells (omega (arith, l)) in
-    elim (cases_Bool (test from)) [
-      | inl t ↦ subst (λ (xs : List ℕ). All (λ (c : ℕ). (c < cells) × (test c ≡ true)) xs) (sym (passing_hit test from count t))
-          (All-cons (λ (c : ℕ). (c < cells) × (test c ≡ true)) from (passing test (suc from) count) (omega (arith, l), t) rest)
-      | inr f ↦ subst (λ (xs : List ℕ). All (λ (c : ℕ). (c < cells) × (test c ≡ true)) xs) (sym (passing_miss test from count f)) rest
-    ]
-
-passing_has : (test : ℕ → Bool) (from count c : ℕ) → from ≤ c → c < from + count → test c ≡ true → Contains (passing test from count) c
-passing_has test from zero c a b t = absurd (omega (arith, a, b))
-passing_has test from (suc count) c a b t = elim (cases_eq c from) [
-  | inl q ↦ subst (λ (xs : List ℕ). Contains xs c) (sym (passing_hit test from count (ap (λ (k : ℕ). test k) (sym q) ∙ t)))
-      (subst (λ (k : ℕ). Contains (k ∷ passing test (suc from) count) c) q (Contains-append_left (c ∷ []) (passing test (suc from) count) c (Contains-push [] c)))
-  | inr n ↦ let rest : Contains (passing test (suc from) count) c = passing_has test (suc from) count c (omega (arith, a, n)) (omega (arith, b)) t in
-      elim (cases_Bool (test from)) [
-        | inl u ↦ subst (λ (xs : List ℕ). Contains xs c) (sym (passing_hit test from count u)) (Contains-append_right (from ∷ []) (passing test (suc from) count) c rest)
-        | inr u ↦ subst (λ (xs : List ℕ). Contains xs c) (sym (passing_miss test from count u)) rest
-      ]
-]
-
-pub cells_named_all : (mask cells : ℕ) → All (λ (c : ℕ). (c < cells) × (has mask c ≡ true)) (cells_named mask cells)
-unfolding cells_named
-cells_named_all mask cells = passing_all (has mask) 0 cells cells (omega arith)
-
-pub cells_named_has : (mask cells c : ℕ) → c < cells → has mask c ≡ true → Contains (cells_named mask cells) c
-unfolding cells_named
-cells_named_has mask cells c l t = passing_has (has mask) 0 cells c (omega arith) (omega (arith, l)) t
-
-pub cells_of_all : (ops : List Op) (cells : ℕ) → All (λ (c : ℕ). (c < cells) × (named_by ops c ≡ true)) (cells_of ops cells)
-unfolding cells_of
-cells_of_all ops cells = passing_all (named_by ops) 0 cells cells (omega arith)
-
-pub cells_of_has : (ops : List Op) (cells c : ℕ) → c < cells → named_by ops c ≡ true → Contains (cells_of ops cells) c
-unfolding cells_of
-cells_of_has ops cells c l t = passing_has (named_by ops) 0 cells c (omega arith) (omega (arith, l)) t
 
 -- ---- the cells before a cell, and the cells from it on
 

@@ -1,5 +1,5 @@
 -- The loop of `eval`: what is left of the operations, from the row so far, gives what all of them give.
-use Rattle.std.proofs.Common.{◌≡◌, ℕ, ◌+◌, ◌≤◌, false, Some, List, length, get_or, drop, slice_get, subst, refl, sym, ap, ◌∙◌}
+use Rattle.std.proofs.Common.{◌≡◌, ℕ, ◌+◌, ◌≤◌, false, Some, List, length, get_or, drop, slice_get, subst, sym, ap, ◌∙◌}
 use Rattle.std.proofs.lemmas.List.{drop_all}
 use Rattle.rme_script.specs.declared.op.Op.{Op}
 use Rattle.rme_script.specs.Cells.{named_by}
@@ -10,9 +10,6 @@ use Rattle.rme_script.proofs.Laws.{op_row_length, eval_unnamed, eval_local}
 pub record Going (ops : List Op) (start : List ℕ) (i : ℕ) (row : List ℕ) (reply : ℕ) : Type 0 where
   pub same : run_from record { row = row; reply = reply } (drop i ops) ≡ eval_of ops start
   pub long : length row ≡ length start
-
-pub going_start : (ops : List Op) (start : List ℕ) → Going ops start 0 start 0
-going_start ops start = record { same = refl; long = refl }
 
 pub going_next : (ops : List Op) (start : List ℕ) (i : ℕ) (o : Op) (row new : List ℕ) (reply value : ℕ) → slice_get ops i ≡ Some o → new ≡ op_row o row → value ≡ op_value o row → Going ops start i row reply → Going ops start (i + 1) new value
 unfolding run_from

@@ -10,8 +10,8 @@ use borrow.Rule.Slice.PartMut.{put_mid}
 use Rattle.rme_script.specs.declared.op.Op.{Op}
 use Rattle.rme_script.specs.declared.op.Op.TheVariants.{Get, Set, Add, Copy, Swap}
 use Rattle.rme_script.specs.Programs.{Program}
-use Rattle.rme_script.specs.Scripts.{IsWithin, IsScript}
-use Rattle.rme_script.specs.Slates.{op_words, words_of, slate_of, IsSlate, script_of}
+use Rattle.rme_script.specs.Scripts.{IsWithin}
+use Rattle.rme_script.specs.Slates.{op_words, words_of, slate_of, script_of}
 use Rattle.rme_script.proofs.Lists.{take_next}
 use Rattle.rme_script.proofs.Slates.{slate_back}
 
@@ -88,7 +88,3 @@ slate_at ops at o words part inside here is rest =
     ∙ sym (words_at ops (at / 3) o part here (omega (arith, rest)))
     ∙ ap (λ (k : ℕ). get_or (words_of ops) k 0) split
     ∙ sym (get_or_append_left (words_of ops) (replicate (24 - 3 * length ops) 0) 0 at (omega (arith, inside, words_length ops)))
-
--- Words that begin with those of a script are its slate.
-pub words_slate : (p : Program) (words : List ℕ) → IsScript (2 ^ 32) p → take (3 * p.n) words ≡ words_of p.ops → IsSlate p.n words p
-words_slate p words s f = record { counted = refl; script = s; first = f }

@@ -27,10 +27,6 @@ IsScript_weaker small large p l s = record {
   within = All-weaker (IsWithin small) (IsWithin large) (IsWithin_weaker small large l) p.ops s.within;
 }
 
--- What `named` asks, and what a slate asks, of a script that passes `check` for a shape.
-pub IsScript_sixteen : (shape : Shape) (p : Program) → IsScript shape.cells p → IsScript 16 p
-IsScript_sixteen shape p s = IsScript_weaker shape.cells 16 p shape.counted.limits.few_cells s
-
 pub IsScript_slate : (shape : Shape) (p : Program) → IsScript shape.cells p → IsScript (2 ^ 32) p
 IsScript_slate shape p s = let few : shape.cells ≤ 16 = shape.counted.limits.few_cells in IsScript_weaker shape.cells (2 ^ 32) p (omega (arith, few)) s
 

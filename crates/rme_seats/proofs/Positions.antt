@@ -1,7 +1,7 @@
 -- Where words lie: apart from each other, and within the table; the words of the table by their numbers.
-use Rattle.std.proofs.Common.{◌≡◌, ◌≢◌, ℕ, zero, suc, ◌+◌, ◌-◌, ◌*◌, ◌/◌, ◌%◌, ◌^◌, ◌<◌, ◌≤◌, List, [], ◌∷◌, ◌++◌, length, get_or, refl, sym, ◌∙◌, ap, inl, inr, arith, get_or-set_other, get_or-set_same}
+use Rattle.std.proofs.Common.{◌≡◌, ◌≢◌, ℕ, zero, suc, ◌+◌, ◌-◌, ◌*◌, ◌/◌, ◌%◌, ◌<◌, ◌≤◌, List, [], ◌∷◌, ◌++◌, length, get_or, refl, sym, ◌∙◌, ap, inl, inr, arith, get_or-set_other, get_or-set_same}
 use Rattle.std.specs.Prelude.{nat_lt, slice_index, slice_set}
-use Rattle.std.proofs.Math.Nat.{mul-le-mul, div-mul-le_self, div-lt_iff_lt-mul}
+use Rattle.std.proofs.Math.Nat.{div-mul-le_self, div-lt_iff_lt-mul}
 use Rattle.std.proofs.lemmas.Nat.{le-div, div-mul-add, mod-mul-add, div-add-mod'}
 use Rattle.std.proofs.lemmas.Bool.{cases_Bool, cases_eq, lt-ltb, le-ltb, ltb-true, ltb-false}
 use Rattle.std.proofs.lemmas.List.{append_assoc, ext_get_or, length-append, length-set}
@@ -14,21 +14,6 @@ use Rattle.rme_words.specs.Words.{IsOfShape, word, word_count, lock_block, lock_
 use Rattle.rme_words.proofs.Places.{Spot, of_worker, of_lock, spot, number, IsInBlock, number-spot, spot-in_block, word_below}
 use Rattle.rme_words.specs.declared.address.Address.TheVariants.{Node}
 use Rattle.rme_seats.specs.Layout.{GapsLaw, half_of, block_of, position_of, position, table_size, front_words, bank_words}
-
--- The words of a shape are few.
-pub few_words : (s : Shape) → word_count s ≤ 13000
-few_words s =
-    let limits = s.counted.limits in
-    let tree = s.counted.tree in
-    let block : lock_block s ≤ 290 = omega (arith, limits.few_cells, tree.few_leaves) in
-    let locks : s.locks * lock_block s ≤ 16 * 290 = mul-le-mul limits.few_locks block in
-    omega (arith, locks, limits.few_workers)
-
-pub small_table : (s : Shape) → table_size s < 2 ^ 64
-small_table s =
-    let few = few_words s in
-    let limits = s.counted.limits in
-    omega (arith, few, limits.few_workers, limits.few_locks)
 
 pub some_words : (s : Shape) → 0 < lock_block s
 some_words s = omega arith

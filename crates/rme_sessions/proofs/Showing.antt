@@ -1,8 +1,7 @@
 -- What a session shows after an order obeyed.
-use Rattle.std.proofs.Common.{◌≡◌, ℕ, ◌+◌, ◌-◌, List, [], ◌∷◌, ◌++◌, length, arith, inl, inr, refl, sym, ap, ◌∙◌, subst}
-use Rattle.std.specs.Prelude.{◌==◌, Bool, false, nat_lt, slice_get, if◌then◌else◌, Option, Some, None, Result, Ok, Err}
-use Rattle.std.proofs.lemmas.Bool.{cases_Bool, eq-eqb, ne_eqb}
-use Rattle.std.proofs.lemmas.Option.{none-some}
+use Rattle.std.proofs.Common.{◌≡◌, ℕ, ◌+◌, ◌-◌, List, [], ◌∷◌, ◌++◌, length, arith, refl, sym, ap, ◌∙◌, subst}
+use Rattle.std.specs.Prelude.{◌==◌, false, nat_lt, slice_get, if◌then◌else◌, Option, Some, None, Result, Ok, Err}
+use Rattle.std.proofs.lemmas.Bool.{eq-eqb, ne_eqb}
 use Rattle.std.proofs.lemmas.List.{length-append}
 use Rattle.rme_words.specs.declared.shape.Shape.{Shape}
 use Rattle.rme_words.specs.declared.refusal.Refusal.{Refusal}
@@ -12,7 +11,6 @@ use Rattle.rme_script.specs.Scripts.{check_of}
 use Rattle.rme_script.specs.declared.job.Job.{Job}
 use Rattle.rme_program.specs.declared.note.Entry.{Entry}
 use Rattle.rme_program.specs.declared.note.Receipt.{Receipt}
-use Rattle.rme_program.specs.Steps.{withdrawn_place}
 use Rattle.rme_seats.specs.declared.record.Part.{Part}
 use Rattle.rme_seats.specs.Parts.{draft_script, onward, withdrawing}
 use Rattle.rme_seats.specs.Stands.{Ident, Stand}
@@ -21,12 +19,11 @@ use Rattle.rme_table.specs.Calls.{last_receipt, post_refusal}
 use Rattle.rme_session_lines.specs.declared.session.Outcome.{Outcome}
 use Rattle.rme_session_lines.specs.declared.session.Outcome.TheVariants as outcome
 use Rattle.rme_session_lines.specs.declared.session.SessionReply.TheVariants as reply
-use Rattle.rme_session_lines.specs.declared.order.Order.{Order}
 use Rattle.rme_session_lines.specs.declared.order.Order.TheVariants as order
 use Rattle.rme_session_lines.specs.declared.order.Submission.{Submission}
 use Rattle.rme_orders.specs.Obeyed as sight
 use Rattle.rme_orders.specs.Refusals as refusal
-use Rattle.rme_orders.specs.Refusals.{PendingRefuses, Refuses, SubmitRefuses, job_refusal, last_refusal, posting_refusal, resume_refusal}
+use Rattle.rme_orders.specs.Refusals.{PendingRefuses, SubmitRefuses, job_refusal, resume_refusal}
 use Rattle.rme_orders.specs.Sights.{IsReceiptOf, Task, waiting_with}
 use Rattle.rme_orders.specs.declared.planned.Planned.{Planned}
 use Rattle.rme_orders.specs.declared.view.PendingWorker.{PendingWorker}
@@ -36,10 +33,10 @@ use Rattle.rme_orders.specs.declared.view.Session.TheVariants as at
 use Rattle.rme_orders.proofs.Refusing.{last_repeated, next_posted}
 use Rattle.rme_session_lines.specs.Patience.{least_tries}
 use Rattle.rme_session_lines.specs.declared.order.Patience.{Patience}
-use Rattle.rme_sessions.specs.Obeyed.{Acts, Enters, EntersInside, IsInside, IsOfSlot, IsWalked, ResumeEnters, SubmitEnters}
+use Rattle.rme_sessions.specs.Obeyed.{Acts, Enters, EntersInside, IsInside, IsWalked, ResumeEnters, SubmitEnters}
 use Rattle.rme_sessions.specs.Stands.{Tells, held_by, session_of, shown_pending, view_of}
 use Rattle.rme_sessions.specs.Tasks.{IsResumed, IsSubmitted, IsThrough, Makes, holding_of, lead_by, stopped_inside}
-use Rattle.rme_sessions.specs.Works.{Arrives, GoesInside, GoesOn, IsSpared, IsTried, Repeats, WentOn, Works, its_task, lead_of, next_task, steps_in, steps_of}
+use Rattle.rme_sessions.specs.Works.{Arrives, GoesInside, GoesOn, IsTried, Repeats, WentOn, Works, its_task, lead_of, next_task, steps_in, steps_of}
 use Rattle.rme_sessions.specs.declared.stand.Holding.{Holding}
 use Rattle.rme_sessions.specs.declared.stand.Holding.TheVariants.{Empty, Ready, Climb, Held}
 use Rattle.rme_sessions.specs.declared.stand.Stand.{Stand as Session}
@@ -146,12 +143,6 @@ tried_shown shape lead tries made old now outcome.Waiting let_go walked tried =
     let steps = steps_made shape lead (held_by old.value) (held_by now.value) made walked.0 in omega (arith, steps, tried)
 tried_shown shape lead tries made old now outcome.Fell let_go walked tried = tt
 tried_shown shape lead tries made old now (outcome.Inside number) let_go walked tried = tt
-
--- A refused order.
-pub refused_so : (ident : Ident) (count : ℕ) (old : Session) (its : Order) (why : Refusal) → Refuses ident.shape (session_of None old.value) its (Some why) → IsOfSlot count ident.shape its why
-    → Acts ident count old its old (reply.Refused why) None
-refused_so ident count old its why refuses slot =
-    record { made = 0; before = None; after = None; obeys = (refl, inl refuses); told_before = tt; told_after = tt; adds = (refl, slot, refl) }
 
 module _ (ident : Ident) (count : ℕ) (old now : Session) (became : Outcome) (let_go : Option Stand) where
   submitted_so : (its : Submission) (before after : Option Receipt) → SubmitRefuses ident.shape (session_of before old.value) its None
@@ -422,45 +413,9 @@ module _ (ident : Ident) (count : ℕ) (work : Work) (old now : Session) (became
       subst P same (work_resumed ident count old.planned now let_go became patience work asked makes
       (led_onward ident.shape work (record { value = holding_of work; planned = old.planned }) now became let_go asked through) tried)
 
--- WITHDRAW
-pub withdrew_so : (ident : Ident) (count : ℕ) (climb ready : Stand) (planned left : Planned) → ready.part.worker ≡ climb.part.worker → ready.part.private.begun ≡ climb.part.private.begun
-    → ready.part.entries ≡ climb.part.entries → IsSpared ident.shape withdrawing planned (Some climb) left (Some ready)
-    → Acts ident count (record { value = Climb climb; planned = planned }) order.Withdraw (record { value = Ready ready; planned = left }) (reply.Withdrew ready.part.private.begun) None
-withdrew_so ident count climb ready planned left own number entries (made, went, leaves) = record {
-  made = made;
-  before = None;
-  after = None;
-  obeys = (refl, ((same_ready ready.part.worker climb.part.worker ready.part.private.begun climb.part.private.begun None own number, number), leaves));
-  told_before = tt;
-  told_after = tt;
-  adds = (entries, went, refl);
-}
-
 pub withdraw_fell : (ident : Ident) (count : ℕ) (climb : Stand) (planned : Planned) (now : Session) (let_go : Option Stand)
     → IsThrough ident.shape withdrawing (record { value = Climb climb; planned = planned }) now outcome.Fell let_go
     → Acts ident count (record { value = Climb climb; planned = planned }) order.Withdraw now reply.WithdrawFell let_go
 withdraw_fell ident count climb planned now let_go through =
     let so = through_shown ident.shape withdrawing (record { value = Climb climb; planned = planned }) now outcome.Fell let_go None None through in
     record { made = so.0; before = None; after = None; obeys = (refl, so.1); told_before = tt; told_after = tt; adds = so.2 }
-
--- LAST
-told_of_last : (shape : Shape) (ready : Stand) (receipt : Option Receipt) → table.IsLast shape ready.part receipt → Tells (Ready ready) receipt
-told_of_last shape ready None is = tt
-told_of_last shape ready (Some receipt) is =
-    let P : Bool → Type 0 = λ given_up. Some receipt ≡ (if given_up then None else last_receipt ready.part.entries) in
-    elim (cases_Bool (is.place == withdrawn_place)) [
-      | inl up ↦ absurd (none-some receipt (sym (subst P up is.receipt_is)))
-      | inr kept ↦ sym (subst P kept is.receipt_is)
-    ]
-
-pub last_so : (ident : Ident) (count : ℕ) (ready : Stand) (planned : Planned) (receipt : Option Receipt) → table.IsLast ident.shape ready.part receipt
-    → Acts ident count (record { value = Ready ready; planned = planned }) order.Last (record { value = Ready ready; planned = planned }) (reply.Last receipt) None
-last_so ident count ready planned receipt is = record {
-  made = 0;
-  before = receipt;
-  after = receipt;
-  obeys = (refl, (refl, refl));
-  told_before = told_of_last ident.shape ready receipt is;
-  told_after = told_of_last ident.shape ready receipt is;
-  adds = (is, refl, refl);
-}

@@ -13,9 +13,6 @@ at_end P [] x all last (suc k) y e = absurd (none-some y e)
 at_end P (z ∷ xs) x all last zero y e = all zero y e
 at_end P (z ∷ xs) x all last (suc k) y e = at_end (λ i. P (suc i)) xs x (λ i w at. all (suc i) w at) last k y e
 
-pub none_in_order : (ident : Ident) → AreInOrder ident 0 []
-none_in_order ident = record { ours = λ k down at. absurd (none-some down at); few = λ k down at. absurd (none-some down at); rising = λ k down next at. absurd (none-some down at) }
-
 pub in_order_on : (ident : Ident) (count : ℕ) (downs : List Stand) → AreInOrder ident count downs → AreInOrder ident (count + 1) downs
 in_order_on ident count downs so = record { ours = so.ours; few = λ k down at. (let below = so.few k down at in omega (arith, below)); rising = so.rising }
 

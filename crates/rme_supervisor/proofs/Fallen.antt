@@ -33,9 +33,6 @@ counted_none : (a : Option ℕ) → IsCounted a a 0
 counted_none None = tt
 counted_none (Some x) = omega arith
 
-pub asked_none : (a : Falls) (x : Stand) → HasAsked a a x x 0
-asked_none a x = record { made = 0; steps = omega arith; asks = record { yes = omega arith; asked = counted_none (tally_of a).questions } }
-
 pub asked_idle : (a b : Falls) (x y : Stand) → y ≡ x → tally_of b ≡ tally_of a → HasAsked a b x y 0
 asked_idle a b x y same unasked = record {
   made = 0;

@@ -46,9 +46,6 @@ module _ (shape : Shape) (turned : ℕ → Type 0) (plans : List WorkerPlan) (gi
     (planned : slice_get plans old.stand.part.worker ≡ Some plan) (none : old.end ≡ None) (more : old.lives < plan.lives) (down : Stand) (own : down.part.worker ≡ old.stand.part.worker)
     (falls new : Falls) (next : IsNextFall plan.falls.items old.lives falls) (start then_ : Tries) (blocked : start.blocked ≡ old.blocked) (most : start.most ≡ plan.sweeps)
     (tried : HasTried start then_ old.stand down) where
-  rest_at : Option End → Rest
-  rest_at end = record { stand = down; end = end; blocked = then_.blocked; lives = old.lives + 1 }
-
   its_plan : (p : WorkerPlan) → slice_get plans down.part.worker ≡ Some p → plan ≡ p
   its_plan p at = same_Some _ _ (sym planned ∙ subst (λ (w : ℕ). slice_get plans w ≡ Some p) own at)
 

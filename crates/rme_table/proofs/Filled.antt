@@ -10,7 +10,7 @@ use Rattle.rme_program.specs.declared.note.Entry.{Entry}
 use Rattle.rme_machine.specs.Histories.{entries_at}
 use Rattle.rme_seats.proofs.Opened.{last_or_before}
 use Rattle.rme_table.specs.declared.closed.ClosedLock.{ClosedLock}
-use Rattle.rme_table.specs.Filling.{HasRoom, HaveRoom, IsFilled}
+use Rattle.rme_table.specs.Filling.{HasRoom, IsFilled}
 
 -- The cells, one after another.
 pub cells_long : (f : ℕ → ℕ) (n : ℕ) (cells : List ℕ) → cells ≡ map f (range_with_len 0 n) → length cells ≡ n
@@ -36,13 +36,6 @@ pub record PartFilled (memory : Memory) (entries : List Entry) (done : ℕ) (loc
   pub count : length locks ≡ memory.shape.locks
   pub filled : (lock : ℕ) (closed : ClosedLock) → slice_get locks lock ≡ Some closed → lock < done → IsFilled memory entries lock closed
   pub rooms : (lock : ℕ) (room : ClosedLock) → slice_get locks lock ≡ Some room → done ≤ lock → HasRoom memory.shape (length (entries_at entries lock)) room
-
-pub none_filled : (memory : Memory) (entries : List Entry) (locks : List ClosedLock) → HaveRoom memory.shape entries locks → PartFilled memory entries 0 locks
-none_filled memory entries locks have = record {
-  count = have.count;
-  filled = λ lock closed at less. absurd (omega (arith, less));
-  rooms = λ lock room at least. have.each lock room at;
-}
 
 pub one_filled : (memory : Memory) (entries : List Entry) (done : ℕ) (locks later : List ClosedLock) (closed : ClosedLock) → PartFilled memory entries done locks
     → later ≡ slice_set locks done closed → length later ≡ length locks → IsFilled memory entries done closed → PartFilled memory entries (done + 1) later

@@ -33,9 +33,6 @@ goes_none s a t = record {
   walks = record { values = []; walk = refl; found = tt; steps = omega arith; asks = record { yes = omega arith; asked = counted_none t.questions } };
 }
 
-pub still_none : (a : Stand) → StillHas a a
-still_none a = record { draft = refl; entries = refl; number = refl }
-
 pub goes_made : (s : Shape) (a b : Stand) (t u : Tally) (least most : ℕ) → Made s onward a b t u least most → Goes s a b t u 0
 goes_made s a b t u least most made = record { ident = made.stays.ident; own = made.stays.own; walks = made.walks }
 

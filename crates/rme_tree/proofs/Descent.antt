@@ -1,5 +1,5 @@
 -- The descent from the root to the leaf of the owner.
-use Rattle.std.proofs.Common.{◌≡◌, ◌≢◌, ℕ, zero, suc, ◌+◌, ◌-◌, ◌*◌, ◌^◌, ◌<◌, ◌≤◌, ◌↔◌, refl, sym, ◌∙◌, ap, subst, inl, inr, arith, pow-suc, Option, Some, None}
+use Rattle.std.proofs.Common.{◌≡◌, ◌≢◌, ℕ, zero, suc, ◌+◌, ◌-◌, ◌^◌, ◌<◌, ◌≤◌, ◌↔◌, refl, sym, ◌∙◌, ap, subst, inl, inr, arith, pow-suc, Option, Some, None}
 use Rattle.std.proofs.Math.Pow.{pow_mono}
 use Rattle.std.proofs.lemmas.Bool.{cases_eq}
 use Rattle.rme_tree.specs.Paths.{node, side, owner, Owns}
@@ -30,13 +30,6 @@ came_root f m h power = record {
   above = λ u i few meet from to. absurd (omega arith);
   passed = λ u few owns. (path_law m h u power few).3;
 }
-
-pub came_some : (f : ℕ → ℕ) (m h v : ℕ) → Came f m h v → 1 ≤ v
-came_some f m h v came = omega (arith, came.least, pow_mono {i = 0} {j = came.depth} (omega arith))
-
--- It stays above the leaves' children.
-pub came_few : (f : ℕ → ℕ) (m h v : ℕ) → m ≡ 2 ^ h → Came f m h v → v < 2 * m
-came_few f m h v power came = omega (arith, power, came.less, pow-suc 2 h, pow_mono {i = suc came.depth} {j = suc h} (omega (arith, came.height)))
 
 -- Above the leaves there is a level below.
 level_below : (f : ℕ → ℕ) (m h v : ℕ) → m ≡ 2 ^ h → (came : Came f m h v) → v < m → (level : ℕ) × (came.level ≡ suc level)

@@ -1,5 +1,5 @@
 -- What `held` is: the one number that `IsHeld` speaks of.
-use Rattle.std.proofs.Common.{◌≡◌, ◌≢◌, ◌<◌, ◌↔◌, ℕ, zero, suc, ◌≤◌, Bool, true, false, cond, ◌&&◌, refl, sym, ◌∙◌, subst, inl, inr, arith, eqb}
+use Rattle.std.proofs.Common.{◌≡◌, ◌≢◌, ◌<◌, ℕ, zero, suc, ◌≤◌, Bool, true, false, cond, ◌&&◌, refl, sym, ◌∙◌, subst, inl, inr, arith, eqb}
 use Rattle.std.proofs.lemmas.Bool.{cases_lt, and_parts, and_cases, eqb-true, eqb-false}
 use Rattle.rme_tree.specs.Paths.{node, side, held, OwnTo, IsHeld}
 use Rattle.rme_tree.specs.Laws.{SameHeldLaw}
@@ -76,10 +76,6 @@ greatest_held f m w h k is j few own =
 -- Levels that all have the sides are held.
 pub held_least : (f : ℕ → ℕ) (m w h k : ℕ) → k ≤ h → OwnTo f m w k → k ≤ held f m w h
 held_least f m w h k few own = greatest_held f m w h _ (held_is f m w h) k few own
-
--- The levels that have the sides are those that are held.
-pub own-held : (f : ℕ → ℕ) (m w h k : ℕ) → k ≤ h → OwnTo f m w k ↔ (k ≤ held f m w h)
-own-held f m w h k few = (held_least f m w h k few, λ less. own_less f m w _ k less (held_is f m w h).own)
 
 -- A walk up the path stops at the first node that has not the worker's side.
 pub held_stop : (f : ℕ → ℕ) (m w h k : ℕ) → k < h → OwnTo f m w k → f (node m w (suc k)) ≢ side m w (suc k) → held f m w h ≡ k

@@ -3,7 +3,7 @@ use Rattle.std.proofs.Common.{◌≡◌, ◌≢◌, ℕ, zero, suc, ◌-◌, ◌
 use Rattle.std.proofs.Math.Pow.{pow_mono}
 use Rattle.std.proofs.lemmas.Bool.{cases_eq}
 use Rattle.rme_tree.specs.Paths.{node, side, held, OwnTo, IsHeld}
-use Rattle.rme_tree.specs.Rooted.{Holder, Rooted, IsFree, Put, TreeStep, IsBlocked}
+use Rattle.rme_tree.specs.Rooted.{Holder, Rooted, Put, TreeStep, IsBlocked}
 use Rattle.rme_tree.specs.Laws.{PathLaw, TakeLaw, ClearLaw, BlockedLaw, SameOwnerLaw, FreeLaw}
 use Rattle.rme_tree.proofs.Levels.{node-zero, node-suc, side-suc, node-down, side_pos, side_le, node_range, same_height}
 use Rattle.rme_tree.proofs.Holding.{own_more, own_less, held_is, held_from, held_at, held_least}
@@ -254,13 +254,3 @@ path_law m h w power few = (
   (let P : ℕ → Type 0 = λ n. w < n → node n w h ≡ 1 in
       subst P (sym power) (λ few. omega (arith, node_range h w 0 h few (omega arith))) few),
 )
-
--- Where nobody holds a level, the tree is free.
-pub free_from_none : (f : ℕ → ℕ) (m h n : ℕ) → Rooted f m h n → ((w : ℕ) → w < n → held f m w h ≡ 0) → IsFree f m
-free_from_none f m h n root none v some inside =
-    elim (cases_eq (f v) 0) [
-      | inl free ↦ free
-      | inr taken ↦
-          (let r : Holder f m h n v = root v some inside taken in
-          absurd (omega (arith, none r.worker r.is_worker, held_least f m r.worker h (suc r.level) (omega (arith, r.is_level)) r.own)))
-    ]

@@ -21,7 +21,7 @@ use Rattle.rme_verdicts.specs.Judging.{HasOpened, IsFound, IsFoundBy, IsJudge, J
 use Rattle.rme_wire.specs.Openings.{IsGood}
 use Rattle.rme_lines.specs.Runs.{AreLines, CutsOff, HasNone}
 use Rattle.rme_wire.specs.Requests.{request_read}
-use Rattle.rme_verdicts.specs.Verdicts.{Finds, Judges, Meets, Opens, event_read}
+use Rattle.rme_verdicts.specs.Verdicts.{Finds, Judges, Meets, event_read}
 
 -- ---- the first line
 
@@ -46,10 +46,6 @@ pub text_read : (cut : Cut) (line : List ℕ) → cut ≢ TooLong → line_read 
 text_read Line line short = refl
 text_read TooLong line short = absurd (short refl)
 text_read End line short = refl
-
--- another line opens nothing
-pub opens_none : (line : InputLine) → ((given : Opening) → request_read [] line ≢ Some (Open given)) → Opens line None
-opens_none line not_open = λ given e good. not_open given e
 
 -- ---- the lines that are left
 
@@ -144,10 +140,6 @@ leads_more names now after first old new number next input left later line leads
     let one : next ≡ suc number = e ∙ omega arith in leads verdict (judged_step now old new number left later line verdict cuts found (subst Q one (subst P same judges)))
 
 -- ---- the whole transcript
-
--- there is no line
-pub found_none : (input : Option (List ℕ)) → HasNone input → Finds input (Bad 1)
-found_none input none = ([], lines_none input none, refl)
 
 -- the first line opens nothing
 pub found_closed : (input later : Option (List ℕ)) (line : InputLine) → CutsOff input later line → HasOpened line None → Finds input (Bad 1)

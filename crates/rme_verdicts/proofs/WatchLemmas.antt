@@ -95,10 +95,6 @@ shown_more {V = V} sees names now after first old new input left later line star
 
 -- ---- the whole transcript
 
--- there is no line
-pub shown_nothing : {V : Type 0} (sees : V → Sight → V → Type 0) (input : Option (List ℕ)) (watcher : V) → HasNone input → Watches sees input watcher watcher
-shown_nothing sees input watcher none = ([], [], lines_none input none, refl, refl)
-
 -- the first line opens nothing
 pub shown_closed : {V : Type 0} (sees : V → Sight → V → Type 0) (input later : Option (List ℕ)) (line : InputLine) (watcher : V) → CutsOff input later line → HasOpened line None → Watches sees input watcher watcher
 shown_closed sees input later line watcher cuts closed =

@@ -88,13 +88,6 @@ few_given xs some few =
 abbrev pub ReadsTexts : Items → List (List ℕ) → Items → Type 0
 ReadsTexts items done rest = option_map (λ later. done ++ later) (texts_of rest) ≡ texts_of items
 
-pub texts_first : (items : Items) → ReadsTexts items [] items
-texts_first items = by (texts_of items)
-  where
-    by : (found : Option (List (List ℕ))) → option_map (λ later. [] ++ later) found ≡ found
-    by None = refl
-    by (Some texts) = refl
-
 texts_step : (d : Data) (ds : Items) (text : List ℕ) → as_str d ≡ Some text → texts_of (item d ds) ≡ option_map (λ later. text ∷ later) (texts_of ds)
 unfolding texts_of
 texts_step d ds text e = rw e refl

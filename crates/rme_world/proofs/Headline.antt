@@ -112,10 +112,6 @@ roomy_run old roomy new events answers same sound happen =
     let run : IsRun record old { room = roomy.room } events answers new = subst P (sym same) (λ (r : IsRun record old { room = roomy.room } events answers new). r) (all_run roomy new events answers (tables_of roomy sound) happen) in
     record { told = run.told; are_labels = run.are_labels; run = run.run; shape = run.shape; before = run.before; after = run.after }
 
-pub roomy_happen : (old roomy new : Seen) (events : List Event) (answers : List Answer) → roomy ≡ record old { room = roomy.room } → AllHappen roomy events answers new
-    → (room : ℕ) × AllHappen record old { room = room } events answers new
-roomy_happen old roomy new events answers same happen = (roomy.room, subst (λ (s : Seen). AllHappen s events answers new) same happen)
-
 pub as_many : (old new : Seen) (events : List Event) (answers : List Answer) → AllHappen old events answers new → length answers ≡ length events
 as_many old new [] [] happen = refl
 as_many old new (event ∷ events) (answer ∷ answers) (mid, first, rest) = ap suc (as_many mid new events answers rest)

@@ -4,7 +4,7 @@ use Rattle.std.specs.Prelude.{Bool, Option, Some, None, Ok, Err, nat_lt, slice_g
 use Rattle.std.specs.List.{list_all}
 use Rattle.std.proofs.lemmas.Bool.{cases_Bool, lt-ltb, le-ltb}
 use Rattle.rme_words.specs.declared.refusal.Refusal.{Refusal}
-use Rattle.rme_words.specs.declared.refusal.Refusal.TheVariants.{NoWorker, Down, Up, Busy, Idle, NoLock, BadScript, NoCell, TooManyJobs, NotWaiting, NoMemory}
+use Rattle.rme_words.specs.declared.refusal.Refusal.TheVariants.{NoWorker, Down, Busy, NoLock, BadScript, NoCell, TooManyJobs, NoMemory}
 use Rattle.rme_words.specs.declared.shape.Shape.{Shape}
 use Rattle.rme_script.specs.declared.job.Job.{Job}
 use Rattle.rme_script.specs.Programs.{Program}
@@ -12,7 +12,7 @@ use Rattle.rme_script.specs.Scripts.{check_of, fits}
 use Rattle.rme_program.specs.declared.private.Private.{Private}
 use Rattle.rme_program.specs.declared.stage.Stage.TheVariants.{Resting}
 use Rattle.rme_world.specs.Seen.{Seen}
-use Rattle.rme_world.specs.Refused.{of_up, of_down, is_ready, is_climbing, unless_checked, job_refusal, step_refusal, submit_refusal, crash_refusal, restart_refusal, withdraw_refusal, IsRefused}
+use Rattle.rme_world.specs.Refused.{of_up, is_ready, unless_checked, job_refusal, submit_refusal, IsRefused}
 
 module _ (seen : Seen) (worker : ℕ) (job : Job) (private : Private) (shape : Shape) (same : shape ≡ seen.shape)
     (found : slice_get seen.privates worker ≡ Some (Some private)) (ready : private.stage ≡ Resting) (lock : job.lock < shape.locks) where
@@ -34,11 +34,6 @@ up_memory : (found : Option (Option Private)) (own : Private → Option Refusal)
 up_memory None own other is = (let f : Some NoWorker ≡ Some NoMemory = is in cc)
 up_memory (Some None) own other is = (let f : Some Down ≡ Some NoMemory = is in cc)
 up_memory (Some (Some private)) own other is = other private is
-
-down_memory : (found : Option (Option Private)) → of_down found ≢ Some NoMemory
-down_memory None is = (let f : Some NoWorker ≡ Some NoMemory = is in cc)
-down_memory (Some None) is = (let f : None ≡ Some NoMemory = is in cc)
-down_memory (Some (Some private)) is = (let f : Some Up ≡ Some NoMemory = is in cc)
 
 check_memory : (cells : ℕ) (script : Program) (rest : Option Refusal) → rest ≢ Some NoMemory → unless_checked (check_of cells script) rest ≢ Some NoMemory
 check_memory cells script rest other is = elim (cases_Bool (nat_lt 8 script.n)) [
@@ -74,30 +69,3 @@ same_refusal found refusal is other e = other (is ∙ some_same refusal e)
 
 pub submit_memory : (seen : Seen) (worker : ℕ) (job : Job) (refusal : Refusal) → submit_refusal seen worker job ≡ Some refusal → refusal ≢ NoMemory
 submit_memory seen worker job refusal is = same_refusal _ refusal is (up_memory (slice_get seen.privates worker) (job_refusal seen job) (job_memory seen job))
-
-pub step_memory : (seen : Seen) (worker : ℕ) (refusal : Refusal) → step_refusal seen worker ≡ Some refusal → refusal ≢ NoMemory
-step_memory seen worker refusal is = same_refusal _ refusal is (up_memory (slice_get seen.privates worker) _ (λ private. by_stage (is_ready private.stage)))
-  where
-    by_stage : (ready : Bool) → (if ready then Some Idle else None) ≢ Some NoMemory
-    by_stage ready e = elim (cases_Bool ready) [
-      | inl t ↦ (let f : Some Idle ≡ Some NoMemory = rw t at e in cc)
-      | inr t ↦ (let f : None ≡ Some NoMemory = rw t at e in cc)
-    ]
-
-pub crash_memory : (seen : Seen) (worker : ℕ) (refusal : Refusal) → crash_refusal seen worker ≡ Some refusal → refusal ≢ NoMemory
-crash_memory seen worker refusal is = same_refusal _ refusal is (up_memory (slice_get seen.privates worker) _ (λ private e. none e))
-  where
-    none : None ≡ Some NoMemory → ⊥
-    none e = cc
-
-pub restart_memory : (seen : Seen) (worker : ℕ) (refusal : Refusal) → restart_refusal seen worker ≡ Some refusal → refusal ≢ NoMemory
-restart_memory seen worker refusal is = same_refusal _ refusal is (down_memory (slice_get seen.privates worker))
-
-pub withdraw_memory : (seen : Seen) (worker : ℕ) (refusal : Refusal) → withdraw_refusal seen worker ≡ Some refusal → refusal ≢ NoMemory
-withdraw_memory seen worker refusal is = same_refusal _ refusal is (up_memory (slice_get seen.privates worker) _ (λ private. by_stage (is_climbing private.stage)))
-  where
-    by_stage : (climbs : Bool) → (if climbs then None else Some NotWaiting) ≢ Some NoMemory
-    by_stage climbs e = elim (cases_Bool climbs) [
-      | inl t ↦ (let f : None ≡ Some NoMemory = rw t at e in cc)
-      | inr t ↦ (let f : Some NotWaiting ≡ Some NoMemory = rw t at e in cc)
-    ]

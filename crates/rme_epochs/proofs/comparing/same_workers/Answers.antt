@@ -1,4 +1,4 @@
-use Rattle.std.proofs.Common.{◌≡◌, ℕ, ap, arith, inl, inr, subst, sym}
+use Rattle.std.proofs.Common.{ℕ, arith, inl, inr, subst, sym}
 use Rattle.std.proofs.lemmas.Bool.{cases_eq}
 use Rattle.rme_epochs.specs.Renewals.{IsAlike}
 use Rattle.rme_epochs.proofs.comparing.same_workers.Goals as goal

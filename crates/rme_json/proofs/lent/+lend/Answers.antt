@@ -1,7 +1,7 @@
 use Rattle.std.proofs.Common.{◌≡◌, [], ◌∷◌, ◌++◌, sym, ap, ◌∙◌, append_assoc, rules}
 use Rattle.serde_json.specs.View as kit
 use Rattle.serde_json.proofs.Views as views
-use Rattle.rme_json.specs.View.{view, members_view}
+use Rattle.rme_json.specs.View.{members_view}
 use Rattle.rme_json.proofs.Viewing.{Entry, alike}
 use Rattle.rme_json.proofs.lent.+lend.Goals as goal
 

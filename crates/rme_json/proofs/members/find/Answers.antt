@@ -1,4 +1,4 @@
-use Rattle.std.proofs.Common.{◌≡◌, ◌+◌, ◌<◌, ◌∷◌, length, drop, get_or, bytes_eq, true, false, sym, ap, ◌∙◌, arith}
+use Rattle.std.proofs.Common.{◌≡◌, ◌+◌, drop, get_or, bytes_eq, true, false, sym, ap, ◌∙◌, arith}
 use Rattle.serde_json.specs.Find.{get_member}
 use Rattle.rme_json.specs.View.{members_view}
 use Rattle.rme_json.proofs.Viewing.{here, found_here, found_later}

@@ -1,6 +1,5 @@
-use Rattle.std.proofs.Common.{◌≡◌, ◌<◌, ◌≤◌, ◌++◌, [], ◌∷◌, length, get_or, slice_set, Ordering, refl, sym, ap, ◌∙◌, arith, rules}
+use Rattle.std.proofs.Common.{◌≡◌, ◌<◌, ◌≤◌, length, get_or, slice_set, refl, ap, ◌∙◌, arith}
 use Rattle.std.specs.Cmp.Lexicographic.{slice_cmp}
-use Rattle.std.specs.List.{insert}
 use Rattle.std.proofs.Common.{nat_cmp, Less, Equal, Greater}
 use Rattle.rme_json.specs.View.{members_view}
 use Rattle.rme_json.proofs.Viewing.{one_further, put_here, put_before, put_last}

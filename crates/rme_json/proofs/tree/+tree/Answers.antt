@@ -1,4 +1,4 @@
-use Rattle.std.proofs.Common.{◌≡◌, ◌<◌, List, ◌∷◌, length, None, Some, string_bytes, sym, ap, subst, ◌∙◌, arith, rules}
+use Rattle.std.proofs.Common.{◌≡◌, ◌<◌, List, ◌∷◌, length, None, Some, sym, ap, subst, ◌∙◌, arith, rules}
 use Rattle.json.specs.Token.{Token}
 use Rattle.json.specs.Json.{after_end_array, read_key}
 use Rattle.json.specs.Reads.{token_of}
@@ -7,7 +7,7 @@ use Rattle.serde_json.specs.Data.{Data, Members, boolean, number, string, null, 
 use Rattle.serde_json.specs.View.{number_view}
 use Rattle.rme_json.specs.View.{view, members_view}
 use Rattle.rme_json.specs.declared.value.Value.{Value, String, Number, Bool, Null, Array, Object, the_lemmas}
-use Rattle.rme_json.proofs.Viewing.{Entry, view-Array, view-Object}
+use Rattle.rme_json.proofs.Viewing.{view-Array, view-Object}
 use Rattle.rme_json.specs.Trees.{IsValue}
 use Rattle.rme_json.proofs.Reading.{ItemsSoFar, MembersSoFar, no_items_yet, one_more_item, items_over, no_members_yet, one_more_member, members_over, is_string, is_boolean, is_null, is_number, is_array, is_object}
 use Rattle.rme_json.proofs.tree.+tree.Goals as goal

@@ -1,4 +1,4 @@
-use Rattle.std.proofs.Common.{◌≡◌, ℕ, ◌-◌, arith, refl, subst}
+use Rattle.std.proofs.Common.{◌≡◌, ℕ, ◌-◌, arith, subst}
 use Rattle.rme_sessions.specs.Tasks.{arrived_of}
 use Rattle.rme_sessions.specs.Works.{AreTried}
 use Rattle.rme_sessions.proofs.Working.{arrived_did, arrived_ours, arrived_plan, arrived_tried, barred}
