@@ -2,88 +2,92 @@
 
 A worker's jobs have the numbers 1, 2, 3 and so on. A job counts once because its number is chosen once, and the same line
 is sent until its receipt comes: the server posts a number that is new, goes on with one that is pending, and answers the
-receipt again of the one that was done last.
+receipt again of the one that was done last. A number is chosen by what was answered in the session in which it is sent.
 """
 
 from __future__ import annotations
 
-import json
-import socket
+import logging
 import time
 from contextlib import contextmanager
 from types import TracebackType
-from typing import Any, Callable, Iterator, Optional, Sequence, Type, TypedDict, TypeVar, Union
+from typing import Any, Callable, Iterator, Optional, Sequence, Type, TypeVar, Union
 
-from .connection import connect
+from .answers import Receipt
+from .calls import Calls, Job
+from .connection import Address, Connection, Hopeless, Lost
+from .errors import Blocked, Done, InUse, Overtaken, Pending, Refused, Unreachable
+from .session import CLIMB, HELD, READY, Session
 
 Script = Sequence[Sequence[Union[str, int]]]
 Answer = TypeVar("Answer")
 
-WAIT = 10_000
-"""How many milliseconds the server goes on to try in one order, where the lock is not to be had."""
+WAIT = 10.0
+"""For how many seconds the server waits for a lock in one order."""
 
+DIFFERS, NOT_WAITING = 17, 21
+KNOWN = Blocked, Done, Overtaken, Pending, Refused
+"""Exceptions after which the session is as its last answer said."""
 
-class Receipt(TypedDict):
-    """What is answered of a job that counted: the `place`-th section of its lock, and what its last operation gave."""
-
-    lock: str
-    number: int
-    place: int
-    reply: int
-    worker: int
-
-
-class Refused(Exception):
-    """An answer that would be the same again, as it came. A job that is refused has used no number."""
-
-    def __init__(self, answer: dict[str, Any]):
-        super().__init__(answer)
-        self.answer = answer
-        self.code: Optional[int] = answer.get("code")
-
-
-class Done(Exception):
-    """The job of this number counted already, so its block is not run: the client's own work was done before the commit."""
-
-    def __init__(self, receipt: Receipt):
-        super().__init__(receipt)
-        self.receipt = receipt
+logger = logging.getLogger("rme_client")
+logger.addHandler(logging.NullHandler())
 
 
 class Held:
-    """A job whose worker is inside its lock."""
+    """A job whose worker is inside its lock.
 
-    def __init__(self, number: int):
-        self.number = number
-        self.receipt: Optional[Receipt] = None  # there once the block has ended, and the job has counted
+    `again` says whether the job was pending before this call, so that its block may have been begun before. `receipt` is
+    there once the block has ended and the job has counted.
+    """
 
-
-class Again(Exception):
-    """The connection is gone, or the worker on it: connect, attach, and send the same line."""
+    def __init__(self, number: int, again: bool):
+        self.number, self.again = number, again
+        self.receipt: Optional[Receipt] = None
 
 
 class Worker:
-    """One worker of a server. One client at a time uses a worker.
+    """One worker of a server. One client at a time uses a worker, and one thread at a time a `Worker`.
 
-    Each call tries for ever: a connection that breaks is made again, and a server that is not there is waited for. A call
-    that is broken off by an exception (a `KeyboardInterrupt`, say) leaves the worker where it was; whether its job counted
-    is not known then, and the next call asks anew where the worker stands.
+    A connection that breaks is made again, and a server that is not there is waited for. A call that is broken off by
+    another exception than one of this package (a `KeyboardInterrupt`, say) leaves the worker where it was; whether its job
+    counted is not known then, and the next call asks anew where the worker stands.
+
+    Any call but `close` raises `Forked` in a child of the process that made the `Worker`, and `InUse` beside another call,
+    before anything is sent; `Unreachable` where there is no session to be had; `Refused` where the server refuses;
+    `Overtaken` where somebody else is found to have used the worker meanwhile; and `ProtocolError` where the peer is no
+    server.
     """
 
-    def __init__(self, host: str, port: int, worker: int, timeout: float = 30, take: bool = False, socket_path: str = ""):
-        """Nothing is connected yet. After `timeout` seconds without an answer the connection is taken for broken; it is
-        more than the 10 seconds for which the server waits for a lock before it answers.
+    def __init__(
+        self,
+        host: str,
+        port: int,
+        worker: int,
+        timeout: float = 30,
+        take: bool = False,
+        socket_path: str = "",
+        connect_timeout: Optional[float] = None,
+    ):
+        """Nothing is connected yet.
+
+        A connection is taken for broken where an answer has not come as a whole within `timeout` seconds. A session, which
+        is a connection that has the worker, is tried to be had for `connect_timeout` seconds each time that one is needed,
+        for ever where it is `None`: so long a server that is not there is waited for, one that is full, and the end of
+        another client that has the worker. Then the call raises `Unreachable`. With 0 it tries once; for an answer it waits
+        half a second at least.
 
         With `take` the worker is first taken over from a client that has it: that one's connection is closed, so it must be
-        known to be gone, or to hang. Otherwise its end is waited for. With `socket_path` the server is reached over that
-        Unix socket, and `host` and `port` say nothing.
+        known to be gone, or to hang. With `socket_path` the server is reached over that Unix socket, and `host` and `port`
+        say nothing. `ValueError` where a number of seconds is none.
         """
-        self.address, self.worker, self.timeout = (host, port), worker, timeout
-        self.take, self.socket_path = take, socket_path
-        self._connection: Optional[socket.socket] = None
-        self._number, self._is_pending = 0, False  # of the last job, or of the one that is pending
-        self._begun: Optional[int] = None  # the number of the job whose block was begun, until it has counted
-        self._is_inside = False
+        if not timeout > 0 or (connect_timeout is not None and not connect_timeout >= 0):  # nor is NaN
+            raise ValueError("`timeout` is a number of seconds, more than 0, and `connect_timeout` one, or None")
+        self.address, self.socket_path, self.worker = (host, port), socket_path, worker
+        self.timeout, self.connect_timeout, self.take = timeout, connect_timeout, take
+        self._server = Address(host, port, socket_path)
+        self._session: Optional[Session] = None
+        self._own: Optional[int] = None  # the job that a call of this object handed over and left, as others had its lock
+        self._calls = Calls()
 
     def __enter__(self) -> Worker:
         return self
@@ -93,202 +97,254 @@ class Worker:
     ) -> None:
         self.close()
 
-    def submit(self, lock: str, script: Script, number: Optional[int] = None) -> Receipt:
+    def submit(self, lock: str, script: Script, number: Optional[int] = None, wait: Optional[float] = None) -> Receipt:
         """Makes the job, and answers its receipt.
 
         A program that may itself be killed gives the number, so that it can give the same one when it comes back. Without
-        a number the next one is chosen, and a job that an earlier client left pending is finished first. `Refused` where
-        the server refuses the job, or another client gave its number up.
+        a number the next one is chosen; `Pending` where the worker has a job that is not over. `Blocked` where others have
+        the lock for all of `wait` seconds: the job stays pending, and the same call goes on with it. Without `wait` the lock
+        is waited for.
         """
-        self._may_not_be_inside()
+        job = Job(lock, number, wait)
 
-        def attempt() -> Optional[Receipt]:
-            nonlocal number
-            if number is None:
-                number = self._next()
-            if number is None:
-                return None
-            return self._worked({"do": "submit", "lock": lock, "number": number, "script": script, "wait": WAIT})
+        def attempt(session: Session) -> Receipt:
+            is_others = session.stance != READY and session.number != self._own
+            if job.sent is None and number is None and is_others:
+                raise Pending(session.pending_lock(), session.number, session.stance)
+            return self._receipt(session, job, do="submit", lock=lock, number=job.start(session), script=script)
 
-        return self._insist(attempt)
+        with self._calls.alone():
+            return self._insist(job, attempt)
 
     @contextmanager
-    def inside(self, lock: str, script: Script, number: Optional[int] = None) -> Iterator[Held]:
+    def inside(
+        self, lock: str, script: Script, number: Optional[int] = None, wait: Optional[float] = None
+    ) -> Iterator[Held]:
         """Enters the lock with this job, runs the block of `with`, and commits the job at its end.
 
         From the beginning of the block until the job has counted no other worker is inside the lock, also where the
         connection breaks or this program is killed: its worker is down then, and still the owner. The job counts once. The
         block is begun again after a crash, so what it does must bear that.
 
-        Where the block raises, nothing is committed: the session ends, and its worker stays inside for the next attempt,
-        which is the next `inside` of this `Worker`, or of any client under the same number. `submit` without a number and
-        `withdraw` finish the job without its block.
+        Without a number, a job of this lock that is pending is the one for which the block is run, and `again` is true;
+        else the next number is chosen. `Pending` where the pending job is of another lock, or cannot be entered by this
+        script. A program that gives the number gives the same one when it comes back; `Done`, with the receipt, where the
+        job of that number counted already: the block is not run then.
 
-        A program that may itself be killed gives the number, so that it can give the same one when it comes back: from its
-        own records, or by `next_number`. `Done`, with the receipt, where the job of that number counted already: the block
-        is not run then. Without a number the next one is chosen, and a job that an earlier client left pending is finished
-        first, without its block. `Refused` where the server refuses the job, or another client gave its number up.
+        Where the block raises, nothing is committed: the session ends, and its worker stays inside for the next `inside`.
+        `Blocked` where others have the lock for all of `wait` seconds: the block is not run, and the job stays pending.
         """
-        self._may_not_be_inside()
-        entered = self._enter(lock, script, self._begun if number is None else number)
-        if not isinstance(entered, Held):
-            raise Done(entered)
-        held, self._begun, self._is_inside = entered, entered.number, True
-        try:
-            yield held
-        except BaseException:
-            self.close()  # the worker is down, and the lock is still its own
-            raise
-        finally:
-            self._is_inside = False
-        held.receipt = self._insist(lambda: self._commit(held.number))
+        job = Job(lock, number, wait)
+        with self._calls.alone():
+            held = self._insist(job, lambda session: self._enter(session, job, script))
+            try:
+                yield held
+            except BaseException:
+                self._drop()  # the worker is down, and the lock is still its own
+                raise
+            self._calls.must_be_own()
+            held.receipt = self._insist(job, lambda session: self._commit(session, job))
+
+    def finish(self, wait: Optional[float] = None) -> Optional[Receipt]:
+        """Makes the pending job, without its block, and answers its receipt. Where none is pending, that of the last job;
+        `None` where that was given up, or no job ever was. `Blocked` as of `submit`."""
+        job = Job(wait=wait)
+        with self._calls.alone():
+            return self._insist(job, lambda session: self._finish(session, job))
 
     def withdraw(self) -> Optional[Receipt]:
-        """Gives up the job that is pending, so that none is. Its number never counts then, and `None` is answered.
+        """Gives up the pending job, so that none is. Its number never counts then, and `None` is answered.
 
-        A job that is inside its lock cannot be given up: it is finished, and its receipt is answered. So is that of a job
-        that was finished before. Where no job ever was, `None`.
+        A job that is inside its lock cannot be given up: it is finished, and its receipt is answered. Where none is
+        pending, the answer is that of `finish`.
         """
-        self._may_not_be_inside()
+        job = Job()
 
-        def attempt() -> Optional[tuple[Optional[Receipt]]]:
-            if not self._is_pending:
-                return (self._ask({"do": "last"})["last"],)
-            try:
-                answer = self._ask({"do": "withdraw"})
-            except Refused as refused:
-                if refused.code != 21:  # 21, NotWaiting: it is inside
-                    raise
-                receipt = self._finish()
-                return None if receipt is None else (receipt,)
-            if "fell" in answer:
-                raise Again
-            self._is_pending = False
-            return (None,)
+        def attempt(session: Session) -> Optional[Receipt]:
+            if session.stance == CLIMB:
+                job.start(session)
+                try:
+                    session.withdraw()
+                    return None
+                except Refused as refused:
+                    if refused.code != NOT_WAITING:
+                        raise
+                    session.stance = HELD
+            return self._finish(session, job)
 
-        return self._insist(attempt)[0]
+        with self._calls.alone():
+            return self._insist(job, attempt)
 
     def next_number(self) -> int:
         """The number of the job that is pending, or of the next one where none is: a new job, or one to go on with."""
-        self._may_not_be_inside()
-        return self._insist(lambda: self._number + (not self._is_pending))
+        with self._calls.alone():
+            return self._insist(Job(), lambda session: session.number + (session.stance == READY))
 
     def last(self) -> Optional[Receipt]:
         """The receipt of the worker's last job; `None` where it was given up, and where there was none.
 
         `Refused`, 9, while a job is pending.
         """
-        self._may_not_be_inside()
-        return self._insist(lambda: (self._ask({"do": "last"})["last"],))[0]
+        with self._calls.alone():
+            return self._insist(Job(), lambda session: session.last())
+
+    def fileno(self) -> int:
+        """The descriptor of the session's connection: inside a block, that of the session that is inside.
+
+        A child process that has it keeps the session, and so the worker, until it ends too:
+        `subprocess.Popen(.., pass_fds=[worker.fileno()])`. The child must not read or write it. `ValueError` where there
+        is no session, as after `close`.
+        """
+        self._calls.must_be_own()
+        if self._session is None:
+            raise ValueError("the worker has no session")
+        return self._session.connection.fileno()
 
     def close(self) -> None:
-        """Ends the session: the worker falls, and what it has pending stays so until it is attached again."""
-        if self._connection is not None:
-            self._connection.close()
-        self._connection = None
+        """Ends the session: the worker falls, and what it has pending stays so until it is attached again. The next call
+        makes another. In a forked child only the child's descriptor is closed. `InUse` where another thread is in a call.
+        """
+        if self._calls.is_elsewhere():
+            raise InUse()
+        self._drop()
 
-    def _insist(self, attempt: Callable[[], Optional[Answer]]) -> Answer:
-        """What the attempt answers, made again and again with a worker attached, until it answers something."""
-        pause = 0.001
+    # Sessions
+
+    def _insist(self, job: Job, attempt: Callable[[Session], Answer]) -> Answer:
+        """What the attempt answers, made in one session after another until it answers something."""
+        pause, is_first = 0.001, True
         while True:
             try:
-                if self._connection is None:
-                    self._attach()
-                answer = attempt()
-                if answer is not None:
-                    return answer
-            except Again:
-                self.close()
+                if self._session is None:
+                    self._attach(job)
+                elif is_first and job.sent is None:  # else its number tells what became of it
+                    self._session.wake()
+                is_first = False
+                assert self._session is not None
+                return attempt(self._session)
+            except Lost as lost:
+                logger.info("worker %d at %s: %s", self.worker, self._server, lost)
+                self._drop()
+            except KNOWN:
+                raise
             except BaseException:
-                self.close()  # where the worker stands is asked anew by the next call
+                self._drop()  # where the worker stands is asked anew by the next call
                 raise
             time.sleep(pause)
             pause = min(2 * pause, 1)
 
-    def _may_not_be_inside(self) -> None:
-        """Inside a block the worker has its job in hand: another order would commit it too early."""
-        if self._is_inside:
-            raise RuntimeError("a worker that is inside can do nothing else until its block has ended")
+    def _drop(self) -> None:
+        session, self._session = self._session, None
+        if session is not None:
+            session.connection.close()
 
-    def _next(self) -> Optional[int]:
-        """The next job's number, once none is pending; `None` where one waits still."""
-        if self._is_pending and self._finish() is None:
-            return None
-        return self._number + 1
+    def _attach(self, job: Job) -> None:
+        """Gets a session, which must fit to what was sent in an earlier one."""
+        began, pause = time.monotonic(), 0.001
+        ends = None if self.connect_timeout is None else began + self.connect_timeout
+        told = began - 9  # a trouble that lasts for a second is told, and then every ten
+        while True:
+            try:
+                self._session = self._new_session(ends)
+                break
+            except Lost as lost:
+                why, now = lost, time.monotonic()
+            if isinstance(why, Hopeless) or (ends is not None and now >= ends):
+                raise Unreachable(f"{self._server}: {why}", job.sent) from why
+            if now - told >= 10:
+                logger.warning("worker %d at %s: %s; trying on", self.worker, self._server, why)
+                told = now
+            time.sleep(pause if ends is None else min(pause, ends - now))
+            pause = min(2 * pause, 1)
+        session, self.take = self._session, False
+        logger.info("worker %d at %s: attached, %s %d", self.worker, self._server, session.stance, session.number)
+        job.must_fit(session)
 
-    def _enter(self, lock: str, script: Script, number: Optional[int]) -> Union[Held, Receipt]:
-        """The job, once the worker is inside with it; or its receipt, where it counted already."""
-
-        def attempt() -> Union[Held, Receipt, None]:
-            nonlocal number
-            if number is None:
-                number = self._next()
-            if number is None:
-                return None
-            order = {"do": "enter", "lock": lock, "number": number, "script": script, "wait": WAIT}
-            answer = self._ask(order)
-            if answer.get("stance") != "held":
-                return self._receipt(order, answer)
-            self._number, self._is_pending = number, True
-            return Held(number)
-
-        return self._insist(attempt)
-
-    def _commit(self, number: int) -> Optional[Receipt]:
-        """The receipt of the job that the worker is inside with, or was when the commit's answer was lost."""
+    def _new_session(self, ends: Optional[float]) -> Session:
+        """A session that has the worker. `Lost` where none is to be had now, or until the time `ends`."""
+        connection = self._server.connect(self._limit(ends))
         try:
-            return self._worked({"do": "commit"})
-        except Refused as refused:
-            last = self._ask({"do": "last"})["last"] if refused.code == 10 else None  # 10, Idle: nothing is pending
-            if last is None or last["number"] != number:
-                raise
-            return self._receipt({}, {"receipt": last})
+            return self._attached(connection, ends)
+        except BaseException:
+            connection.close()
+            raise
 
-    def _finish(self) -> Optional[Receipt]:
-        """Goes on with the pending job: its receipt, or `None` where it waits still."""
-        return self._worked({"do": "resume", "wait": WAIT})
-
-    def _worked(self, order: dict[str, Any]) -> Optional[Receipt]:
-        """The receipt of the job that the order works at, or `None` where it waits still, and the line goes on with it."""
-        return self._receipt(order, self._ask(order))
-
-    def _receipt(self, order: dict[str, Any], answer: dict[str, Any]) -> Optional[Receipt]:
-        """The same, where the order has this answer."""
-        if "receipt" in answer:
-            self._number, self._is_pending, self._begun = answer["receipt"]["number"], False, None
-            return answer["receipt"]
-        if "fell" in answer:  # a planned crash: the session has no worker any more
-            raise Again
-        if "withdrawn" in answer:  # the number was given up: it will never count
-            self._number, self._is_pending, self._begun = order["number"], False, None
-            raise Refused(answer)
-        self._number, self._is_pending = order.get("number", self._number), True
-        return None
-
-    def _attach(self) -> None:
-        try:
-            self._connection = connect(self.address, self.socket_path, self.timeout)
-        except OSError as error:  # nobody listens there, as yet or any more
-            raise Again from error
-        order = {"do": "attach", "worker": self.worker, **({"take": True} if self.take else {})}
-        # 18, Taken: another client has the worker, or the server has not seen the end of its last session yet.
-        while (answer := self._ask(order)).get("code") == 18:
+    def _attached(self, connection: Connection, ends: Optional[float]) -> Session:
+        session, began = Session(connection, self.worker, self.timeout), time.monotonic()
+        # Another client has the worker, or the server has not seen the end of its last session yet.
+        while not session.attach(self.take, self._limit(ends)):
+            now = time.monotonic()
+            if now - began >= 1 or (ends is not None and now >= ends):
+                raise Lost(f"another client has worker {self.worker}")
             time.sleep(0.01)
-        self.take = False
-        self._number, self._is_pending = answer["number"], answer["stance"] != "ready"
+        return session
 
-    def _ask(self, order: dict[str, Any]) -> dict[str, Any]:
-        """Sends a line and answers the server's. Where none comes, the order may have been obeyed or not."""
-        assert self._connection is not None
+    def _limit(self, ends: Optional[float]) -> float:
+        """For how many seconds an answer is waited for, where there should be a session at the time `ends`."""
+        return self.timeout if ends is None else min(self.timeout, max(0.5, ends - time.monotonic()))
+
+    # Jobs
+
+    def _work(self, session: Session, job: Job, **order: Any) -> Optional[Receipt]:
+        """Has the order done until it does not wait any more: its receipt, or `None` where the worker is inside."""
+        while True:
+            try:
+                receipt = session.hand({**order, "wait": job.milliseconds(min(WAIT, self.timeout / 2))})
+            except Refused as refused:
+                if refused.code == DIFFERS and job.is_resent and not job.again:  # it was not refused before
+                    raise Overtaken(session.number, session.number) from refused
+                raise
+            if receipt is not None:
+                return receipt
+            job.is_begun = True
+            if session.stance == HELD:
+                return None
+            if job.is_over():
+                self._own = session.number
+                raise Blocked(job.lock or session.lock, session.number)
+            time.sleep(0.001)
+
+    def _receipt(self, session: Session, job: Job, **order: Any) -> Receipt:
+        """The same of an order that goes on to the receipt."""
+        receipt = self._work(session, job, **order)
+        assert receipt is not None
+        return receipt
+
+    def _finish(self, session: Session, job: Job) -> Optional[Receipt]:
+        if session.stance == READY:
+            return session.last()
+        job.start(session)
+        return self._receipt(session, job, do="resume")
+
+    def _enter(self, session: Session, job: Job, script: Script) -> Held:
+        """The job, once the worker is inside with it."""
+        number = job.start(session)
         try:
-            self._connection.sendall(json.dumps(order).encode() + b"\n")
-            with self._connection.makefile("rb") as lines:  # one answer a line: nothing is left over
-                line = lines.readline()
-        except OSError as error:  # a reset, or no answer in time
-            raise Again from error
-        if not line.endswith(b"\n"):  # the connection was closed, maybe in the middle of the answer
-            raise Again
-        answer: dict[str, Any] = json.loads(line)
-        if answer.get("code", 18) != 18:
-            raise Refused(answer)
-        return answer
+            receipt = self._work(session, job, do="enter", lock=job.lock, number=number, script=script)
+        except Refused as refused:
+            if refused.code != DIFFERS or job.given is not None:
+                raise
+            self._must_be_inside(session, job)
+            receipt = None
+        if receipt is None:
+            return Held(number, job.again)
+        if job.given is None:  # somebody else made it, and its block was not run here
+            raise Overtaken(number, number, receipt)
+        raise Done(receipt)
+
+    def _must_be_inside(self, session: Session, job: Job) -> None:
+        """Returns where the pending job, which has another script or lock than this one, is inside this lock."""
+        lock = session.pending_lock()
+        if session.stance != HELD or lock != job.lock:
+            raise Pending(lock, session.number, session.stance)
+        job.is_begun = True
+
+    def _commit(self, session: Session, job: Job) -> Receipt:
+        """The receipt of the job that the worker is inside with, or was when the commit's answer was lost."""
+        if session.stance == HELD:
+            receipt = session.hand({"do": "commit"})
+        else:
+            receipt = session.last() if session.stance == READY else None
+        if receipt is None or receipt["lock"] != job.lock:
+            raise Overtaken(session.number, session.number, receipt)
+        return receipt

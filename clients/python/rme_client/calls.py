@@ -1,0 +1,104 @@
+"""What a call of a `Worker` has in hand, and that it is the only one."""
+
+from __future__ import annotations
+
+import os
+import threading
+import time
+import weakref
+from contextlib import contextmanager
+from typing import Iterator, Optional
+
+from .errors import Forked, InUse, Overtaken
+from .session import READY, Session
+
+
+class Job:
+    """The job that a call is about: how long it waits for the lock, and what the server is known to have of it."""
+
+    def __init__(self, lock: Optional[str] = None, number: Optional[int] = None, wait: Optional[float] = None):
+        if wait is not None and not wait >= 0:  # nor is NaN
+            raise ValueError(f"`wait` is {wait}: it is a number of seconds, or None")
+        self.lock, self.given = lock, number
+        self.sent: Optional[int] = None  # the number under which its line was sent, or may have been
+        self.is_begun = False  # whether the server is known to have had it
+        self.again = False  # whether it was pending before this call
+        self.is_resent = False  # whether another session had come since it was sent first
+        self._ends = None if wait is None else time.monotonic() + wait
+
+    def start(self, session: Session) -> int:
+        """The number under which it is sent: the one that was given, or the one of the job that is pending in the session
+        in which it is sent first, or else the next one there."""
+        if self.sent is None:
+            is_pending = session.stance != READY
+            self.again = self.is_begun = is_pending and self.given in (None, session.number)
+            self.sent = session.number + (not is_pending) if self.given is None else self.given
+        return self.sent
+
+    def milliseconds(self, most: float) -> int:
+        """For how long the server should wait for the lock in the next order, which is `most` seconds at most."""
+        left = most if self._ends is None else min(most, self._ends - time.monotonic())
+        return max(0, int(1000 * left))
+
+    def is_over(self) -> bool:
+        return self._ends is not None and time.monotonic() >= self._ends
+
+    def must_fit(self, session: Session) -> None:
+        """`Overtaken` where what was sent before cannot have led to where this later session found the worker."""
+        if self.sent is None:
+            return
+        self.is_resent = True
+        is_there = session.number == self.sent
+        is_before = not self.is_begun and (session.number, session.stance) == (self.sent - 1, READY)
+        if not is_there and not is_before:
+            raise Overtaken(self.sent, session.number)
+
+
+class _Call:
+    """A call that is under way, until it is over or forgotten."""
+
+    def __init__(self) -> None:
+        self.is_over, self.thread = False, threading.get_ident()
+
+
+class Calls:
+    """The calls of a worker, of which one is under way at a time, in the process that made the worker.
+
+    There is no lock: one that an exception of a signal's handler leaves locked would refuse all later calls. A call is in
+    the list as long as its frame lives.
+    """
+
+    def __init__(self) -> None:
+        self._process = os.getpid()
+        self._calls: list[weakref.ref[_Call]] = []
+
+    @contextmanager
+    def alone(self) -> Iterator[None]:
+        """Where no other call is under way, the caller's is until the end of the block. `Forked` or `InUse` otherwise."""
+        self.must_be_own()
+        call = _Call()
+        self._calls.append(weakref.ref(call, self._calls.remove))
+        if self._first() is not call:
+            raise InUse()
+        try:
+            yield
+        finally:
+            call.is_over = True
+
+    def is_own(self) -> bool:
+        """Whether this is the process that made the worker."""
+        return os.getpid() == self._process
+
+    def must_be_own(self) -> None:
+        if not self.is_own():
+            raise Forked()
+
+    def is_elsewhere(self) -> bool:
+        """Whether another thread of this process is in a call."""
+        first = self._first()
+        return first is not None and first.thread != threading.get_ident() and self.is_own()
+
+    def _first(self) -> Optional[_Call]:
+        """The call that came first of those that are under way."""
+        calls = (reference() for reference in tuple(self._calls))
+        return next((call for call in calls if call is not None and not call.is_over), None)

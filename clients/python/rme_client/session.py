@@ -1,0 +1,140 @@
+"""A session: a connection that has a worker, and what was answered on it of where that worker stands."""
+
+from __future__ import annotations
+
+import time
+from typing import Any, Optional
+
+from .answers import Answer, Receipt
+from .connection import Connection, Lost
+from .errors import Overtaken, Refused
+
+READY, CLIMB, HELD = "ready", "climb", "held"
+STANCES = READY, CLIMB, HELD
+
+FRESH = 0.2
+"""For how many seconds after an order a session cannot have ended for silence: a server's `--idle` is 1 at least."""
+
+BUSY, TAKEN = 9, 18
+OUTCOMES = {
+    "submit": ("receipt", "waiting", "withdrawn", "fell"),
+    "resume": ("receipt", "waiting", "withdrawn", "fell"),
+    "enter": ("receipt", "waiting", "withdrawn", "fell", "stance"),
+    "commit": ("receipt", "fell"),
+}
+"""Of which members an answer to an order that works at a job has one."""
+
+
+class Session:
+    """A session that has the worker. `number` and `stance` are the worker's by the last answer; `lock` is the pending
+    job's, where it was handed over in this session."""
+
+    def __init__(self, connection: Connection, worker: int, timeout: float):
+        self.connection, self.worker, self.timeout = connection, worker, timeout
+        self.number, self.stance = 0, READY
+        self.lock: Optional[str] = None
+        self._asked = 0.0  # when the last order was sent that was answered
+
+    def attach(self, take: bool, timeout: float) -> bool:
+        """Takes the worker. False where another session has it; `Lost` where the server has no room for this one."""
+        order = {"do": "attach", "worker": self.worker, **({"take": True} if take else {})}
+        try:
+            answer = self._ask(order, timeout)
+        except Refused as refused:
+            if refused.code == BUSY:
+                raise Lost("the server has as many sessions as it may have") from refused
+            if refused.code == TAKEN:
+                return False
+            raise
+        self.number, self.stance = answer.number("number"), answer.one_of("stance", *STANCES)
+        return True
+
+    def wake(self) -> None:
+        """Returns where the session has not ended: `Lost` where it has. What was answered on it still holds then, since
+        nobody else has had the worker.
+
+        The server ends a session that is taken over before anybody else has its worker, so that the end is seen here at
+        once on one machine. It ends a silent one just after that. So an order without effect is sent where the last one
+        was long ago.
+        """
+        if not self.connection.is_quiet():
+            raise Lost("the session had ended")
+        if time.monotonic() - self._asked < FRESH:
+            return
+        try:
+            self.last()
+        except Refused as refused:
+            if refused.code != BUSY:  # a job is pending: the session lives
+                raise
+
+    def hand(self, order: dict[str, Any]) -> Optional[Receipt]:
+        """Has the order done, which works at a job: the job's receipt, or `None` where it is pending still, and `stance`
+        says where. `Refused` where its number was given up, `Overtaken` where the number is that of another lock's job,
+        `Lost` where the worker fell."""
+        do, number = order["do"], order.get("number", self.number)
+        answer = self._ask(order, self.timeout)
+        outcome = [name for name in OUTCOMES[do] if answer.has(name)]
+        if len(outcome) != 1:
+            raise answer.broken(f"it is no outcome of `{do}`")
+        if outcome == ["receipt"]:
+            return self._counted(answer, number, order.get("lock"))
+        if outcome == ["stance"]:
+            if (answer.one_of("stance", HELD), answer.number("number")) != (HELD, number):
+                raise answer.broken(f"it is not about job {number}")
+            self._stands(HELD, number, order["lock"])
+            return None
+        answer.says(outcome[0])
+        if outcome == ["fell"]:
+            raise Lost("the worker fell")
+        if outcome == ["withdrawn"]:
+            self._stands(READY, number)
+            raise Refused(answer.members)
+        self._stands(CLIMB, number, order.get("lock", self.lock))
+        return None
+
+    def withdraw(self) -> None:
+        """Gives up the pending job. `Refused`, 21, where it is inside."""
+        answer = self._ask({"do": "withdraw"}, self.timeout)
+        if answer.has("fell"):
+            raise Lost("the worker fell")
+        if answer.number("number") != self.number:
+            raise answer.broken(f"it is not about job {self.number}")
+        self._stands(READY, self.number)
+
+    def last(self) -> Optional[Receipt]:
+        """The last job's receipt; `None` where it was given up, or there was none. `Refused`, 9, with a job pending."""
+        return self._ask({"do": "last"}, self.timeout).receipt("last", self.worker, self.number)
+
+    def pending_lock(self) -> Optional[str]:
+        """The lock of the pending job; `None` where the server cannot say, since it keeps no state."""
+        if self.lock is not None:
+            return self.lock
+        try:
+            answer = self._ask({"do": "status"}, self.timeout)
+        except Refused:
+            return None
+        workers = answer.members.get("workers")
+        if not isinstance(workers, list) or len(workers) <= self.worker or not isinstance(workers[self.worker], dict):
+            raise answer.broken(f"it says nothing of worker {self.worker}")
+        lock = workers[self.worker].get("lock")
+        return lock if isinstance(lock, str) else None
+
+    def _ask(self, order: dict[str, Any], timeout: float) -> Answer:
+        asked = time.monotonic()
+        answer = self.connection.ask(order, timeout)
+        self._asked = asked
+        answer.must_be_of(order["do"])
+        return answer
+
+    def _counted(self, answer: Answer, number: int, lock: Optional[str]) -> Receipt:
+        """The receipt of the job of this number, which must be this lock's, where one is named."""
+        receipt = answer.receipt("receipt", self.worker, number)
+        if receipt is None:
+            raise answer.broken("the receipt is null")
+        self._stands(READY, number)
+        if lock not in (None, receipt["lock"]):
+            raise Overtaken(number, number, receipt)
+        return receipt
+
+    def _stands(self, stance: str, number: int, lock: Optional[str] = None) -> None:
+        self.stance, self.number, self.lock = stance, number, lock
