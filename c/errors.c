@@ -31,6 +31,7 @@ static const char *const sentences[] = {
     [RME_IN_USE] = "Another thread is in a call with this handle.",
     [RME_SYSTEM] = "A system call failed: see errno and rme_why.",
     [RME_FAULT] = "The parts of this library do not fit together; it was built wrongly.",
+    [RME_UNFINISHED] = "The renewal that makes this file is not over: call rme_renew again with the same two files.",
 };
 
 const char *rme_error_text(int error) {

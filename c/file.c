@@ -108,6 +108,10 @@ int rme_page_fill(struct rme_page *page, const struct rme_shape *shape, const ch
     return are_names(page, shape->locks) ? boot_number(page->boot) : RME_BAD_SHAPE;
 }
 
+static int is_mark(uint64_t moved) {
+    return (moved & RME_MARK_KIND) == RME_MARK_MOVING || (moved & RME_MARK_KIND) == RME_MARK_UNFINISHED;
+}
+
 /* What of a page of a file of this size is not as it must be, or NULL. */
 static const char *fault_of(const struct rme_page *page, off_t size) {
     uint32_t words = 0;
@@ -137,7 +141,7 @@ static const char *fault_of(const struct rme_page *page, off_t size) {
             return "its first page has more than there is to say";
         }
     }
-    return page->moved > 1 ? "its mark of a renewal is none" : NULL;
+    return page->moved > 1 && !is_mark(page->moved) ? "its mark of a renewal is none" : NULL;
 }
 
 /* The open file under a number that is none of the standard streams'. In a process that has closed one of these, what
@@ -150,6 +154,30 @@ static int beyond_streams(int file) {
     close(file);
     errno = kept;
     return other;
+}
+
+/* Where an open file is put: far behind the file's end, where no reader comes, and each open file in a place of its own.
+   The kernel keeps the place with the open file and not with its number. So a handle knows its own open file by it, also
+   beside another handle of the same file. A forked child counts on from its parent. */
+static off_t next_place(void) {
+    static _Atomic uint32_t opened;
+    return ((off_t)1 << 20) + (off_t)(atomic_fetch_add(&opened, 1) & INT32_MAX);
+}
+
+/* Notes which file it is, and puts it in its place. Answers its size. */
+static int identify(struct rme_file *file, off_t *size) {
+    struct stat stat;
+    if (fstat(file->number, &stat) != 0) {
+        return rme_say(RME_SYSTEM, "fstat");
+    }
+    if (!S_ISREG(stat.st_mode)) {
+        return rme_say(RME_NOT_RME, "it is no regular file");
+    }
+    file->device = stat.st_dev;
+    file->inode = stat.st_ino;
+    *size = stat.st_size;
+    file->place = lseek(file->number, next_place(), SEEK_SET);
+    return file->place >= 0 ? 0 : rme_say(RME_SYSTEM, "lseek");
 }
 
 /* MAKING */
@@ -179,6 +207,7 @@ static int write_file(int file, const struct rme_page *page) {
 
 int rme_file_make(const struct rme_page *page, const char *path, char beside[PATH_MAX], struct rme_file *file) {
     struct stat there;
+    off_t size;
     /* A process that finds its file needs neither room for another one nor the right to make it. */
     if (lstat(path, &there) == 0) {
         return RME_EXISTS;
@@ -194,15 +223,33 @@ int rme_file_make(const struct rme_page *page, const char *path, char beside[PAT
     }
     file->number = beyond_streams(file->number);
     int error = file->number < 0 ? rme_say(RME_SYSTEM, "fcntl") : write_file(file->number, page);
+    error = error != 0 ? error : identify(file, &size);
     if (error != 0) {
         int kept = errno;
-        rme_file_close(file);
+        close(file->number);
         unlink(beside);
         errno = kept;
     }
     file->shape =
         (struct rme_shape){(uint32_t)page->workers, (uint32_t)page->locks, (uint32_t)page->cells, (uint32_t)page->jobs};
     return error;
+}
+
+int rme_file_take_rights(const struct rme_file *file, const struct rme_file *from) {
+    struct stat stat;
+    if (fstat(from->number, &stat) != 0) {
+        return rme_say(RME_SYSTEM, "fstat");
+    }
+    mode_t mode = stat.st_mode & 07777;
+    int has_group = fchown(file->number, stat.st_uid, stat.st_gid) == 0;
+    if (!has_group) {
+        has_group = fchown(file->number, (uid_t)-1, stat.st_gid) == 0;
+    }
+    if (!has_group) {
+        /* Another group may have no more than everybody. */
+        mode &= ~(mode_t)070 | (mode & 07) << 3;
+    }
+    return fchmod(file->number, mode) == 0 ? 0 : rme_say(RME_SYSTEM, "fchmod");
 }
 
 int rme_file_publish(const char *beside, const char *path, int keep) {
@@ -234,31 +281,27 @@ static int open_error(void) {
 
 static int check_page(struct rme_file *file) {
     unsigned char boot[40];
-    struct stat stat;
-    if (fstat(file->number, &stat) != 0) {
-        return rme_say(RME_SYSTEM, "fstat");
+    off_t size = 0;
+    int error = identify(file, &size);
+    if (error != 0) {
+        return error;
     }
-    if (!S_ISREG(stat.st_mode)) {
-        return rme_say(RME_NOT_RME, "it is no regular file");
-    }
-    file->device = stat.st_dev;
-    file->inode = stat.st_ino;
     ssize_t count = pread(file->number, &file->page, sizeof file->page, 0);
     if (count < 0) {
         return rme_say(RME_SYSTEM, "pread");
     }
-    const char *fault = count < RME_PAGE ? "it is shorter than its first page" : fault_of(&file->page, stat.st_size);
+    const char *fault = count < RME_PAGE ? "it is shorter than its first page" : fault_of(&file->page, size);
     if (fault != NULL) {
         return rme_say(RME_NOT_RME, fault);
     }
-    int error = boot_number(boot);
+    error = boot_number(boot);
     if (error != 0) {
         return error;
     }
-    return memcmp(boot, file->page.boot, sizeof boot) != 0 ? RME_OLD_BOOT : file->page.moved ? RME_MOVED : 0;
+    return memcmp(boot, file->page.boot, sizeof boot) != 0 ? RME_OLD_BOOT : 0;
 }
 
-int rme_file_open(const char *path, int writable, struct rme_file *file) {
+int rme_file_open_any(const char *path, int writable, struct rme_file *file) {
     /* O_NONBLOCK: a pipe of this name does not hold the caller up. */
     int flags = (writable ? O_RDWR : O_RDONLY) | O_CLOEXEC | O_NOCTTY | O_NONBLOCK;
     *file = (struct rme_file){.number = beyond_streams(open(path, flags))};
@@ -268,24 +311,51 @@ int rme_file_open(const char *path, int writable, struct rme_file *file) {
     int error = check_page(file);
     if (error != 0) {
         int kept = errno;
-        rme_file_close(file);
+        close(file->number);
         errno = kept;
         return error;
     }
     file->shape = (struct rme_shape){(uint32_t)file->page.workers, (uint32_t)file->page.locks,
                                      (uint32_t)file->page.cells, (uint32_t)file->page.jobs};
-    file->mark = lseek(file->number, getpid(), SEEK_SET);
     return 0;
 }
 
-int rme_file_moved(const struct rme_file *file) {
+int rme_file_open(const char *path, int writable, struct rme_file *file) {
+    int error = rme_file_open_any(path, writable, file);
+    if (error == 0) {
+        error = rme_file_moved(file);
+        if (error != 0) {
+            rme_file_close(file);
+        }
+    }
+    return error;
+}
+
+/* RENEWALS */
+
+int rme_file_read_moved(struct rme_file *file) {
     uint64_t moved = 0;
     ssize_t count = pread(file->number, &moved, sizeof moved, offsetof(struct rme_page, moved));
     if (count != sizeof moved) {
         errno = count < 0 ? errno : ENODATA;
         return rme_say(RME_SYSTEM, "pread");
     }
-    return moved != 0 ? RME_MOVED : 0;
+    file->page.moved = moved;
+    return 0;
+}
+
+int rme_file_moved(const struct rme_file *file) {
+    uint64_t moved = file->page.moved;
+    return moved == 0 ? 0 : (moved & RME_MARK_KIND) == RME_MARK_UNFINISHED ? RME_UNFINISHED : RME_MOVED;
+}
+
+uint64_t rme_file_mark_of(uint64_t kind, const struct rme_file *file) {
+    /* Of one device no two files below 2^48 have the same. */
+    return kind | (((uint64_t)file->inode + (uint64_t)file->device * 0x9e3779b97f4b) & ~RME_MARK_KIND);
+}
+
+void rme_file_put_moved(struct rme_file *file, uint64_t from, uint64_t to) {
+    atomic_compare_exchange_strong(&file->front->moved, &from, to);
 }
 
 /* CLAIMS */
@@ -326,9 +396,8 @@ int rme_file_map(struct rme_file *file, int writable) {
 /* Whether the number is the file's still: a process that closed all files may have given it to another one. */
 static int has_number(const struct rme_file *file) {
     struct stat stat;
-    return file->mark == 0 ||
-           (fstat(file->number, &stat) == 0 && stat.st_dev == file->device && stat.st_ino == file->inode &&
-            lseek(file->number, 0, SEEK_CUR) == file->mark);
+    return fstat(file->number, &stat) == 0 && stat.st_dev == file->device && stat.st_ino == file->inode &&
+           lseek(file->number, 0, SEEK_CUR) == file->place;
 }
 
 void rme_file_close_number(struct rme_file *file) {

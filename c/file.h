@@ -23,17 +23,23 @@ struct rme_page {
     uint64_t cells;                                     /*  80 */
     uint64_t jobs;                                      /*  88 */
     uint64_t words;                                     /*  96: how many words there are */
-    _Atomic uint64_t moved;                             /* 104: 1 once the file was renewed */
+    _Atomic uint64_t moved;                             /* 104: 1 once the file was renewed, or a mark below */
     unsigned char names[RME_MOST_LOCKS][RME_MOST_NAME]; /* 112: of the locks */
     unsigned char rest[RME_PAGE - 112 - RME_MOST_LOCKS * RME_MOST_NAME];
 };
 
+/* What `moved` is in a renewal, beside 0 and 1. The lower bits say which the other file is, so that a renewal that was
+   killed is finished with this one and no other. */
+#define RME_MARK_KIND ((uint64_t)0xffff << 48)
+#define RME_MARK_MOVING ((uint64_t)0x4d4f << 48)     /* of the old file: it is over, and the new one is whole */
+#define RME_MARK_UNFINISHED ((uint64_t)0x554e << 48) /* of the new file: it is not the one to use yet */
+
 /* An open file. Nothing is mapped while `words` is NULL. */
 struct rme_file {
     int number;
-    dev_t device; /* which file it is, and a place in it that no other process has; 0 of a file that is made */
+    dev_t device; /* which file it is */
     ino_t inode;
-    off_t mark;
+    off_t place; /* where it was put; no other open file of this process is there */
     struct rme_page page;
     struct rme_shape shape;
     struct rme_page *front;
@@ -50,14 +56,29 @@ int rme_page_fill(struct rme_page *page, const struct rme_shape *shape, const ch
    RME_EXISTS where something has this path already, RME_NO_FILE where there is no such folder, RME_SYSTEM. */
 int rme_file_make(const struct rme_page *page, const char *path, char beside[PATH_MAX], struct rme_file *file);
 
+/* Gives a file the mode of another one, and its owner and group as far as this process may. RME_SYSTEM. */
+int rme_file_take_rights(const struct rme_file *file, const struct rme_file *from);
+
 /* Takes the name away that the file was made under, and gives it this path where `keep`, and nothing is there. */
 int rme_file_publish(const char *beside, const char *path, int keep);
 
 /* Opens a file and checks each field of its page. Nothing is open where it answers an error. */
 int rme_file_open(const char *path, int writable, struct rme_file *file);
 
-/* Whether the file was renewed meanwhile: 0, RME_MOVED or RME_SYSTEM. */
+/* The same, whatever renewal its page tells of. */
+int rme_file_open_any(const char *path, int writable, struct rme_file *file);
+
+/* Reads `moved` of the page again: 0 or RME_SYSTEM. */
+int rme_file_read_moved(struct rme_file *file);
+
+/* Whether the page, as it was read last, tells of a renewal: 0, RME_MOVED or RME_UNFINISHED. */
 int rme_file_moved(const struct rme_file *file);
+
+/* The mark of this kind that names this file. */
+uint64_t rme_file_mark_of(uint64_t kind, const struct rme_file *file);
+
+/* Puts `moved` of a mapped file from one value to another, in one step; nothing happens where it has a third one. */
+void rme_file_put_moved(struct rme_file *file, uint64_t from, uint64_t to);
 
 /* Claims so many workers' numbers from `first` on until the file is closed, or none: RME_TAKEN. */
 int rme_file_claim(const struct rme_file *file, uint32_t first, uint32_t count);

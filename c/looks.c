@@ -2,6 +2,7 @@
 #define _GNU_SOURCE
 #include "handle.h"
 
+#include <errno.h>
 #include <string.h>
 
 uint64_t rme_look(const struct rme_file *file, uint32_t kind, uint32_t first, uint32_t second, uint32_t third) {
@@ -99,6 +100,51 @@ int rme_last(struct rme_handle *handle, struct rme_receipt *receipt, int *there)
         return rme_end(handle, RME_BUSY);
     }
     return rme_end(handle, read_receipt(&handle->file, handle->worker, standing.number, receipt, there));
+}
+
+/* The same of a worker that may live. What is read between two looks at its last number, which is the same at both, is of
+   that job: it was over at the first, and the next one was not begun at the second. */
+static int read_outcome(const struct rme_file *file, uint32_t worker, uint64_t *number, struct rme_receipt *receipt,
+                        int *there) {
+    for (int tries = 0; tries < 1000; tries++) {
+        uint64_t begun = rme_look(file, RME_CORE_BEGUN, worker, 0, 0);
+        if (rme_look(file, RME_CORE_DONE, worker, 0, 0) < begun) {
+            return RME_BUSY;
+        }
+        int error = begun > file->shape.jobs ? RME_DAMAGED : read_receipt(file, worker, begun, receipt, there);
+        if (rme_look(file, RME_CORE_BEGUN, worker, 0, 0) == begun) {
+            *number = begun;
+            return error;
+        }
+    }
+    return RME_BUSY;
+}
+
+int rme_outcome(const char *path, uint32_t worker, uint64_t *number, struct rme_receipt *receipt, int *there) {
+    struct rme_file file;
+    struct rme_receipt found = {0};
+    uint64_t begun = 0;
+    int is_there = 0, error = rme_file_open_any(path, 0, &file);
+    if (error != 0) {
+        return error;
+    }
+    error = rme_file_moved(&file) == RME_UNFINISHED ? RME_UNFINISHED : 0;
+    error = error == 0 && worker >= file.shape.workers ? RME_NO_WORKER : error;
+    error = error != 0 ? error : rme_file_map(&file, 0);
+    error = error != 0 ? error : read_outcome(&file, worker, &begun, &found, &is_there);
+    int kept = errno;
+    rme_file_close(&file);
+    errno = kept;
+    if (error == 0 && number != NULL) {
+        *number = begun;
+    }
+    if (error == 0 && receipt != NULL && is_there) {
+        *receipt = found;
+    }
+    if (error == 0 && there != NULL) {
+        *there = is_there;
+    }
+    return error;
 }
 
 int rme_owner(struct rme_handle *handle, uint32_t lock, uint32_t *worker) {

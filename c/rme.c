@@ -161,6 +161,13 @@ static int recover(struct rme_handle *self) {
     return phase == RME_CORE_EXITS ? go_on(self, RME_CORE_QUIET, RME_FOREVER) : 0;
 }
 
+/* The value of an operation for the crate, which refuses a second cell that does not fit 32 bits as no operation, and one
+   that does as no cell. */
+static uint64_t value_of(const struct rme_operation *operation) {
+    int is_cell = operation->kind == RME_COPY || operation->kind == RME_SWAP;
+    return is_cell && operation->value > UINT32_MAX ? UINT32_MAX : operation->value;
+}
+
 /* Hands over a job, which is not posted yet. Of the words the crate reads three for each operation. */
 static int hand(struct rme_handle *self, uint32_t lock, const struct rme_operation *operations, uint32_t count,
                 uint64_t *number) {
@@ -168,7 +175,7 @@ static int hand(struct rme_handle *self, uint32_t lock, const struct rme_operati
     for (uint32_t i = 0; i < count && count <= RME_MOST_OPERATIONS; i++) {
         *word++ = operations[i].kind;
         *word++ = operations[i].cell;
-        *word++ = operations[i].value;
+        *word++ = value_of(&operations[i]);
     }
     return told(rme_core_submit(&self->core, lock, count, self->slate, number));
 }
@@ -393,6 +400,7 @@ int rme_attach(const char *path, uint32_t worker, struct rme_handle **handle) {
     }
     error = worker < file.shape.workers ? rme_file_claim(&file, worker, 1) : RME_NO_WORKER;
     /* A renewal has all claims: it is over, or begins after this one. */
+    error = error != 0 ? error : rme_file_read_moved(&file);
     error = error != 0 ? error : rme_file_moved(&file);
     if (error != 0) {
         int kept = errno;

@@ -68,7 +68,9 @@ enum rme_error {
     RME_BLOCKED = 107,      /* The time is over and others have the lock still. */
     RME_IN_USE = 108,       /* Another thread is in a call with this handle. */
     RME_SYSTEM = 109,       /* A system call failed: see errno and rme_why. */
-    RME_FAULT = 110         /* The parts of this library do not fit together; it was built wrongly. */
+    RME_FAULT = 110,        /* The parts of this library do not fit together; it was built wrongly. */
+    RME_UNFINISHED = 111    /* The renewal that makes this file is not over: call rme_renew again with the same two
+                               files. */
 };
 
 /* The sentence that stands beside a number above; of any other number a sentence that says so. */
@@ -127,26 +129,45 @@ int rme_create(const char *path, uint32_t workers, uint32_t locks, uint32_t cell
                const char *const *names);
 
 /* Makes a new file of the same shape and names, in which jobs of worker 0 have set the cells to what they are in the
-   old one, and marks the old one as moved: each call on it is RME_MOVED from then on. Numbers, places and receipts do
-   not carry over. Worker 0 has used up to two jobs a lock there, and behind them, if the shape allows it, one that is
-   given up, so that it has no receipt: its own numbers go on from its stance, not from 1. It is made at rest alone:
-   RME_TAKEN where a worker has a living process, RME_BUSY where one has a pending job. RME_EXISTS where `new_path` is
-   there; RME_TOO_MANY_JOBS where the shape allows less jobs than the cells need; RME_DAMAGED; those of rme_attach for
-   the old file; RME_SYSTEM. Whatever it answers but 0, the old file stands as it was, and no new one is there. Where
-   the process is killed in it: if the old file is not RME_MOVED, it is the one to use; remove the new one, if it is
-   there, and renew again. */
+   old one, and marks the old one as moved: each call on it but rme_outcome is RME_MOVED from then on. Numbers, places
+   and receipts do not carry over. Worker 0 has used up to two jobs a lock there, and behind them, if the shape allows
+   it, one that is given up, so that it has no receipt: its own numbers go on from its stance, not from 1. The new file
+   has the mode of the old one, and its owner and group where this process may give them; where it may not give the
+   group, the mode's bits for it are no more than those for everybody. It is made only at rest: RME_TAKEN where a
+   worker has a living process, RME_BUSY where one has a pending job. RME_EXISTS where `new_path` is there;
+   RME_TOO_MANY_JOBS where the shape allows less jobs than the cells need; RME_DAMAGED; those of rme_attach for the old
+   file; RME_SYSTEM. Where it answers anything but 0, the old file stands as it was, and no new one was made.
+   At no moment can both files be attached: the new one gets its name with a mark, and is RME_UNFINISHED for each call
+   until the old one is RME_MOVED. Where the process is killed in it, the next call with the same two files begins again
+   or finishes what was left, and answers 0; or RME_MOVED, where it was over already. Before that call the old file may
+   be used where it is not RME_MOVED. Where the old file is RME_MOVED and the new one RME_UNFINISHED, only that call
+   helps, and one with another `new_path` is RME_MOVED. */
 int rme_renew(const char *path, const char *new_path);
 
 /* Which workers have a living process: sets bit w % 64 of bits[w / 64] for worker w, and clears the others, of
    RME_MOST_WORKERS / 64 numbers. A process that a worker's own process was forked into counts as long as it has the
-   file open. RME_NO_FILE, RME_NOT_RME, RME_OLD_BOOT, RME_MOVED, RME_SYSTEM. */
+   file open. RME_NO_FILE, RME_NOT_RME, RME_OLD_BOOT, RME_MOVED, RME_UNFINISHED, RME_SYSTEM. */
 int rme_living(const char *path, uint64_t *bits);
+
+/* A process that has this worker: where a forked child has the file open too, one of them. 0 where none has it, and
+   where it cannot be known: /proc does not show the open files of other users' processes, or of those outside a
+   container, nor a file that its process has closed and still maps. It looks through all of /proc, which may take
+   milliseconds. A renewal has all workers. RME_NO_FILE, RME_NOT_RME, RME_OLD_BOOT, RME_MOVED, RME_UNFINISHED,
+   RME_NO_WORKER, RME_SYSTEM. */
+int rme_holder(const char *path, uint32_t worker, uint32_t *process);
+
+/* What became of the last job of a worker, whose number nobody has to claim for this: of a dead one whose file was
+   renewed meanwhile too, as long as the old file is kept. `number` is that of the job, 0 where there was none; `there`
+   is 0 where it was withdrawn, or there was none, and else `receipt` is its receipt. RME_BUSY where one is pending, or
+   the worker makes one after the other. RME_NO_FILE, RME_NOT_RME, RME_OLD_BOOT, RME_UNFINISHED, RME_NO_WORKER,
+   RME_DAMAGED, RME_SYSTEM. */
+int rme_outcome(const char *path, uint32_t worker, uint64_t *number, struct rme_receipt *receipt, int *there);
 
 /* HANDLES */
 
 /* Claims a worker's number and maps the file. The worker is down; rme_recover comes next, and the calls below
-   rme_recover are RME_DOWN before it. RME_NO_FILE, RME_NOT_RME, RME_OLD_BOOT, RME_MOVED; then RME_NO_WORKER, RME_TAKEN;
-   RME_NO_MEMORY, RME_SYSTEM. */
+   rme_recover are RME_DOWN before it. RME_NO_FILE, RME_NOT_RME, RME_OLD_BOOT, RME_MOVED, RME_UNFINISHED; then
+   RME_NO_WORKER, RME_TAKEN, of which rme_holder says more; RME_NO_MEMORY, RME_SYSTEM. */
 int rme_attach(const char *path, uint32_t worker, struct rme_handle **handle);
 
 /* Maps the file for look-ups alone, with no worker: the calls under JOBS are RME_NOT_ATTACHED. Its refusals are

@@ -5,7 +5,9 @@
 #include <errno.h>
 #include <fcntl.h>
 #include <pthread.h>
+#include <sched.h>
 #include <signal.h>
+#include <sys/mount.h>
 #include <sys/resource.h>
 #include <sys/stat.h>
 #include <sys/wait.h>
@@ -311,6 +313,15 @@ static void try_refused_jobs(void) {
     }
     answers("no second cell", rme_submit(zero, 0, &(struct rme_operation){RME_COPY, 0, 3}, 1, NULL), RME_NO_CELL);
     answers("no second cell", rme_submit(zero, 0, &(struct rme_operation){RME_SWAP, 0, 3}, 1, NULL), RME_NO_CELL);
+    for (unsigned bit = 2; bit < 64; bit++) {
+        const struct rme_operation far[2] = {{RME_COPY, 0, (uint64_t)1 << bit},
+                                             {RME_SWAP, 0, UINT64_MAX >> (63 - bit)}};
+        answers("a second cell far off", rme_submit(zero, 0, far, 1, NULL), RME_NO_CELL);
+        answers("a second cell far off", rme_submit(zero, 0, far + 1, 1, NULL), RME_NO_CELL);
+        answers("no lock comes first", rme_submit(zero, 2, far, 1, NULL), RME_NO_LOCK);
+        const struct rme_operation both[2] = {far[0], {9, 0, 0}};
+        answers("no operation comes first", rme_submit(zero, 0, both, 2, NULL), RME_BAD_SCRIPT);
+    }
     for (uint64_t job = 1; job <= 5; job++) {
         struct rme_receipt receipt;
         answers("run", rme_run(zero, 0, add_1, 1, 0, &receipt), 0);
@@ -584,6 +595,114 @@ static void try_lost_children(void) {
     heading("children that let go");
 }
 
+/* HANDLES OF ONE FILE IN ONE PROCESS */
+
+static void close_all(void) {
+    for (int file = STDERR_FILENO + 1; file < 100; file++) {
+        close(file);
+    }
+}
+
+/* A handle whose open file was closed, and another one of the same file that has its number since. */
+static void try_reused_number(const char *path) {
+    struct rme_handle *first, *second;
+    fflush(stdout);
+    pid_t child = fork();
+    if (child == 0) {
+        close_all();
+        must("attach", rme_attach(path, 0, &first));
+        check(fcntl(STDERR_FILENO + 1, F_GETFD) >= 0, "its number");
+        close_all();
+        must("attach", rme_attach(path, 1, &second));
+        answers("a handle that lost its open file is detached", rme_detach(first), 0);
+        check(fcntl(STDERR_FILENO + 1, F_GETFD) >= 0, "the other one's file is open still");
+        answers("and has its claim", attach_only(path, 1), RME_TAKEN);
+        answers("recover", rme_recover(second, NULL), 0);
+        answers("run", rme_run(second, 0, add_5, 1, 0, NULL), 0);
+        answers("detach", rme_detach(second), 0);
+        check(fcntl(STDERR_FILENO + 1, F_GETFD) < 0, "and its file is closed then");
+        fflush(stdout);
+        _exit(checks_failed != 0);
+    }
+    check(status_of(child) == 0, "two handles of one file");
+    answers("no claim is left", attach_only(path, 0), 0);
+    answers("no claim is left", attach_only(path, 1), 0);
+}
+
+/* In a file system whose mappings do not keep the claim, where this process may make one. */
+static void overlaid(void) {
+    char options[12000];
+    const char *path = fresh("overlay/lower/file", 2, 1, 1, 100);
+    snprintf(options, sizeof options, "lowerdir=%s,upperdir=%s,workdir=%s", at("overlay/lower"), at("overlay/upper"),
+             at("overlay/work"));
+    if (unshare(CLONE_NEWNS) != 0 || mount("none", "/", NULL, MS_REC | MS_PRIVATE, NULL) != 0 ||
+        mount("overlay", at("overlay/merged"), "overlay", 0, options) != 0) {
+        printf("     an overlay is not tried: %s\n", strerror(errno));
+        fflush(stdout);
+        _exit(0);
+    }
+    path = at("overlay/merged/file");
+    answers("attach", attach_only(path, 0), 0);
+    try_reused_number(path);
+    fflush(stdout);
+    _exit(checks_failed != 0);
+}
+
+static void try_reused_numbers(void) {
+    static const char *const folders[] = {"overlay", "overlay/lower", "overlay/upper", "overlay/work",
+                                          "overlay/merged"};
+    try_reused_number(fresh("reused", 2, 1, 1, 100));
+    for (size_t i = 0; i < sizeof folders / sizeof folders[0]; i++) {
+        check(mkdir(at(folders[i]), 0700) == 0, "mkdir");
+    }
+    fflush(stdout);
+    pid_t child = fork();
+    if (child == 0) {
+        overlaid();
+    }
+    check(status_of(child) == 0, "in an overlay");
+    heading("numbers of open files that are used again");
+}
+
+static void is_held(const char *name, const char *path, uint32_t worker, pid_t wanted) {
+    uint32_t process = 9;
+    answers(name, rme_holder(path, worker, &process), 0);
+    check(process == (uint32_t)wanted, "%s: %u in place of %d", name, process, (int)wanted);
+}
+
+static void try_holders(void) {
+    const char *path = fresh("holders", 130, 1, 1, 100);
+    pid_t child = stopped_child(path, 2, 1), far = stopped_child(path, 129, 0);
+    is_held("a process that is stopped", path, 2, child);
+    is_held("another one", path, 129, far);
+    is_held("nobody", path, 1, 0);
+    answers("no such worker", rme_holder(path, 130, NULL), RME_NO_WORKER);
+    answers("no such file", rme_holder(at("none"), 0, NULL), RME_NO_FILE);
+    struct rme_handle *handle = attached(path, 12);
+    is_held("this process", path, 12, getpid());
+    is_held("its neighbour", path, 13, 0);
+    pid_t forked = fork();
+    if (forked == 0) {
+        raise(SIGSTOP);
+        _exit(0);
+    }
+    waitpid(forked, NULL, WUNTRACED);
+    uint32_t process = 0;
+    check(rme_holder(path, 12, &process) == 0 && (process == (uint32_t)getpid() || process == (uint32_t)forked),
+          "one of two: %u", process);
+    must("detach", rme_detach(handle));
+    is_held("a forked child that has it open", path, 12, forked);
+    kill(forked, SIGKILL);
+    kill(child, SIGKILL);
+    kill(far, SIGKILL);
+    status_of(forked);
+    status_of(child);
+    status_of(far);
+    is_held("a dead one", path, 2, 0);
+    is_held("a dead one", path, 12, 0);
+    heading("holders");
+}
+
 static void *wait_for_lock(void *word) {
     static int error;
     error = rme_enter(word, 1000);
@@ -701,6 +820,7 @@ static void is_moved(const char *path) {
     answers("attach", attach_only(path, 0), RME_MOVED);
     answers("observe", rme_observe(path, &handle), RME_MOVED);
     answers("living", rme_living(path, bits), RME_MOVED);
+    answers("holder", rme_holder(path, 0, NULL), RME_MOVED);
     answers("renew", rme_renew(path, third), RME_MOVED);
     answers("and nothing was made", attach_only(third, 0), RME_NO_FILE);
 }
@@ -741,6 +861,73 @@ static void try_renewal(void) {
     must("detach", rme_detach(handle));
     answers("renew the new one", rme_renew(next, at("renewed-again")), 0);
     heading("renewal");
+}
+
+static void is_outcome(const char *name, const char *path, uint32_t worker, uint64_t number, int there,
+                       struct rme_receipt wanted) {
+    struct rme_receipt receipt = {9, 9, 9, 9, 9};
+    uint64_t found = 9;
+    int is_there = 9;
+    answers(name, rme_outcome(path, worker, &found, &receipt, &is_there), 0);
+    check(found == number && is_there == there, "%s: number %llu, there %d", name, (unsigned long long)found, is_there);
+    same_receipt(name, &receipt, there ? wanted : (struct rme_receipt){9, 9, 9, 9, 9});
+}
+
+/* What became of a dead process's last job, also once its file was renewed. */
+static void try_outcomes(void) {
+    char path[4096], next[4096];
+    const struct rme_receipt none = {0};
+    snprintf(path, sizeof path, "%s", fresh("outcomes", 4, 2, 1, 5));
+    snprintf(next, sizeof next, "%s", at("outcomes-next"));
+    run_alone(path, 1, 1, add_5, 1);
+    run_alone(path, 1, 0, add_5, 1);
+    run_alone(path, 3, 0, add_5, 1);
+    struct rme_handle *handle = attached(path, 3);
+    must("submit", rme_submit(handle, 0, add_1, 1, NULL));
+    answers("one is pending", rme_outcome(path, 3, NULL, NULL, NULL), RME_BUSY);
+    must("withdraw", rme_withdraw(handle, NULL));
+    is_outcome("a living one", path, 3, 2, 0, none);
+    must("detach", rme_detach(handle));
+    for (int time = 0; time < 2; time++) {
+        is_outcome("none", path, 0, 0, 0, none);
+        is_outcome("the last of two", path, 1, 2, 1, (struct rme_receipt){1, 0, 2, 0, 5});
+        is_outcome("withdrawn", path, 3, 2, 0, none);
+        answers("no such worker", rme_outcome(path, 4, NULL, NULL, NULL), RME_NO_WORKER);
+        answers("no words of its answers", rme_outcome(path, 1, NULL, NULL, NULL), 0);
+        answers(time == 0 ? "renew" : "renewed", rme_renew(path, next), time == 0 ? 0 : RME_MOVED);
+    }
+    is_outcome("in the new file it begins anew", next, 1, 0, 0, none);
+    answers("no such file", rme_outcome(at("none"), 0, NULL, NULL, NULL), RME_NO_FILE);
+    heading("outcomes");
+}
+
+/* Looks at the last job of a worker that makes one after the other: each answer is of one job. */
+static void try_living_outcomes(void) {
+    const char *path = fresh("living", 1, 1, 1, 1000000);
+    unsigned found = 0;
+    fflush(stdout);
+    pid_t child = fork();
+    if (child == 0) {
+        struct rme_handle *handle = attached(path, 0);
+        while (rme_run(handle, 0, add_1, 1, 0, NULL) == 0) {
+        }
+        _exit(0);
+    }
+    for (int64_t end = milliseconds() + 300; milliseconds() < end;) {
+        struct rme_receipt receipt = {0};
+        uint64_t number = 0;
+        int there = 0, error = rme_outcome(path, 0, &number, &receipt, &there);
+        check(error == RME_BUSY || (error == 0 && there == (number > 0) &&
+                                    (number == 0 || (receipt.number == number && receipt.place == number - 1 &&
+                                                     receipt.reply == number))),
+              "an outcome of a living worker: %d, number %llu, place %llu", error, (unsigned long long)number,
+              (unsigned long long)receipt.place);
+        found += error == 0 && number > 0;
+    }
+    kill(child, SIGKILL);
+    status_of(child);
+    check(found > 0, "some were answered");
+    heading("outcomes of a living worker");
 }
 
 /* A file of one job a worker holds what one job can set. */
@@ -855,7 +1042,7 @@ static void try_races(void) {
     heading("renewals at once");
 }
 
-/* A renewal that is killed leaves the old file as it was or moved; in the first case it is made again. */
+/* A renewal that is killed leaves one file of use at most, and the next call finishes it, whatever it left. */
 static void try_killed_renewals(void) {
     char path[4096], next[4096];
     unsigned moved = 0, killed = 0;
@@ -875,13 +1062,12 @@ static void try_killed_renewals(void) {
         kill(child, SIGKILL);
         waitpid(child, &status, 0);
         killed += WIFSIGNALED(status) != 0;
-        int error = attach_only(path, 0);
+        int error = attach_only(path, 0), of_next = attach_only(next, 0);
         check(error == RME_MOVED || error == 0, "a killed renewal: %d", error);
+        check(of_next == RME_UNFINISHED || of_next == (error == 0 ? RME_NO_FILE : 0), "its new file: %d", of_next);
         moved += error == RME_MOVED;
-        if (error == 0) {
-            unlink(next);
-            answers("renew again", rme_renew(path, next), 0);
-        }
+        error = rme_renew(path, next);
+        check(error == 0 || (error == RME_MOVED && of_next == 0), "renew again: %d", error);
         answers("the old one is moved", attach_only(path, 0), RME_MOVED);
         struct rme_handle *handle;
         must("observe", rme_observe(next, &handle));
@@ -955,9 +1141,9 @@ static void try_no_boot(void) {
 }
 
 static void try_texts(void) {
-    const char *known[111];
+    const char *known[112];
     int count = 0;
-    for (int error = -1; error <= 111; error++) {
+    for (int error = -1; error <= 112; error++) {
         const char *text = rme_error_text(error);
         if (strcmp(text, rme_error_text(1000)) != 0) {
             for (int other = 0; other < count; other++) {
@@ -966,7 +1152,7 @@ static void try_texts(void) {
             known[count++] = text;
         }
     }
-    check(count == 27, "%d numbers have a text", count);
+    check(count == 28, "%d numbers have a text", count);
     heading("texts");
 }
 
@@ -990,10 +1176,14 @@ int main(int count, char **words) {
     try_forks();
     try_orphans();
     try_lost_children();
+    try_reused_numbers();
+    try_holders();
     try_threads();
     try_many_threads();
     try_refused_renewals();
     try_renewal();
+    try_outcomes();
+    try_living_outcomes();
     try_short_renewals();
     try_late_claims();
     try_races();

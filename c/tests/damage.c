@@ -64,7 +64,11 @@ static void try_page(const unsigned char *bytes, size_t byte, const char *how) {
     if (byte >= 24 && byte < 64) {
         check(error == RME_OLD_BOOT, "%s of byte %zu: %d", how, byte, error);
     } else if (byte >= 104 && byte < 112) {
-        check(error == RME_MOVED || error == RME_NOT_RME, "%s of byte %zu: %d", how, byte, error);
+        uint64_t mark;
+        memcpy(&mark, bytes + 104, 8);
+        int is_moved = mark == 1 || mark >> 48 == 0x4d4f;
+        int wanted = is_moved ? RME_MOVED : mark >> 48 == 0x554e ? RME_UNFINISHED : RME_NOT_RME;
+        check(error == wanted, "%s of byte %zu: %d", how, byte, error);
     } else {
         check(error == RME_NOT_RME || (error == 0 && (is_jobs || is_names)), "%s of byte %zu: %d", how, byte, error);
     }
@@ -75,7 +79,8 @@ static void try_page(const unsigned char *bytes, size_t byte, const char *how) {
 
 static void try_pages(void) {
     static const unsigned char flips[] = {1, 0x80, 0xff, 0x20};
-    static const uint64_t values[] = {0, 1, 2, 16, 17, 256, 257, 1000001, (uint64_t)1 << 32, UINT64_MAX};
+    static const uint64_t values[] = {0, 1, 2, 16, 17, 256, 257, 1000001, (uint64_t)1 << 32,
+                                      (uint64_t)0x4d4f << 48, (uint64_t)0x554e << 48, UINT64_MAX};
     unsigned char bytes[SIZE];
     create();
     read_template();

@@ -14,9 +14,16 @@ C = os.path.join(TOP, "c")
 TESTS = os.path.join(C, "tests")
 WARNINGS = ("-Wall", "-Wextra", "-Wpedantic", "-Werror")
 SANITIZERS = ("-fsanitize=address,undefined", "-fno-sanitize-recover=all", "-fno-omit-frame-pointer")
-# What tests put functions of their own around: a kill before an own step, what comes just before a claim, and a read.
+# What tests put functions of their own around: a kill before an own step, what comes just before a claim, a read, and a
+# kill before each call by which a renewal hands a file over.
 STEPS = ("-Wl,--wrap=rme_core_next", "-Wl,--wrap=rme_core_after")
-WRAPS = {"calls": ("-Wl,--wrap=fcntl", "-Wl,--wrap=read"), "damage": STEPS, "points": STEPS}
+WRAPS = {
+    "calls": ("-Wl,--wrap=fcntl", "-Wl,--wrap=read"),
+    "damage": STEPS,
+    "handover": ("-Wl,--wrap=link", "-Wl,--wrap=unlink", "-Wl,--wrap=rme_file_put_moved"),
+    "points": STEPS,
+}
+PARTS = ("rme", "looks", "renew", "holder", "file", "errors")
 SECONDS = 300
 
 
@@ -49,7 +56,7 @@ def core_libraries():
 def program(name, folder, *flags):
     """A test program, made in a folder where the objects of c/ lie, of them and of the proved library."""
     made, objects = os.path.join(folder, f"test-{name}"), folder
-    parts = [os.path.join(objects, f"{part}.o") for part in ("rme", "looks", "renew", "file", "errors")]
+    parts = [os.path.join(objects, f"{part}.o") for part in PARTS]
     words = [compiler(), "-std=c11", "-O2", "-g", "-pthread", *WARNINGS, *flags, *WRAPS.get(name, ()), "-o", made]
     subprocess.run([*words, os.path.join(TESTS, f"{name}.c"), *parts, *core_libraries()], check=True)
     return made

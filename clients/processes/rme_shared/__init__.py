@@ -9,20 +9,24 @@
             ...  # no other worker is inside the lock, also where this process is killed here
         receipt = held.receipt
 
-`look` shows a file, `living` the workers that are alive, and `renew` makes the next file. Refusals are exceptions.
+Where an earlier process of the worker left a job of this lock, the block is run for that job: `held.again` says so.
+
+`look` shows a file, `living` the workers that are alive, `holder` which process has one, `renew` makes the next file, and
+`outcome` says what became of a worker's last job, also in a file that was renewed. Refusals are exceptions.
 """
 
 from .errors import (
     BadScript, BadShape, Blocked, Busy, Damaged, Differs, Done, Down, Exists, Fault, Forked, Idle, InUse, Moved, NoCell,
-    NoFile, NoLock, NoMemory, NotAttached, NotInside, NotRme, NotWaiting, NoWorker, OldBoot, RmeError, SystemFailed, Taken,
-    TooManyJobs, Up, Withdrawn, WrongNumber,
+    NoFile, NoLock, NoMemory, NotAttached, NotInside, NotRme, NotWaiting, NoWorker, OldBoot, Pending, RmeError,
+    SystemFailed, Taken, TooManyJobs, Unfinished, Up, Withdrawn, WrongNumber,
 )  # fmt: skip
-from .files import LockLook, Look, create, living, look, renew
+from .files import LockLook, Look, Outcome, create, holder, living, look, outcome, renew
 from .worker import Held, Job, Receipt, Script, Worker
 
 __all__ = [
     "BadScript", "BadShape", "Blocked", "Busy", "Damaged", "Differs", "Done", "Down", "Exists", "Fault", "Forked", "Held",
     "Idle", "InUse", "Job", "LockLook", "Look", "Moved", "NoCell", "NoFile", "NoLock", "NoMemory", "NoWorker",
-    "NotAttached", "NotInside", "NotRme", "NotWaiting", "OldBoot", "Receipt", "RmeError", "Script", "SystemFailed",
-    "Taken", "TooManyJobs", "Up", "Withdrawn", "Worker", "WrongNumber", "create", "living", "look", "renew",
+    "NotAttached", "NotInside", "NotRme", "NotWaiting", "OldBoot", "Outcome", "Pending", "Receipt", "RmeError", "Script",
+    "SystemFailed", "Taken", "TooManyJobs", "Unfinished", "Up", "Withdrawn", "Worker", "WrongNumber", "create", "holder",
+    "living", "look", "outcome", "renew",
 ]  # fmt: skip

@@ -2,7 +2,7 @@
 
 from __future__ import annotations
 
-from typing import TYPE_CHECKING, Dict, Type
+from typing import TYPE_CHECKING, Dict, Optional, Type
 
 if TYPE_CHECKING:
     from .worker import Receipt
@@ -42,6 +42,21 @@ class Busy(RmeError):
     """The worker has a job that is not over."""
 
     code = 9
+
+
+class Pending(Busy):
+    """An earlier process of the worker left a job, and the call gave no number. The job has `number`, `lock` and `stance`,
+    which is `waiting` or `inside`; it stays as it is.
+
+    Only the caller knows whether the work for that job was done. `inside` with its lock runs the block for it, `finish()`
+    makes it count without a block, and `withdraw()` gives it up where it waits.
+    """
+
+    def __init__(self, text: str, lock: str = "", number: int = 0, stance: str = ""):
+        super().__init__(text)
+        self.lock = lock
+        self.number = number
+        self.stance = stance
 
 
 class Idle(RmeError):
@@ -91,9 +106,13 @@ class Differs(RmeError):
 
 
 class Taken(RmeError):
-    """A living process has this worker."""
+    """A living process has this worker. `process` is the process's number, and `None` where it cannot be known."""
 
     code = 18
+
+    def __init__(self, text: str, process: Optional[int] = None):
+        super().__init__(text)
+        self.process = process
 
 
 class NotAttached(RmeError):
@@ -188,6 +207,12 @@ class Fault(RmeError):
     """The parts of the library do not fit together; it was built wrongly."""
 
     code = 110
+
+
+class Unfinished(RmeError):
+    """The renewal that makes this file is not over: call `renew` again with the same two files."""
+
+    code = 111
 
 
 class Done(Exception):

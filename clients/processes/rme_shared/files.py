@@ -6,8 +6,9 @@ import ctypes
 from dataclasses import dataclass
 from typing import Any, Callable, FrozenSet, List, Optional, Sequence, Tuple
 
-from .errors import BadShape
-from .library import HANDLE, INT, MOST_CELLS, MOST_NAME, MOST_WORKERS, NOBODY, TEXT, U32, U64, Path, ShapeOf, call, encoded
+from .errors import BadShape, RmeError, Taken
+from .library import INT, MOST_CELLS, MOST_NAME, MOST_WORKERS, NOBODY, TEXT, U32, U64, Handle, Path, ReceiptOf, ShapeOf
+from .library import call, encoded, number_of
 
 
 @dataclass(frozen=True)
@@ -32,6 +33,17 @@ class Look:
     living: FrozenSet[int]
 
 
+@dataclass(frozen=True)
+class Outcome:
+    """What became of a worker's last job: its number, 0 where there was none; whether it counted; its place and its reply
+    where it did. A job that did not count was withdrawn."""
+
+    number: int
+    counted: bool
+    place: Optional[int]
+    reply: Optional[int]
+
+
 def create(path: Path, locks: Sequence[str], workers: int, cells: int = 1, jobs: int = 100_000) -> None:
     """Makes a file with locks of these names, for so many workers, each of which may begin so many jobs in it.
 
@@ -49,9 +61,16 @@ def renew(path: Path, new_path: Path) -> None:
     """Makes a new file of the same shape, whose cells are what they are in the old one, which is `Moved` from then on.
 
     At rest alone: `Taken` where a living process has a worker, `Busy` where one is inside or waits. Numbers, places and
-    receipts begin anew; those of worker 0 behind the jobs that set the cells, so `next_number` says where.
+    receipts begin anew; those of worker 0 behind the jobs that set the cells, so `next_number` says where. The old file
+    answers `outcome`, so keep it as long as a process may ask.
+
+    Where the process is killed in it, a call with the same two paths finishes what it finds; `Moved` where nothing is left
+    to do. Until then the new file, where it is there, is `Unfinished`.
     """
-    call("rme_renew", encoded(path), encoded(new_path))
+    try:
+        call("rme_renew", encoded(path), encoded(new_path))
+    except Taken as error:
+        raise taken(path, None, str(error)) from None
 
 
 def living(path: Path) -> FrozenSet[int]:
@@ -61,23 +80,50 @@ def living(path: Path) -> FrozenSet[int]:
     return frozenset(worker for worker in range(MOST_WORKERS) if bits[worker // 64] >> worker % 64 & 1)
 
 
+def holder(path: Path, worker: int) -> Optional[int]:
+    """The number of a process that has this worker; `None` where none has it, and where it cannot be known, as of another
+    user's process."""
+    process = U32()
+    call("rme_holder", encoded(path), number_of(worker), ctypes.byref(process))
+    return process.value or None
+
+
+def taken(path: Path, worker: Optional[int], text: str) -> Taken:
+    """The refusal of a worker, or of all of a file, with the process that has it; of this text where none is known."""
+    try:
+        found = min(living(path), default=None) if worker is None else worker
+        process = None if found is None else holder(path, found)
+    except RmeError:  # the file is another one meanwhile
+        process = None
+    return Taken(text if process is None else f"A living process has worker {found}: process {process}.", process)
+
+
+def outcome(path: Path, worker: int) -> Outcome:
+    """What became of the last job of a worker, also in a file that was renewed; no process needs the worker for that. `Busy`
+    where a job is pending."""
+    number, receipt, there = U64(), ReceiptOf(), INT()
+    answers = [ctypes.byref(it) for it in (number, receipt, there)]
+    call("rme_outcome", encoded(path), number_of(worker), *answers)
+    if not there.value:
+        return Outcome(number.value, False, None, None)
+    return Outcome(number.value, True, receipt.place, receipt.reply)
+
+
 def look(path: Path) -> Look:
     """What a file shows, without a worker."""
-    handle, shape, name = HANDLE(), ShapeOf(), ctypes.create_string_buffer(MOST_NAME + 1)
+    handle, shape, name = Handle(), ShapeOf(), ctypes.create_string_buffer(MOST_NAME + 1)
 
     def with_handle(asked: str, *words: Any) -> None:
-        call(asked, handle, *words)
+        call(asked, handle.pointer, *words)
 
-    call("rme_observe", encoded(path), ctypes.byref(handle))
-    try:
-        call("rme_shape", handle, ctypes.byref(shape))
-        locks = []
-        for lock in range(shape.locks):
-            call("rme_lock_name", handle, lock, name)
-            cells, settled = cells_of(with_handle, lock, shape.cells)
-            locks.append(LockLook(name.value.decode(), owner_of(with_handle, lock), cells, settled))
-    finally:
-        call("rme_detach", handle)
+    call("rme_observe", encoded(path), ctypes.byref(handle.pointer))
+    with_handle("rme_shape", ctypes.byref(shape))
+    locks = []
+    for lock in range(shape.locks):
+        with_handle("rme_lock_name", lock, name)
+        cells, settled = cells_of(with_handle, lock, shape.cells)
+        locks.append(LockLook(name.value.decode(), owner_of(with_handle, lock), cells, settled))
+    handle.end()
     return Look(shape.workers, shape.jobs, locks, living(path))
 
 

@@ -5,7 +5,9 @@ from __future__ import annotations
 import ctypes
 import functools
 import os
-from typing import Any, Callable, Dict, List, Union
+import weakref
+from operator import methodcaller
+from typing import Any, Callable, Dict, List, Sequence, Union
 
 from .errors import BY_CODE, Fault, RmeError, SystemFailed
 
@@ -39,6 +41,8 @@ CALLS: Dict[str, List[Any]] = {
     "rme_create": [TEXT, U32, U32, U32, U32, AT(TEXT)],
     "rme_renew": [TEXT, TEXT],
     "rme_living": [TEXT, AT(U64)],
+    "rme_holder": [TEXT, U32, AT(U32)],
+    "rme_outcome": [TEXT, U32, AT(U64), AT(ReceiptOf), AT(INT)],
     "rme_attach": [TEXT, U32, AT(HANDLE)],
     "rme_observe": [TEXT, AT(HANDLE)],
     "rme_detach": [HANDLE],
@@ -69,6 +73,11 @@ def encoded(path: Path) -> bytes:
     return found
 
 
+def number_of(worker: int) -> int:
+    """A worker's number for C, where one that it could not be told is no worker's."""
+    return worker if 0 <= worker < 2**32 else NOBODY
+
+
 def path_of_library() -> str:
     """RME_LIBRARY, or librme.so beside this file."""
     return os.environ.get("RME_LIBRARY") or os.path.join(os.path.dirname(os.path.abspath(__file__)), "librme.so")
@@ -95,6 +104,32 @@ def call(name: str, *words: Any) -> None:
     error = function(*words)
     if error != 0:
         raise refusal(error)
+
+
+class Handle:
+    """A handle of C. It is ended with this object at the latest, so also where an exception, as of a signal's handler, loses
+    it. In a forked child only the child's copy of the file is closed then: the parent has its worker still."""
+
+    def __init__(self) -> None:
+        self.pointer = HANDLE()  # none before it is made, and once it is ended
+        # Both are made in one call of C, so that no signal's handler runs between them: else a handle could be ended twice.
+        self._ends = (
+            functools.partial(library().rme_detach, self.pointer),
+            functools.partial(setattr, self.pointer, "value", None),
+        )
+        self._last = weakref.finalize(self, call_all, self._ends)
+        self._last.atexit = False  # the end of the process is its end
+
+    def end(self) -> int:
+        """Ends it where it is there, and answers the refusal's number, or 0."""
+        error = call_all(self._ends)[0] if self.pointer else 0
+        self._last.detach()
+        return error
+
+
+def call_all(functions: Sequence[Callable[[], Any]]) -> List[Any]:
+    """What they answer, one after the other; where they are of C, no code of Python runs between them."""
+    return list(map(methodcaller("__call__"), functions))
 
 
 def refusal(error: int) -> RmeError:

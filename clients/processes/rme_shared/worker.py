@@ -3,6 +3,7 @@
 from __future__ import annotations
 
 import ctypes
+import numbers
 import os
 import threading
 import time
@@ -11,10 +12,11 @@ from dataclasses import dataclass
 from types import TracebackType
 from typing import Any, Dict, Iterator, List, Optional, Sequence, Tuple, Type, Union
 
-from .errors import BadScript, Blocked, Differs, Done, Forked, Idle, InUse, NoCell, NotAttached, Withdrawn, WrongNumber
-from .files import cells_of, owner_of
-from .library import HANDLE, INT, MOST_NAME, MOST_OPERATIONS, U32, U64, Operation, Path, ReceiptOf, ShapeOf, StanceOf
-from .library import call, encoded
+from .errors import BadScript, Blocked, Differs, Done, Forked, Idle, InUse, NotAttached, Pending, Taken
+from .errors import Withdrawn, WrongNumber
+from .files import cells_of, owner_of, taken
+from .library import INT, MOST_NAME, MOST_OPERATIONS, U32, U64, Handle, Operation, Path, ReceiptOf, ShapeOf, StanceOf
+from .library import call, encoded, number_of, refusal
 
 Script = Sequence[Sequence[Union[str, int]]]
 
@@ -45,35 +47,39 @@ class Job:
 
 
 class Held:
-    """A job whose worker is inside its lock."""
+    """A job whose worker is inside its lock, as it was written down. `again` says that it was pending before the call, so
+    that the block may have been begun for it already, by this process or an earlier one."""
 
-    def __init__(self, number: int):
-        self.number = number
+    def __init__(self, job: Job, again: bool = False):
+        self.number = job.number
+        self.script = job.script
+        self.again = again
         self.receipt: Optional[Receipt] = None  # there once the block has ended, and the job has counted
 
 
 class Worker:
-    """One worker of a file. A process has it until the worker is closed or the process is gone, and one thread at a time
-    uses it; several threads use a `Worker` each.
+    """One worker of a file. A process has it until the worker is closed, until nothing refers to it any more, or until the
+    process ends. One thread at a time uses it; several threads use a `Worker` each.
 
     A worker that is made finds out from the words where the last process of its number ended; `stance` says so. Each call
     raises its refusal, `Damaged` where a word has a value that no run can leave.
     """
 
     def __init__(self, path: Path, worker: int):
-        """Claims the number and recovers. `Taken` where a living process has it; `NoWorker`, `NoFile`, `NotRme`, `OldBoot`,
-        `Moved`."""
+        """Claims the number and recovers. `Taken` where a living process has it, and says which; `NoWorker`, `NoFile`,
+        `NotRme`, `OldBoot`, `Moved`, `Unfinished`."""
         self.worker = worker
-        self._handles = [HANDLE()]  # none once it is closed
-        self._callers: List[int] = []  # the threads that are in a call
+        self._handles = [Handle()]  # none once it is closed
+        self._callers: List[Tuple[int, object]] = []  # the threads that are in a call, and each call's own mark
         self._closes = False  # once the call that this thread is in is over
         self._process = os.getpid()
         self._is_inside = False  # in a block
-        self._unfinished: Optional[int] = None  # the number of a job that a call of this object began and did not finish
-        number = worker if 0 <= worker < 2**32 else 2**32 - 1
         try:
-            call("rme_attach", encoded(path), number, ctypes.byref(self._handles[0]))
-            self._call("rme_recover", None)
+            attach(path, worker, self._handles[0])
+            stance = StanceOf()
+            self._call("rme_recover", ctypes.byref(stance))
+            # The number of a job that an earlier process left, and that no call of this object took for its own.
+            self._left: Optional[int] = stance.number if stance.where != 0 else None
             shape = ShapeOf()
             self._call("rme_shape", ctypes.byref(shape))
             self._cells = shape.cells
@@ -135,13 +141,12 @@ class Worker:
 
         A program that may be killed gives the number, so that it can give the same one when it comes back: the job is
         posted where the number is new, gone on with where it is pending, and its receipt is answered again where it
-        counted. Without one the next is chosen, and a job that an earlier process left is finished first. `Blocked` after
-        `wait` seconds, where they are given: the job waits, and the next call without a number goes on with it.
+        counted. Without one the next is chosen; `Pending` where an earlier process left a job. `Blocked` after `wait`
+        seconds, where they are given: the job waits, and the next call without a number goes on with it.
         """
         self._may_not_be_in_a_block()
-        end = end_of(wait)
-        entered = self._enter_with(lock, script, number, end)
-        return self.commit() if isinstance(entered, int) else entered
+        entered = self._enter_with(lock, script, number, end_of(wait))
+        return entered if isinstance(entered, Receipt) else self.commit()
 
     @contextmanager
     def inside(
@@ -151,17 +156,23 @@ class Worker:
 
         No other worker is inside the lock meanwhile, also where this process is killed: its worker is the owner still,
         until the number's next process commits. The job counts once. The block is begun again after a crash, so what it
-        does must bear that. Numbers are as of `run`; `Done`, with the receipt, where the job of a number counted already.
+        does must bear that.
+
+        Without a number the next is chosen. Where an earlier process left a job of this lock, the block is run for that
+        job, as it was written down: `held.again` is true, `held.number` and `held.script` are its own, and the script of
+        this call is not used. `Pending` where it left a job of another lock. A number means what it means for `run`;
+        `Done`, with the receipt, where its job counted already.
 
         Where the block raises, nothing is committed and the worker stays inside: the next call without a number goes on
         with that job, and so does the next process of the worker.
         """
         self._may_not_be_in_a_block()
-        entered = self._enter_with(lock, script, number, end_of(wait))
-        if not isinstance(entered, int):
+        entered = self._enter_with(lock, script, number, end_of(wait), True)
+        if isinstance(entered, Receipt):
             raise Done(entered)
-        held, self._is_inside = Held(entered), True
+        held = self._held(lock, script, *entered)
         try:
+            self._is_inside = True
             yield held
         finally:
             self._is_inside = False
@@ -170,12 +181,13 @@ class Worker:
     # Jobs, in parts
 
     def submit(self, lock: str, script: Script) -> int:
-        """Writes a job down, and answers its number: it is pending from then on, and survives the process."""
+        """Writes a job down, and answers its number: it is pending from then on, and survives the process. `Busy` where a
+        job is pending; `Pending`, which is a `Busy`, where an earlier process left it."""
         self._may_not_be_in_a_block()
-        operations, count, number = operations_of(script), len(script), U64()
-        self._call("rme_submit", self._lock(lock), operations, count, ctypes.byref(number))
-        self._unfinished = number.value
-        return number.value
+        stance = self._stands()
+        if stance.where != 0 and stance.number == self._left:
+            raise self._pending(stance)
+        return self._submit(lock, script)
 
     def enter(self, wait: Optional[float] = None) -> None:
         """Takes the lock of the pending job, at once where the worker is inside already. `Blocked` after `wait` seconds,
@@ -187,15 +199,20 @@ class Worker:
         self._may_not_be_in_a_block()
         receipt = ReceiptOf()
         self._call("rme_commit", ctypes.byref(receipt))
-        self._unfinished = None
         return self._receipt(receipt)
+
+    def finish(self, wait: Optional[float] = None) -> Receipt:
+        """Makes the pending job count, whoever began it, and answers its receipt; no block is run. `Idle` where none is
+        pending; `Blocked` after `wait` seconds, where they are given: it waits still."""
+        self._may_not_be_in_a_block()
+        self._enter_until(end_of(wait))
+        return self.commit()
 
     def withdraw(self) -> int:
         """Gives up the pending job, whose number never counts then. `Idle`; `NotWaiting` where it is inside."""
         self._may_not_be_in_a_block()
         number = U64()
         self._call("rme_withdraw", ctypes.byref(number))
-        self._unfinished = None
         return number.value
 
     def close(self) -> None:
@@ -208,31 +225,30 @@ class Worker:
             return
         callers, here = tuple(self._callers), threading.get_ident()
         if callers and self._process == os.getpid():
-            self._closes = all(caller == here for caller in callers)
+            self._closes = all(caller == here for caller, _ in callers)
             self._handles.append(handle)
             if not self._closes:
                 raise InUse("another thread is in a call of this worker")
             return
-        if handle.value is not None:
-            try:
-                call("rme_detach", handle)
-            except Forked:
-                pass
+        error = handle.end()
+        if error not in (0, Forked.code):
+            raise refusal(error)
 
     # Parts of these
 
     def _call(self, name: str, *words: Any) -> None:
         """Makes a call with the handle. The thread says so before it takes the handle, and `close` takes the handle away
         before it looks who is there, and gives it back where somebody is: so C never has one that is let go."""
-        here = threading.get_ident()
-        self._callers.append(here)
+        caller = (threading.get_ident(), object())
         try:
+            self._callers.append(caller)
             handles = tuple(self._handles)
             if not handles:
                 raise NotAttached("the worker is closed")
-            call(name, handles[0], *words)
+            call(name, handles[0].pointer, *words)
         finally:
-            self._callers.remove(here)
+            if caller in self._callers:  # it is not where a handler's exception came before
+                self._callers.remove(caller)
             if self._closes:
                 self._closes = False
                 self.close()
@@ -268,26 +284,44 @@ class Worker:
                 if end is not None and time.monotonic() >= end:
                     raise
 
-    def _enter_with(self, lock: str, script: Script, number: Optional[int], end: Optional[float]) -> Union[int, Receipt]:
-        """The number of the job, once the worker is inside with it; or its receipt, where it counted already."""
+    def _enter_with(
+        self, lock: str, script: Script, number: Optional[int], end: Optional[float], has_block: bool = False
+    ) -> Union[Tuple[int, bool], Receipt]:
+        """The number of the job, once the worker is inside with it, and whether it was pending before; or its receipt, where
+        it counted already."""
         stance = self._stands()
-        # One that an exception ended behind its commit is not pending any more, and what comes now is another job.
-        if number is None and stance.where != 0 and stance.number == self._unfinished:
-            number = self._unfinished
-        if number is None and stance.where != 0:
-            self._enter_until(end)
-            self.commit()
-            stance = self._stands()
-        expected = stance.number + (stance.where == 0)
+        is_pending = stance.where != 0
+        expected = int(stance.number + (not is_pending))
         if number is not None and number != expected:
             return self._counted(number, stance)
-        if stance.where == 0:
-            self.submit(lock, script)
-        else:
+        if number is None and is_pending and expected == self._left:
+            if not has_block or self._names[stance.lock] != lock:
+                raise self._pending(stance)
+        elif is_pending:
             self._same(lock, script)
-            self._unfinished = expected
+            self._left = None  # by its number and script it is the caller's own
+        else:
+            self._submit(lock, script)
         self._enter_until(end)
-        return int(expected)
+        return expected, is_pending
+
+    def _held(self, lock: str, script: Script, number: int, again: bool) -> Held:
+        """The job that the worker is inside with: its own, or one that was pending before, with its own script."""
+        # One that is finished, and whose way out damage ended, is not there to read any more.
+        found = self.pending() if again else None
+        return Held(found or Job(number, lock, [tuple(words) for words in script]), again)
+
+    def _submit(self, lock: str, script: Script) -> int:
+        operations, count, number = operations_of(script), len(script), U64()
+        self._call("rme_submit", self._lock(lock), operations, count, ctypes.byref(number))
+        return number.value
+
+    def _pending(self, stance: StanceOf) -> Pending:
+        """What refuses a job where an earlier process left one."""
+        lock, where, number = self._names[stance.lock], STANCES[stance.where], int(stance.number)
+        ends = "finish() makes it count" + (", withdraw() gives it up" if where == "waiting" else "")
+        ends += f", inside({lock!r}, ..) runs its block"
+        return Pending(f"an earlier process left job {number} of lock {lock}, {where}: {ends}", lock, number, where)
 
     def _counted(self, number: int, stance: StanceOf) -> Receipt:
         """The receipt of a job that is over: the last one, where none is pending."""
@@ -305,23 +339,38 @@ class Worker:
             raise Differs("another lock or script came under the number of a pending job")
 
 
+def attach(path: Path, worker: int, handle: Handle) -> None:
+    """Claims a worker; `Taken` says which process has it."""
+    try:
+        call("rme_attach", encoded(path), number_of(worker), ctypes.byref(handle.pointer))
+    except Taken as error:
+        raise taken(path, worker, str(error)) from None
+
+
 def end_of(wait: Optional[float]) -> Optional[float]:
-    return None if wait is None else time.monotonic() + wait
+    """When a call's time is over. A time that is no number of seconds is refused before anything is done."""
+    if wait is None:
+        return None
+    if not isinstance(wait, numbers.Real):
+        raise TypeError(f"wait is {wait!r}, and no number of seconds")
+    seconds = float(wait)
+    if seconds != seconds:
+        raise ValueError("wait is not a number of seconds")
+    return time.monotonic() + seconds
 
 
 def operations_of(script: Script) -> "ctypes.Array[Operation]":
     """A script's operations for C. `BadScript` where one is none; numbers are refused as in C, in their turn."""
     made = (Operation * max(len(script), 1))()
     for operation, words in zip(made, script):
-        kind, numbers = words[0] if len(words) else "", [it for it in words[1:] if isinstance(it, int)]
-        if kind not in KINDS or len(numbers) != len(words) - 1 or len(numbers) != (1 if kind == "get" else 2):
+        kind, values = words[0] if len(words) else "", [it for it in words[1:] if isinstance(it, int)]
+        if kind not in KINDS or len(values) != len(words) - 1 or len(values) != (1 if kind == "get" else 2):
             raise BadScript(f"{words!r} is no operation")
-        if any(not 0 <= number < 2**64 for number in numbers):
+        if any(not 0 <= value < 2**64 for value in values):
             raise BadScript(f"{words!r} has a number outside 64 bits")
-        if numbers[0] >= 2**32:
-            raise NoCell(f"{words!r} names a cell that the lock does not have")
-        operation.kind, operation.cell = KINDS.index(str(kind)), numbers[0]
-        operation.value = numbers[1] if len(numbers) > 1 else 0
+        # A cell that C could not be told is one that no lock has either.
+        operation.kind, operation.cell = KINDS.index(str(kind)), min(values[0], 2**32 - 1)
+        operation.value = values[1] if len(values) > 1 else 0
     return made
 
 
