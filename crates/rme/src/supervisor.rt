@@ -4,5 +4,5 @@
 //! have ended; `attend` gives the Downs back, and leaves the service open. A `Gate` is told of each section; `Free` lets all pass.
 
 pub use rme_supervisor::{
-    Attended, End, Fault, Free, Gate, Report, Unattended, WorkerPlan, attend, supervise,
+    Attended, End, Fault, Free, Gate, Report, Schedule, Unattended, WorkerPlan, attend, supervise,
 };

@@ -1,19 +1,22 @@
-//! What bench/ times beside `rme`: steps of a world, and jobs in threads.
+//! What bench/ and scripts/ run beside `rme`: steps of a world, jobs in threads, and calls that are refused memory.
 //!
-//! `steps` and `jobs` are what `bench/steps` and `bench/threads` time; `all` makes each once, as the gate does. It
-//! stands on rme_world and rme_table. Begin with `perform`.
+//! `steps` and `jobs` are what `bench/steps` and `bench/threads` time, `refused` is what `scripts/try-memory` refuses
+//! memory; `all` makes each once, as the gate does. Begin with `perform`.
 #![tactic(auto)]
 
 mod fault;
 mod jobs;
+mod refused;
 mod steps;
 mod words;
 
 use crate::fault::Fault;
 use crate::jobs::{Run, time_of};
+use crate::refused::{close_service, run_world, slot_workers, supervise_workers};
 use crate::steps::run_steps;
-use crate::words::{Task, read_words};
+use crate::words::{Call, Task, read_words};
 use std::process::ExitCode;
+use std::sync::Wait;
 use std::thread::Threads;
 use std::time::Clock;
 
@@ -25,17 +28,36 @@ fn main(rt: HostRuntime) -> ExitCode {
 }
 
 /// Does what the words ask for. With `all`, what one job takes is not printed, since each run takes another time.
-fn perform<R: Threads + Clock + Sync>(rt: &HostRuntime, threads: &R) -> Result<(), Fault> {
+fn perform<R: Threads + Wait + Clock + Sync>(rt: &HostRuntime, threads: &R) -> Result<(), Fault> {
     match read_words(rt)? {
         Task::Steps { worlds, operations } => run_steps(rt, worlds, operations),
         Task::Jobs(run) => {
             let time = time_of(threads, rt.alloc(), &run)?;
             Ok(println!(rt; "{time}")?)
         }
+        Task::Refused(call) => make_call(rt, threads, call),
         Task::All => {
             run_steps(rt, 1, 0)?;
             let _time = time_of(threads, rt.alloc(), &Run::smallest())?;
-            Ok(println!(rt; "jobs: 1")?)
+            println!(rt; "jobs: 1")?;
+            for call in [Call::Run, Call::Close, Call::Supervise, Call::Slots] {
+                make_call(rt, threads, call)?;
+            }
+            Ok(())
         }
+    }
+}
+
+/// Makes a call, and once more where it is refused memory.
+fn make_call<R: Threads + Wait + Sync>(
+    rt: &HostRuntime,
+    threads: &R,
+    call: Call,
+) -> Result<(), Fault> {
+    match call {
+        Call::Run => run_world(rt),
+        Call::Close => close_service(rt, threads),
+        Call::Supervise => supervise_workers(rt, threads),
+        Call::Slots => slot_workers(rt, threads),
     }
 }

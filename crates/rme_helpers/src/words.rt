@@ -16,8 +16,19 @@ pub enum Task {
     Steps { worlds: u32, operations: u32 },
     /// `jobs THREADS JOBS one|own`.
     Jobs(Run),
+    /// `refused run|close|supervise|slots`.
+    Refused(Call),
     /// `all`: each part, as short as it can be.
     All,
+}
+
+/// A call that takes memory.
+#[derive(Clone, Copy)]
+pub enum Call {
+    Run,
+    Close,
+    Supervise,
+    Slots,
 }
 
 /// What the words ask for.
@@ -32,6 +43,7 @@ pub fn read_words(rt: &HostRuntime) -> Result<Task, Fault> {
         "all" => Ok(Task::All),
         "steps" => steps_of(given.0, given.1),
         "jobs" => jobs_of(given.0, given.1, given.2),
+        "refused" => refused_of(given.0),
         _ => Err(Fault),
     }
 }
@@ -61,6 +73,20 @@ fn jobs_of(
         jobs: number_of(jobs.as_str(), MOST_JOBS)?,
         own: is_own(setting.as_str())?,
     }))
+}
+
+/// The word `run|close|supervise|slots`.
+fn refused_of(call: Option<String>) -> Result<Task, Fault> {
+    let Some(call) = call else {
+        return Err(Fault);
+    };
+    match call.as_str() {
+        "run" => Ok(Task::Refused(Call::Run)),
+        "close" => Ok(Task::Refused(Call::Close)),
+        "supervise" => Ok(Task::Refused(Call::Supervise)),
+        "slots" => Ok(Task::Refused(Call::Slots)),
+        _ => Err(Fault),
+    }
 }
 
 /// Whether each thread has a lock of its own, or all have one.

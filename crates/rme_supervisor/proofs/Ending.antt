@@ -25,22 +25,22 @@ given_all shape downs all = all_pass (has_down downs) 0 shape.workers (λ w less
 ])
 
 -- What was found in slices is found in the lists that they show.
-module _ (s t : Shape) (plans : List WorkerPlan) (fresh : Bool) (d downs : List Stand) (e ends : List End) (same : s ≡ t) (all_d : d ≡ downs) (all_e : e ≡ ends) where
-  pub whole_so : IsWhole s plans fresh d e → IsWhole t plans fresh downs ends
+module _ (s t : Shape) (rounds : ℕ) (plans : List WorkerPlan) (fresh : Bool) (d downs : List Stand) (e ends : List End) (same : s ≡ t) (all_d : d ≡ downs) (all_e : e ≡ ends) where
+  pub whole_so : IsWhole s rounds plans fresh d e → IsWhole t rounds plans fresh downs ends
   whole_so whole =
-      let P : List End → Type 0 = λ es. IsWhole t plans fresh downs es in
-      let Q : List Stand → Type 0 = λ ds. IsWhole t plans fresh ds e in
-      let R : Shape → Type 0 = λ u. IsWhole u plans fresh d e in
+      let P : List End → Type 0 = λ es. IsWhole t rounds plans fresh downs es in
+      let Q : List Stand → Type 0 = λ ds. IsWhole t rounds plans fresh ds e in
+      let R : Shape → Type 0 = λ u. IsWhole u rounds plans fresh d e in
       subst P all_e (subst Q all_d (subst R same whole))
 
-  whole_back : IsWhole t plans fresh downs ends → IsWhole s plans fresh d e
+  whole_back : IsWhole t rounds plans fresh downs ends → IsWhole s rounds plans fresh d e
   whole_back whole =
-      let P : List End → Type 0 = λ es. IsWhole s plans fresh d es in
-      let Q : List Stand → Type 0 = λ ds. IsWhole s plans fresh ds ends in
-      let R : Shape → Type 0 = λ u. IsWhole u plans fresh downs ends in
+      let P : List End → Type 0 = λ es. IsWhole s rounds plans fresh d es in
+      let Q : List Stand → Type 0 = λ ds. IsWhole s rounds plans fresh ds ends in
+      let R : Shape → Type 0 = λ u. IsWhole u rounds plans fresh downs ends in
       subst P (sym all_e) (subst Q (sym all_d) (subst R (sym same) whole))
 
-  pub not_whole : (found : Bool) → (IsTrue found ↔ IsWhole s plans fresh d e) → found ≡ false → IsWhole t plans fresh downs ends → ⊥
+  pub not_whole : (found : Bool) → (IsTrue found ↔ IsWhole s rounds plans fresh d e) → found ≡ false → IsWhole t rounds plans fresh downs ends → ⊥
   not_whole found means denied whole = let both : true ≡ false = sym (means.1 (whole_back whole)) ∙ denied in cc
 
 -- A close that found all workers had no memory.
@@ -49,9 +49,9 @@ no_memory ident downs u all un =
     let found = given_all ident.shape downs all in
     rw found at un.why
 
-module _ (ident : Ident) (turned : ℕ → Type 0) (plans : List WorkerPlan) (given : List Stand) (s : Settled) (fresh : Bool) (is : IsSettled ident turned plans given s) (all : AreAll ident.shape s.downs.items)
-    (follow : fresh ≡ true → AllFollow plans s.downs.items s.ends.items) where
-  pub over : IsOver ident.shape turned plans given fresh s.downs.items s.ends.items s.lives.items
+module _ (ident : Ident) (turned : ℕ → Type 0) (rounds : ℕ) (plans : List WorkerPlan) (given : List Stand) (s : Settled) (fresh : Bool) (is : IsSettled ident turned rounds plans given s) (all : AreAll ident.shape s.downs.items)
+    (follow : fresh ≡ true → AllFollow rounds plans s.downs.items s.ends.items) where
+  pub over : IsOver ident.shape turned rounds plans given fresh s.downs.items s.ends.items s.lives.items
   over = record {
     all = all;
     ended = is.ends ∙ all.count;

@@ -25,11 +25,11 @@ first_more entries jobs i entry job here at of before =
 same_at : {A : Type 0} (xs : List A) (i : ℕ) (x y : A) → x ≡ get_or xs i x → slice_get xs i ≡ Some y → x ≡ y
 same_at xs i x y is at = is ∙ get_or_from_slice_get xs i y x at
 
-module _ (plans : List WorkerPlan) (downs : List Stand) (ends : List End) (worker : ℕ) (plan : WorkerPlan) (down : Stand) (end : End) (plan_is : plan ≡ get_or plans worker plan)
-    (down_is : down ≡ get_or downs worker down) (end_is : (e : End) → slice_get ends worker ≡ Some e → end ≡ e) (entries : List Entry) (entries_are : entries ≡ down.part.entries) (follows : Follows plan entries end)
-    (before : (at : ℕ) (p : WorkerPlan) (d : Stand) (e : End) → at < worker → slice_get plans at ≡ Some p → slice_get downs at ≡ Some d → slice_get ends at ≡ Some e → Follows p d.part.entries e) where
+module _ (rounds : ℕ) (plans : List WorkerPlan) (downs : List Stand) (ends : List End) (worker : ℕ) (plan : WorkerPlan) (down : Stand) (end : End) (plan_is : plan ≡ get_or plans worker plan)
+    (down_is : down ≡ get_or downs worker down) (end_is : (e : End) → slice_get ends worker ≡ Some e → end ≡ e) (entries : List Entry) (entries_are : entries ≡ down.part.entries) (follows : Follows rounds plan entries end)
+    (before : (at : ℕ) (p : WorkerPlan) (d : Stand) (e : End) → at < worker → slice_get plans at ≡ Some p → slice_get downs at ≡ Some d → slice_get ends at ≡ Some e → Follows rounds p d.part.entries e) where
   pub one_more : (at : ℕ) (p : WorkerPlan) (d : Stand) (e : End) → at < worker + 1 → slice_get plans at ≡ Some p → slice_get downs at ≡ Some d → slice_get ends at ≡ Some e
-      → Follows p d.part.entries e
+      → Follows rounds p d.part.entries e
   one_more at p d e less at_p at_d at_e = elim (cases_eq at worker) [
     | inl same ↦
         let p_is : plan ≡ p = same_at plans worker plan p plan_is (subst (λ (n : ℕ). slice_get plans n ≡ Some p) same at_p) in

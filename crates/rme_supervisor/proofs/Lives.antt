@@ -23,9 +23,9 @@ is_no_end : (end : End) → end ≡ OutOfLives → is_outside end ≡ false → 
 is_no_end end same inside = let bad : is_outside OutOfLives ≡ false = subst (λ (e : End). is_outside e ≡ false) same inside in cc
 
 -- A worker before its first life.
-pub unlived : (shape : Shape) (turned : ℕ → Type 0) (plans : List WorkerPlan) (given : List Stand) (down : Stand) → slice_get given down.part.worker ≡ Some down
-    → IsRest shape turned plans given (record { stand = down; end = None; blocked = 0; lives = 0 })
-unlived shape turned plans given down is = record {
+pub unlived : (shape : Shape) (turned : ℕ → Type 0) (rounds : ℕ) (plans : List WorkerPlan) (given : List Stand) (down : Stand) → slice_get given down.part.worker ≡ Some down
+    → IsRest shape turned rounds plans given (record { stand = down; end = None; blocked = 0; lives = 0 })
+unlived shape turned rounds plans given down is = record {
   earned = λ plan end at bad. absurd (none-some _ bad);
   rested = λ plan first at was. record {
     made = 0;
@@ -42,7 +42,7 @@ unlived shape turned plans given down is = record {
   };
 }
 
-module _ (shape : Shape) (turned : ℕ → Type 0) (plans : List WorkerPlan) (given : List Stand) (old : Rest) (is : IsRest shape turned plans given old) (plan : WorkerPlan)
+module _ (shape : Shape) (turned : ℕ → Type 0) (rounds : ℕ) (plans : List WorkerPlan) (given : List Stand) (old : Rest) (is : IsRest shape turned rounds plans given old) (plan : WorkerPlan)
     (planned : slice_get plans old.stand.part.worker ≡ Some plan) (none : old.end ≡ None) (more : old.lives < plan.lives) (down : Stand) (own : down.part.worker ≡ old.stand.part.worker)
     (falls new : Falls) (next : IsNextFall plan.falls.items old.lives falls) (start then_ : Tries) (blocked : start.blocked ≡ old.blocked) (most : start.most ≡ plan.sweeps)
     (tried : HasTried start then_ old.stand down) where
@@ -50,11 +50,11 @@ module _ (shape : Shape) (turned : ℕ → Type 0) (plans : List WorkerPlan) (gi
   its_plan p at = same_Some _ _ (sym planned ∙ subst (λ (w : ℕ). slice_get plans w ≡ Some p) own at)
 
   -- What is known of the worker's own plan, and of its Down at the call, is known wherever they are looked up.
-  rests : (end : Option End) → ((e : End) → end ≡ Some e → IsEarned shape plan down.part.private.begun e)
+  rests : (end : Option End) → ((e : End) → end ≡ Some e → IsEarned shape rounds plan down.part.private.begun e)
       → ((first : Stand) → HasRested turned plan first old → HasRested turned plan first (record { stand = down; end = end; blocked = then_.blocked; lives = old.lives + 1 }))
-      → IsRest shape turned plans given (record { stand = down; end = end; blocked = then_.blocked; lives = old.lives + 1 })
+      → IsRest shape turned rounds plans given (record { stand = down; end = end; blocked = then_.blocked; lives = old.lives + 1 })
   rests end earned rested = record {
-    earned = λ p e at ended. subst (λ (x : WorkerPlan). IsEarned shape x down.part.private.begun e) (its_plan p at) (earned e ended);
+    earned = λ p e at ended. subst (λ (x : WorkerPlan). IsEarned shape rounds x down.part.private.begun e) (its_plan p at) (earned e ended);
     rested = λ p first at was.
         let P : WorkerPlan → Type 0 = λ (x : WorkerPlan). HasRested turned x first (record { stand = down; end = end; blocked = then_.blocked; lives = old.lives + 1 }) in
         subst P (its_plan p at) (rested first (is.rested plan first planned (subst (λ (w : ℕ). slice_get given w ≡ Some first) own was)));
@@ -80,7 +80,7 @@ module _ (shape : Shape) (turned : ℕ → Type 0) (plans : List WorkerPlan) (gi
 
   -- The life ended at a fall.
   pub lived_fell : (end : Option End) → IfSome end (λ (e : End). (e ≡ OutOfLives) × (plan.lives ≤ old.lives + 1)) → IfNone end (old.lives + 1 < plan.lives) → HasAsked falls new old.stand down 1
-      → IsRest shape turned plans given (record { stand = down; end = end; blocked = then_.blocked; lives = old.lives + 1 })
+      → IsRest shape turned rounds plans given (record { stand = down; end = end; blocked = then_.blocked; lives = old.lives + 1 })
   lived_fell None some left asked = rests None (λ e bad. absurd (none-some _ bad)) (λ first has. record {
     made = has.made + asked.made;
     steps = later first has 1 asked;
@@ -97,8 +97,8 @@ module _ (shape : Shape) (turned : ℕ → Type 0) (plans : List WorkerPlan) (gi
   lived_fell (Some e) (out, all) left asked = rests (Some e)
       (λ end same.
       let within = fell_within plan.falls.items old.lives asked.made falls new next asked.asks in
-      let earned : IsEarned shape plan down.part.private.begun OutOfLives = omega (arith, within, all) in
-      subst (λ (x : End). IsEarned shape plan down.part.private.begun x) (sym out ∙ same_Some _ _ same) earned)
+      let earned : IsEarned shape rounds plan down.part.private.begun OutOfLives = omega (arith, within, all) in
+      subst (λ (x : End). IsEarned shape rounds plan down.part.private.begun x) (sym out ∙ same_Some _ _ same) earned)
       (λ first has. record {
         made = has.made + asked.made;
         steps = later first has 1 asked;
@@ -114,9 +114,9 @@ module _ (shape : Shape) (turned : ℕ → Type 0) (plans : List WorkerPlan) (gi
       })
 
   -- It ended otherwise.
-  pub lived_ended : (end : End) → IsEarned shape plan down.part.private.begun end → is_outside end ≡ false → (end ≡ Stalled → (plan.sweeps ≤ then_.blocked) ⊎ turned down.part.worker) → HasAsked falls new old.stand down 0
-      → IsRest shape turned plans given (record { stand = down; end = Some end; blocked = then_.blocked; lives = old.lives + 1 })
-  lived_ended end earned inside stalled asked = rests (Some end) (λ e same. subst (λ (x : End). IsEarned shape plan down.part.private.begun x) (same_Some _ _ same) earned) (λ first has. record {
+  pub lived_ended : (end : End) → IsEarned shape rounds plan down.part.private.begun end → is_outside end ≡ false → (end ≡ Stalled → (plan.sweeps ≤ then_.blocked) ⊎ turned down.part.worker) → HasAsked falls new old.stand down 0
+      → IsRest shape turned rounds plans given (record { stand = down; end = Some end; blocked = then_.blocked; lives = old.lives + 1 })
+  lived_ended end earned inside stalled asked = rests (Some end) (λ e same. subst (λ (x : End). IsEarned shape rounds plan down.part.private.begun x) (same_Some _ _ same) earned) (λ first has. record {
     made = has.made + asked.made;
     steps = later first has 0 asked;
     swept = swept first has 0 asked;
@@ -131,7 +131,7 @@ module _ (shape : Shape) (turned : ℕ → Type 0) (plans : List WorkerPlan) (gi
   })
 
 -- The lives of all workers go by their plans.
-pub ordered : (ident : Ident) (turned : ℕ → Type 0) (plans : List WorkerPlan) (answered : ℕ → ℕ → Bool → Type 0) (lets_all : Bool) (service : Ident) (given : List WorkerPlan) (count : ℕ) → service ≡ ident
-    → given ≡ plans → ArePlans given count → ((other : ℕ) → IsTurnedAway answered lets_all service.shape other → turned other) → AllOrders ident turned plans answered lets_all service given
-ordered ident turned plans answered lets_all service given count ours same good away worker plan at =
-    record { ours = ours; planned = subst (λ (ps : List WorkerPlan). slice_get ps worker ≡ Some plan) same at; good = good.each worker plan at; away = away }
+pub ordered : (ident : Ident) (turned : ℕ → Type 0) (rounds : ℕ) (plans : List WorkerPlan) (answered : ℕ → ℕ → Bool → Type 0) (lets_all : Bool) (service : Ident) (made : ℕ) (given : List WorkerPlan) (count : ℕ) → service ≡ ident
+    → made ≡ rounds → given ≡ plans → ArePlans given count → ((other : ℕ) → IsTurnedAway answered lets_all service.shape other → turned other) → AllOrders ident turned rounds plans answered lets_all service made given
+ordered ident turned rounds plans answered lets_all service made given count ours so_many same good away worker plan at =
+    record { ours = ours; rounds_are = so_many; planned = subst (λ (ps : List WorkerPlan). slice_get ps worker ≡ Some plan) same at; good = good.each worker plan at; away = away }

@@ -14,11 +14,11 @@ use Rattle.rme_supervisor.specs.Berths.{HasRested, IsRest}
 use Rattle.rme_supervisor.proofs.Lists.{in_snoc}
 
 -- The end of a worker in its slot is one that its plan allows, NoStart where it has none.
-module _ (shape : Shape) (turned : ℕ → Type 0) (plans : List WorkerPlan) (given : List Stand) (stand : Stand) (blocked lives : ℕ) where
+module _ (shape : Shape) (turned : ℕ → Type 0) (rounds : ℕ) (plans : List WorkerPlan) (given : List Stand) (stand : Stand) (blocked lives : ℕ) where
   abbrev Rests : Option End → Type 0
-  Rests end = IsRest shape turned plans given (record { stand = stand; end = end; blocked = blocked; lives = lives })
+  Rests end = IsRest shape turned rounds plans given (record { stand = stand; end = end; blocked = blocked; lives = lives })
 
-  pub rested : (end : Option End) → Rests end → (plan : WorkerPlan) → slice_get plans stand.part.worker ≡ Some plan → IsEarned shape plan stand.part.private.begun (unwrap_or end NoStart)
+  pub rested : (end : Option End) → Rests end → (plan : WorkerPlan) → slice_get plans stand.part.worker ≡ Some plan → IsEarned shape rounds plan stand.part.private.begun (unwrap_or end NoStart)
   rested None is plan planned = tt
   rested (Some end) is plan planned = is.earned plan end planned refl
 
@@ -62,9 +62,9 @@ module _ (shape : Shape) (turned : ℕ → Type 0) (plans : List WorkerPlan) (gi
         ];
       }
 
-module _ (ident : Ident) (turned : ℕ → Type 0) (plans : List WorkerPlan) (given ds dt : List Stand) (es et : List End) (ls lt : List ℕ) (down : Stand) (end : End) (lives : ℕ)
-    (is : AreSettled ident turned plans given ds es ls) (downs : dt ≡ ds ++ down ∷ []) (ends : et ≡ es ++ end ∷ []) (lived : lt ≡ ls ++ lives ∷ []) (own : down.ident ≡ ident)
-    (earned : (plan : WorkerPlan) → slice_get plans down.part.worker ≡ Some plan → IsEarned ident.shape plan down.part.private.begun end)
+module _ (ident : Ident) (turned : ℕ → Type 0) (rounds : ℕ) (plans : List WorkerPlan) (given ds dt : List Stand) (es et : List End) (ls lt : List ℕ) (down : Stand) (end : End) (lives : ℕ)
+    (is : AreSettled ident turned rounds plans given ds es ls) (downs : dt ≡ ds ++ down ∷ []) (ends : et ≡ es ++ end ∷ []) (lived : lt ≡ ls ++ lives ∷ []) (own : down.ident ≡ ident)
+    (earned : (plan : WorkerPlan) → slice_get plans down.part.worker ≡ Some plan → IsEarned ident.shape rounds plan down.part.private.begun end)
     (has_lived : (plan : WorkerPlan) (first : Stand) → slice_get plans down.part.worker ≡ Some plan → slice_get given down.part.worker ≡ Some first → HasLived turned plan first down end lives) where
   ours : (k : ℕ) (seat : Stand) → slice_get dt k ≡ Some seat → seat.ident ≡ ident
   ours k seat at = elim (in_snoc ds down k seat (rw (← downs) at)) [
@@ -73,7 +73,7 @@ module _ (ident : Ident) (turned : ℕ → Type 0) (plans : List WorkerPlan) (gi
   ]
 
   each : (k : ℕ) (d : Stand) (e : End) (plan : WorkerPlan) → slice_get dt k ≡ Some d → slice_get et k ≡ Some e → slice_get plans d.part.worker ≡ Some plan
-      → IsEarned ident.shape plan d.part.private.begun e
+      → IsEarned ident.shape rounds plan d.part.private.begun e
   each k d e plan at ended planned = elim (in_snoc ds down k d (rw (← downs) at)) [
     | inl h ↦ elim (in_snoc es end k e (rw (← ends) ended)) [
       | inl i ↦ is.earned k d e plan h i planned
@@ -104,7 +104,7 @@ module _ (ident : Ident) (turned : ℕ → Type 0) (plans : List WorkerPlan) (gi
     ]
   ]
 
-  pub settled_more : AreSettled ident turned plans given dt et lt
+  pub settled_more : AreSettled ident turned rounds plans given dt et lt
   settled_more = record {
     ours = ours;
     ends = rw (downs, ends) (let d = length-append ds (down ∷ []) in let e = length-append es (end ∷ []) in omega (arith, d, e, is.ends));

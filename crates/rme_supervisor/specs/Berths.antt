@@ -40,9 +40,9 @@ LivesAgain plan lives None = lives < plan.lives
 LivesAgain plan lives (Some end) = is_outside end ≡ true → lives ≡ plan.lives
 
 -- An end, and a number of lives, is one that the worker's plan allows.
-pub record IsRest (shape : Shape) (turned : ℕ → Type 0) (plans : List WorkerPlan) (given : List Stand) (rest : Rest) : Type 0 where
+pub record IsRest (shape : Shape) (turned : ℕ → Type 0) (rounds : ℕ) (plans : List WorkerPlan) (given : List Stand) (rest : Rest) : Type 0 where
   pub earned : (plan : WorkerPlan) (end : End) → slice_get plans rest.stand.part.worker ≡ Some plan → rest.end ≡ Some end
-      → IsEarned shape plan rest.stand.part.private.begun end
+      → IsEarned shape rounds plan rest.stand.part.private.begun end
   pub rested : (plan : WorkerPlan) (first : Stand) → slice_get plans rest.stand.part.worker ≡ Some plan → slice_get given rest.stand.part.worker ≡ Some first
       → HasRested turned plan first rest
 
@@ -50,15 +50,16 @@ pub record IsRest (shape : Shape) (turned : ℕ → Type 0) (plans : List Worker
 abbrev pub AreGiven : List Stand → List Stand → Type 0
 AreGiven given downs = (k : ℕ) (down : Stand) → slice_get downs k ≡ Some down → slice_get given down.part.worker ≡ Some down
 
--- The lives of this worker go by its plan, which is a good one, in this service; and a worker that the gate turns away is known as
--- one of those.
-pub record AreOrders (ident : Ident) (turned : ℕ → Type 0) (plans : List WorkerPlan) (answered : ℕ → ℕ → Bool → Type 0) (lets_all : Bool) (service : Ident) (worker : ℕ) (plan : WorkerPlan) : Type 0 where
+-- The lives of this worker go by its plan, which is a good one, in so many rounds and in this service; and a worker that the gate
+-- turns away is known as one of those.
+pub record AreOrders (ident : Ident) (turned : ℕ → Type 0) (rounds : ℕ) (plans : List WorkerPlan) (answered : ℕ → ℕ → Bool → Type 0) (lets_all : Bool) (service : Ident) (worker made : ℕ) (plan : WorkerPlan) : Type 0 where
   pub ours : service ≡ ident
+  pub rounds_are : made ≡ rounds
   pub planned : slice_get plans worker ≡ Some plan
   pub good : IsPlan plan
   pub away : (other : ℕ) → IsTurnedAway answered lets_all service.shape other → turned other
 
 -- So do those of each worker that has a plan.
-abbrev pub AllOrders : Ident → (ℕ → Type 0) → List WorkerPlan → (ℕ → ℕ → Bool → Type 0) → Bool → Ident → List WorkerPlan → Type 0
-AllOrders ident turned plans answered lets_all service given =
-    (worker : ℕ) (plan : WorkerPlan) → slice_get given worker ≡ Some plan → AreOrders ident turned plans answered lets_all service worker plan
+abbrev pub AllOrders : Ident → (ℕ → Type 0) → ℕ → List WorkerPlan → (ℕ → ℕ → Bool → Type 0) → Bool → Ident → ℕ → List WorkerPlan → Type 0
+AllOrders ident turned rounds plans answered lets_all service made given =
+    (worker : ℕ) (plan : WorkerPlan) → slice_get given worker ≡ Some plan → AreOrders ident turned rounds plans answered lets_all service worker made plan

@@ -13,19 +13,19 @@ use Rattle.rme_supervisor.specs.Falling.{FellAt, StoodAt}
 use Rattle.rme_supervisor.specs.Plans.{planned}
 
 -- The plan's next job is refused for this reason.
-pub record IsRefused (shape : Shape) (plan : WorkerPlan) (begun : ℕ) (refusal : Refusal) : Type 0 where
+pub record IsRefused (shape : Shape) (rounds : ℕ) (plan : WorkerPlan) (begun : ℕ) (refusal : Refusal) : Type 0 where
   pub job : Job
-  pub next : slice_get (planned plan) begun ≡ Some job
+  pub next : slice_get (planned rounds plan) begun ≡ Some job
   pub why : post_refusal shape begun job ≡ Some refusal
 
 -- A worker that has begun so many jobs may end so: with all jobs done where its plan has no further one, out of lives where
 -- its plan has as many falls, and refused for what `post` says of the next job.
-abbrev pub IsEarned : Shape → WorkerPlan → ℕ → End → Type 0
-IsEarned shape plan begun AllDone = length (planned plan) ≤ begun
-IsEarned shape plan begun Stalled = Unit {0}
-IsEarned shape plan begun OutOfLives = plan.lives ≤ length plan.falls.items
-IsEarned shape plan begun NoStart = Unit {0}
-IsEarned shape plan begun (Refused refusal) = IsRefused shape plan begun refusal
+abbrev pub IsEarned : Shape → ℕ → WorkerPlan → ℕ → End → Type 0
+IsEarned shape rounds plan begun AllDone = length (planned rounds plan) ≤ begun
+IsEarned shape rounds plan begun Stalled = Unit {0}
+IsEarned shape rounds plan begun OutOfLives = plan.lives ≤ length plan.falls.items
+IsEarned shape rounds plan begun NoStart = Unit {0}
+IsEarned shape rounds plan begun (Refused refusal) = IsRefused shape rounds plan begun refusal
 
 -- No life ends so: the worker had no thread for one, or no life more.
 abbrev pub is_outside : End → Bool
@@ -50,11 +50,11 @@ pub record HasLived (turned : ℕ → Type 0) (plan : WorkerPlan) (first down : 
   pub stalled : end ≡ Stalled → (plan.sweeps ≤ made) ⊎ turned down.part.worker
 
 -- Workers of this service, how the lives of each ended, and how many were started: each of these is what its plan allows.
-pub record AreSettled (ident : Ident) (turned : ℕ → Type 0) (plans : List WorkerPlan) (given : List Stand) (downs : List Stand) (ended : List End) (counts : List ℕ) : Type 0 where
+pub record AreSettled (ident : Ident) (turned : ℕ → Type 0) (rounds : ℕ) (plans : List WorkerPlan) (given : List Stand) (downs : List Stand) (ended : List End) (counts : List ℕ) : Type 0 where
   pub ours : AreOf ident downs
   pub ends : length ended ≡ length downs
   pub lives : length counts ≡ length downs
   pub earned : (k : ℕ) (down : Stand) (end : End) (plan : WorkerPlan) → slice_get downs k ≡ Some down → slice_get ended k ≡ Some end → slice_get plans down.part.worker ≡ Some plan
-      → IsEarned ident.shape plan down.part.private.begun end
+      → IsEarned ident.shape rounds plan down.part.private.begun end
   pub lived : (k : ℕ) (down : Stand) (end : End) (lives : ℕ) (plan : WorkerPlan) (first : Stand) → slice_get downs k ≡ Some down → slice_get ended k ≡ Some end → slice_get counts k ≡ Some lives
       → slice_get plans down.part.worker ≡ Some plan → slice_get given down.part.worker ≡ Some first → HasLived turned plan first down end lives

@@ -8,9 +8,9 @@ unfoldable pub repeated : ℕ → List Job → List Job
 repeated zero jobs = []
 repeated (suc n) jobs = jobs ++ repeated n jobs
 
--- All that a plan has its worker do, in order: its jobs, in each round.
-abbrev pub planned : WorkerPlan → List Job
-planned plan = repeated plan.rounds plan.jobs.items
+-- All that a plan has its worker do in so many rounds, in order: its jobs, in each round.
+abbrev pub planned : ℕ → WorkerPlan → List Job
+planned rounds plan = repeated rounds plan.jobs.items
 
 -- Each number is less than the next.
 abbrev pub IsRising : List ℕ → Type 0

@@ -12,8 +12,8 @@ pub record HasRoom (count : ℕ) (settled : Settled) : Type 0 where
   pub lives : length settled.lives.items + count ≤ vec_capacity settled.lives
 
 -- What was found in the slots is settled.
-abbrev pub IsSettled : Ident → (ℕ → Type 0) → List WorkerPlan → List Stand → Settled → Type 0
-IsSettled ident turned plans given settled = AreSettled ident turned plans given settled.downs.items settled.ends.items settled.lives.items
+abbrev pub IsSettled : Ident → (ℕ → Type 0) → ℕ → List WorkerPlan → List Stand → Settled → Type 0
+IsSettled ident turned rounds plans given settled = AreSettled ident turned rounds plans given settled.downs.items settled.ends.items settled.lives.items
 
 pub record IsEmpty (count : ℕ) (settled : Settled) : Type 0 where
   pub room : HasRoom count settled

@@ -23,9 +23,9 @@ pub record IsOf (ident : Ident) (worker : ℕ) (stand : Stand) : Type 0 where
   pub own : stand.part.worker ≡ worker
 
 -- The life of this worker stopped, and where it ended the end is earned, and is one that a life may have.
-abbrev pub IsStop : Ident → ℕ → WorkerPlan → Stop → Type 0
-IsStop ident worker plan (Fell down) = IsOf ident worker down
-IsStop ident worker plan (Ended down end) = IsOf ident worker down × IsEarned ident.shape plan down.part.private.begun end × (is_outside end ≡ false)
+abbrev pub IsStop : Ident → ℕ → ℕ → WorkerPlan → Stop → Type 0
+IsStop ident worker rounds plan (Fell down) = IsOf ident worker down
+IsStop ident worker rounds plan (Ended down end) = IsOf ident worker down × IsEarned ident.shape rounds plan down.part.private.begun end × (is_outside end ≡ false)
 
 -- A life, or a part of one, went on from here by own steps, with a question before each, to readiness or to where it stopped: at
 -- a fall, which is one more question, or without one.

@@ -36,7 +36,7 @@ impl<K: Course> Model for Berth<K> {
 
     ghost view = { λ berth. record { stand = berth.kept.down; end = berth.end; blocked = berth.past.blocked; lives = berth.past.lives } };
 
-    ghost invariant = { λ berth. IsRest K.Tag.ident.shape K.turned K.plans K.given (record { stand = berth.kept.down; end = berth.end; blocked = berth.past.blocked; lives = berth.past.lives }) };
+    ghost invariant = { λ berth. IsRest K.Tag.ident.shape K.turned K.rounds K.plans K.given (record { stand = berth.kept.down; end = berth.end; blocked = berth.past.blocked; lives = berth.past.lives }) };
 }
 
 impl<K: Course> Berth<K> {
@@ -75,7 +75,7 @@ impl<K: Course> Berth<K> {
 
     /// The worker after its next life, in which it fell once or not at all.
     pub(crate) fn live<G: Gate, R: Wait>(self, rt: &R, orders: &Orders<'_, G>) -> Berth<K>
-        requires orders { AreOrders K.Tag.ident K.turned K.plans (G.answered orders.now.gate.now) G.lets_all orders.now.service.now self.stand.part.worker orders.now.plan.now }
+        requires orders { AreOrders K.Tag.ident K.turned K.rounds K.plans (G.answered orders.now.gate.now) G.lets_all orders.now.service.now self.stand.part.worker orders.now.rounds orders.now.plan.now }
         requires more { (self.end ≡ None) × (self.lives < orders.now.plan.now.lives) }
         ensures own { result.stand.part.worker ≡ self.stand.part.worker }
         ensures lives { result.lives ≡ self.lives + 1 }

@@ -5,7 +5,7 @@ ghost use Rattle.rme_supervisor.specs.Plans.{IsRising, IsPlan, ArePlans, planned
 ghost use Rattle.rme_supervisor.specs.Supervised.{AreAll, AllFollow, Follows, IsWhole, all_fresh, job_of, jobs_in};
 
 use crate::end::End;
-use crate::plan::WorkerPlan;
+use crate::plan::{Schedule, WorkerPlan};
 use rme_history::EntryList;
 use rme_program::Entry;
 use rme_script::Job;
@@ -61,19 +61,19 @@ pub(crate) fn are_fresh(downs: &[Down]) -> bool
 /// Whether these are the Downs of all workers, in order, and the entries of each follow its plan, if all were fresh.
 pub(crate) fn is_whole(
     fresh: bool,
-    plans: &[WorkerPlan],
+    schedule: &Schedule<'_>,
     downs: &[Down],
     ends: &[End],
     shape: Shape,
 ) -> bool
-    requires plans { length plans.now ≡ shape.workers }
+    requires plans { length schedule.now.plans.now ≡ shape.workers }
     requires ends { length ends.now ≡ length downs.now }
-    ensures { IsTrue result ↔ IsWhole shape plans.now fresh downs.now ends.now }
+    ensures { IsTrue result ↔ IsWhole shape schedule.now.rounds schedule.now.plans.now fresh downs.now ends.now }
 {
     if !are_all(downs, shape) {
         return false;
     }
-    all_follow(fresh, plans, downs, ends)
+    all_follow(fresh, schedule, downs, ends)
 }
 
 /// Whether these are the Downs of all workers, in order.
@@ -92,16 +92,22 @@ fn are_all(downs: &[Down], shape: Shape) -> bool
 }
 
 /// Whether the entries of each worker follow its plan, if all were fresh.
-fn all_follow(fresh: bool, plans: &[WorkerPlan], downs: &[Down], ends: &[End]) -> bool
-    requires plans { length plans.now ≡ length downs.now }
+fn all_follow(fresh: bool, schedule: &Schedule<'_>, downs: &[Down], ends: &[End]) -> bool
+    requires plans { length schedule.now.plans.now ≡ length downs.now }
     requires ends { length ends.now ≡ length downs.now }
-    ensures { IsTrue result ↔ (fresh ≡ true → AllFollow plans.now downs.now ends.now) }
+    ensures { IsTrue result ↔ (fresh ≡ true → AllFollow schedule.now.rounds schedule.now.plans.now downs.now ends.now) }
 {
+    let Schedule { plans, rounds } = *schedule;
     if !fresh {
         return true;
     }
     for worker in 0..downs.len() {
-        if !follows(&plans[worker], downs[worker].entries(), ends[worker]) {
+        if !follows(
+            &plans[worker],
+            rounds,
+            downs[worker].entries(),
+            ends[worker],
+        ) {
             return false;
         }
     }
@@ -109,21 +115,22 @@ fn all_follow(fresh: bool, plans: &[WorkerPlan], downs: &[Down], ends: &[End]) -
 }
 
 /// Whether entries are the first jobs of a plan, in order, each once, and all of them where all are done.
-fn follows(plan: &WorkerPlan, entries: &EntryList, end: End) -> bool
-    ensures { IsTrue result ↔ Follows plan.now entries.now.entries end }
+fn follows(plan: &WorkerPlan, rounds: u32, entries: &EntryList, end: End) -> bool
+    ensures { IsTrue result ↔ Follows rounds plan.now entries.now.entries end }
 {
-    are_first(plan, entries) && (end != End::AllDone || plan.job(entries.len()).is_none())
+    are_first(plan, rounds, entries)
+        && (end != End::AllDone || plan.job(rounds, entries.len()).is_none())
 }
 
 /// Whether entries are the first jobs of a plan, in order, each once.
-fn are_first(plan: &WorkerPlan, entries: &EntryList) -> bool
-    ensures { IsTrue result ↔ (jobs_in entries.now.entries ≡ take (length entries.now.entries) (planned plan.now)) }
+fn are_first(plan: &WorkerPlan, rounds: u32, entries: &EntryList) -> bool
+    ensures { IsTrue result ↔ (jobs_in entries.now.entries ≡ take (length entries.now.entries) (planned rounds plan.now)) }
 {
     for i in 0..entries.len() {
         let Some(entry) = entries.get(i) else {
             unreachable!();
         };
-        let Some(job) = plan.job(i) else {
+        let Some(job) = plan.job(rounds, i) else {
             return false;
         };
         if !is_of_job(&entry, job) {

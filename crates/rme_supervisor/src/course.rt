@@ -12,6 +12,9 @@ pub trait Course: Tag {
     // The plan of each worker, in order, and its Down at the call.
     ghost plans: { List WorkerPlan };
 
+    // How often each worker makes the jobs of its plan.
+    ghost rounds: { ℕ };
+
     ghost given: { List Stand };
 
     // What is known of a worker that the gate turned away.
@@ -22,6 +25,8 @@ impl Course for Brand {
     ghost use Rattle.std.specs.Prelude.{[], ⊤};
 
     ghost plans = { [] };
+
+    ghost rounds = { 0 };
 
     ghost given = { [] };
 

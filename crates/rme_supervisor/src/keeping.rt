@@ -5,7 +5,7 @@ ghost use Rattle.rme_supervisor.specs.Berths.{AllOrders, AreOrders};
 
 use crate::course::Course;
 use crate::life::Orders;
-use crate::plan::WorkerPlan;
+use crate::plan::Schedule;
 use crate::slots::{Slot, has_ended, live_in};
 use rme_table::{Gate, Service};
 use std::sync::Wait;
@@ -17,17 +17,18 @@ pub(crate) fn keep_all<K: Course + Send + Sync, G: Gate + Sync, R: Threads + Wai
     rt: &R,
     slots: &[Slot<K>],
     service: &Service,
-    plans: &[WorkerPlan],
+    schedule: &Schedule<'_>,
     gate: &G,
 )
-    requires orders { AllOrders K.Tag.ident K.turned K.plans (G.answered gate.now) G.lets_all service.now plans.now }
-    requires all { (length slots.now ≡ service.now.shape.workers) × (length plans.now ≡ service.now.shape.workers) }
+    requires orders { AllOrders K.Tag.ident K.turned K.rounds K.plans (G.answered gate.now) G.lets_all service.now schedule.now.rounds schedule.now.plans.now }
+    requires all { (length slots.now ≡ service.now.shape.workers) × (length schedule.now.plans.now ≡ service.now.shape.workers) }
 {
+    let Schedule { plans, rounds } = *schedule;
     thread::scope(
         thread::scope_env(),
         rt,
         |scope|
-            requires orders { AllOrders K.Tag.ident K.turned K.plans (G.answered gate.now) G.lets_all service.now plans.now }
+            requires orders { AllOrders K.Tag.ident K.turned K.rounds K.plans (G.answered gate.now) G.lets_all service.now rounds plans.now }
             requires all { (length slots.now ≡ service.now.shape.workers) × (length plans.now ≡ service.now.shape.workers) }
         {
             for worker in 0..service.shape().workers() {
@@ -38,7 +39,7 @@ pub(crate) fn keep_all<K: Course + Send + Sync, G: Gate + Sync, R: Threads + Wai
                     unreachable!()
                 };
                 let keeper = move ||
-                    requires orders { AreOrders K.Tag.ident K.turned K.plans (G.answered gate.now) G.lets_all service.now worker plan.now }
+                    requires orders { AreOrders K.Tag.ident K.turned K.rounds K.plans (G.answered gate.now) G.lets_all service.now worker rounds plan.now }
                 {
                     keep(
                         rt,
@@ -47,6 +48,7 @@ pub(crate) fn keep_all<K: Course + Send + Sync, G: Gate + Sync, R: Threads + Wai
                         &Orders {
                             service,
                             plan,
+                            rounds,
                             gate,
                         },
                     )
@@ -65,7 +67,7 @@ fn keep<K: Course + Send + Sync, G: Gate + Sync, R: Threads + Wait + Sync>(
     worker: u32,
     orders: &Orders<'_, G>,
 )
-    requires orders { AreOrders K.Tag.ident K.turned K.plans (G.answered orders.now.gate.now) G.lets_all orders.now.service.now worker orders.now.plan.now }
+    requires orders { AreOrders K.Tag.ident K.turned K.rounds K.plans (G.answered orders.now.gate.now) G.lets_all orders.now.service.now worker orders.now.rounds orders.now.plan.now }
 {
     for _ in 0..orders.plan.lives {
         if !is_lived(rt, slot, worker, orders) || has_ended(rt, slot) {
@@ -81,16 +83,16 @@ fn is_lived<K: Course + Send + Sync, G: Gate + Sync, R: Threads + Wait + Sync>(
     worker: u32,
     orders: &Orders<'_, G>,
 ) -> bool
-    requires orders { AreOrders K.Tag.ident K.turned K.plans (G.answered orders.now.gate.now) G.lets_all orders.now.service.now worker orders.now.plan.now }
+    requires orders { AreOrders K.Tag.ident K.turned K.rounds K.plans (G.answered orders.now.gate.now) G.lets_all orders.now.service.now worker orders.now.rounds orders.now.plan.now }
 {
     thread::scope(
         thread::scope_env(),
         rt,
         |scope| -> bool
-            requires orders { AreOrders K.Tag.ident K.turned K.plans (G.answered orders.now.gate.now) G.lets_all orders.now.service.now worker orders.now.plan.now }
+            requires orders { AreOrders K.Tag.ident K.turned K.rounds K.plans (G.answered orders.now.gate.now) G.lets_all orders.now.service.now worker orders.now.rounds orders.now.plan.now }
         {
             let life = move ||
-                requires orders { AreOrders K.Tag.ident K.turned K.plans (G.answered orders.now.gate.now) G.lets_all orders.now.service.now worker orders.now.plan.now }
+                requires orders { AreOrders K.Tag.ident K.turned K.rounds K.plans (G.answered orders.now.gate.now) G.lets_all orders.now.service.now worker orders.now.rounds orders.now.plan.now }
             { live_in(rt, slot, worker, orders) };
             scope.spawn(life).is_ok()
         },

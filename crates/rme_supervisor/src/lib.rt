@@ -24,7 +24,7 @@ mod slots;
 mod stop;
 
 pub use end::End;
-pub use plan::WorkerPlan;
+pub use plan::{Schedule, WorkerPlan};
 pub use report::{Attended, Fault, Report, Unattended};
 pub use rme_table::{Free, Gate};
 pub use run::{attend, supervise};

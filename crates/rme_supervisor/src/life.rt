@@ -9,16 +9,17 @@ use crate::end::End;
 use crate::falls::Falls;
 use crate::plan::WorkerPlan;
 use crate::stop::Stop;
+use crossbeam_utils::Backoff;
 use rme_script::Job;
 use rme_table::{Climb, Down, Driven, Gate, Held, Leave, Posted, Ready, Service, Stance, Tries};
 use std::sync::Wait;
-use std::{hint, thread};
 
 /// What the lives of a worker go by.
 #[derive(Drop)]
 pub(crate) struct Orders<'a, G> {
     pub service: &'a Service,
     pub plan: &'a WorkerPlan,
+    pub rounds: u32,
     pub gate: &'a G,
 }
 
@@ -37,7 +38,7 @@ pub(crate) fn live<G: Gate, R: Wait>(
     trail: &mut Trail,
 ) -> Stop
     requires ours { down.ident ≡ orders.now.service.now }
-    ensures stop { IsStop orders.now.service.now down.part.worker orders.now.plan.now result }
+    ensures stop { IsStop orders.now.service.now down.part.worker orders.now.rounds orders.now.plan.now result }
     ensures falls { HasFared trail.old.falls trail.new.falls down (Err result) }
     ensures stalls { Stalls (G.answered orders.now.gate.now) G.lets_all orders.now.service.now.shape down.part.worker trail.new.tries result }
     ensures tries { HasTried trail.old.tries trail.new.tries down (stand_at (Err result)) }
@@ -53,7 +54,7 @@ pub(crate) fn live<G: Gate, R: Wait>(
 /// From a recovery to readiness.
 fn come_up<G: Gate>(orders: &Orders<'_, G>, down: Down, trail: &mut Trail) -> Result<Ready, Stop>
     requires ours { down.ident ≡ orders.now.service.now }
-    ensures stop { MatchResult result (λ ready. IsOf orders.now.service.now down.part.worker ready) (λ stop. IsStop orders.now.service.now down.part.worker orders.now.plan.now stop) }
+    ensures stop { MatchResult result (λ ready. IsOf orders.now.service.now down.part.worker ready) (λ stop. IsStop orders.now.service.now down.part.worker orders.now.rounds orders.now.plan.now stop) }
     ensures falls { HasFared trail.old.falls trail.new.falls down result }
     ensures stalls { IfErr result (λ stop. Stalls (G.answered orders.now.gate.now) G.lets_all orders.now.service.now.shape down.part.worker trail.new.tries stop) }
     ensures tries { HasTried trail.old.tries trail.new.tries down (stand_at result) }
@@ -76,14 +77,14 @@ fn make_jobs<G: Gate, R: Wait>(
     trail: &mut Trail,
 ) -> Stop
     requires ours { ready.ident ≡ orders.now.service.now }
-    ensures stop { IsStop orders.now.service.now ready.part.worker orders.now.plan.now result }
+    ensures stop { IsStop orders.now.service.now ready.part.worker orders.now.rounds orders.now.plan.now result }
     ensures falls { HasFared trail.old.falls trail.new.falls ready (Err result) }
     ensures stalls { Stalls (G.answered orders.now.gate.now) G.lets_all orders.now.service.now.shape ready.part.worker trail.new.tries result }
     ensures tries { HasTried trail.old.tries trail.new.tries ready (stand_at (Err result)) }
     ensures most { trail.new.tries.most ≡ trail.old.tries.most }
 {
     for _ in rt.forever() {
-        let Some(job) = orders.plan.job(ready.number() as usize) else {
+        let Some(job) = orders.plan.job(orders.rounds, ready.number() as usize) else {
             return Stop::Ended(ready.crash(), End::AllDone);
         };
         match make_job(orders, ready, *job, trail) {
@@ -102,8 +103,8 @@ fn make_job<G: Gate>(
     trail: &mut Trail,
 ) -> Result<Ready, Stop>
     requires ours { ready.ident ≡ orders.now.service.now }
-    requires next { slice_get (planned orders.now.plan.now) ready.part.private.begun ≡ Some job }
-    ensures stop { MatchResult result (λ next. IsOf orders.now.service.now ready.part.worker next) (λ stop. IsStop orders.now.service.now ready.part.worker orders.now.plan.now stop) }
+    requires next { slice_get (planned orders.now.rounds orders.now.plan.now) ready.part.private.begun ≡ Some job }
+    ensures stop { MatchResult result (λ next. IsOf orders.now.service.now ready.part.worker next) (λ stop. IsStop orders.now.service.now ready.part.worker orders.now.rounds orders.now.plan.now stop) }
     ensures falls { HasFared trail.old.falls trail.new.falls ready result }
     ensures stalls { IfErr result (λ stop. StallsPosted (G.answered orders.now.gate.now) G.lets_all orders.now.service.now.shape ready job trail.old.tries.most trail.new.tries stop) }
     ensures tries { HasTried trail.old.tries trail.new.tries ready (stand_at result) }
@@ -117,34 +118,29 @@ fn make_job<G: Gate>(
     }
 }
 
-/// From waiting to readiness.
+/// From waiting to readiness, with a pause after each blocked sweep.
 fn go_in<G: Gate>(orders: &Orders<'_, G>, climb: Climb, trail: &mut Trail) -> Result<Ready, Stop>
     requires ours { climb.ident ≡ orders.now.service.now }
-    ensures stop { MatchResult result (λ ready. IsOf orders.now.service.now climb.part.worker ready) (λ stop. IsStop orders.now.service.now climb.part.worker orders.now.plan.now stop) }
+    ensures stop { MatchResult result (λ ready. IsOf orders.now.service.now climb.part.worker ready) (λ stop. IsStop orders.now.service.now climb.part.worker orders.now.rounds orders.now.plan.now stop) }
     ensures falls { HasFared trail.old.falls trail.new.falls climb result }
     ensures stalls { IfErr result (λ stop. StallsFrom (G.answered orders.now.gate.now) G.lets_all orders.now.service.now.shape climb trail.old.tries trail.new.tries stop) }
     ensures tries { HasTried trail.old.tries trail.new.tries climb (stand_at result) }
     ensures most { trail.new.tries.most ≡ trail.old.tries.most }
 {
+    let backoff = Backoff::new();
     driven(climb.go_in(
         orders.service,
         &mut trail.falls,
         orders.gate,
         &mut trail.tries,
-        pause,
+        || backoff.snooze(),
     ))
-}
-
-/// A pause after a blocked sweep: lets other threads go on.
-fn pause() {
-    hint::spin_loop();
-    thread::yield_now();
 }
 
 /// From the lock's entry to readiness.
 fn go_on<G: Gate>(orders: &Orders<'_, G>, held: Held, trail: &mut Trail) -> Result<Ready, Stop>
     requires ours { held.ident ≡ orders.now.service.now }
-    ensures stop { MatchResult result (λ ready. IsOf orders.now.service.now held.part.worker ready) (λ stop. IsStop orders.now.service.now held.part.worker orders.now.plan.now stop) }
+    ensures stop { MatchResult result (λ ready. IsOf orders.now.service.now held.part.worker ready) (λ stop. IsStop orders.now.service.now held.part.worker orders.now.rounds orders.now.plan.now stop) }
     ensures falls { HasFared trail.old.falls trail.new.falls held result }
     ensures stalls { IfErr result (λ stop. Stalls (G.answered orders.now.gate.now) G.lets_all orders.now.service.now.shape held.part.worker trail.new.tries stop) }
     ensures tries { HasTried trail.old.tries trail.new.tries held (stand_at result) }
@@ -168,7 +164,7 @@ fn driven(driven: Driven) -> Result<Ready, Stop>
 /// From a job that was over before the worker came up to readiness. The gate is told of the job.
 fn go_out<G: Gate>(orders: &Orders<'_, G>, leave: Leave, trail: &mut Trail) -> Result<Ready, Stop>
     requires ours { leave.ident ≡ orders.now.service.now }
-    ensures stop { MatchResult result (λ ready. IsOf orders.now.service.now leave.part.worker ready) (λ stop. IsStop orders.now.service.now leave.part.worker orders.now.plan.now stop) }
+    ensures stop { MatchResult result (λ ready. IsOf orders.now.service.now leave.part.worker ready) (λ stop. IsStop orders.now.service.now leave.part.worker orders.now.rounds orders.now.plan.now stop) }
     ensures falls { HasFared trail.old.falls trail.new.falls leave result }
     ensures told { IfOk result (λ ready. HasHeard (G.told orders.now.gate.now) orders.now.service.now.shape ready) }
     ensures stalls { IfErr result (λ stop. Stalls (G.answered orders.now.gate.now) G.lets_all orders.now.service.now.shape leave.part.worker trail.new.tries stop) }

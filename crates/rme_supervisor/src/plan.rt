@@ -5,11 +5,9 @@ use rme_script::Job;
 /// The jobs of a worker, and where it falls.
 #[derive(Drop)]
 pub struct WorkerPlan {
-    /// The jobs that it makes one after another, and then again, as often as `rounds` says. The place of the next
-    /// one, counted over all rounds, is the number of the job that was finished or withdrawn last.
+    /// The jobs that it makes one after another. The place of the next one, from 0, is the number of the job that was
+    /// finished or withdrawn last.
     pub jobs: Vec<Job>,
-    /// How often it makes them all, in order; 0 for no job.
-    pub rounds: u32,
     /// Where it falls: before the own step that would follow so many, for each of these counts, which rise
     /// strictly. Own steps are those of all lives, blocked ones included.
     pub falls: Vec<u32>,
@@ -19,17 +17,25 @@ pub struct WorkerPlan {
     pub sweeps: u32,
 }
 
+/// The plans of all workers, in order, and how often each worker makes the jobs of its plan: all of them, in order, in
+/// each round; with 0 rounds none. The place of a worker's next job is counted over all rounds.
+#[derive(Clone, Copy)]
+pub struct Schedule<'a> {
+    pub plans: &'a [WorkerPlan],
+    pub rounds: u32,
+}
+
 impl WorkerPlan {
     ghost use Rattle.std.specs.Prelude.{◌≡◌, ◌≤◌, length, slice_get, Some, None, IfSome};
     ghost use Rattle.rme_supervisor.specs.Plans.{planned};
 
-    /// The job at a place, counted over all rounds; nothing past the last one.
-    pub(crate) fn job(&self, place: usize) -> Option<&Job>
-        ensures some { IfSome result (λ job. slice_get (planned self.now) place ≡ Some job.now) }
-        ensures none { result ≡ None → length (planned self.now) ≤ place }
+    /// The job at a place, counted over so many rounds; nothing past the last one.
+    pub(crate) fn job(&self, rounds: u32, place: usize) -> Option<&Job>
+        ensures some { IfSome result (λ job. slice_get (planned rounds self.now) place ≡ Some job.now) }
+        ensures none { result ≡ None → length (planned rounds self.now) ≤ place }
     {
         let count = self.jobs.len();
-        if count == 0 || place / count >= self.rounds as usize {
+        if count == 0 || place / count >= rounds as usize {
             return None;
         }
         Some(&self.jobs[place % count])

@@ -11,7 +11,7 @@ ghost use Rattle.rme_supervisor.specs.Supervised.{AreAll, IsAttended, IsFault, I
 use crate::checking::{are_fresh, are_plans, is_whole};
 use crate::course::Course;
 use crate::keeping::keep_all;
-use crate::plan::WorkerPlan;
+use crate::plan::{Schedule, WorkerPlan};
 use crate::report::{Attended, Fault, Report, Unattended};
 use crate::settling::{Settled, settle};
 use crate::slots::{Slot, fill};
@@ -42,10 +42,14 @@ pub fn supervise<G: Gate + Sync, R: Threads + Wait + Sync>(
 ) -> Result<Report, Fault>
     requires ours { AreOf service downs.items }
     requires all { AreAll service.shape downs.items }
-    ensures report { IfOk result (λ report. IsReport service.shape (IsTurnedAway (G.answered gate.now) G.lets_all service.shape) plans.items downs.items report) }
-    ensures fault { IfErr result (λ fault. IsFault service (IsTurnedAway (G.answered gate.now) G.lets_all service.shape) plans.items downs.items fault) }
+    ensures report { IfOk result (λ report. IsReport service.shape (IsTurnedAway (G.answered gate.now) G.lets_all service.shape) 1 plans.items downs.items report) }
+    ensures fault { IfErr result (λ fault. IsFault service (IsTurnedAway (G.answered gate.now) G.lets_all service.shape) 1 plans.items downs.items fault) }
 {
-    match attend(rt, alloc, &service, downs, &plans, gate) {
+    let schedule = Schedule {
+        plans: &plans,
+        rounds: 1,
+    };
+    match attend(rt, alloc, &service, downs, &schedule, gate) {
         Ok(attended) => close(service, attended),
         Err(unattended) => {
             let Unattended { why, downs } = unattended;
@@ -58,8 +62,8 @@ pub fn supervise<G: Gate + Sync, R: Threads + Wait + Sync>(
     }
 }
 
-/// Keeps each worker alive by its plan, as `supervise` does, and gives the Downs back when all lives have ended. The
-/// service stays open.
+/// Keeps each worker alive by its plan, as `supervise` does, whose schedule has one round, and gives the Downs back when
+/// all lives have ended. The service stays open.
 ///
 /// An `Unattended` with `BadShape`, `NoMemory` or `NoWorker` where `supervise` would have a `Fault` so; all memory is
 /// taken before the run. It may wait for as long as the gate does, and its contract holds if it returns.
@@ -68,21 +72,21 @@ pub fn attend<G: Gate + Sync, R: Threads + Wait + Sync>(
     alloc: Global,
     service: &Service,
     downs: Vec<Down>,
-    plans: &[WorkerPlan],
+    schedule: &Schedule<'_>,
     gate: &G,
 ) -> Result<Attended, Unattended>
     requires ours { AreOf service.now downs.items }
     requires all { AreAll service.now.shape downs.items }
-    ensures attended { IfOk result (λ attended. IsAttended service.now (IsTurnedAway (G.answered gate.now) G.lets_all service.now.shape) plans.now downs.items attended) }
-    ensures unattended { IfErr result (λ unattended. IsUnattended service.now (IsTurnedAway (G.answered gate.now) G.lets_all service.now.shape) plans.now downs.items unattended) }
+    ensures attended { IfOk result (λ attended. IsAttended service.now (IsTurnedAway (G.answered gate.now) G.lets_all service.now.shape) schedule.now.rounds schedule.now.plans.now downs.items attended) }
+    ensures unattended { IfErr result (λ unattended. IsUnattended service.now (IsTurnedAway (G.answered gate.now) G.lets_all service.now.shape) schedule.now.rounds schedule.now.plans.now downs.items unattended) }
 {
-    if !are_plans(plans, downs.len()) {
+    if !are_plans(schedule.plans, downs.len()) {
         return Err(Unattended {
             why: Refusal::BadShape,
             downs,
         });
     }
-    run::<Brand, G, R>(rt, alloc, service, downs, plans, gate)
+    run::<Brand, G, R>(rt, alloc, service, downs, schedule, gate)
 }
 
 /// A run with plans that may be supervised.
@@ -91,16 +95,16 @@ fn run<K: Course + Send + Sync, G: Gate + Sync, R: Threads + Wait + Sync>(
     alloc: Global,
     service: &Service,
     downs: Vec<Down>,
-    plans: &[WorkerPlan],
+    schedule: &Schedule<'_>,
     gate: &G,
 ) -> Result<Attended, Unattended>
-    requires named { (service.now ≡ K.Tag.ident) × (plans.now ≡ K.plans) × (downs.items ≡ K.given) }
+    requires named { (service.now ≡ K.Tag.ident) × (schedule.now.plans.now ≡ K.plans) × (downs.items ≡ K.given) × (schedule.now.rounds ≡ K.rounds) }
     requires away { (worker : ℕ) → IsTurnedAway (G.answered gate.now) G.lets_all service.now.shape worker → K.turned worker }
     requires ours { AreOf service.now downs.items }
     requires all { AreAll service.now.shape downs.items }
-    requires good { ArePlans plans.now (length downs.items) }
-    ensures attended { IfOk result (λ attended. IsAttended service.now K.turned plans.now downs.items attended) }
-    ensures unattended { IfErr result (λ unattended. IsUnattended service.now K.turned plans.now downs.items unattended) }
+    requires good { ArePlans schedule.now.plans.now (length downs.items) }
+    ensures attended { IfOk result (λ attended. IsAttended service.now K.turned schedule.now.rounds schedule.now.plans.now downs.items attended) }
+    ensures unattended { IfErr result (λ unattended. IsUnattended service.now K.turned schedule.now.rounds schedule.now.plans.now downs.items unattended) }
 {
     let Ok((slots, settled)) = room_for::<K>(alloc, downs.len()) else {
         return Err(Unattended {
@@ -110,8 +114,8 @@ fn run<K: Course + Send + Sync, G: Gate + Sync, R: Threads + Wait + Sync>(
     };
     let fresh = are_fresh(&downs);
     let slots = fill(downs, slots);
-    keep_all(rt, &slots, service, plans, gate);
-    end::<K>(service, plans, settle(slots, settled), fresh)
+    keep_all(rt, &slots, service, schedule, gate);
+    end::<K>(service, schedule, settle(slots, settled), fresh)
 }
 
 /// Room for so many slots, and for what they hold in the end.
@@ -129,18 +133,18 @@ fn room_for<K: Course>(alloc: Global, count: usize) -> Result<(Vec<Slot<K>>, Set
 /// The answer of a run that is over.
 fn end<K: Course>(
     service: &Service,
-    plans: &[WorkerPlan],
+    schedule: &Schedule<'_>,
     settled: Settled,
     fresh: bool,
 ) -> Result<Attended, Unattended>
-    requires settled { IsSettled service.now K.turned plans.now K.given settled }
-    requires plans { length plans.now ≡ service.now.shape.workers }
+    requires settled { IsSettled service.now K.turned schedule.now.rounds schedule.now.plans.now K.given settled }
+    requires plans { length schedule.now.plans.now ≡ service.now.shape.workers }
     ensures ours { IfOk result (λ attended. AreOf service.now attended.downs.items) }
-    ensures attended { IfOk result (λ attended. IsOver service.now.shape K.turned plans.now K.given fresh attended.downs.items attended.ends.items attended.lives.items) }
-    ensures unattended { IfErr result (λ unattended. IsLate service.now K.turned plans.now K.given fresh unattended) }
+    ensures attended { IfOk result (λ attended. IsOver service.now.shape K.turned schedule.now.rounds schedule.now.plans.now K.given fresh attended.downs.items attended.ends.items attended.lives.items) }
+    ensures unattended { IfErr result (λ unattended. IsLate service.now K.turned schedule.now.rounds schedule.now.plans.now K.given fresh unattended) }
 {
     let Settled { downs, ends, lives } = settled;
-    if !is_whole(fresh, plans, &downs, &ends, service.shape()) {
+    if !is_whole(fresh, schedule, &downs, &ends, service.shape()) {
         return Err(Unattended {
             why: Refusal::NoWorker,
             downs,

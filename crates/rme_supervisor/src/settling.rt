@@ -44,9 +44,9 @@ impl Settled {
     /// Adds what lay in a slot. A worker with no end had no thread for its next life.
     fn push<K: Course>(&mut self, berth: Berth<K>)
         requires room { HasRoom 1 self.old }
-        requires settled { IsSettled K.Tag.ident K.turned K.plans K.given self.old }
+        requires settled { IsSettled K.Tag.ident K.turned K.rounds K.plans K.given self.old }
         ensures room { (count : ℕ) → HasRoom (1 + count) self.old → HasRoom count self.new }
-        ensures settled { IsSettled K.Tag.ident K.turned K.plans K.given self.new }
+        ensures settled { IsSettled K.Tag.ident K.turned K.rounds K.plans K.given self.new }
         ensures down { self.new.downs.items ≡ self.old.downs.items ++ berth.stand ∷ [] }
         ensures end { self.new.ends.items ≡ self.old.ends.items ++ unwrap_or berth.end NoStart ∷ [] }
         ensures lives { self.new.lives.items ≡ self.old.lives.items ++ berth.lives ∷ [] }
@@ -62,7 +62,7 @@ impl Settled {
 /// Takes the workers out of the slots.
 pub(crate) fn settle<K: Course>(slots: Vec<Slot<K>>, mut settled: Settled) -> Settled
     requires room { IsEmpty (length slots.items) settled }
-    ensures { IsSettled K.Tag.ident K.turned K.plans K.given result }
+    ensures { IsSettled K.Tag.ident K.turned K.rounds K.plans K.given result }
 {
     for slot in slots {
         if let Some(berth) = slot.into_inner() {

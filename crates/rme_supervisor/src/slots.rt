@@ -39,7 +39,7 @@ pub(crate) fn live_in<K: Course, G: Gate, R: Wait>(
     worker: u32,
     orders: &Orders<'_, G>,
 )
-    requires orders { AreOrders K.Tag.ident K.turned K.plans (G.answered orders.now.gate.now) G.lets_all orders.now.service.now worker orders.now.plan.now }
+    requires orders { AreOrders K.Tag.ident K.turned K.rounds K.plans (G.answered orders.now.gate.now) G.lets_all orders.now.service.now worker orders.now.rounds orders.now.plan.now }
 {
     let Some(berth) = slot.lock(rt).take() else {
         return;

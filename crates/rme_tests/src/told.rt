@@ -10,6 +10,15 @@ use std::alloc::Global;
 use std::process::Abort;
 use std::test::Fail;
 
+/// The operations of row `five operations`: each kind but a get, and a sum that wraps.
+pub const FIVE_OPERATIONS: &[Op] = &[
+    Op::Set(1, 5),
+    Op::Set(0, 18446744073709551615),
+    Op::Add(0, 1),
+    Op::Swap(0, 0),
+    Op::Copy(1, 1),
+];
+
 /// A job on a lock.
 pub fn job(lock: u32, operations: &[Op]) -> Job {
     Job {

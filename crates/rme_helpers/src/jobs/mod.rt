@@ -7,4 +7,5 @@
 mod life;
 mod run;
 
+pub use life::live;
 pub use run::{Run, time_of};

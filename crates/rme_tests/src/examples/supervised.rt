@@ -18,7 +18,6 @@ fn supervised_run(rt: HostRuntime) -> Result<(), Fail> {
     for _ in 0..2 {
         plans.push(WorkerPlan {
             jobs: vec![in rt.alloc(); job; 3]?,
-            rounds: 1,
             falls: vec![in rt.alloc(); 7, 20]?,
             lives: 3,
             sweeps: 1_000_000_000,

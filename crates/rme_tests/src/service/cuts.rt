@@ -4,20 +4,11 @@ use crate::service::chances::Falls;
 use crate::service::lives::live_on;
 use crate::service::values::next;
 use crate::service::watch::Watch;
-use crate::told::{alone, job, lock_is, open};
-use rme::{Op, Refusal};
+use crate::told::{FIVE_OPERATIONS, alone, job, lock_is, open};
+use rme::Refusal;
 use std::alloc::Global;
 use std::process::Abort;
 use std::test::Fail;
-
-/// The job of row `five operations`: each kind of operation but a get, and a sum that wraps.
-const FIVE: &[Op] = &[
-    Op::Set(1, 5),
-    Op::Set(0, 18446744073709551615),
-    Op::Add(0, 1),
-    Op::Swap(0, 0),
-    Op::Copy(1, 1),
-];
 
 /// Makes the job in a new service with a fall at each of these counts of own steps, and looks at what is left.
 fn make_with_falls(rt: &impl Abort, alloc: Global, counts: &[u32]) -> Result<usize, Fail> {
@@ -25,7 +16,14 @@ fn make_with_falls(rt: &impl Abort, alloc: Global, counts: &[u32]) -> Result<usi
     let down = next(rt, &service, &mut downs);
     let mut falls = Falls::new(counts);
     let watch = Watch::new();
-    let down = live_on(&service, down, &[job(0, FIVE)], 3, &mut falls, &watch);
+    let down = live_on(
+        &service,
+        down,
+        &[job(0, FIVE_OPERATIONS)],
+        3,
+        &mut falls,
+        &watch,
+    );
     assert!(rt; watch.clashes() == 0);
     let downs = alone(rt, alloc, &service, down)?;
     let Ok(closed) = service.close(downs) else {
@@ -33,7 +31,12 @@ fn make_with_falls(rt: &impl Abort, alloc: Global, counts: &[u32]) -> Result<usi
     };
     assert!(rt; closed.locks.len() == 1);
     assert!(rt;
-        lock_is(&closed.locks[0], &[0, 5], true, &[((0, 0, 1, 0, 5), FIVE)]),
+        lock_is(
+            &closed.locks[0],
+            &[0, 5],
+            true,
+            &[((0, 0, 1, 0, 5), FIVE_OPERATIONS)]
+        ),
         "falls at {counts:?}"
     );
     Ok(falls.fallen())

@@ -28,7 +28,7 @@ const BEFORE: &[Call] = &[
 
 const PLANNED: Planned<'static> = Planned {
     jobs: &[(0, FIRST), (0, SECOND), (0, THIRD)],
-    rounds: 1,
+    times: 1,
     falls: &[],
     lives: 1,
     sweeps: 1,

@@ -11,7 +11,7 @@ use std::thread::Threads;
 
 const GOOD: Planned<'static> = Planned {
     jobs: &[(0, &[])],
-    rounds: 1,
+    times: 1,
     falls: &[],
     lives: 1,
     sweeps: 1,

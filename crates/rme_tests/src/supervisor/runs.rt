@@ -11,10 +11,10 @@ const FIVE: &[Op] = &[Op::Add(0, 5)];
 
 const ONE: &[Op] = &[Op::Add(0, 1)];
 
-/// A plan of nothing, in one round, with one life and one sweep.
+/// A plan of nothing, with one life and one sweep.
 const IDLE: Planned<'static> = Planned {
     jobs: &[],
-    rounds: 1,
+    times: 1,
     falls: &[],
     lives: 1,
     sweeps: 1,
@@ -110,7 +110,7 @@ fn threads_program(rt: HostRuntime) -> Result<(), Fail> {
         sizes: (8, 1, 1, 100),
         plans: &[Planned {
             jobs: &[(0, ONE)],
-            rounds: 100,
+            times: 100,
             falls: &[7, 19, 40],
             lives: 4,
             sweeps: 1_000_000_000,
@@ -153,7 +153,7 @@ fn shut_gate(rt: HostRuntime) -> Result<(), Fail> {
 }
 
 /// Runs of one worker without a gate: a job that is refused after one that is done; a fall before the first step of the
-/// first recovery, and one before the second; two jobs in three rounds, with a fall on the way; and two falls with two
+/// first recovery, and one before the second; two jobs three times over, with a fall on the way; and two falls with two
 /// lives, where the worker is out of lives at the second fall and not at the first. Its first job is done between the
 /// two: after 3 own steps the next life recovers by 2 and makes it by 28.
 const ALONE: [Run<'static>; 4] = [
@@ -182,7 +182,7 @@ const ALONE: [Run<'static>; 4] = [
         sizes: (1, 1, 1, 10),
         plans: &[Planned {
             jobs: &[(0, ONE), (0, &[Op::Add(0, 10)])],
-            rounds: 3,
+            times: 3,
             falls: &[50],
             lives: 2,
             ..IDLE
@@ -216,7 +216,7 @@ const ALONE: [Run<'static>; 4] = [
     },
 ];
 
-/// A refused job ends its worker, lives are lost in the recovery, and the rounds follow one another: each entry once.
+/// A refused job ends its worker, lives are lost in the recovery, and jobs follow one another: each entry once.
 #[test]
 fn alone(rt: HostRuntime) -> Result<(), Fail> {
     for run in &ALONE {

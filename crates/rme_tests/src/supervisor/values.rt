@@ -10,11 +10,12 @@ use std::sync::Wait;
 use std::test::Fail;
 use std::thread::Threads;
 
-/// What a worker is to do: its jobs, each a lock and operations, and the rest of its plan.
+/// What a worker is to do: its jobs, each a lock and operations, which its plan has so many times over, and the rest of
+/// the plan.
 #[derive(Clone, Copy)]
 pub struct Planned<'a> {
     pub jobs: &'a [(u32, &'a [Op])],
-    pub rounds: u32,
+    pub times: u32,
     pub falls: &'a [u32],
     pub lives: u32,
     pub sweeps: u32,
@@ -35,8 +36,10 @@ pub struct Run<'a> {
 
 fn jobs_of(alloc: Global, planned: &Planned<'_>) -> Result<Vec<Job>, AllocError> {
     let mut jobs = Vec::new(alloc);
-    for (lock, operations) in planned.jobs {
-        jobs.push(job(*lock, operations))?;
+    for _ in 0..planned.times {
+        for (lock, operations) in planned.jobs {
+            jobs.push(job(*lock, operations))?;
+        }
     }
     Ok(jobs)
 }
@@ -47,7 +50,6 @@ pub fn plans_of(alloc: Global, planned: &[Planned<'_>]) -> Result<Vec<WorkerPlan
     for plan in planned {
         plans.push(WorkerPlan {
             jobs: jobs_of(alloc, plan)?,
-            rounds: plan.rounds,
             falls: Vec::from_slice(alloc, plan.falls)?,
             lives: plan.lives,
             sweeps: plan.sweeps,

@@ -5,7 +5,7 @@ use Rattle.rme_supervisor.proofs.checking.all_follow.Goals as goal
 
 pub loop-worker-preserved : goal.loop-worker-preserved
 loop-worker-preserved c =
-    one_more c.args.plans.now c.args.downs.now c.args.ends.now c.loop-worker.worker _ _ _ c.index-plans-worker.is c.index-downs-worker.is
+    one_more c.args.schedule.now.rounds c.args.schedule.now.plans.now c.args.downs.now c.args.ends.now c.loop-worker.worker _ _ _ c.index-plans-worker.is c.index-downs-worker.is
     (λ e at. get_or_from_slice_get c.args.ends.now c.loop-worker.worker e _ at) _ c.entries.ensures (c.follows.ensures.0 c.if-not-follows.false) c.loop-worker.invariant
 
 pub returns : goal.returns

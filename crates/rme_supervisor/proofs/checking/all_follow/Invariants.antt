@@ -7,4 +7,4 @@ use Rattle.rme_supervisor.proofs.checking.all_follow.Given as goal
 
 abbrev pub invariant-loop-worker : goal.invariant-loop-worker
 invariant-loop-worker l = (at : ℕ) (plan : WorkerPlan) (down : Stand) (end : End) → at < l.worker → slice_get l.plans at ≡ Some plan → slice_get l.downs at ≡ Some down
-    → slice_get l.ends at ≡ Some end → Follows plan down.part.entries end
+    → slice_get l.ends at ≡ Some end → Follows l.rounds plan down.part.entries end

@@ -25,22 +25,23 @@ invariant_of-result g c =
     let next = subst N c.as_slice.ensures.value c.next.ensures in
     let start : Tries = record { blocked = c.self.inside.past.blocked; most = plan.sweeps } in
     let new = c.live-stop.new.trail in
-    let L : Stand × Option End → Type 0 = λ its. IsRest g.K.Tag.ident.shape g.K.Course.turned g.K.Course.plans g.K.Course.given (record { stand = its.0; end = its.1; blocked = new.tries.blocked; lives = old.lives + 1 }) in
+    let L : Stand × Option End → Type 0 = λ its. IsRest g.K.Tag.ident.shape g.K.Course.turned g.K.Course.rounds g.K.Course.plans g.K.Course.given (record { stand = its.0; end = its.1; blocked = new.tries.blocked; lives = old.lives + 1 }) in
     elim c.match-stop.branch [
       | in-Ended w ↦
           let down = w.in-Ended.down in
           let so = w.in-Ended.ensures in
-          let E : Ident → Type 0 = λ ident. IsEarned ident.shape plan down.part.private.begun w.in-Ended.end in
+          let E : Ident → Type 0 = λ ident. IsEarned ident.shape g.K.Course.rounds plan down.part.private.begun w.in-Ended.end in
+          let F : ℕ → Type 0 = λ rounds. IsEarned c.args.orders.now.service.now.shape rounds plan down.part.private.begun w.in-Ended.end in
           let stalled : w.in-Ended.end ≡ Stalled → (plan.sweeps ≤ new.tries.blocked) ⊎ g.K.Course.turned down.part.worker = λ same. elim (so.stalls same) [
             | inl all ↦ inl (let most = so.most in omega (arith, all, most))
             | inr away ↦ inr (subst (λ (w : ℕ). g.K.Course.turned w) (sym so.stop.0.own) (c.requires.orders.away _ away))
           ] in
           subst L (sym w.down-is)
-          (lived_ended g.K.Tag.ident.shape g.K.Course.turned g.K.Course.plans g.K.Course.given old c.self.invariant plan planned none more down so.stop.0.own c.next.result new.falls next start new.tries refl refl so.tries
-          w.in-Ended.end (subst E c.requires.orders.ours so.stop.1) so.stop.2 stalled so.falls)
+          (lived_ended g.K.Tag.ident.shape g.K.Course.turned g.K.Course.rounds g.K.Course.plans g.K.Course.given old c.self.invariant plan planned none more down so.stop.0.own c.next.result new.falls next start new.tries refl refl so.tries
+          w.in-Ended.end (subst E c.requires.orders.ours (subst F c.requires.orders.rounds_are so.stop.1)) so.stop.2 stalled so.falls)
       | in-Fell w ↦
           let so = w.in-Fell.ensures in
           subst L (sym w.down-is)
-          (lived_fell g.K.Tag.ident.shape g.K.Course.turned g.K.Course.plans g.K.Course.given old c.self.invariant plan planned none more w.in-Fell.down so.stop.own c.next.result new.falls next start new.tries refl refl
+          (lived_fell g.K.Tag.ident.shape g.K.Course.turned g.K.Course.rounds g.K.Course.plans g.K.Course.given old c.self.invariant plan planned none more w.in-Fell.down so.stop.own c.next.result new.falls next start new.tries refl refl
           so.tries w.end_after.result w.end_after.ensures.some w.end_after.ensures.none so.falls)
     ]
