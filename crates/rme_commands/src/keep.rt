@@ -5,18 +5,20 @@ ghost use Rattle.std.specs.Prelude.{◌≡◌};
 use crate::hearing::{Hearing, listen};
 use crate::trouble::Complaints;
 use rme_desk::Desk;
-use rme_epochs::{Earlier, EpochDesk, MOST_SET};
+use rme_epochs::{EpochDesk, MOST_SET};
 use rme_faults::{BadArgument, Fault, shown, why_not_locks, why_not_sizes};
 use rme_journal::{Header, Started, push_falls, push_header, whole_lines};
-use rme_kept::{Kept, clients_of};
+use rme_kept::{Kept, Recovered, clients_of};
 use rme_ledger::{Naming, Opened};
 use rme_options::{KeepTask, Places, Remarks, Synced};
-use rme_server::{Backend, Closer, Door, Listener, serve};
-use rme_state::{StateFile, make_state, read_state};
-use rme_texts::push_opening;
+use rme_reasons::Reason;
+use rme_server::{Backend, Closer, Door, Listener, Trouble, serve};
+use rme_state::{StateFile, StateName, ask_beside, make_state, read_state};
+use rme_texts::{name_of, push_opening};
 use rme_wire::{GivenNames, Names};
 use rme_words::{NoMemory, Shape};
 use std::alloc::{AllocError, Global};
+use std::io;
 use std::marker::Brand;
 use std::sync::Wait;
 use std::thread::Threads;
@@ -47,6 +49,9 @@ struct Asked {
 
 /// Serves a state until the process is killed, and makes it first where it is not there. It answers where it can't begin,
 /// and where what was done can't be kept, which was told already.
+///
+/// It decides everything that the words and the files decide, and listens, before it changes anything: a start that is refused
+/// leaves each file as it was.
 pub fn run_keep<R: Threads + Wait + Clock + Sync>(
     rt: &HostRuntime,
     threads: &R,
@@ -55,39 +60,79 @@ pub fn run_keep<R: Threads + Wait + Clock + Sync>(
     let door = door_of(&task);
     let sections = task.sections;
     let (asked, places) = parts(task);
-    let begun = begin(rt, &asked, sections)?;
-    serve_begun::<Brand, R>(rt, threads, places, door, begun)
+    let name = StateName::new(String::from_str(rt.alloc(), asked.path.as_str())?);
+    let planned = plan(rt, &asked, &name)?;
+    let (listeners, hearing) = listen(rt, places)?;
+    let site = Site {
+        rt,
+        hearing,
+        door,
+        name: &name,
+        sections,
+    };
+    let served = match begin(rt, &asked, &name, planned) {
+        Ok(opened) => serve_opened::<Brand, R>(threads, &site, listeners, opened),
+        Err(fault) => Err(fault),
+    };
+    site.hearing.clear(rt);
+    served
 }
 
-/// A state of which all is kept in its file, with the log of that.
+/// Where a state is served, to which connections, and by which file.
 #[derive(Drop)]
-struct Begun<'a> {
-    names: Names,
-    desk: EpochDesk,
+struct Site<'a> {
+    rt: &'a HostRuntime,
+    hearing: Hearing,
+    door: Door,
+    name: &'a StateName,
     /// The file is renewed after so many.
     sections: u32,
+}
+
+/// What a start is to do, once it was decided: nothing was changed yet.
+#[derive(Drop)]
+enum Planned<'a> {
+    /// To go on from a file, which no other server has.
+    GoOn(Found<'a>),
+    /// To make a file with these lines.
+    Make(String),
+}
+
+/// A file that was read, and can be served.
+#[derive(Drop)]
+struct Found<'a> {
+    file: StateFile<'a>,
+    recovered: Recovered,
+    /// How many bytes its whole lines have. What follows them is torn.
+    whole: usize,
+}
+
+/// A state in whose file all is written that was done, and whose workers are all down.
+#[derive(Drop)]
+struct OpenedState<'a> {
+    names: Names,
+    desk: EpochDesk,
     opened: Opened<StateFile<'a>>,
 }
 
-/// Serves a state to those who come to these places, under a name of its log.
-fn serve_begun<J: Naming + Send + Sync, R: Threads + Wait + Clock + Sync>(
-    rt: &HostRuntime,
+/// Serves a state to those who connect to these listeners, under a name of its log.
+fn serve_opened<J: Naming + Send + Sync, R: Threads + Wait + Clock + Sync>(
     threads: &R,
-    places: Places,
-    door: Door,
-    begun: Begun<'_>,
+    site: &Site<'_>,
+    listeners: (Listener, Option<Listener>),
+    state: OpenedState<'_>,
 ) -> Result<u8, Fault>
-    requires { begun.opened ≡ J.book }
+    requires { state.opened ≡ J.book }
 {
-    let Begun {
+    let OpenedState {
         names,
         desk,
-        sections,
         opened,
-    } = begun;
-    let kept = Kept::<StateFile<'_>, Closer, J>::new(rt.alloc(), names, desk, sections, opened)?;
-    let (listeners, hearing) = listen(rt, places)?;
-    serve_kept(rt, threads, (listeners, hearing), door, &kept)
+    } = state;
+    let alloc = site.rt.alloc();
+    let kept = Kept::<StateFile<'_>, Closer, J>::new(alloc, names, desk, site.sections, opened)?;
+    site.hearing.print(site.rt)?;
+    serve_kept(threads, site, listeners, &kept)
 }
 
 /// Which connections are taken.
@@ -123,80 +168,151 @@ fn parts(task: KeepTask) -> (Asked, Places) {
     (asked, places)
 }
 
-/// Serves a state that is kept to those who come to these places.
+/// Serves a state that is kept to those who connect to these listeners. Where the state can't be kept, that is told at its end.
 fn serve_kept<J: Naming + Send + Sync, R: Threads + Wait + Clock + Sync>(
-    rt: &HostRuntime,
     threads: &R,
-    places: ((Listener, Option<Listener>), Hearing),
-    door: Door,
+    site: &Site<'_>,
+    listeners: (Listener, Option<Listener>),
     kept: &Kept<StateFile<'_>, Closer, J>,
 ) -> Result<u8, Fault> {
-    let (listeners, hearing) = places;
-    hearing.print(rt)?;
-    let served = serve(threads, listeners, door, &Complaints { rt }, kept);
-    hearing.clear(rt);
+    let complaints = Complaints::new(site.rt);
+    let observer = StateObserver {
+        complaints: &complaints,
+        threads,
+        name: site.name,
+        kept,
+    };
+    let served = serve(threads, listeners, site.door, &observer, kept);
+    site.name.tell(site.rt, complaints.stderr());
     if kept.is_over(threads) {
         return Ok(Fault::WriteFailed.status());
     }
     match served {
         Ok(()) => Ok(0),
-        Err(fault) => Err(Fault::of_serving(fault, hearing.text(rt.alloc())?)),
+        Err(fault) => Err(Fault::of_serving(fault, site.hearing.text(site.rt.alloc())?)),
     }
 }
 
-/// The state that is asked for, where all workers are down. Its steps are functions of their own, since a proof follows all
-/// that a function holds to each of its ends.
-fn begin<'a>(rt: &'a HostRuntime, asked: &Asked, sections: u32) -> Result<Begun<'a>, Fault> {
-    let mut file = open(rt, asked)?;
-    let (started, whole) = read(rt, asked, &mut file)?;
-    let falls = write_falls(rt.alloc(), &mut file, &started)?;
-    let earlier = earlier_of(rt, asked, &started.header)?;
-    let length = whole.saturating_add(falls) as u64;
-    Ok(begun_of(rt.alloc(), started, earlier, (length, sections), file)?)
+/// Observes a server of a state: each second it looks whether the state's file still has its name, without which nothing may be
+/// answered, and tells what went wrong with the file.
+#[derive(Drop)]
+struct StateObserver<'a, 'f, J: Naming, R> {
+    complaints: &'a Complaints<'a>,
+    threads: &'a R,
+    name: &'a StateName,
+    kept: &'a Kept<StateFile<'f>, Closer, J>,
 }
 
-/// What the file says, and how many bytes its whole lines have. What follows them is cut off.
-fn read(
-    rt: &HostRuntime,
+impl<J: Naming, R: Wait> Trouble for StateObserver<'_, '_, J, R> {
+    fn not_accepted(&self, why: io::Error) {
+        self.complaints.not_accepted(why);
+    }
+
+    fn no_thread(&self) {
+        self.complaints.no_thread();
+    }
+
+    fn bad_line(&self, connection: u64, line: u64, why: &Reason) {
+        self.complaints.bad_line(connection, line, why);
+    }
+
+    fn second_passed(&self) {
+        let rt = self.complaints.rt();
+        if self.name.look(rt) {
+            self.kept.fail(self.threads);
+        }
+        self.name.tell(rt, self.complaints.stderr());
+    }
+}
+
+/// Decides what a start is to do, and changes nothing. The file is read: it must be a state, as it is asked for; where it is not
+/// there, one must be asked for that can be made. And the file must be one that can be renewed.
+fn plan<'a>(rt: &'a HostRuntime, asked: &Asked, name: &'a StateName) -> Result<Planned<'a>, Fault> {
+    if asked.path.is_empty() {
+        return Err(Fault::BadArguments(BadArgument::NoFile("--state")));
+    }
+    let planned = match find(rt, asked, name)? {
+        Some(found) => Planned::GoOn(found),
+        None => Planned::Make(first_lines(rt, asked)?),
+    };
+    ask_beside(rt, name.path())?;
+    Ok(planned)
+}
+
+/// The file, where it is there: read, and as it is asked for. No other server can have it then.
+fn find<'a>(
+    rt: &'a HostRuntime,
     asked: &Asked,
-    file: &mut StateFile<'_>,
-) -> Result<(Started, usize), Fault> {
+    name: &'a StateName,
+) -> Result<Option<Found<'a>>, Fault> {
+    let Some(file) = StateFile::open(rt, name, asked.syncs)? else {
+        return Ok(None);
+    };
+    let mut file = file;
     let bytes = file.bytes()?;
-    let started = read_state(rt, asked.path.as_str(), bytes.as_slice())?;
-    refuse_others(rt, asked, &started)?;
-    let whole = whole_lines(bytes.as_slice()).len();
-    if whole < bytes.len() {
-        file.cut(whole)?;
-    }
-    Ok((started, whole))
+    let recovered = read_state(rt, asked.path.as_str(), bytes.as_slice())?;
+    refuse_others(rt, asked, &recovered.started)?;
+    Ok(Some(Found {
+        file,
+        recovered,
+        whole: whole_lines(bytes.as_slice()).len(),
+    }))
 }
 
-/// Writes down that all workers fell who were up, and answers how many bytes that takes.
-fn write_falls(alloc: Global, file: &mut StateFile<'_>, started: &Started) -> Result<usize, Fault> {
+/// Does what was decided: makes the file where it was not there, and writes down that all workers fell who were up.
+fn begin<'a>(
+    rt: &'a HostRuntime,
+    asked: &Asked,
+    name: &'a StateName,
+    planned: Planned<'a>,
+) -> Result<OpenedState<'a>, Fault> {
+    match planned {
+        Planned::GoOn(found) => open_state(rt.alloc(), found),
+        Planned::Make(lines) => {
+            make_state(rt, asked.path.as_str(), lines.as_bytes())?;
+            match find(rt, asked, name)? {
+                Some(found) => open_state(rt.alloc(), found),
+                None => Err(Fault::BadArguments(BadArgument::NoState(shown(
+                    rt.alloc(),
+                    asked.path.as_str(),
+                )?))),
+            }
+        }
+    }
+}
+
+/// Cuts off what is torn, and writes down that all workers fell who were up.
+fn open_state<'a>(alloc: Global, found: Found<'a>) -> Result<OpenedState<'a>, Fault> {
+    let Found {
+        file,
+        recovered,
+        whole,
+    } = found;
+    let mut file = file;
+    let falls = falls_of(alloc, &recovered.started)?;
+    file.begin(whole)?;
+    file.write(falls.as_bytes())?;
+    let length = whole.saturating_add(falls.len()) as u64;
+    Ok(state_of(alloc, recovered, length, file)?)
+}
+
+/// The lines which say that all workers fell who were up.
+fn falls_of(alloc: Global, started: &Started) -> Result<String, Fault> {
     let mut falls = String::new(alloc);
     if push_falls(&mut falls, alloc, &started.names, &started.world).is_err() {
         return Err(Fault::NoMemory);
     }
-    file.write(falls.as_bytes())?;
-    Ok(falls.len())
+    Ok(falls)
 }
 
-/// What earlier epochs left, as the header of the state says.
-fn earlier_of(rt: &HostRuntime, asked: &Asked, header: &Header) -> Result<Earlier, Fault> {
-    match Earlier::of_header(rt.alloc(), header)? {
-        Some(earlier) => Ok(earlier),
-        None => Err(Fault::BadState(shown(rt.alloc(), asked.path.as_str())?, 1)),
-    }
-}
-
-/// What was read and is kept in the file: so many bytes led to it, and its file is renewed after so many sections.
-fn begun_of<'a>(
+/// What was read and is kept in the file, to which so many bytes led.
+fn state_of<'a>(
     alloc: Global,
-    started: Started,
-    earlier: Earlier,
-    (length, sections): (u64, u32),
+    recovered: Recovered,
+    length: u64,
     file: StateFile<'a>,
-) -> Result<Begun<'a>, NoMemory> {
+) -> Result<OpenedState<'a>, NoMemory> {
+    let Recovered { started, earlier } = recovered;
     let Started {
         header,
         names,
@@ -205,29 +321,11 @@ fn begun_of<'a>(
     } = started;
     let desk = Desk::new(alloc, world)?;
     let desk = EpochDesk::new(alloc, desk, earlier, header.epoch, length);
-    Ok(Begun {
+    Ok(OpenedState {
         names,
         desk,
-        sections,
         opened: Opened::new(file),
     })
-}
-
-/// The file of the state, which is made where it is not there.
-fn open<'a>(rt: &'a HostRuntime, asked: &Asked) -> Result<StateFile<'a>, Fault> {
-    let path = asked.path.as_str();
-    if path.is_empty() {
-        return Err(Fault::BadArguments(BadArgument::NoFile("--state")));
-    }
-    if let Some(file) = StateFile::open(rt, path, asked.syncs)? {
-        return Ok(file);
-    }
-    let bytes = first_lines(rt, asked)?;
-    make_state(rt, path, bytes.as_bytes())?;
-    match StateFile::open(rt, path, asked.syncs)? {
-        Some(file) => Ok(file),
-        None => Err(Fault::BadArguments(BadArgument::NoState(shown(rt.alloc(), path)?))),
-    }
 }
 
 /// The lines of a new state.
@@ -316,9 +414,22 @@ fn refuse_others(rt: &HostRuntime, asked: &Asked, started: &Started) -> Result<(
     }
     if are_others(&asked.locks, &started.names) {
         let path = shown(rt.alloc(), asked.path.as_str())?;
-        return Err(Fault::BadArguments(BadArgument::OtherNames(path)));
+        let locks = names_text(rt.alloc(), &started.names)?;
+        return Err(Fault::BadArguments(BadArgument::OtherNames(path, locks)));
     }
     Ok(())
+}
+
+/// The names of all locks, with a space between them.
+fn names_text(alloc: Global, names: &Names) -> Result<String, AllocError> {
+    let mut text = String::new(alloc);
+    for lock in 0..names.len() {
+        if lock > 0 {
+            text.push_str(" ")?;
+        }
+        text.push_str(name_of(names, lock))?;
+    }
+    Ok(text)
 }
 
 /// The jobs that are asked for, or those that a state has that was made for so many.

@@ -152,7 +152,7 @@ fn serve_all<K: Tag + Send + Sync, R: Threads + Wait + Clock + Sync>(
         names: host.names,
         hall: &hall,
     };
-    let complaints = Complaints { rt: host.rt };
+    let complaints = Complaints::new(host.rt);
     let served = serve(threads, listeners, host.door, &complaints, &shared);
     Ok((slots.into_downs_in(threads, room), served))
 }

@@ -9,7 +9,7 @@ use crate::progress::Progress;
 use rme_faults::{Fault, why_not_falls, why_not_sizes};
 use rme_options::ThreadsTask;
 use rme_script::{Job, Op, Script};
-use rme_supervisor::{Attended, Free, Gate, WorkerPlan, attend};
+use rme_supervisor::{Attended, Free, Gate, Schedule, WorkerPlan, attend};
 use rme_table::{CountRoom, Service};
 use rme_words::{Refusal, Shape};
 use std::alloc::{AllocError, Global};
@@ -82,7 +82,11 @@ fn run_with<G: Gate + Sync, R: Threads + Wait + Sync>(
         return Err(Fault::NoMemory);
     };
     let room = service.room_for_counts()?;
-    match attend(threads, rt.alloc(), &service, downs, &plans, gate) {
+    let schedule = Schedule {
+        plans: &plans,
+        rounds: task.jobs,
+    };
+    match attend(threads, rt.alloc(), &service, downs, &schedule, gate) {
         Ok(attended) => close(service, attended, room),
         Err(unattended) => match unattended.why {
             Refusal::BadShape => Err(Fault::BadArguments(why_not_falls(task.falls.as_slice()))),
@@ -112,7 +116,8 @@ fn close(service: Service, attended: Attended, room: CountRoom) -> Result<Option
     }
 }
 
-/// The plan of each worker: a job that adds 1, as often as the task says, and one life more than falls.
+/// The plan of each worker: a job that adds 1, which is made in as many rounds as the task has jobs, and one life more than
+/// falls.
 fn plans_of(alloc: Global, task: &ThreadsTask) -> Result<Vec<WorkerPlan>, AllocError> {
     let mut plans = Vec::with_capacity(alloc, task.workers as usize)?;
     for _ in 0..task.workers {
@@ -129,7 +134,6 @@ fn plan_of(alloc: Global, task: &ThreadsTask) -> Result<WorkerPlan, AllocError> 
     let lives = u32::try_from(task.falls.len()).unwrap_or(u32::MAX);
     Ok(WorkerPlan {
         jobs: vec![in alloc; job]?,
-        rounds: task.jobs,
         falls: task.falls.clone()?,
         lives: lives.saturating_add(1),
         sweeps: MOST_SWEEPS,

@@ -131,7 +131,8 @@ pub fn wrong_number() -> &'static str
     "\
 A session's jobs are numbered in turn; `expected` in the answer is the number that would be taken. Look \
 first whether a receipt was missed, or whether another client used the worker: the job may have counted \
-already."
+already. A worker has one job at a time: while one waits, or is inside its lock, a job on another lock is \
+refused so too, and `expected` is the number of that one."
 }
 
 pub fn differs() -> &'static str

@@ -1,28 +1,30 @@
 -- What a fault prints.
-use Rattle.std.specs.Prelude.{ℕ, List, ◌++◌, codes, decimal, string_bytes, Option, Some, None}
+use Rattle.std.specs.Prelude.{ℕ, List, ◌++◌, codes, decimal, string_bytes, Option, Some, None, option_map}
 use Rattle.rme_faults.specs.declared.argument.BadArgument.{BadArgument}
-use Rattle.rme_faults.specs.declared.argument.BadArgument.TheVariants.{NoText, NoFile, NoName, Twice, ManyLocks, OutOfRange, FallsBack, NoSocket, ServedAlready, NoState, StateServed, OtherSize, OtherNames, NoNames}
+use Rattle.rme_faults.specs.declared.argument.BadArgument.TheVariants.{NoText, NoFile, NoName, Twice, ManyLocks, OutOfRange, FallsBack, NoSocket, ServedAlready, NoState, StateServed, OtherSize, OtherNames, NoNames, RenewalTaken, RenewalUnnamed}
 use Rattle.rme_faults.specs.declared.fault.Fault.{Fault}
-use Rattle.rme_faults.specs.declared.fault.Fault.TheVariants.{BadArguments, ReadFailed, WriteFailed, NoMemory, BadNames, ImageUnread, BadImage, OtherLocks, Unsavable, ImageUnwritten, FolderUnsynced, ListenFailed, AcceptFailed, NoThread, BadState, BadWords, StateUnread, StateUnwritten, Unexplained, NothingAsked}
+use Rattle.rme_faults.specs.declared.fault.Fault.TheVariants.{BadArguments, ReadFailed, WriteFailed, NoMemory, BadNames, ImageUnread, BadImage, OtherLocks, Unsavable, ImageUnwritten, FolderUnsynced, ListenFailed, AcceptFailed, NoThread, BadState, StateOfVersion, StateOfProcesses, BadWords, StateUnread, StateUnwritten, Unexplained, NothingAsked}
 use Rattle.rme_faults.specs.declared.fault.Hindrance.{Hindrance}
 use Rattle.rme_faults.specs.declared.fault.Hindrance.TheVariants.{Irregular, Unwritable}
 
--- a word of the command line that asks for what can't be
-abbrev pub argument_text : BadArgument → List ℕ
-argument_text NoText = codes "a word is no text in UTF-8"
-argument_text (NoFile option) = option.now ++ codes " names no file: its value is empty"
-argument_text (NoName word) = codes "the lock " ++ (string_bytes word ++ codes ": a name has 1 to 32 of a-z 0-9 _ and -")
-argument_text (Twice word) = codes "the lock " ++ (string_bytes word ++ codes ": each name stands once")
-argument_text (ManyLocks count most) = decimal count ++ (codes " locks: a service has 1 to " ++ decimal most)
-argument_text (OutOfRange option number most) = option.now ++ (codes " " ++ (decimal number ++ (codes ": it is 1 to " ++ decimal most)))
-argument_text (NoSocket path) = codes "--socket " ++ (string_bytes path ++ codes ": it is there, and is no socket")
-argument_text (ServedAlready path) = codes "--socket " ++ (string_bytes path ++ codes ": a server listens on it")
-argument_text (NoState path) = codes "--state " ++ (string_bytes path ++ codes ": it is there, and is no regular file")
-argument_text (StateServed path) = codes "--state " ++ (string_bytes path ++ codes ": a server has it")
-argument_text (OtherSize option number has) = option.now ++ (codes " " ++ (decimal number ++ (codes ": the state has " ++ decimal has)))
-argument_text (OtherNames path) = codes "LOCK: the state " ++ (string_bytes path ++ codes " has other locks")
-argument_text (NoNames path) = codes "LOCK: the state " ++ (string_bytes path ++ codes " is not there, and its locks need names")
-argument_text (FallsBack before after) = codes "FALL " ++ (decimal after ++ (codes " after " ++ (decimal before ++ codes ": each is greater than the one before")))
+-- a word of the command line that asks for what can't be, where the system gave no reason
+abbrev pub argument_text : BadArgument → Option (List ℕ)
+argument_text NoText = Some (codes "a word is no text in UTF-8")
+argument_text (NoFile option) = Some (option.now ++ codes " names no file: its value is empty")
+argument_text (NoName word) = Some (codes "the lock " ++ (string_bytes word ++ codes ": a name has 1 to 32 of a-z 0-9 _ and -"))
+argument_text (Twice word) = Some (codes "the lock " ++ (string_bytes word ++ codes ": each name stands once"))
+argument_text (ManyLocks count most) = Some (decimal count ++ (codes " locks: a service has 1 to " ++ decimal most))
+argument_text (OutOfRange option number most) = Some (option.now ++ (codes " " ++ (decimal number ++ (codes ": it is 1 to " ++ decimal most))))
+argument_text (NoSocket path) = Some (codes "--socket " ++ (string_bytes path ++ codes ": it is there, and is no socket"))
+argument_text (ServedAlready path) = Some (codes "--socket " ++ (string_bytes path ++ codes ": a server listens on it"))
+argument_text (NoState path) = Some (codes "--state " ++ (string_bytes path ++ codes ": it is there, and is no regular file"))
+argument_text (StateServed path) = Some (codes "--state " ++ (string_bytes path ++ codes ": a server has it"))
+argument_text (OtherSize option number has) = Some (option.now ++ (codes " " ++ (decimal number ++ (codes ": the state has " ++ decimal has))))
+argument_text (OtherNames path locks) = Some (codes "LOCK: the state " ++ (string_bytes path ++ (codes " has other locks: " ++ string_bytes locks)))
+argument_text (NoNames path) = Some (codes "LOCK: the state " ++ (string_bytes path ++ codes " is not there, and its locks need names"))
+argument_text (FallsBack before after) = Some (codes "FALL " ++ (decimal after ++ (codes " after " ++ (decimal before ++ codes ": each is greater than the one before"))))
+argument_text (RenewalTaken path) = Some (codes "--state: " ++ (string_bytes path ++ codes " is there and was not made by a server, so that the state could not be renewed"))
+argument_text (RenewalUnnamed path why) = None
 
 -- what stands in the way of an image that is to be saved; a reason of the system has its own text, which no definition knows
 abbrev pub hindrance_text : Hindrance → Option (List ℕ)
@@ -31,7 +33,7 @@ hindrance_text (Unwritable why) = None
 
 -- what ended the program early, where the system gave no reason
 abbrev pub fault_text : Fault → Option (List ℕ)
-fault_text (BadArguments why) = Some (codes "bad arguments\n  " ++ argument_text why)
+fault_text (BadArguments why) = option_map (λ text. codes "bad arguments\n  " ++ text) (argument_text why)
 fault_text ReadFailed = Some (codes "read failed")
 fault_text WriteFailed = Some (codes "write failed")
 fault_text NoMemory = Some (codes "no memory")
@@ -46,6 +48,8 @@ fault_text (ListenFailed place why) = None
 fault_text (AcceptFailed place) = Some (codes "socket failed\n  " ++ (string_bytes place ++ codes ": a connection could not be accepted"))
 fault_text NoThread = Some (codes "no thread")
 fault_text (BadState file line) = Some (codes "bad state\n  " ++ (string_bytes file ++ (codes ": line " ++ decimal line)))
+fault_text (StateOfVersion file version) = Some (codes "bad state\n  " ++ (string_bytes file ++ (codes ": it is of version " ++ (decimal version ++ codes ", and this program reads version 1"))))
+fault_text (StateOfProcesses file) = Some (codes "bad state\n  " ++ (string_bytes file ++ codes ": it is a file of processes, which `rme look` shows and no server keeps"))
 fault_text (BadWords file why) = Some (codes "bad words\n  " ++ (string_bytes file ++ (codes ": " ++ string_bytes why)))
 fault_text (StateUnread file why) = None
 fault_text (StateUnwritten file why) = None

@@ -12,7 +12,7 @@ use Rattle.rme_lines.specs.declared.fault.EngineFault.TheVariants as engine
 use Rattle.rme_lines.specs.declared.fault.ServeFault.{ServeFault}
 use Rattle.rme_lines.specs.declared.fault.ServeFault.TheVariants as serving
 use Rattle.rme_faults.specs.declared.fault.Fault.{Fault}
-use Rattle.rme_faults.specs.declared.fault.Fault.TheVariants.{BadArguments, ReadFailed, WriteFailed, NoMemory, BadNames, ImageUnread, BadImage, OtherLocks, Unsavable, ImageUnwritten, FolderUnsynced, ListenFailed, AcceptFailed, NoThread, BadState, BadWords, StateUnread, StateUnwritten, Unexplained, NothingAsked}
+use Rattle.rme_faults.specs.declared.fault.Fault.TheVariants.{BadArguments, ReadFailed, WriteFailed, NoMemory, BadNames, ImageUnread, BadImage, OtherLocks, Unsavable, ImageUnwritten, FolderUnsynced, ListenFailed, AcceptFailed, NoThread, BadState, StateOfVersion, StateOfProcesses, BadWords, StateUnread, StateUnwritten, Unexplained, NothingAsked}
 use Rattle.rme_faults.specs.declared.argument.BadArgument.TheVariants.{NoText}
 
 abbrev pub status_of : Fault → ℕ
@@ -31,6 +31,8 @@ status_of (ListenFailed place why) = 6
 status_of (AcceptFailed place) = 6
 status_of NoThread = 7
 status_of (BadState file line) = 2
+status_of (StateOfVersion file version) = 2
+status_of (StateOfProcesses file) = 2
 status_of (BadWords file why) = 2
 status_of (StateUnread file why) = 3
 status_of (StateUnwritten file why) = 4

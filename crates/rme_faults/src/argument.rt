@@ -2,8 +2,8 @@
 
 use std::alloc::{AllocError, Global};
 use std::error::Error;
-use std::fmt;
 use std::fmt::Write;
+use std::{fmt, io};
 
 /// A word of the command line that asks for what can't be, with the reason. Words stand in it as `shown` writes them.
 #[derive(Debug, Drop)]
@@ -23,17 +23,20 @@ pub enum BadArgument {
     StateServed(String),
     /// An option's number, where the state has another.
     OtherSize(&'static str, u32, u32),
-    /// The state has other locks.
-    OtherNames(String),
+    /// The state has other locks, which are these.
+    OtherNames(String, String),
     /// No locks, where there is no state that names some.
     NoNames(String),
+    /// What is under this name is not to be replaced, and a state's new file would have it until it takes its place.
+    RenewalTaken(String),
+    /// A state's new file can't have this name, for this reason.
+    RenewalUnnamed(String, io::Error),
 }
 
 impl fmt::Display for BadArgument {
-    ghost use Rattle.std.specs.Prelude.{Some};
     ghost use Rattle.rme_faults.specs.Faults.{argument_text};
 
-    ghost output = { λ argument. Some (argument_text argument) };
+    ghost output = { λ argument. argument_text argument };
 
     fn fmt<W: fmt::Write>(&self, f: &mut fmt::Formatter<W>) -> fmt::Result {
         match self {
@@ -73,10 +76,21 @@ impl fmt::Display for BadArgument {
                 f,
                 "{option} {number}: the state has {has}"
             ),
-            BadArgument::OtherNames(path) => write!(f, "LOCK: the state {path} has other locks"),
+            BadArgument::OtherNames(path, locks) => write!(
+                f,
+                "LOCK: the state {path} has other locks: {locks}"
+            ),
             BadArgument::NoNames(path) => write!(
                 f,
                 "LOCK: the state {path} is not there, and its locks need names"
+            ),
+            BadArgument::RenewalTaken(path) => write!(
+                f,
+                "--state: {path} is there and was not made by a server, so that the state could not be renewed"
+            ),
+            BadArgument::RenewalUnnamed(path, why) => write!(
+                f,
+                "--state: the state could not be renewed, since {path} can't be made: {why}"
             ),
         }
     }

@@ -64,6 +64,10 @@ pub enum Fault {
     NoThread,
     /// This line of the file of a state, counted from 1, is none that it may hold, or is refused.
     BadState(String, u64),
+    /// The file is a state of this version, which is not read.
+    StateOfVersion(String, u64),
+    /// The file is one of words that processes map, and no state.
+    StateOfProcesses(String),
     /// A file begins as one of words that processes map, and is none, for this reason.
     BadWords(String, String),
     /// The file of a state is there and can't be read.
@@ -115,6 +119,14 @@ impl fmt::Display for Fault {
             ),
             Fault::NoThread => f.write_str("no thread"),
             Fault::BadState(file, line) => write!(f, "bad state\n  {file}: line {line}"),
+            Fault::StateOfVersion(file, version) => write!(
+                f,
+                "bad state\n  {file}: it is of version {version}, and this program reads version 1"
+            ),
+            Fault::StateOfProcesses(file) => write!(
+                f,
+                "bad state\n  {file}: it is a file of processes, which `rme look` shows and no server keeps"
+            ),
             Fault::BadWords(file, why) => write!(f, "bad words\n  {file}: {why}"),
             Fault::StateUnread(file, why) => write!(f, "the state {file} can't be read: {why}"),
             Fault::StateUnwritten(file, why) => write!(
@@ -157,6 +169,8 @@ impl Fault {
             Fault::AcceptFailed(_) => 6,
             Fault::NoThread => 7,
             Fault::BadState(_, _) => 2,
+            Fault::StateOfVersion(_, _) => 2,
+            Fault::StateOfProcesses(_) => 2,
             Fault::BadWords(_, _) => 2,
             Fault::StateUnread(_, _) => 3,
             Fault::StateUnwritten(_, _) => 4,

@@ -14,6 +14,7 @@ use rme_words::{NoMemory, Refusal};
 use std::alloc::{AllocError, Global};
 use std::sync::atomic::{AtomicU64, Ordering};
 use std::sync::{Mutex, Wait};
+use std::time::Clock;
 
 /// A world that sessions share, and the ledger in which what was done to it is kept.
 #[derive(Drop)]
@@ -85,7 +86,7 @@ impl<L: Ledger, H: Reach, J: Naming> Kept<L, H, J> {
 
     /// Obeys an order with one try. A new epoch begins before it where one is due, and where the worker has made all jobs of
     /// this one.
-    pub(crate) fn obey_once<R: Wait, C: Client<Handle = H>>(
+    pub(crate) fn obey_once<R: Wait + Clock, C: Client<Handle = H>>(
         &self,
         rt: &R,
         stand: &mut Stand,
@@ -177,6 +178,11 @@ impl<L: Ledger, H: Reach, J: Naming> Kept<L, H, J> {
     /// Whether some of what was done could not be kept. Then nothing more is.
     pub(crate) fn is_broken(&self) -> bool {
         self.keeper.is_broken()
+    }
+
+    /// Ends the service where the place of its lines is lost: nothing more is kept, and no order is answered.
+    pub fn fail<R: Wait>(&self, rt: &R) {
+        self.keeper.lose(rt);
     }
 
     /// Appends what is looked up, and answers how far was told by then, unless some of what was done was lost.

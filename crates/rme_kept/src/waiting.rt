@@ -49,7 +49,7 @@ impl<L: Ledger, H: Reach, J: Naming> Kept<L, H, J> {
 
     /// Obeys an order with one try. What can't be written down ends the server; nothing is obeyed after that, so that nobody
     /// waits in vain.
-    pub(crate) fn obey_or_end<R: Wait, C: Client<Handle = H>>(
+    pub(crate) fn obey_or_end<R: Wait + Clock, C: Client<Handle = H>>(
         &self,
         rt: &R,
         stand: &mut Stand,

@@ -13,7 +13,7 @@ const LOCKS: &str = "/proc/locks";
 
 /// A file, by its device and by its number there.
 #[derive(Clone, Copy, PartialEq, Eq)]
-struct FileNumber {
+pub(crate) struct FileNumber {
     major: u64,
     minor: u64,
     inode: u64,
@@ -21,7 +21,7 @@ struct FileNumber {
 
 impl FileNumber {
     /// That of a file of this device, whose two parts are spread over its number (`makedev(3)`).
-    fn of(device: u64, inode: u64) -> FileNumber {
+    pub(crate) fn of(device: u64, inode: u64) -> FileNumber {
         FileNumber {
             major: ((device >> 8) & 0xfff) | ((device >> 32) & !0xfff),
             minor: (device & 0xff) | ((device >> 12) & !0xff),
@@ -31,7 +31,7 @@ impl FileNumber {
 
     /// Whether it may be that of the same file by another device, as on overlayfs and btrfs, whose devices have no major
     /// number of their own: `stat(2)` tells of one there, and `/proc/locks` of another.
-    fn may_be(self, file: FileNumber) -> bool {
+    pub(crate) fn may_be(self, file: FileNumber) -> bool {
         self.inode == file.inode && self.major == 0 && file.major == 0 && self.minor != file.minor
     }
 
@@ -51,26 +51,33 @@ impl FileNumber {
 
 /// A lock of the kernel on the bytes of a file from the first of these to the last.
 #[derive(Clone, Copy)]
-struct Claim {
-    file: FileNumber,
-    first: u64,
-    last: u64,
+pub(crate) struct Claim {
+    pub(crate) file: FileNumber,
+    pub(crate) first: u64,
+    pub(crate) last: u64,
+}
+
+/// The file of this path.
+pub(crate) fn file_at(rt: &HostRuntime, path: &str) -> Result<FileNumber, Fault> {
+    match fs::metadata(rt, path) {
+        Ok(data) => Ok(FileNumber::of(data.dev(), data.ino())),
+        Err(error) => {
+            let kind = error.kind();
+            Err(Fault::on_file(kind, Fault::StateUnread(shown(rt.alloc(), path)?, error)))
+        }
+    }
 }
 
 /// Whether each of so many workers of a file has a process that lives; no answers where the system does not tell.
-pub(crate) fn living(rt: &HostRuntime, path: &str, workers: u32) -> Result<Vec<bool>, Fault> {
-    let alloc = rt.alloc();
-    let Ok(text) = fs::read_to_string(rt, LOCKS) else {
-        return Ok(Vec::new(alloc));
-    };
-    let file = match fs::metadata(rt, path) {
-        Ok(data) => FileNumber::of(data.dev(), data.ino()),
-        Err(error) => {
-            let kind = error.kind();
-            return Err(Fault::on_file(kind, Fault::StateUnread(shown(alloc, path)?, error)));
-        }
-    };
-    Ok(claimed(alloc, text.as_str(), file, workers)?)
+pub(crate) fn living(
+    rt: &HostRuntime,
+    file: FileNumber,
+    workers: u32,
+) -> Result<Vec<bool>, AllocError> {
+    match fs::read_to_string(rt, LOCKS) {
+        Ok(text) => claimed(rt.alloc(), text.as_str(), file, workers),
+        Err(_) => Ok(Vec::new(rt.alloc())),
+    }
 }
 
 /// Which workers are claimed, by what the kernel tells of all locks; no answers where that may tell of this file by another
@@ -110,7 +117,7 @@ fn mark(living: &mut [bool], first: u64, last: u64) {
 }
 
 /// The claim that a line tells of; `None` where it tells of another lock.
-fn claim_in(line: &str) -> Option<Claim> {
+pub(crate) fn claim_in(line: &str) -> Option<Claim> {
     let mut words = line.split_whitespace();
     let _number = words.next()?;
     // Who waits for a lock has an arrow here.

@@ -7,6 +7,7 @@
 #![tactic(auto)]
 
 mod claims;
+mod holders;
 mod look;
 mod state;
 mod words;

@@ -1,10 +1,13 @@
 //! What the file of a state says, whether a server has it or not.
 
-use rme_epochs::{Earlier, Sections};
-use rme_faults::{Fault, shown};
-use rme_journal::{BadState, Progress, Started, start, whole_lines};
-use rme_kept::{Told, clients_of, lock_status, push_row, push_status, worker_status};
+use rme_epochs::Sections;
+use rme_faults::Fault;
+use rme_journal::{BadState, Progress, whole_lines};
+use rme_kept::{
+    Recovered, Told, clients_of, lock_status, push_row, push_status, recover, worker_status,
+};
 use rme_options::Form;
+use rme_state::bad_state;
 use rme_texts::name_of;
 use rme_wire::Names;
 use std::alloc::AllocError;
@@ -24,33 +27,22 @@ pub(crate) fn push_state(
     bytes: &[u8],
     form: Form,
 ) -> Result<u8, Fault> {
-    let read = start(rt.alloc(), whole_lines(bytes), &Silent);
+    let read = recover(rt.alloc(), whole_lines(bytes), &Silent);
+    if form == Form::Check {
+        return push_verdict(out, &read);
+    }
+    let recovered = match read {
+        Ok(recovered) => recovered,
+        Err(why) => return Err(bad_state(rt, path, bytes, why)?),
+    };
     match form {
-        Form::Check => push_verdict(out, &read),
-        Form::Json => Ok(push_json(out, &started_of(rt, path, read)?)?),
-        Form::Text => Ok(push_text(out, &started_of(rt, path, read)?)?),
+        Form::Json => Ok(push_json(out, &recovered)?),
+        _ => Ok(push_text(out, &recovered)?),
     }
 }
 
-/// What the file says, with what earlier epochs left.
-fn started_of(
-    rt: &HostRuntime,
-    path: &str,
-    read: Result<Started, BadState>,
-) -> Result<(Started, Earlier), Fault> {
-    let line = match read {
-        Ok(started) => match Earlier::of_header(rt.alloc(), &started.header)? {
-            Some(earlier) => return Ok((started, earlier)),
-            None => 1,
-        },
-        Err(BadState::NoMemory) => return Err(Fault::NoMemory),
-        Err(BadState::Line(line)) => line,
-    };
-    Err(Fault::BadState(shown(rt.alloc(), path)?, line))
-}
-
 /// Appends whether a start takes the file, or which of its lines it does not take, and answers the status.
-fn push_verdict(out: &mut String, read: &Result<Started, BadState>) -> Result<u8, Fault> {
+fn push_verdict(out: &mut String, read: &Result<Recovered, BadState>) -> Result<u8, Fault> {
     match read {
         Ok(_) => {
             out.push_str("yes\n")?;
@@ -70,29 +62,29 @@ fn push_why(out: &mut String, why: BadState) -> Result<u8, Fault> {
 }
 
 /// What the status is told of.
-fn told<'a>(started: &'a (Started, Earlier)) -> Told<'a> {
-    let (started, earlier) = started;
+fn told(recovered: &Recovered) -> Told<'_> {
     Told {
-        epoch: started.header.epoch,
-        world: &started.world,
-        earlier,
+        epoch: recovered.started.header.epoch,
+        world: &recovered.started.world,
+        earlier: &recovered.earlier,
     }
 }
 
 /// Appends what the order `status` answers, and answers the status of the process.
-fn push_json(out: &mut String, started: &(Started, Earlier)) -> Result<u8, AllocError> {
-    push_status(out, &started.0.names, &told(started))?;
+fn push_json(out: &mut String, recovered: &Recovered) -> Result<u8, AllocError> {
+    push_status(out, &recovered.started.names, &told(recovered))?;
     out.push_str("\n")?;
     Ok(0)
 }
 
 /// Appends a line for the epoch, for each lock and for each worker, and answers the status of the process.
-fn push_text(out: &mut String, started: &(Started, Earlier)) -> Result<u8, AllocError> {
-    let told = told(started);
+fn push_text(out: &mut String, recovered: &Recovered) -> Result<u8, AllocError> {
+    let names = &recovered.started.names;
+    let told = told(recovered);
     let epoch = told.epoch;
     write!(out, "epoch {epoch}\n")?;
-    push_locks(out, &started.0.names, &told)?;
-    push_workers(out, &started.0.names, &told)?;
+    push_locks(out, names, &told)?;
+    push_workers(out, names, &told)?;
     Ok(0)
 }
 

@@ -1,6 +1,7 @@
 //! What a file of words says that processes map.
 
-use crate::claims::living;
+use crate::claims::{file_at, living};
+use crate::holders::push_holders;
 use rme_faults::{Fault, shown};
 use rme_mapped::{Mapped, Unread, push_damage, push_json, push_text};
 use rme_options::Form;
@@ -29,13 +30,15 @@ pub(crate) fn push_words(
         Ok(mapped) => mapped,
         Err(why) => return Err(unread(rt, path, why)?),
     };
-    let living = living(rt, path, mapped.shape().workers())?;
+    let file = file_at(rt, path)?;
+    let living = living(rt, file, mapped.shape().workers())?;
     if form == Form::Json {
         push_json(out, &mapped, living.as_slice())?;
         out.push_str("\n")?;
     } else {
         push_state(out, rt, &mapped)?;
         push_text(out, &mapped, living.as_slice())?;
+        push_holders(out, rt, file)?;
     }
     Ok(0)
 }

@@ -24,7 +24,13 @@ abbrev pub lock_line : File → ℕ → List ℕ
 lock_line file lock =
     lock_front (name_of file.names lock) (owner_of file lock) ++ (cells_text (cells_in file lock) ++ lock_end (settled_in file lock) (sections_in file lock))
 
--- whether the process of a worker lives, where that is known
+-- whether the process of a worker that has no job lives, where that is known: without one, its number is free
+abbrev pub ready_word : Option Bool → List ℕ
+ready_word None = []
+ready_word (Some true) = codes " living"
+ready_word (Some false) = codes " free"
+
+-- whether the process of a worker that has a job lives, where that is known
 abbrev pub living_word : Option Bool → List ℕ
 living_word None = []
 living_word (Some true) = codes " living"
@@ -32,7 +38,7 @@ living_word (Some false) = codes " dead"
 
 -- `worker 0 living held bank 3`
 abbrev pub stance_line : List (List ℕ) → ℕ → Option Bool → Stance → ℕ → List ℕ
-stance_line names worker living Ready number = codes "worker " ++ (decimal worker ++ (living_word living ++ (codes " ready " ++ (decimal number ++ codes "\n"))))
+stance_line names worker living Ready number = codes "worker " ++ (decimal worker ++ (ready_word living ++ (codes " ready " ++ (decimal number ++ codes "\n"))))
 stance_line names worker living (Climb lock) number =
     codes "worker " ++ (decimal worker ++ (living_word living ++ (codes " climb " ++ (name_of names lock ++ (codes " " ++ (decimal number ++ codes "\n"))))))
 stance_line names worker living (Held lock) number =

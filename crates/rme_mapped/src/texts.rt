@@ -137,6 +137,18 @@ fn lives(living: &[bool], worker: u32) -> Option<bool>
     }
 }
 
+/// Whether the process of a worker that has no job lives, where that is known: without one, its number is free.
+fn ready_word(lives: Option<bool>) -> &'static str
+    ensures { result.now ≡ spec.ready_word lives }
+{
+    match lives {
+        None => "",
+        Some(true) => " living",
+        Some(false) => " free",
+    }
+}
+
+/// Whether the process of a worker that has a job lives, where that is known.
 fn living_word(lives: Option<bool>) -> &'static str
     ensures { result.now ≡ spec.living_word lives }
 {
@@ -180,7 +192,10 @@ fn push_stance_line(
 {
     let alive = living_word(lives);
     match stance {
-        Stance::Ready => write!(out, "worker {worker}{alive} ready {number}\n"),
+        Stance::Ready => {
+            let alive = ready_word(lives);
+            write!(out, "worker {worker}{alive} ready {number}\n")
+        }
         Stance::Climb(lock) => {
             let name = name_of(names, lock);
             write!(out, "worker {worker}{alive} climb {name} {number}\n")

@@ -29,8 +29,8 @@ pub enum Unread {
     /// The page has a byte that is not 0 behind the names of the locks.
     #[error("its first page has more than there is to say")]
     Rest,
-    /// The mark of a renewal is neither 0 nor 1.
-    #[error("its mark of a renewal is none")]
+    /// The mark of a renewal is neither 0 nor 1: that of one that was not finished, or none.
+    #[error("its renewal was not finished, which the next rme_renew does, or its mark of a renewal is none")]
     Moved,
     /// A growth of memory was refused.
     #[error("no memory")]

@@ -196,6 +196,11 @@ pub fn serve_about<'a>() -> &'a str {
     "Serves a lock service to clients over TCP on 127.0.0.1 or a Unix socket, a session for each connection"
 }
 
+/// What is said where words of `serve` are missing.
+pub fn shortest_start<'a>() -> &'a str {
+    "the shortest start is `rme serve --state FILE bank`; without --state a server needs --workers, --cells, --jobs, --port or --socket, and the names of its locks"
+}
+
 pub fn serve_lines<'a>() -> &'a str {
     "\
 The shortest start, of a server that keeps its state in FILE, with 8 workers, a lock `bank` of 1 cell, and the
@@ -238,7 +243,7 @@ Each line of a client is one JSON object, which is obeyed and answered by one li
   {\"do\":\"detach\"}                lets the worker go: {\"ok\":\"detach\"}
 
 A line that is refused is answered {\"code\":N,\"error\":NAME} and changes nothing. --why says on the standard
-error what is wrong with one that is no order; where nobody reads what it says there, sessions come to wait. A
+error what is wrong with one that is no order; where that is a pipe that nobody reads, it is left out. A
 worker that a session lets go, or whose session ends, falls; whoever attaches it next goes on where it was.
 
 The file of a --socket is made with mode 0600. One that no server listens on is replaced; one that is listened on,
@@ -280,7 +285,8 @@ again with the same words, however it ended. What is no longer so:
 
 FILE is a first line and then lines of `rme run`: `tail -n +2 FILE | rme run` shows its state. A last piece
 without its newline is cut off at the start. A line that is none or is refused ends the start with `fault: bad
-state` and its number, and leaves FILE as it was.
+state` and its number, and leaves FILE as it was. So does each start that is refused. A server whose FILE is
+removed, renamed or replaced ends with status 4 within a second or two.
 
 Status: 0 after the closing lines, 1 with none of them where a worker was not given back, 2 for words that
 are refused (also 0 or more than 256 workers, 16 locks, 16 cells or 1000000 jobs, and a name that is none

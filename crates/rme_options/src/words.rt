@@ -5,6 +5,8 @@ use crate::tasks::{
     Form, Images, KeepTask, LineTask, LookTask, Places, Remarks, ServeTask, Synced, Task,
     ThreadsTask,
 };
+use crate::texts;
+use clap::error::ErrorKind;
 use clap::{ArgMatches, Error};
 use std::alloc::{AllocError, Global};
 
@@ -21,7 +23,10 @@ const USUAL_SECTIONS: u32 = 100_000;
 ///
 /// An error holds what is to be printed: help, the version or what is wrong; or its kind is `OutOfMemory`.
 pub fn task_of(alloc: Global, words: &[String]) -> Result<Task, Error> {
-    let found = command(alloc)?.try_get_matches_from(words)?;
+    let found = match command(alloc)?.try_get_matches_from(words) {
+        Ok(found) => found,
+        Err(error) => return Err(explained(alloc, words, error)?),
+    };
     if let Some(task) = service_task(alloc, &found)? {
         return Ok(task);
     }
@@ -29,6 +34,15 @@ pub fn task_of(alloc: Global, words: &[String]) -> Result<Task, Error> {
         return Ok(Task::Draw);
     }
     Ok(Task::Lines(line_task(alloc, &found)?))
+}
+
+/// What is wrong with words. Of a server that lacks some, the shortest start is named first: it is what most want.
+fn explained(alloc: Global, words: &[String], error: Error) -> Result<Error, Error> {
+    let is_serve = words.get(1).is_some_and(|word| word.as_str() == "serve");
+    if !is_serve || error.kind() != ErrorKind::MissingRequiredArgument {
+        return Ok(error);
+    }
+    Ok(command(alloc)?.error(ErrorKind::MissingRequiredArgument, texts::shortest_start())?)
 }
 
 /// What words that ask for a service in threads ask for.

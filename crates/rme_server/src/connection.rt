@@ -7,8 +7,8 @@ use std::os::fd::{AsFd, OwnedFd};
 use std::os::unix::net::UnixListener;
 use std::time::Duration;
 
-/// How many seconds a client may take none of what it is answered; then its session ends.
-const DEAF: u64 = 10;
+/// How many seconds in a row a client may take none of what it is answered; then its session ends.
+const DEAF: u32 = 10;
 
 /// A client's connection. One thread reads and writes it; any may end it.
 ///
@@ -20,12 +20,12 @@ pub struct Connection {
 }
 
 impl Connection {
+    ghost use Rattle.std.specs.Io.{WritesAtMost};
+
     /// How many seconds a client may be silent, where that is limited, and how long it may take none of its answers.
     pub fn set_limits(&self, idle: Option<u32>) {
         // A socket that refuses a limit is served without.
-        let _ = self
-            .stream
-            .set_write_timeout(Some(Duration::from_secs(DEAF)));
+        let _ = self.stream.set_write_timeout(Some(Duration::from_secs(1)));
         if let Some(seconds) = idle {
             let limit = Duration::from_secs(u64::from(seconds));
             let _ = self.stream.set_read_timeout(Some(limit));
@@ -43,6 +43,23 @@ impl Connection {
     /// end.
     pub(crate) fn end(&self) {
         let _ = self.stream.shutdown(Shutdown::Both);
+    }
+
+    /// Writes some of the bytes, once the client has taken some of those before. An error where it takes none for too long.
+    ///
+    /// The limit of the socket holds for one call, which ends early where the client took some bytes meanwhile: so the
+    /// seconds are counted in which it took none.
+    fn write_some(&self, bytes: &[u8]) -> Result<usize>
+        ensures bound { WritesAtMost result bytes.now }
+    {
+        let mut stream = &self.stream;
+        for _ in 1..DEAF {
+            match stream.write(bytes) {
+                Err(error) if error.kind() == ErrorKind::WouldBlock => {}
+                written => return written,
+            }
+        }
+        stream.write(bytes)
     }
 }
 
@@ -88,8 +105,7 @@ impl Read for &Connection {
 
 impl Write for &Connection {
     fn write(&mut self, buf: &[u8]) -> Result<usize> {
-        let mut stream = &self.stream;
-        stream.write(buf)
+        self.write_some(buf)
     }
 
     fn flush(&mut self) -> Result<()> {

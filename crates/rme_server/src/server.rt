@@ -12,14 +12,17 @@ use rme_wire::{LineReader, Names, put_all};
 use rme_words::Refusal;
 use std::alloc::Global;
 use std::io::{Error, ErrorKind};
-use std::sync::Wait;
 use std::sync::atomic::{AtomicU64, Ordering};
+use std::sync::{Condvar, Mutex, Wait};
 use std::thread;
 use std::thread::{Builder, Threads};
-use std::time::Clock;
+use std::time::{Clock, Duration};
 
-/// The stack of a session's thread, and of one that accepts connections.
+/// The stack of a session's thread, of one that accepts connections, and of the one that watches.
 const STACK: usize = 262_144;
+
+/// How many seconds the thread that watches pauses between two looks.
+const WATCH_PERIOD: u64 = 1;
 
 /// Which connections a server takes, over all that it listens on.
 #[derive(Clone, Copy)]
@@ -34,8 +37,8 @@ pub struct Door {
     pub tells_why: bool,
 }
 
-/// Who is told of a connection that could not be had or served, and lets some time go by, in which others may end; and
-/// why a line is no order.
+/// Observes a server: it is told of a connection that could not be had or served, and lets some time go by then, in which
+/// others may end; why a line is no order; and of each second.
 pub trait Trouble {
     /// No connection could be accepted, for this reason.
     fn not_accepted(&self, why: Error);
@@ -45,11 +48,14 @@ pub trait Trouble {
 
     /// This line of this connection, both counted from 1, is answered `BadLine`, for this reason.
     fn bad_line(&self, connection: u64, line: u64, why: &Reason);
+
+    /// A second went by. It is told by a thread that serves no connection and holds no lock.
+    fn second_passed(&self);
 }
 
 /// Takes the connections of a door, from one listener or from two, and makes a session of each in a thread of its own.
 /// It answers when all have ended; the listeners are closed as soon as the last connection was taken. Once the backend is
-/// over, no more are taken, and all connections are ended.
+/// over, no more are taken, and all connections are ended, within a second also where no client sends anything.
 ///
 /// What ends one session ends no other, unless the backend is over then. A connection that can't be accepted, or have a
 /// thread, ends nothing either: `trouble` is told, and the next one is taken. An error is the first such trouble, and
@@ -75,6 +81,8 @@ pub fn serve<
         running: AtomicU64::new(0),
         guests: Guests::new(backend.alloc()),
         closers: closers_of(&listener, &other)?,
+        has_ended: Mutex::new(false),
+        ended: Condvar::new(),
     };
     let shared = &entrance;
     thread::scope(
@@ -83,19 +91,73 @@ pub fn serve<
         move |scope| -> Result<(), ServeFault>
             requires fits { B.fits backend.now }
         {
-            let Some(other) = other else {
-                return receive(rt, listener, shared, trouble, backend);
-            };
+            let watching = move || watch(rt, shared, trouble, backend);
+            // Without this thread the server goes on, and ends by itself once a session finds that the backend is over.
+            let watcher = Builder::new()
+                .stack_size(STACK)
+                .spawn_scoped(scope, watching);
+            let served = receive_all(rt, (listener, other), shared, trouble, backend);
+            shared.tell_end(rt);
+            if let Ok(watcher) = watcher {
+                watcher.join(rt);
+            }
+            served
+        },
+    )
+}
+
+/// Takes the connections of one listener or of two, each in a thread of its own, and answers when all sessions have ended.
+fn receive_all<
+    B: Backend<Handle = Closer> + Sync,
+    R: Threads + Wait + Clock + Sync,
+    T: Trouble + Sync,
+>(
+    rt: &R,
+    listeners: (Listener, Option<Listener>),
+    entrance: &Entrance,
+    trouble: &T,
+    backend: &B,
+) -> Result<(), ServeFault>
+    requires fits { B.fits backend.now }
+{
+    let (listener, other) = listeners;
+    let Some(other) = other else {
+        return receive(rt, listener, entrance, trouble, backend);
+    };
+    thread::scope(
+        thread::scope_env(),
+        rt,
+        move |scope| -> Result<(), ServeFault>
+            requires fits { B.fits backend.now }
+        {
             let beside = move || -> Result<(), ServeFault>
                 requires fits { B.fits backend.now }
-            { receive(rt, other, shared, trouble, backend) };
+            { receive(rt, other, entrance, trouble, backend) };
             let Ok(beside) = Builder::new().stack_size(STACK).spawn_scoped(scope, beside) else {
                 return Err(ServeFault::NoThread);
             };
-            let ended = receive(rt, listener, shared, trouble, backend);
+            let ended = receive(rt, listener, entrance, trouble, backend);
             ended.and(beside.join(rt))
         },
     )
+}
+
+/// Tells of each second, and ends all connections once the backend is over, until all sessions have ended.
+fn watch<B: Backend<Handle = Closer>, R: Wait + Clock, T: Trouble>(
+    rt: &R,
+    entrance: &Entrance,
+    trouble: &T,
+    backend: &B,
+) {
+    for _ in rt.forever() {
+        if entrance.ends_within(rt, Duration::from_secs(WATCH_PERIOD)) {
+            return;
+        }
+        trouble.second_passed();
+        if backend.is_over(rt) {
+            entrance.end(rt);
+        }
+    }
 }
 
 /// What closes these listeners.
@@ -185,9 +247,28 @@ struct Entrance {
     guests: Guests,
     /// What closes the listeners.
     closers: (Closer, Option<Closer>),
+    /// Whether all sessions have ended, and no more will begin.
+    has_ended: Mutex<bool>,
+    /// That has become so.
+    ended: Condvar,
 }
 
 impl Entrance {
+    /// Waits until all sessions have ended, for so long at most. Answers whether they have.
+    fn ends_within<R: Wait + Clock>(&self, rt: &R, most: Duration) -> bool {
+        let has_ended = self.has_ended.lock(rt);
+        let (has_ended, _) = self
+            .ended
+            .wait_timeout_while(rt, has_ended, most, |has_ended| !*has_ended);
+        *has_ended
+    }
+
+    /// All sessions have ended: the thread that watches is to end.
+    fn tell_end<R: Wait>(&self, rt: &R) {
+        *self.has_ended.lock(rt) = true;
+        self.ended.notify_all();
+    }
+
     /// Waits for the next connection of a listener.
     fn next<R: Wait>(&self, rt: &R, listener: &Listener) -> Arrival {
         if self.is_over(rt) {

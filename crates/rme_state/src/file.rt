@@ -1,6 +1,8 @@
 //! A file that one server has, to which lines are appended.
 
+use crate::cause::Cause;
 use crate::making::{put_new, sync_folder};
+use crate::name::StateName;
 use crate::replacing::{Replaced, clear_beside, is_named, put_in_place};
 use rme_faults::{BadArgument, Fault, shown};
 use rme_kept::{Ledger, NotKept};
@@ -13,12 +15,12 @@ const TURNS: u32 = 10;
 
 /// A state's file, which no other server has while this value is there. Its lines are appended.
 ///
-/// Where that fails it says on the standard error what is wrong, and nothing more is kept: what was not kept must not be
-/// answered, and the next start goes on from what was.
+/// Where that fails its name notes what is wrong, and nothing more is kept: what was not kept must not be answered, and the next
+/// start goes on from what was.
 #[derive(Drop)]
 pub struct StateFile<'a> {
     rt: &'a HostRuntime,
-    path: String,
+    name: &'a StateName,
     file: File,
     /// Whether the disk is waited for.
     syncs: bool,
@@ -47,35 +49,26 @@ pub fn make_state(rt: &HostRuntime, path: &str, bytes: &[u8]) -> Result<(), Faul
 }
 
 impl<'a> StateFile<'a> {
-    /// Opens the file for this server alone; `None` where it is not there. What is no regular file is refused, as is a file that
-    /// another server has.
+    /// Opens the file under this name, so that no other server can; `None` where it is not there. What is no regular file is refused,
+    /// as is a file that another server has. Nothing is changed, here or beside it.
     ///
-    /// A server puts new files in the place of its own, and each is locked before it has the name. So who opens one just before
-    /// it is replaced, and has its lock once the server has let it go, has a file that nobody finds again: it is let go, and
-    /// opened again.
+    /// A server puts new files in the place of its own, and each is locked before it has the name. So a program that opens one just
+    /// before it is replaced, and has its lock once the server has let it go, has a file that nobody finds again: it is let go,
+    /// and opened again.
     pub fn open(
         rt: &'a HostRuntime,
-        path: &str,
+        name: &'a StateName,
         syncs: bool,
     ) -> Result<Option<StateFile<'a>>, Fault> {
         for _ in 0..TURNS {
-            match open_once(rt, path)? {
-                Opened::NotThere => return Ok(None),
+            match open_once(rt, name.path())? {
                 Opened::Replaced => {}
-                Opened::Had(file) => {
-                    settle(rt, path, syncs)?;
-                    return Ok(Some(StateFile {
-                        rt,
-                        path: String::from_str(rt.alloc(), path)?,
-                        file,
-                        syncs,
-                        is_unsure: false,
-                    }));
-                }
+                Opened::NotThere => return Ok(None),
+                Opened::Had(file) => return Ok(Some(file_of(rt, name, file, syncs)?)),
             }
         }
-        // Who replaces it so often has it.
-        Err(served(rt, path)?)
+        // Whatever replaces it so often has it.
+        Err(served(rt, name.path())?)
     }
 
     /// All bytes of the file.
@@ -83,31 +76,41 @@ impl<'a> StateFile<'a> {
         let mut bytes = Vec::new(self.rt.alloc());
         match self.file.read_to_end(&mut bytes) {
             Ok(_) => Ok(bytes),
-            Err(error) => Err(unread(self.rt, self.path.as_str(), error)?),
+            Err(error) => Err(unread(self.rt, self.name.path(), error)?),
         }
     }
 
-    /// Cuts off what is behind so many bytes.
-    pub fn cut(&mut self, length: usize) -> Result<(), Fault> {
-        match self.file.set_len(length as u64) {
+    /// Begins to write to a file that was read and is a state: removes what a server left beside it that was killed while it
+    /// replaced it, has the disk take the file's name where the disk is waited for, since that server may not have come so far,
+    /// and cuts off what is behind so many bytes.
+    pub fn begin(&mut self, length: usize) -> Result<(), Fault> {
+        clear_beside(self.rt, self.name.path())?;
+        match self.settle(length as u64) {
             Ok(()) => Ok(()),
-            Err(error) => Err(unwritten(self.rt, self.path.as_str(), error)?),
+            Err(error) => Err(unwritten(self.rt, self.name.path(), error)?),
         }
+    }
+
+    fn settle(&mut self, length: u64) -> io::Result<()> {
+        if self.syncs {
+            sync_folder(self.rt, self.name.path())?;
+        }
+        if length < self.file.metadata()?.len() {
+            self.file.set_len(length)?;
+        }
+        Ok(())
     }
 
     /// Appends lines, which are then kept.
     pub fn write(&mut self, lines: &[u8]) -> Result<(), Fault> {
         match self.append(lines) {
             Ok(()) => Ok(()),
-            Err(error) => Err(unwritten(self.rt, self.path.as_str(), error)?),
+            Err(error) => Err(unwritten(self.rt, self.name.path(), error)?),
         }
     }
 
     /// Appends lines, and waits for the disk where that is asked for.
     fn append(&mut self, lines: &[u8]) -> io::Result<()> {
-        if self.syncs && self.is_unsure {
-            return Err(io::Error::new(ErrorKind::Other, "the disk may not have its name"));
-        }
         self.file.write_all(lines)?;
         if self.syncs {
             self.file.sync_data()?;
@@ -115,38 +118,59 @@ impl<'a> StateFile<'a> {
         Ok(())
     }
 
-    /// Puts a file with these bytes in the place of this one, and goes on with it. After an error this one is as it was.
-    ///
-    /// Where the new file has the name, and the disk says that it could not take it, that is told on the standard error and is
-    /// no error: whoever starts reads these bytes, or, after a stop of the machine, maybe what was there before. Nothing is lost
-    /// by that, but lines behind these bytes would be, so that where the disk is waited for none can be kept any more.
-    pub fn replace(&mut self, bytes: &[u8]) -> io::Result<()> {
-        let Replaced { file, unsure } = put_in_place(
-            self.rt,
-            self.path.as_str(),
-            &self.file,
-            bytes,
-        )?;
-        self.file = file;
-        self.is_unsure = unsure.is_some();
-        if let Some(why) = unsure {
-            self.tell_unrenewed("has its name, and the disk may not have it", &why);
+    /// Appends lines to a file that must still be the one that a start would find.
+    fn append_found(&mut self, lines: &[u8]) -> Result<(), Cause> {
+        if self.name.is_lost() {
+            return Err(Cause::NameLost);
         }
+        if self.syncs && self.is_unsure {
+            return Err(Cause::NameUnsure);
+        }
+        self.append(lines)?;
         Ok(())
     }
 
-    /// Says on the standard error what went wrong.
-    fn tell(&self, fault: &Fault) {
-        let _ = eprintln!(self.rt; "fault: {fault}");
+    /// Puts a file with these bytes in the place of this one, and goes on with it. After an error this one is as it was.
+    ///
+    /// Where the new file has the name, and the disk says that it could not take it, that is noted and is no error: whoever
+    /// starts reads these bytes, or, after a stop of the machine, maybe what was there before. Nothing is lost by that, but lines
+    /// behind these bytes would be, so that where the disk is waited for none can be kept any more.
+    ///
+    /// Where the name was found to be another file's, nothing more is kept: no start would find it.
+    fn put_new_file(&mut self, bytes: &[u8]) -> Result<(), Cause> {
+        let Replaced {
+            file,
+            found,
+            unsure,
+        } = put_in_place(self.rt, self.name.path(), &self.file, bytes)?;
+        self.name.set(&found);
+        self.file = file;
+        self.is_unsure = unsure.is_some();
+        if let Some(cause) = unsure {
+            self.name.note_unsure(cause);
+        }
+        Ok(())
     }
+}
 
-    /// Says on the standard error what became of a file that was to take this one's place.
-    fn tell_unrenewed(&self, what: &str, why: &io::Error) {
-        let Ok(path) = shown(self.rt.alloc(), self.path.as_str()) else {
-            return;
-        };
-        let _ = eprintln!(self.rt; "rme: the new state {path} {what}: {why}");
+/// A file that was opened and locked, under this name.
+fn file_of<'a>(
+    rt: &'a HostRuntime,
+    name: &'a StateName,
+    file: File,
+    syncs: bool,
+) -> Result<StateFile<'a>, Fault> {
+    match file.metadata() {
+        Ok(found) => name.set(&found),
+        Err(error) => return Err(unread(rt, name.path(), error)?),
     }
+    Ok(StateFile {
+        rt,
+        name,
+        file,
+        syncs,
+        is_unsure: false,
+    })
 }
 
 /// Tries to have the file under a name for this server alone.
@@ -197,20 +221,31 @@ impl Ledger for StateFile<'_> {
     ghost holds = { λ _. None };
 
     fn keep(&mut self, lines: &[u8]) -> Result<(), NotKept> {
-        match self.write(lines) {
+        match self.append_found(lines) {
             Ok(()) => Ok(()),
-            Err(fault) => {
-                self.tell(&fault);
+            Err(Cause::NameLost) => {
+                self.name.lose();
+                Err(NotKept)
+            }
+            Err(cause) => {
+                self.name.note_unwritten(cause);
                 Err(NotKept)
             }
         }
     }
 
     fn replace(&mut self, bytes: &[u8]) -> Result<(), NotKept> {
-        match StateFile::replace(self, bytes) {
+        self.name.change();
+        let replaced = self.put_new_file(bytes);
+        self.name.change();
+        match replaced {
             Ok(()) => Ok(()),
-            Err(why) => {
-                self.tell_unrenewed("can't be put in its place", &why);
+            Err(Cause::NameLost) => {
+                self.name.lose();
+                Err(NotKept)
+            }
+            Err(cause) => {
+                self.name.note_unreplaced(cause);
                 Err(NotKept)
             }
         }
@@ -222,20 +257,9 @@ impl Ledger for StateFile<'_> {
     }
 
     fn lose(&mut self) {
-        self.tell(&Fault::NoMemory);
-    }
-}
-
-/// Removes what a server left beside the file that was killed while it replaced it, and has the disk take the file's name where
-/// the disk is waited for: that server may not have come so far.
-fn settle(rt: &HostRuntime, path: &str, syncs: bool) -> Result<(), Fault> {
-    clear_beside(rt, path)?;
-    if !syncs {
-        return Ok(());
-    }
-    match sync_folder(rt, path) {
-        Ok(()) => Ok(()),
-        Err(error) => Err(unwritten(rt, path, error)?),
+        if !self.name.is_lost() {
+            self.name.note_no_memory();
+        }
     }
 }
 

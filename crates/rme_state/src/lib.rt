@@ -4,10 +4,17 @@
 //! wrong with it. What those above use are `StateFile::open`, `make_state` and `read_state`. Begin with `file.rt`.
 #![tactic(auto)]
 
+mod cause;
 mod file;
 mod making;
+mod name;
 mod reading;
 mod replacing;
+mod stderr;
 
+pub use cause::Cause;
 pub use file::{StateFile, make_state};
-pub use reading::read_state;
+pub use name::StateName;
+pub use reading::{bad_state, read_state};
+pub use replacing::ask_beside;
+pub use stderr::{Again, Limit, Stderr};

@@ -1,7 +1,9 @@
 //! Reading a state.
 
 use rme_faults::{Fault, shown};
-use rme_journal::{BadState, Progress, Started, start, whole_lines};
+use rme_journal::{BadState, Progress, whole_lines};
+use rme_kept::{Recovered, other_version, recover};
+use rme_mapped::is_mapped;
 use std::time::{Duration, Instant};
 
 /// Tells on the standard error how far the reading has come, once it has taken a second.
@@ -27,21 +29,41 @@ impl Progress for Telling<'_> {
 
 /// Reads a state from these bytes, which may end with a torn line, and says on the standard error how many lines there were and
 /// how long that took.
-pub fn read_state(rt: &HostRuntime, path: &str, bytes: &[u8]) -> Result<Started, Fault> {
+pub fn read_state(rt: &HostRuntime, path: &str, bytes: &[u8]) -> Result<Recovered, Fault> {
     let telling = Telling {
         rt,
         began: Instant::now(rt).ok(),
     };
-    let started = match start(rt.alloc(), whole_lines(bytes), &telling) {
-        Ok(started) => started,
-        Err(BadState::NoMemory) => return Err(Fault::NoMemory),
-        Err(BadState::Line(line)) => {
-            return Err(Fault::BadState(shown(rt.alloc(), path)?, line));
-        }
+    let recovered = match recover(rt.alloc(), whole_lines(bytes), &telling) {
+        Ok(recovered) => recovered,
+        Err(why) => return Err(bad_state(rt, path, bytes, why)?),
     };
     let took = telling.began.and_then(|began| began.elapsed(rt).ok());
     let milliseconds = took.map_or(0, |took| took.as_millis());
-    let lines = started.lines;
+    let lines = recovered.started.lines;
     let _ = eprintln!(rt; "rme: {lines} lines read in {milliseconds} ms");
-    Ok(started)
+    Ok(recovered)
+}
+
+/// The fault where bytes are no state for this reason: what they are instead, where that is known.
+pub fn bad_state(
+    rt: &HostRuntime,
+    path: &str,
+    bytes: &[u8],
+    why: BadState,
+) -> Result<Fault, Fault> {
+    let BadState::Line(line) = why else {
+        return Ok(Fault::NoMemory);
+    };
+    let path = shown(rt.alloc(), path)?;
+    if line > 1 {
+        return Ok(Fault::BadState(path, line));
+    }
+    if is_mapped(bytes) {
+        return Ok(Fault::StateOfProcesses(path));
+    }
+    match other_version(rt.alloc(), bytes)? {
+        Some(version) => Ok(Fault::StateOfVersion(path, version)),
+        None => Ok(Fault::BadState(path, line)),
+    }
 }
