@@ -1,0 +1,232 @@
+"""Builds a program of this repository with the crates that it stands on, side by side as far as processors and memory reach.
+
+`rt` holds the folders of all crates below the one that it builds, so two runs of it in one clone take turns: of crates `a`,
+`b: a` and `c: a`, `rt lib` in c waits for that in b. So each crate is built in a room of its own, a folder with its sources
+and the built libraries below it; what is made there is then moved to the crate's out/.
+"""
+
+import fcntl
+import os
+import re
+import shutil
+import signal
+import subprocess
+import sys
+import time
+from concurrent.futures import FIRST_COMPLETED, ThreadPoolExecutor, wait
+
+from lib.sources import TOP, below, folder_of, library_of, sources_of, time_of
+
+MEMORY_OF_A_LANE = 3_500_000_000
+MOST_JOBS = 4
+# The processor seconds that crates took when this was written. Only their order matters: which chain of crates is the longest.
+SECONDS = {
+    "rme_words": 55, "rme_tree": 31, "rme_script": 60, "rme_lines": 88, "rme_options": 152, "rme_program": 148,
+    "rme_machine": 27, "rme_history": 47, "rme_image": 108, "rme_good": 68, "rme_checker": 99, "rme_world": 143,
+    "rme_names": 40, "rme_json": 56, "rme_texts": 170, "rme_wire": 170, "rme_session_lines": 90, "rme_reasons": 100,
+    "rme_verdicts": 110,
+    "rme_faults": 90, "rme_explanations": 110, "rme_picture": 242, "rme_seats": 96, "rme_phases": 174,
+    "rme_table": 222, "rme_supervisor": 230, "rme_orders": 50, "rme_slots": 40, "rme_sessions": 190,
+    "rme_server": 110, "rme_engine": 190, "rme_draw": 120, "rme_line_commands": 130, "rme_commands": 163,
+    "rme_run": 90, "rme_cli": 120,
+}  # fmt: skip
+# What a program is run with once it is built, on no input; any other is asked for its version.
+FIRST_WORDS = {"rme_run": "run"}
+running = set()
+
+
+def say(text):
+    print(f"rme: {text}", file=sys.stderr, flush=True)
+
+
+def weight(name):
+    """About how many seconds a crate takes: as measured, or else by its lines."""
+    lines = 0
+    for path in sources_of(name):
+        if path.endswith(".rt"):
+            with open(path, "rb") as file:
+                lines += file.read().count(b"\n")
+    return SECONDS.get(name, 15 + lines // 6)
+
+
+def stale(crates, names, made_of):
+    """The crates of these whose library is missing, not of its sources, or older than a library below it."""
+    found, built = set(), {}
+    for name in names:
+        built[name] = time_of(library_of(name))
+        older = any(built[it] > built[name] or it in found for it in below(crates, name))
+        if older or not made_of.is_library_fresh(name):
+            found.add(name)
+    return found
+
+
+def link_tree(source, target, skipped):
+    def link(path, to):
+        try:
+            os.link(path, to)
+        except OSError:
+            shutil.copy2(path, to)
+
+    shutil.copytree(source, target, copy_function=link, ignore=shutil.ignore_patterns(*skipped), dirs_exist_ok=True)
+
+
+def furnish(room, crates, name):
+    """Puts into a room what the crate is made of: its sources, what is kept of earlier work, and the libraries below."""
+    os.makedirs(room)
+    shutil.copy(os.path.join(TOP, "HANDLES"), room)
+    used = below(crates, name)
+    with open(os.path.join(room, "crates.txt"), "w", encoding="utf-8") as file:
+        file.write("".join(crates[it][0] + "\n" for it in [*used, name]))
+    for it in [*used, name]:
+        link_tree(folder_of(it), os.path.join(room, "crates", it), ("out", "must-fail"))
+    for it in used:
+        link_tree(os.path.join(folder_of(it), "out", "rlib"), os.path.join(room, "crates", it, "out", "rlib"), ())
+
+
+def move_all(source, target, but=()):
+    os.makedirs(target, exist_ok=True)
+    for part in os.listdir(source) if os.path.isdir(source) else ():
+        if part not in but:
+            to = os.path.join(target, part)
+            if os.path.isdir(to):
+                shutil.rmtree(to)
+            os.rename(os.path.join(source, part), to)
+
+
+def make(crates, name, is_program, jobs, leads):
+    """Builds a crate in a room, and answers whether it was built, and what was said. One that does not lead leaves the
+    processors to the one that does."""
+    out = os.path.join(folder_of(name), "out")
+    room = os.path.join(out, "room")
+    inside = os.path.join(room, "crates", name)
+    # What a run that was killed left in its room is not lost.
+    move_all(os.path.join(inside, "out"), out)
+    shutil.rmtree(room, ignore_errors=True)
+    furnish(room, crates, name)
+    move_all(out, os.path.join(inside, "out"), ("room",))
+    verb, ending = ("run", ["--", FIRST_WORDS.get(name, "--version")]) if is_program else ("lib", [])
+    words = [*([] if leads else ["nice", "-n", "5"]), "rt", verb, "--jobs", str(jobs), *ending]
+    how = {"cwd": inside, "stdin": subprocess.DEVNULL, "stdout": subprocess.PIPE, "stderr": subprocess.STDOUT}
+    with subprocess.Popen(words, text=True, errors="replace", start_new_session=True, **how) as ran:
+        running.add(ran)
+        told = ran.stdout.read()
+    running.discard(ran)
+    move_all(os.path.join(inside, "out"), out)
+    shutil.rmtree(room, ignore_errors=True)
+    return ran.returncode == 0, told
+
+
+def lanes():
+    """How many crates are built side by side."""
+    with open("/proc/meminfo", encoding="utf-8") as file:
+        free = 1024 * int(re.search(r"MemAvailable:\s+(\d+)", file.read())[1])
+    return max(1, min(len(os.sched_getaffinity(0)), free // MEMORY_OF_A_LANE))
+
+
+class Progress:
+    """How far the build is, by the weights of its crates: of all, and of the chain of crates that is the longest.
+
+    Side by side they keep some 2.7 processors busy, where there are four, and a crate that leads with several jobs takes
+    about seven tenths of its weight. That the machine is slow shows slowly, as if so many seconds had gone by at pace 1:
+    its first crate is also the first that reads the toolchain from the disk. That it is fast shows at once, as where
+    most crates are found to be proved already.
+    """
+
+    SECONDS_AT_PACE_1 = 300
+
+    def __init__(self, program, weights, chain, places):
+        self.weights, self.chain, self.busy = weights, chain, min(places, 2.7)
+        self.of_leader = 0.7 if places > 2 else 1
+        self.began, self.done = time.monotonic(), 0
+        say(f"proving and building {program}: {len(weights)} crates; this is done once, and again only for what changes")
+
+    def expected(self, weight, chain):
+        """How many seconds so much work takes at pace 1, of which this is the chain that is the longest."""
+        return max(weight / self.busy, self.of_leader * chain)
+
+    def built(self, name, number, chain_left):
+        self.done += self.weights[name]
+        left = sum(self.weights.values()) - self.done
+        took = time.monotonic() - self.began
+        so_far = self.expected(self.done, self.chain - chain_left)
+        slow = (took + self.SECONDS_AT_PACE_1) / (so_far + self.SECONDS_AT_PACE_1)
+        pace = min(slow, took / so_far)
+        minutes = round(pace * self.expected(left, chain_left) / 60)
+        still = f"some {minutes} minutes still" if minutes > 1 else "a minute still" if left else "done"
+        say(f"{number} of {len(self.weights)}: {name}, after {round(took)} s; {still}")
+
+
+def chains(crates, weights):
+    """For each crate the weight of the longest chain of crates that begins with it and waits for it."""
+    found = {}
+    for name in reversed([*weights]):
+        above = [found[it] for it in found if name in crates[it][1]]
+        found[name] = weights[name] + max(above, default=0)
+    return found
+
+
+def shares(idle, count):
+    """How many jobs each of so many crates gets where so many processors are idle."""
+    return [max(1, min(MOST_JOBS, idle // count + (at < idle % count))) for at in range(min(idle, count))]
+
+
+def build(crates, names, program):
+    """Builds these crates, lowest first, the program last."""
+    weights = {name: weight(name) for name in names}
+    first, places = chains(crates, weights), lanes()
+    progress = Progress(program, weights, max(first.values()), places)
+    left, working, number = [*names], {}, 0
+    with ThreadPoolExecutor(places) as pool:
+        while left or working:
+            waiting = {*left, *working.values()}
+            ready = [it for it in left if not waiting & {*below(crates, it)}]
+            ready.sort(key=lambda it: -first[it])
+            # The longest chain decides when all is done, so it gets all processors but one.
+            longest = max((first[it] for it in waiting), default=0)
+            for name, jobs in zip(ready, shares(places - len(working), len(ready))):
+                leads = first[name] == longest
+                jobs = max(jobs, min(MOST_JOBS, places - 1)) if leads else jobs
+                left.remove(name)
+                working[pool.submit(make, crates, name, name == program, jobs, leads)] = name
+            for it in wait(working, return_when=FIRST_COMPLETED).done:
+                name = working.pop(it)
+                well, told = it.result()
+                if not well:
+                    sys.stderr.write(told)
+                    say(f"{program} was not built: {name} failed")
+                    stop()
+                number += 1
+                progress.built(name, number, max((first[it] for it in {*left, *working.values()}), default=0))
+
+
+def hold(names):
+    """Keeps other runs, and those of `rt`, out of these crates until this one ends."""
+    held = [os.open(folder_of(it), os.O_RDONLY) for it in sorted(names)]
+    for it in held:
+        try:
+            fcntl.flock(it, fcntl.LOCK_EX | fcntl.LOCK_NB)
+        except BlockingIOError:
+            say("waiting for another run that builds or checks here")
+            fcntl.flock(it, fcntl.LOCK_EX)
+        except OSError:
+            # Some file systems have no locks.
+            return
+
+
+def stop_at_signals():
+    for name in (signal.SIGINT, signal.SIGTERM):
+        signal.signal(name, stop)
+
+
+def stop(*_):
+    """Ends what is running, and this."""
+    for ran in [*running]:
+        os.killpg(ran.pid, signal.SIGTERM)
+    os._exit(1)
+
+
+def build_stale(crates, program, made_of):
+    """Builds what is out of date of a program and of what it stands on, and the program."""
+    names = below(crates, program)
+    out_of_date = stale(crates, names, made_of)
+    build(crates, [it for it in names if it in out_of_date] + [program], program)
