@@ -1,7 +1,7 @@
 -- What is printed of a refusal and of a status: its name, the sentence that says when it comes, and the remedy.
 use Rattle.std.specs.Prelude.{List, codes, ℕ}
 use Rattle.rme_words.specs.declared.refusal.Refusal.{Refusal}
-use Rattle.rme_words.specs.declared.refusal.Refusal.TheVariants.{BadLine, LineTooLong, NotOpen, AlreadyOpen, BadShape, NoWorker, Down, Up, Busy, Idle, NoLock, BadScript, NoCell, TooManyJobs, BadImage, WrongNumber, Differs, Taken, NotAttached, NoMemory, NotWaiting, NotInside}
+use Rattle.rme_words.specs.declared.refusal.Refusal.TheVariants.{BadLine, LineTooLong, NotOpen, AlreadyOpen, BadShape, NoWorker, Down, Up, Busy, Idle, NoLock, BadScript, NoCell, TooManyJobs, BadImage, WrongNumber, Differs, Taken, NotAttached, NoMemory, NotWaiting, NotInside, NoSpace, SpaceDiffers, NotAllowed, Overtaken}
 use Rattle.rme_explanations.specs.declared.ending.Ending.{Ending}
 use Rattle.rme_explanations.specs.declared.ending.Ending.TheVariants as ending
 
@@ -40,6 +40,10 @@ when_of NotAttached = codes "an order of a session that has no worker"
 when_of NoMemory = codes "memory was refused"
 when_of NotWaiting = codes "withdraw of a worker that is up and does not wait in phase Enter"
 when_of NotInside = codes "commit of a worker whose job waits for its lock"
+when_of NoSpace = codes "there is no space of that name"
+when_of SpaceDiffers = codes "create of a space that is there with other workers, cells or locks"
+when_of NotAllowed = codes "an order that no key of the session allows"
+when_of Overtaken = codes "attach with `after` of a worker that was restarted since then"
 
 -- what a refusal means, and what the caller does about it
 abbrev pub advice_of : Refusal → List ℕ
@@ -65,6 +69,10 @@ advice_of NotAttached = codes "The session has taken no worker, or it let it go 
 advice_of NoMemory = codes "The line changed nothing, so it can be sent again when there is memory. If it comes again and again, give the program more memory or open a smaller world."
 advice_of NotWaiting = codes "Only a worker that waits for its lock can give its job up. One that is inside finishes by `walk`, or `resume` in a session; one that is ready or leaves has nothing to give up."
 advice_of NotInside = codes "The worker's job waits for its lock. Send `enter` again until its answer says held, do what is to be done inside, and then commit; or let `resume` make the job whole."
+advice_of NoSpace = codes "A space is there from its `create` to its `drop`. Mend the name, or create the space first; `spaces` lists the names that are there."
+advice_of SpaceDiffers = codes "Nothing was changed. Use the space with the workers, cells and locks that it has, or create one under another name."
+advice_of NotAllowed = codes "Nothing was done. Send `hello` with the secret of a key that may do this, or ask whoever runs the server for such a key."
+advice_of Overtaken = codes "Another session had the worker meanwhile, and may have been inside its lock. Give up what was done since the connection broke, then attach without `after` and see what is pending."
 
 -- the name of a status
 abbrev pub name_of_ending : Ending → List ℕ

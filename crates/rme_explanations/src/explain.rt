@@ -8,14 +8,14 @@ use crate::texts;
 use rme_words::Refusal;
 
 /// The greatest number of a refusal.
-pub const LAST_CODE: u32 = 22;
+pub const LAST_CODE: u32 = 26;
 
 /// The refusal of a number, and none of a number that is not in the list: 1 to `LAST_CODE`.
 ///
 /// Of `WrongNumber` it is the one that expects 1: what is expected has no part in the number.
 pub fn refusal_of(code: u32) -> Option<Refusal>
     ensures some { IfSome result (λ refusal. code_of refusal ≡ code) }
-    ensures listed { 1 ≤ code → code ≤ 22 → IsSome result }
+    ensures listed { 1 ≤ code → code ≤ 26 → IsSome result }
 {
     match code {
         1 => Some(Refusal::BadLine),
@@ -40,6 +40,10 @@ pub fn refusal_of(code: u32) -> Option<Refusal>
         20 => Some(Refusal::NoMemory),
         21 => Some(Refusal::NotWaiting),
         22 => Some(Refusal::NotInside),
+        23 => Some(Refusal::NoSpace),
+        24 => Some(Refusal::SpaceDiffers),
+        25 => Some(Refusal::NotAllowed),
+        26 => Some(Refusal::Overtaken),
         _ => None,
     }
 }
@@ -47,7 +51,7 @@ pub fn refusal_of(code: u32) -> Option<Refusal>
 /// When a line is refused so, in the words of the table of refusals. Each refusal has a number of the list.
 pub fn when(refusal: &Refusal) -> &'static str
     ensures first { 1 ≤ code_of refusal.now }
-    ensures last { code_of refusal.now ≤ 22 }
+    ensures last { code_of refusal.now ≤ 26 }
     ensures text { result.now ≡ when_of refusal.now }
 {
     match refusal {
@@ -77,6 +81,11 @@ pub fn when(refusal: &Refusal) -> &'static str
         Refusal::NoMemory => "memory was refused",
         Refusal::NotWaiting => "withdraw of a worker that is up and does not wait in phase Enter",
         Refusal::NotInside => "commit of a worker whose job waits for its lock",
+        Refusal::NoSpace => "there is no space of that name",
+        Refusal::SpaceDiffers =>
+            "create of a space that is there with other workers, cells or locks",
+        Refusal::NotAllowed => "an order that no key of the session allows",
+        Refusal::Overtaken => "attach with `after` of a worker that was restarted since then",
     }
 }
 
@@ -107,5 +116,9 @@ pub fn advice(refusal: &Refusal) -> &'static str
         Refusal::NoMemory => texts::no_memory(),
         Refusal::NotWaiting => texts::not_waiting(),
         Refusal::NotInside => texts::not_inside(),
+        Refusal::NoSpace => texts::no_space(),
+        Refusal::SpaceDiffers => texts::space_differs(),
+        Refusal::NotAllowed => texts::not_allowed(),
+        Refusal::Overtaken => texts::overtaken(),
     }
 }

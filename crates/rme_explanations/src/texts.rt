@@ -3,7 +3,7 @@
 //! The texts are functions and no constants: what a constant holds is known wherever it is used, and a long text is dear there.
 
 ghost use Rattle.std.specs.Prelude.{◌≡◌, ℕ};
-ghost use Rattle.rme_words.specs.declared.refusal.Refusal.TheVariants.{BadLine, LineTooLong, NotOpen, AlreadyOpen, BadShape, NoWorker, Down, Up, Busy, Idle, NoLock, BadScript, NoCell, TooManyJobs, BadImage, WrongNumber, Differs, Taken, NotAttached, NoMemory, NotWaiting, NotInside};
+ghost use Rattle.rme_words.specs.declared.refusal.Refusal.TheVariants.{BadLine, LineTooLong, NotOpen, AlreadyOpen, BadShape, NoWorker, Down, Up, Busy, Idle, NoLock, BadScript, NoCell, TooManyJobs, BadImage, WrongNumber, Differs, Taken, NotAttached, NoMemory, NotWaiting, NotInside, NoSpace, SpaceDiffers, NotAllowed, Overtaken};
 ghost use Rattle.rme_explanations.specs.Explanations.{advice_of};
 
 pub fn bad_line() -> &'static str
@@ -180,4 +180,36 @@ pub fn not_inside() -> &'static str
     "\
 The worker's job waits for its lock. Send `enter` again until its answer says held, do what is to be done inside, \
 and then commit; or let `resume` make the job whole."
+}
+
+pub fn no_space() -> &'static str
+    ensures { result.now ≡ advice_of NoSpace }
+{
+    "\
+A space is there from its `create` to its `drop`. Mend the name, or create the space first; `spaces` lists the names \
+that are there."
+}
+
+pub fn space_differs() -> &'static str
+    ensures { result.now ≡ advice_of SpaceDiffers }
+{
+    "\
+Nothing was changed. Use the space with the workers, cells and locks that it has, or create one under another \
+name."
+}
+
+pub fn not_allowed() -> &'static str
+    ensures { result.now ≡ advice_of NotAllowed }
+{
+    "\
+Nothing was done. Send `hello` with the secret of a key that may do this, or ask whoever runs the server for \
+such a key."
+}
+
+pub fn overtaken() -> &'static str
+    ensures { result.now ≡ advice_of Overtaken }
+{
+    "\
+Another session had the worker meanwhile, and may have been inside its lock. Give up what was done since the \
+connection broke, then attach without `after` and see what is pending."
 }

@@ -37,13 +37,13 @@ opening_state shape = record { owners = replicate shape.locks None; workers = re
 
 -- One worker's state, another owner of a lock, one entry more; the rest stays.
 abbrev pub with_worker : State → ℕ → WorkerState → State
-with_worker old worker new = record { owners = old.owners; workers = slice_set old.workers worker new; history = old.history }
+with_worker old worker new = record old { workers = slice_set old.workers worker new }
 
 abbrev pub with_owner : State → ℕ → Option ℕ → State
-with_owner old lock owner = record { owners = slice_set old.owners lock owner; workers = old.workers; history = old.history }
+with_owner old lock owner = record old { owners = slice_set old.owners lock owner }
 
 abbrev pub with_entry : State → Entry → State
-with_entry old entry = record { owners = old.owners; workers = old.workers; history = old.history ++ entry ∷ [] }
+with_entry old entry = record old { history = old.history ++ entry ∷ [] }
 
 -- A crash takes back a job that was handed over and has no number yet.
 abbrev pub fallen : Stance → Stance
@@ -65,32 +65,32 @@ StaysOn (Finished k job) lock = job.lock ≡ lock
 abbrev pub StepOf : Shape → Act → State → ℕ → WorkerState → State → Type 0
 StepOf shape (Hand k job) old w me new =
     (me.up ≡ true) × (me.stance ≡ Idle) × IsJob shape job × (k ≡ me.asked + 1) × (me.asked < shape.jobs)
-    × (new ≡ with_worker old w record { up = true; entered = me.entered; asked = me.asked; withdrawn = me.withdrawn; stance = Handed job })
+    × (new ≡ with_worker old w record me { up = true; stance = Handed job })
 StepOf shape (Ask k) old w me new =
     (job : Job) × (me.up ≡ true) × (me.stance ≡ Handed job) × (k ≡ me.asked + 1)
-    × (new ≡ with_worker old w record { up = true; entered = me.entered; asked = k; withdrawn = me.withdrawn; stance = Waiting k job })
+    × (new ≡ with_worker old w record me { up = true; asked = k; stance = Waiting k job })
 StepOf shape (Take lock) old w me new =
     (k : ℕ) × (job : Job) × (me.up ≡ true) × (me.stance ≡ Waiting k job) × (job.lock ≡ lock) × (slice_get old.owners lock ≡ Some None)
-    × (new ≡ with_owner (with_worker old w record { up = true; entered = true; asked = me.asked; withdrawn = me.withdrawn; stance = Inside k job }) lock (Some w))
+    × (new ≡ with_owner (with_worker old w record me { up = true; entered = true; stance = Inside k job }) lock (Some w))
 StepOf shape (Finish receipt) old w me new =
     (k : ℕ) × (job : Job) × (me.up ≡ true) × (me.entered ≡ true) × (me.stance ≡ Inside k job)
     × (receipt ≡ record { worker = w; lock = job.lock; number = k; place = place_of old.history job.lock; reply = (eval_of job.script.ops (rows shape old.history job.lock)).reply })
-    × (new ≡ with_entry (with_worker old w record { up = true; entered = true; asked = me.asked; withdrawn = me.withdrawn; stance = Finished k job }) record { receipt = receipt; script = job.script })
+    × (new ≡ with_entry (with_worker old w record me { up = true; entered = true; stance = Finished k job }) record { receipt = receipt; script = job.script })
 StepOf shape (Leave lock) old w me new =
     (k : ℕ) × (job : Job) × (me.up ≡ true) × (me.entered ≡ true) × (me.stance ≡ Finished k job) × (job.lock ≡ lock)
-    × (new ≡ with_owner (with_worker old w record { up = true; entered = false; asked = me.asked; withdrawn = me.withdrawn; stance = Idle }) lock None)
+    × (new ≡ with_owner (with_worker old w record me { up = true; entered = false; stance = Idle }) lock None)
 StepOf shape (Withdraw k) old w me new =
     (job : Job) × (me.up ≡ true) × (me.stance ≡ Waiting k job)
-    × (new ≡ with_worker old w record { up = true; entered = me.entered; asked = me.asked; withdrawn = me.withdrawn ++ k ∷ []; stance = Idle })
+    × (new ≡ with_worker old w record me { up = true; withdrawn = me.withdrawn ++ k ∷ []; stance = Idle })
 StepOf shape Crash old w me new =
     (me.up ≡ true)
-    × (new ≡ with_worker old w record { up = false; entered = false; asked = me.asked; withdrawn = me.withdrawn; stance = fallen me.stance })
+    × (new ≡ with_worker old w record me { up = false; entered = false; stance = fallen me.stance })
 StepOf shape Restart old w me new =
     (me.up ≡ false)
-    × (new ≡ with_worker old w record { up = true; entered = me.entered; asked = me.asked; withdrawn = me.withdrawn; stance = me.stance })
+    × (new ≡ with_worker old w record me { up = true })
 StepOf shape (Reenter lock) old w me new =
     (me.up ≡ true) × (me.entered ≡ false) × StaysOn me.stance lock
-    × (new ≡ with_worker old w record { up = true; entered = true; asked = me.asked; withdrawn = me.withdrawn; stance = me.stance })
+    × (new ≡ with_worker old w record me { up = true; entered = true })
 StepOf shape Still old w me new = (me.up ≡ true) × (new ≡ old)
 StepOf shape Wait old w me new = (k : ℕ) × (job : Job) × (me.up ≡ true) × (me.stance ≡ Waiting k job) × (new ≡ old)
 

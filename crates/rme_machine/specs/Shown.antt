@@ -39,13 +39,10 @@ is_inside None = false
 is_inside (Some private) = inside private.stage
   where
     inside : Stage → Bool
-    inside Resting = false
-    inside (Recovering recovery) = false
-    inside (Posting slate) = false
-    inside (Climbing ascent) = false
     inside (Logging log) = true
     inside (Copying redo) = true
     inside (Leaving departure) = true
+    inside stage = false
 
 -- The stance of a worker that owns no lock and has no job pending.
 abbrev pub stance_outside : Option Private → Stance
@@ -53,13 +50,8 @@ stance_outside None = stance.Idle
 stance_outside (Some private) = outside private.stage
   where
     outside : Stage → Stance
-    outside Resting = stance.Idle
-    outside (Recovering recovery) = stance.Idle
     outside (Posting slate) = stance.Handed slate.job
-    outside (Climbing ascent) = stance.Idle
-    outside (Logging log) = stance.Idle
-    outside (Copying redo) = stance.Idle
-    outside (Leaving departure) = stance.Idle
+    outside stage = stance.Idle
 
 -- The stance, from the lock owned, whether a job is pending, its number, and the jobs of the slate and of the
 -- last entry.

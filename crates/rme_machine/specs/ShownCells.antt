@@ -39,11 +39,7 @@ AreCells shape history lock (Some (Inside k job)) cells =
     × ((c : ℕ) → c < shape.cells
     → (slice_index cells c ≡ slice_index (rows shape history lock) c)
     ⊎ (slice_index cells c ≡ slice_index (eval_of job.script.ops (rows shape history lock)).row c))
-AreCells shape history lock None cells = cells ≡ rows shape history lock
-AreCells shape history lock (Some Idle) cells = cells ≡ rows shape history lock
-AreCells shape history lock (Some (Handed job)) cells = cells ≡ rows shape history lock
-AreCells shape history lock (Some (Waiting k job)) cells = cells ≡ rows shape history lock
-AreCells shape history lock (Some (Finished k job)) cells = cells ≡ rows shape history lock
+AreCells shape history lock owner cells = cells ≡ rows shape history lock
 
 abbrev pub ShownCells : Shape → State → ℕ → List ℕ → Type 0
 ShownCells shape state lock cells = AreCells shape state.history lock (owners_stance state lock) cells
@@ -51,11 +47,7 @@ ShownCells shape state lock cells = AreCells shape state.history lock (owners_st
 -- Settled: the lock has no owner that is inside.
 abbrev pub settled_by : Option Stance → Bool
 settled_by (Some (Inside k job)) = false
-settled_by None = true
-settled_by (Some Idle) = true
-settled_by (Some (Handed job)) = true
-settled_by (Some (Waiting k job)) = true
-settled_by (Some (Finished k job)) = true
+settled_by owner = true
 
 abbrev pub is_settled : State → ℕ → Bool
 is_settled state lock = settled_by (owners_stance state lock)

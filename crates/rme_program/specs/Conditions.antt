@@ -80,24 +80,9 @@ abbrev pub Takes : Shape → Stage → ℕ → Type 0
 Takes shape (Recovering LoadBegun) value = value ≤ shape.jobs
 Takes shape (Recovering LoadDone) value = value ≤ shape.jobs
 Takes shape (Recovering (LoadLock pending)) value = value < shape.locks
-Takes shape (Recovering (LoadPath pending lock held)) value = Unit {0}
 Takes shape (Logging (LoadTurn lock)) value = value < 2 ^ 32
 Takes shape (Logging (LoadLen lock turn)) value = value ≤ 8
 Takes shape (Logging (LoadSlate lock turn operations words loaded)) value =
     loaded + 1 ≡ 3 * operations → (script : Program) × (script_of operations (slice_set words loaded value) ≡ Some script) × IsScript shape.cells script
-Takes shape (Logging (LoadCells lock turn script named row cell)) value = Unit {0}
-Takes shape (Logging (StoreShadows visit named row reply cell)) value = Unit {0}
-Takes shape (Logging (StoreShadowReply visit named reply)) value = Unit {0}
-Takes shape (Logging (StoreMask visit named)) value = Unit {0}
-Takes shape (Logging (StoreTurn visit)) value = Unit {0}
 Takes shape (Leaving (LoadExitTurn lock)) value = value < 2 ^ 32
-Takes shape (Leaving (StoreExitTurn lock turn)) value = Unit {0}
-Takes shape (Leaving (Clear lock level)) value = Unit {0}
-Takes shape (Leaving (WithdrawPlace lock held)) value = Unit {0}
-Takes shape (Leaving (WithdrawAt lock held)) value = Unit {0}
-Takes shape (Leaving (WithdrawReply lock held)) value = Unit {0}
-Takes shape (Leaving (WithdrawDone lock held)) value = Unit {0}
-Takes shape (Copying redo) value = Unit {0}
-Takes shape (Climbing ascent) value = Unit {0}
-Takes shape (Posting slate) value = Unit {0}
-Takes shape Resting value = Unit {0}
+Takes shape stage value = Unit {0}

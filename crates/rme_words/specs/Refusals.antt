@@ -1,7 +1,7 @@
 -- The numbers and the names of the refusals.
 use Rattle.std.specs.Prelude.{ℕ, List, codes}
 use Rattle.rme_words.specs.declared.refusal.Refusal.{Refusal}
-use Rattle.rme_words.specs.declared.refusal.Refusal.TheVariants.{BadLine, LineTooLong, NotOpen, AlreadyOpen, BadShape, NoWorker, Down, Up, Busy, Idle, NoLock, BadScript, NoCell, TooManyJobs, BadImage, WrongNumber, Differs, Taken, NotAttached, NoMemory, NotWaiting, NotInside}
+use Rattle.rme_words.specs.declared.refusal.Refusal.TheVariants.{BadLine, LineTooLong, NotOpen, AlreadyOpen, BadShape, NoWorker, Down, Up, Busy, Idle, NoLock, BadScript, NoCell, TooManyJobs, BadImage, WrongNumber, Differs, Taken, NotAttached, NoMemory, NotWaiting, NotInside, NoSpace, SpaceDiffers, NotAllowed, Overtaken}
 
 abbrev pub code_of : Refusal → ℕ
 code_of BadLine = 1
@@ -26,6 +26,10 @@ code_of NotAttached = 19
 code_of NoMemory = 20
 code_of NotWaiting = 21
 code_of NotInside = 22
+code_of NoSpace = 23
+code_of SpaceDiffers = 24
+code_of NotAllowed = 25
+code_of Overtaken = 26
 
 abbrev pub name_of : Refusal → List ℕ
 name_of BadLine = codes "BadLine"
@@ -50,3 +54,7 @@ name_of NotAttached = codes "NotAttached"
 name_of NoMemory = codes "NoMemory"
 name_of NotWaiting = codes "NotWaiting"
 name_of NotInside = codes "NotInside"
+name_of NoSpace = codes "NoSpace"
+name_of SpaceDiffers = codes "SpaceDiffers"
+name_of NotAllowed = codes "NotAllowed"
+name_of Overtaken = codes "Overtaken"

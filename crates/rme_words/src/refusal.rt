@@ -3,6 +3,8 @@
 ghost use Rattle.std.specs.Prelude.{◌≡◌};
 ghost use Rattle.rme_words.specs.Refusals.{code_of, name_of};
 
+use std::alloc::AllocError;
+
 /// Why a call was refused. A refused call changes nothing.
 #[derive(Clone, Copy, Debug, PartialEq, Eq)]
 pub enum Refusal {
@@ -50,11 +52,30 @@ pub enum Refusal {
     NotWaiting,
     /// The session's worker has a job and is not inside its lock.
     NotInside,
+    /// There is no such space.
+    NoSpace,
+    /// A space of that name has other workers, cells or locks.
+    SpaceDiffers,
+    /// The session has no key for this.
+    NotAllowed,
+    /// The worker was restarted since the life that was named.
+    Overtaken,
 }
 
 /// A growth of memory was refused, and nothing changed.
 #[derive(Clone, Copy, Debug, PartialEq, Eq)]
 pub struct NoMemory;
+
+impl From<AllocError> for NoMemory {
+    ghost use Rattle.std.specs.Prelude.{◌≡◌};
+    ghost use Rattle.rme_words.specs.declared.refusal.NoMemory.{NoMemory};
+
+    ghost from_gives = { λ _ r. r ≡ NoMemory };
+
+    fn from(_value: AllocError) -> NoMemory {
+        NoMemory
+    }
+}
 
 impl From<NoMemory> for Refusal {
     ghost use Rattle.std.specs.Prelude.{◌≡◌};
@@ -68,7 +89,7 @@ impl From<NoMemory> for Refusal {
 }
 
 impl Refusal {
-    /// The number of the refusal, 1 to 22, as it stands in answers.
+    /// The number of the refusal, 1 to 26, as it stands in answers.
     pub fn code(&self) -> u32
         ensures { result ≡ code_of self.now }
     {
@@ -95,6 +116,10 @@ impl Refusal {
             Refusal::NoMemory => 20,
             Refusal::NotWaiting => 21,
             Refusal::NotInside => 22,
+            Refusal::NoSpace => 23,
+            Refusal::SpaceDiffers => 24,
+            Refusal::NotAllowed => 25,
+            Refusal::Overtaken => 26,
         }
     }
 
@@ -125,6 +150,10 @@ impl Refusal {
             Refusal::NoMemory => "NoMemory",
             Refusal::NotWaiting => "NotWaiting",
             Refusal::NotInside => "NotInside",
+            Refusal::NoSpace => "NoSpace",
+            Refusal::SpaceDiffers => "SpaceDiffers",
+            Refusal::NotAllowed => "NotAllowed",
+            Refusal::Overtaken => "Overtaken",
         }
     }
 }
