@@ -81,11 +81,13 @@ same_tree f g m h n same = (
       let r : Holder f m h n v = root v some inside (λ e. taken (same v ∙ e)) in
       record {
         worker = r.worker;
-        level = r.level;
         is_worker = r.is_worker;
-        is_level = r.is_level;
-        there = r.there;
-        own = λ i less. same (node m r.worker (suc i)) ∙ r.own i less;
+        holds = record {
+          level = r.holds.level;
+          is_level = r.holds.is_level;
+          there = r.holds.there;
+          own = λ i less. same (node m r.worker (suc i)) ∙ r.holds.own i less;
+        };
       }),
 )
   where

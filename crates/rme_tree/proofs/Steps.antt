@@ -51,9 +51,9 @@ pub same_owner : SameOwnerLaw
 same_owner f m h u w power few_u few_w own_u own_w = one_holder f m u w h own_u own_w (same_root m h u w power few_u few_w)
 
 -- A holder of the node of `w` at level k + 1 holds its own path up to that level.
-holder_level : (f : ℕ → ℕ) (m h n w k : ℕ) → m ≡ 2 ^ h → n ≤ m → w < n → k < h → (r : Holder f m h n (node m w (suc k))) → r.level ≡ k
+holder_level : (f : ℕ → ℕ) (m h n w k : ℕ) → m ≡ 2 ^ h → n ≤ m → w < n → k < h → (r : Holder f m h n (node m w (suc k))) → r.holds.level ≡ k
 holder_level f m h n w k power few is_worker less r =
-    omega (arith, same_level m h r.worker w (suc r.level) (suc k) power (omega (arith, r.is_worker)) (omega arith) (omega (arith, r.is_level)) (omega arith) r.there)
+    omega (arith, same_level m h r.worker w (suc r.holds.level) (suc k) power (omega (arith, r.is_worker)) (omega arith) (omega (arith, r.holds.is_level)) (omega arith) r.holds.there)
 
 -- A worker other than `w` that comes to the node of `w` at its own level j + 1 does so at the level of `w`.
 meets_level : (m h n w k u j : ℕ) → m ≡ 2 ^ h → n ≤ m → w < n → k < h → u < n → j < h → node m u (suc j) ≡ node m w (suc k) → j ≡ k
@@ -74,9 +74,9 @@ module _ (f g : ℕ → ℕ) (m h n w k : ℕ) (power : m ≡ 2 ^ h) (few : n �
   above_free free higher here =
       let inside : (1 ≤ node m w (suc (suc k))) × (node m w (suc (suc k)) < m) = node_inside m h w (suc k) power (omega arith) higher in
       let r : Holder f m h n (node m w (suc (suc k))) = root _ inside.0 inside.1 (omega (arith, side_pos m w (suc (suc k)))) in
-      let level : r.level ≡ suc k = holder_level f m h n w (suc k) power few is_worker higher r in
+      let level : r.holds.level ≡ suc k = holder_level f m h n w (suc k) power few is_worker higher r in
       let P : ℕ → Type 0 = λ j. (node m r.worker (suc j) ≡ node m w (suc (suc k))) × OwnTo f m r.worker (suc j) in
-      let at : (node m r.worker (suc (suc k)) ≡ node m w (suc (suc k))) × OwnTo f m r.worker (suc (suc k)) = subst P level (r.there, r.own) in
+      let at : (node m r.worker (suc (suc k)) ≡ node m w (suc (suc k))) × OwnTo f m r.worker (suc (suc k)) = subst P level (r.holds.there, r.holds.own) in
       let sides : side m r.worker (suc (suc k)) ≡ side m w (suc (suc k)) = sym (at.1 (suc k) (omega arith)) ∙ ap f at.0 ∙ here in
       let below : node m r.worker (suc k) ≡ node m w (suc k) = same_below m r.worker w (suc k) at.0 sides in
       not_free f m r.worker (node m w (suc k)) k free (at.1 k (omega arith)) below
@@ -116,16 +116,18 @@ module _ (f g : ℕ → ℕ) (m h n w k : ℕ) (power : m ≡ 2 ^ h) (few : n �
     taken_root : Rooted g m h n
     taken_root v some inside taken =
         elim (cases_eq v (node m w (suc k))) [
-          | inl here ↦ record { worker = w; level = k; is_worker = is_worker; is_level = less; there = sym here; own = taken_own }
+          | inl here ↦ record { worker = w; is_worker = is_worker; holds = record { level = k; is_level = less; there = sym here; own = taken_own } }
           | inr apart ↦
               (let r : Holder f m h n v = root v some inside (λ e. taken (put.off v apart ∙ e)) in
               record {
                 worker = r.worker;
-                level = r.level;
                 is_worker = r.is_worker;
-                is_level = r.is_level;
-                there = r.there;
-                own = own_off f g m r.worker _ _ _ put (λ i below. not_free f m r.worker _ i free (r.own i below)) r.own;
+                holds = record {
+                  level = r.holds.level;
+                  is_level = r.holds.is_level;
+                  there = r.holds.there;
+                  own = own_off f g m r.worker _ _ _ put (λ i below. not_free f m r.worker _ i free (r.holds.own i below)) r.holds.own;
+                };
               })
         ]
 
@@ -170,21 +172,21 @@ module _ (f g : ℕ → ℕ) (m h n w k : ℕ) (power : m ≡ 2 ^ h) (few : n �
         }
 
     -- A worker that holds its path beyond the cleared node is another one.
-    cleared_holder : (v : ℕ) → v ≢ node m w (suc k) → (r : Holder f m h n v) → OwnTo g m r.worker (suc r.level)
+    cleared_holder : (v : ℕ) → v ≢ node m w (suc k) → (r : Holder f m h n v) → OwnTo g m r.worker (suc r.holds.level)
     cleared_holder v apart r =
         elim (cases_eq r.worker w) [
           | inl same ↦
-              (let P : ℕ → Type 0 = λ u. (node m u (suc r.level) ≡ v) × OwnTo f m u (suc r.level) in
-              let at : (node m w (suc r.level) ≡ v) × OwnTo f m w (suc r.level) = subst P same (r.there, r.own) in
-              let Q : ℕ → Type 0 = λ u. OwnTo g m u (suc r.level) in
+              (let P : ℕ → Type 0 = λ u. (node m u (suc r.holds.level) ≡ v) × OwnTo f m u (suc r.holds.level) in
+              let at : (node m w (suc r.holds.level) ≡ v) × OwnTo f m w (suc r.holds.level) = subst P same (r.holds.there, r.holds.own) in
+              let Q : ℕ → Type 0 = λ u. OwnTo g m u (suc r.holds.level) in
               subst Q (sym same) (own_off f g m w _ _ _ put
               (λ i below e.
-              let level : i ≡ k = meets_level m h n w k w i power few is_worker less is_worker (omega (arith, r.is_level)) e in
-              let top : r.level ≡ k = omega (arith, holds, held_least f m w h (suc r.level) (omega (arith, r.is_level)) at.1) in
+              let level : i ≡ k = meets_level m h n w k w i power few is_worker less is_worker (omega (arith, r.holds.is_level)) e in
+              let top : r.holds.level ≡ k = omega (arith, holds, held_least f m w h (suc r.holds.level) (omega (arith, r.holds.is_level)) at.1) in
               let R : ℕ → Type 0 = λ j. node m w (suc j) ≡ v in
               apart (sym (subst R top at.0)))
               at.1))
-          | inr other ↦ own_off f g m r.worker _ _ _ put (cleared_off r.worker _ r.is_worker other (omega (arith, r.is_level)) r.own) r.own
+          | inr other ↦ own_off f g m r.worker _ _ _ put (cleared_off r.worker _ r.is_worker other (omega (arith, r.holds.is_level)) r.holds.own) r.holds.own
         ]
 
     cleared_root : Rooted g m h n
@@ -193,11 +195,13 @@ module _ (f g : ℕ → ℕ) (m h n w k : ℕ) (power : m ≡ 2 ^ h) (few : n �
         let r : Holder f m h n v = root v some inside (λ e. taken (put.off v apart ∙ e)) in
         record {
           worker = r.worker;
-          level = r.level;
           is_worker = r.is_worker;
-          is_level = r.is_level;
-          there = r.there;
-          own = cleared_holder v apart r;
+          holds = record {
+            level = r.holds.level;
+            is_level = r.holds.is_level;
+            there = r.holds.there;
+            own = cleared_holder v apart r;
+          };
         }
 
     cleared : TreeStep m h n f g w k
@@ -213,10 +217,10 @@ take f g m h n w k power few is_worker less holds free put root = taken f g m h 
 pub clear : ClearLaw
 clear f g m h n w k power few is_worker less holds put root = cleared f g m h n w k power few is_worker less root holds put
 
-blocks : (f : ℕ → ℕ) (m h n w k : ℕ) → IsHeld f m w h k → k < h → (r : Holder f m h n (node m w (suc k))) → r.level ≡ k → IsBlocked f m h n w k
+blocks : (f : ℕ → ℕ) (m h n w k : ℕ) → IsHeld f m w h k → k < h → (r : Holder f m h n (node m w (suc k))) → r.holds.level ≡ k → IsBlocked f m h n w k
 blocks f m h n w k is less r level =
     let P : ℕ → Type 0 = λ j. (node m r.worker (suc j) ≡ node m w (suc k)) × OwnTo f m r.worker (suc j) in
-    let at : (node m r.worker (suc k) ≡ node m w (suc k)) × OwnTo f m r.worker (suc k) = subst P level (r.there, r.own) in
+    let at : (node m r.worker (suc k) ≡ node m w (suc k)) × OwnTo f m r.worker (suc k) = subst P level (r.holds.there, r.holds.own) in
     let word : f (node m w (suc k)) ≡ side m r.worker (suc k) = sym (ap f at.0) ∙ at.1 k (omega arith) in
     let apart : side m r.worker (suc k) ≢ side m w (suc k) = λ e. is.ends less (word ∙ e) in
     record {

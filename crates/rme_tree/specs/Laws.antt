@@ -1,6 +1,6 @@
 -- The laws of one step on a tree, for every height. Each is the contract of a function of the module `laws`.
 use Rattle.std.specs.Prelude.{◌≡◌, ◌≢◌, ℕ, suc, ◌+◌, ◌/◌, ◌%◌, ◌^◌, ◌<◌, ◌≤◌, ◌↔◌, Some}
-use Rattle.rme_tree.specs.Paths.{node, side, held, owner, Owns}
+use Rattle.rme_tree.specs.Paths.{node, side, held, owner, Owns, Blocks}
 use Rattle.rme_tree.specs.Rooted.{Rooted, IsLocal, IsFree, Put, TreeStep, IsBlocked, OwnerStep}
 
 -- How nodes and sides follow one another: the leaf, the parents, and the root at the top level.
@@ -30,6 +30,12 @@ abbrev pub BlockedLaw : Type 0
 BlockedLaw = (words : ℕ → ℕ) (leaves height workers worker levels : ℕ) → leaves ≡ 2 ^ height → workers ≤ leaves → worker < workers
     → levels < height → held words leaves worker height ≡ levels → words (node leaves worker (suc levels)) ≢ 0
     → Rooted words leaves height workers → IsBlocked words leaves height workers worker levels
+
+-- Where that node is not free another worker blocks this one.
+abbrev pub BlockerLaw : Type 0
+BlockerLaw = (words : ℕ → ℕ) (leaves height workers worker : ℕ) → leaves ≡ 2 ^ height → workers ≤ leaves → worker < workers
+    → held words leaves worker height < height → words (node leaves worker (suc (held words leaves worker height))) ≢ 0
+    → Rooted words leaves height workers → (other : ℕ) × (other < workers) × (other ≢ worker) × Blocks words leaves height other worker
 
 -- Two owners are one worker, whatever the words are.
 abbrev pub SameOwnerLaw : Type 0

@@ -1,4 +1,4 @@
--- Paths through a lock's tree, how much of its path a worker holds, and the lock's owner.
+-- Paths through a lock's tree, how much of its path a worker holds, the lock's owner, and who blocks a worker.
 --
 -- The nodes are 1 .. leaves - 1 in heap order: the parent of a node is its half, and a worker's leaf is
 -- leaves + worker. `words` gives the word of each node: 0, or the side of the child that holds it.
@@ -33,6 +33,19 @@ held words leaves worker (suc n) =
 -- `shown owner`: a worker owns the lock where all nodes of its path have its sides.
 abbrev pub Owns : (ℕ → ℕ) → ℕ → ℕ → ℕ → Type 0
 Owns words leaves height worker = OwnTo words leaves worker height
+
+-- A worker holds a node: its path comes to the node, and it holds its path up to there, that node included.
+pub record HoldsNode (words : ℕ → ℕ) (leaves height worker place : ℕ) : Type 0 where
+  pub level : ℕ
+  pub is_level : level < height
+  pub there : node leaves worker (suc level) ≡ place
+  pub own : OwnTo words leaves worker (suc level)
+
+-- `shown blocker`: a worker holds the node above the levels that this worker holds, which are not all.
+abbrev pub Blocks : (ℕ → ℕ) → ℕ → ℕ → ℕ → ℕ → Type 0
+Blocks words leaves height other worker =
+    (held words leaves worker height < height)
+    × HoldsNode words leaves height other (node leaves worker (suc (held words leaves worker height)))
 
 -- The first number below a bound that passes a test.
 abbrev pub first_of_all : ℕ → (ℕ → Bool) → Option ℕ

@@ -1,15 +1,12 @@
 -- Trees in which every node that is not free has a holder, and what one step of a worker does to such a tree.
 use Rattle.std.specs.Prelude.{◌≡◌, ◌≢◌, ℕ, suc, ◌+◌, ◌-◌, ◌*◌, ◌<◌, ◌≤◌, ◌⊎◌, Some, None}
-use Rattle.rme_tree.specs.Paths.{node, side, held, owner, OwnTo}
+use Rattle.rme_tree.specs.Paths.{node, side, held, owner, HoldsNode}
 
--- A worker whose path comes to this node, and which holds its path up to there.
+-- A worker that holds this node.
 pub record Holder (words : ℕ → ℕ) (leaves height workers place : ℕ) : Type 0 where
   pub worker : ℕ
-  pub level : ℕ
   pub is_worker : worker < workers
-  pub is_level : level < height
-  pub there : node leaves worker (suc level) ≡ place
-  pub own : OwnTo words leaves worker (suc level)
+  pub holds : HoldsNode words leaves height worker place
 
 -- Every node of the tree that is not 0 has a holder.
 abbrev pub Rooted : (ℕ → ℕ) → ℕ → ℕ → ℕ → Type 0

@@ -3,7 +3,7 @@
 //! Each function here does nothing: its contract is a law of `specs/Laws.antt`. The crates above cite the
 //! lemmas of `proofs/` by the names given below.
 
-ghost use Rattle.rme_tree.specs.Laws.{PathLaw, TakeLaw, ClearLaw, BlockedLaw, SameOwnerLaw, OwnerLaw, OwnerStepLaw, SameHeldLaw, LocalLaw, FreeLaw, SameTreeLaw};
+ghost use Rattle.rme_tree.specs.Laws.{PathLaw, TakeLaw, ClearLaw, BlockedLaw, BlockerLaw, SameOwnerLaw, OwnerLaw, OwnerStepLaw, SameHeldLaw, LocalLaw, FreeLaw, SameTreeLaw};
 ghost use Rattle.rme_tree.specs.Nodes.{StoreLaw};
 
 /// How nodes and sides follow one another from a leaf to the root (lemma `path_law`).
@@ -27,6 +27,12 @@ pub fn clearing()
 /// `blocked`).
 pub fn blocking()
     ensures { BlockedLaw }
+{}
+
+/// Where the next node of a worker's path is taken, another worker blocks it: the call `blocker` names a
+/// worker there (lemma `blocker_law`).
+pub fn naming()
+    ensures { BlockerLaw }
 {}
 
 /// Two owners are one worker, whatever the words are (lemma `same_owner`).

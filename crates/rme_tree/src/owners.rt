@@ -1,8 +1,8 @@
-//! What the workers hold, and who owns a lock, read from the words alone.
+//! What the workers hold, who owns a lock, and who blocks whom, read from the words alone.
 
 ghost use Rattle.std.specs.Prelude.{◌≡◌, ◌≢◌, ℕ, ◌<◌, ◌≤◌, ◌↔◌, Some, IfSome, MatchOption};
 ghost use Rattle.rme_words.specs.Words.{memory_of};
-ghost use Rattle.rme_tree.specs.Paths.{IsHeld, OwnTo, Owns};
+ghost use Rattle.rme_tree.specs.Paths.{IsHeld, OwnTo, Owns, HoldsNode, Blocks};
 ghost use Rattle.rme_tree.specs.Rooted.{child};
 ghost use Rattle.rme_tree.specs.Nodes.{nodes_of, held_in, owner_in};
 
@@ -45,11 +45,33 @@ fn named_child(bank: &Bank, lock: u32, place: u32) -> Option<u32>
     }
 }
 
+/// The worker that holds a node: its path comes to the node, and its sides stand in all nodes of its path up
+/// to there, that node included. None where there is no such worker, whatever the words are; there are never
+/// two.
+///
+/// It goes down from the node, by the child that each word names. `lock` is below the locks of the bank's
+/// shape, and `place` is 1 or more and below its leaves.
+pub fn holder(bank: &Bank, lock: u32, place: u32) -> Option<u32>
+    requires lock { lock < bank.now.shape.locks }
+    requires node { 1 ≤ place }
+    requires inside { place < bank.now.shape.leaves }
+    ensures shown { (w : ℕ) → w < bank.now.shape.workers
+        → (result ≡ Some w) ↔ HoldsNode (nodes_of (memory_of bank.now) lock) bank.now.shape.leaves bank.now.shape.height w place }
+    ensures worker { IfSome result (λ w. w < bank.now.shape.workers) }
+{
+    let shape = bank.shape();
+    let mut below = place;
+    while below < shape.leaves {
+        below = named_child(bank, lock, below)?;
+    }
+    let w = below - shape.leaves;
+    if w < shape.workers { Some(w) } else { None }
+}
+
 /// The owner of a lock: the worker whose sides stand in all nodes of its path, and none where there is no
 /// such worker. Two workers cannot both own a lock, whatever the words are.
 ///
-/// It goes down from the root, by the child that each word names. `lock` is below the locks of the bank's
-/// shape.
+/// It is the worker that holds the root. `lock` is below the locks of the bank's shape.
 pub fn owner(bank: &Bank, lock: u32) -> Option<u32>
     requires { lock < bank.now.shape.locks }
     ensures owner { result ≡ owner_in bank.now.shape (memory_of bank.now) lock }
@@ -57,11 +79,26 @@ pub fn owner(bank: &Bank, lock: u32) -> Option<u32>
         → (result ≡ Some w) ↔ Owns (nodes_of (memory_of bank.now) lock) bank.now.shape.leaves bank.now.shape.height w }
     ensures worker { IfSome result (λ w. w < bank.now.shape.workers) }
 {
+    holder(bank, lock, 1)
+}
+
+/// The worker that blocks worker `w` in a lock: it holds the node above the levels that `w` holds, where
+/// those are not its whole path. None where no worker holds that node, or `w` owns the lock.
+///
+/// `lock` and `w` are below the locks and the workers of the bank's shape.
+pub fn blocker(bank: &Bank, lock: u32, w: u32) -> Option<u32>
+    requires lock { lock < bank.now.shape.locks }
+    requires worker { w < bank.now.shape.workers }
+    ensures shown { (b : ℕ) → b < bank.now.shape.workers
+        → (result ≡ Some b) ↔ Blocks (nodes_of (memory_of bank.now) lock) bank.now.shape.leaves bank.now.shape.height b w }
+    ensures worker { IfSome result (λ b. b < bank.now.shape.workers) }
+    ensures other { IfSome result (λ b. b ≢ w) }
+{
     let shape = bank.shape();
-    let mut place = 1;
-    while place < shape.leaves {
-        place = named_child(bank, lock, place)?;
+    let levels = held(bank, lock, w);
+    if levels < shape.height {
+        holder(bank, lock, node(shape, w, levels + 1))
+    } else {
+        None
     }
-    let w = place - shape.leaves;
-    if w < shape.workers { Some(w) } else { None }
 }

@@ -1,6 +1,6 @@
 //! The public calls on a small tree, with values worked out by hand.
 
-use rme_tree::{held, laws, node, owner, side};
+use rme_tree::{blocker, held, holder, laws, node, owner, side};
 use rme_words::{Address, Bank, Shape};
 use std::test::Fail;
 
@@ -24,6 +24,30 @@ fn three_workers(rt: HostRuntime) -> Result<(), Fail> {
     Ok(())
 }
 
+/// In the same tree: worker 2 takes its whole path, and worker 0, which holds node 2, is blocked by it at the
+/// root, as worker 1 is by worker 0 at node 2. A word that leads to the leaf of nobody, or that is no side,
+/// has no holder.
+#[test]
+fn holders_and_blockers(rt: HostRuntime) -> Result<(), Fail> {
+    let shape = Shape::new(3, 1, 1, 1)?;
+    assert!(rt; shape.leaves == 4 && shape.height == 2);
+
+    let mut bank = Bank::new(rt.alloc(), shape)?;
+    assert!(rt; holder(&bank, 0, 3) == None && blocker(&bank, 0, 2) == None);
+    bank.store(Address::Node(0, 3), 1);
+    assert!(rt; holder(&bank, 0, 3) == Some(2) && holder(&bank, 0, 1) == None);
+    bank.store(Address::Node(0, 1), 2);
+    assert!(rt; holder(&bank, 0, 1) == Some(2) && blocker(&bank, 0, 2) == None);
+    bank.store(Address::Node(0, 2), 1);
+    assert!(rt; holder(&bank, 0, 2) == Some(0) && blocker(&bank, 0, 0) == Some(2));
+    assert!(rt; blocker(&bank, 0, 1) == Some(0));
+    bank.store(Address::Node(0, 3), 2);
+    assert!(rt; holder(&bank, 0, 3) == None && blocker(&bank, 0, 0) == None);
+    bank.store(Address::Node(0, 2), 3);
+    assert!(rt; holder(&bank, 0, 2) == None && blocker(&bank, 0, 1) == None);
+    Ok(())
+}
+
 /// The laws are functions that do nothing.
 #[test]
 fn every_law() {
@@ -31,6 +55,7 @@ fn every_law() {
     laws::taking();
     laws::clearing();
     laws::blocking();
+    laws::naming();
     laws::excluding();
     laws::owning();
     laws::moving();
