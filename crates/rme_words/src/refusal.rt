@@ -68,9 +68,7 @@ pub struct NoMemory;
 
 impl From<AllocError> for NoMemory {
     ghost use Rattle.std.specs.Prelude.{◌≡◌};
-    ghost use Rattle.rme_words.specs.declared.refusal.NoMemory.{NoMemory};
-
-    ghost from_gives = { λ _ r. r ≡ NoMemory };
+    ghost from_gives = { λ _ r. r ≡ record { } };
 
     fn from(_value: AllocError) -> NoMemory {
         NoMemory
