@@ -1,5 +1,6 @@
 /* Refuses one growth of memory: the Nth that a program asks for once it has started, N from the environment; or, for
-   the word "threaded", each one that its first thread asks for once it has started another. try-memory preloads it. */
+   the word "threaded", each one that its first thread asks for once it has started another, or a number of others that
+   stands behind the word. try-memory and other scripts preload it. */
 #define _GNU_SOURCE
 #include <dlfcn.h>
 #include <errno.h>
@@ -15,13 +16,17 @@ void *__libc_realloc(void *memory, size_t size);
 static long left = 0;
 static int (*create)(pthread_t *, const pthread_attr_t *, void *(*)(void *), void *);
 static pthread_t first;
-static int waits_for_thread = 0, has_started = 0;
+static long threads_left = 0;
+static int has_started = 0;
 
 __attribute__((constructor)) static void begin(void) {
     const char *number = getenv("REFUSED_GROWTH");
     *(void **)&create = dlsym(RTLD_NEXT, "pthread_create");
     first = pthread_self();
-    waits_for_thread = number && strcmp(number, "threaded") == 0;
+    if (number && strncmp(number, "threaded", strlen("threaded")) == 0) {
+        const long others = atol(number + strlen("threaded"));
+        threads_left = others > 0 ? others : 1;
+    }
     left = number ? atol(number) : 0;
 }
 
@@ -31,8 +36,9 @@ static int is_first(void) {
 
 int pthread_create(pthread_t *thread, const pthread_attr_t *how, void *(*work)(void *), void *with) {
     int error = create(thread, how, work, with);
-    if (waits_for_thread && is_first()) {
-        has_started = 1;
+    if (threads_left > 0 && is_first()) {
+        threads_left -= 1;
+        has_started = threads_left == 0;
     }
     return error;
 }

@@ -5,7 +5,7 @@
 //! the caller decides, a running `service` whose workers are values that threads hold, a `supervisor` that keeps
 //! such workers alive, `sessions` that hand them to clients, `lines` in and out, and a `checker` for transcripts.
 //! The crate holds no logic: each name is one of a crate below, whose contract and README say what it promises.
-//! Its examples are the tests of rme_tests. Begin with `world.rt`.
+//! Its examples are the tests of rme_test_caller. Begin with `world.rt`.
 #![tactic(auto)]
 
 pub mod checker;

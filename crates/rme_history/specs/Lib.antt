@@ -5,4 +5,4 @@ pub mod Legal
 pub mod Laws
 pub mod Folds
 pub mod Tallies
-pub mod Listings
+pub mod EntryLists

@@ -1,9 +1,9 @@
 //! Finished sections in a list that takes little room.
 
 ghost use Rattle.std.specs.Prelude.{◌≡◌, ◌+◌, ◌≤◌, ◌++◌, length, vec_capacity};
-ghost use Rattle.rme_history.specs.Listings.{IsHead, entry_of as section_of};
+ghost use Rattle.rme_history.specs.EntryLists.{IsEntryHead, entry_from_head as section_of};
 
-use crate::head::Head;
+use crate::entry_head::EntryHead;
 use rme_program::{Entry, Receipt};
 use rme_script::{MOST_OPERATIONS, Op, Script};
 use rme_words::NoMemory;
@@ -13,24 +13,25 @@ use std::marker::Model;
 /// No list has room for more: where the operations of a script begin is a number of 32 bits.
 const MOST_ENTRIES: usize = u32::MAX as usize / MOST_OPERATIONS;
 
-/// Finished sections, in order. One whose script has a single operation takes 48 bytes, of which an `Entry` has 160: memory that
-/// is written for the first time is dear.
+/// Finished sections, in order. One whose script has a single operation takes 48 bytes, of which an `Entry` has 160:
+/// memory that is written for the first time is dear.
 #[derive(Drop)]
 pub struct EntryList {
-    heads: Vec<Head>,
+    heads: Vec<EntryHead>,
     ops: Vec<Op>,
     room: usize,
 }
 
 impl Model for EntryList {
     ghost use Rattle.std.specs.Prelude.{vec_capacity};
-    ghost use Rattle.rme_history.specs.Listings.{Listing, IsListed, entries_of};
+    ghost use Rattle.rme_history.specs.EntryLists.{EntryListView, IsEntryList, entries_from_heads};
 
-    ghost Value = { Listing };
+    ghost Value = { EntryListView };
 
-    ghost view = { λ list. record { entries = entries_of list.ops.items list.heads.items; room = list.room } };
+    ghost view = { λ list. record { entries = entries_from_heads list.ops.items list.heads.items; room = list.room } };
 
-    ghost invariant = { λ list. IsListed list.ops.items list.heads.items list.room (vec_capacity list.ops) (vec_capacity list.heads) };
+    ghost invariant = { λ list. IsEntryList list.ops.items list.heads.items list.room (vec_capacity list.ops)
+        (vec_capacity list.heads) };
 }
 
 impl EntryList {
@@ -66,10 +67,11 @@ impl EntryList {
         Ok(EntryList { heads, ops, room })
     }
 
-    /// Makes room for so many more entries, whatever their scripts. It grows as a `Vec` does, so that many small calls cost as
-    /// much as a large one.
+    /// Makes room for so many more entries, whatever their scripts. It grows as a `Vec` does, so that many small calls
+    /// cost as much as a large one.
     ///
-    /// `NoMemory` where it was refused, or where there would be more than 536,870,911 entries; the list is as before then.
+    /// `NoMemory` where it was refused, or where there would be more than 536,870,911 entries; the list is as before
+    /// then.
     pub fn reserve(&mut self, more: usize) -> Result<(), NoMemory>
         ensures entries { self.new.entries ≡ self.old.entries }
         ensures made { OnOk result (length self.old.entries + more ≤ self.new.room) }
@@ -119,7 +121,8 @@ impl EntryList {
 
     /// The operations of the entry at this place, which are not copied.
     pub fn operations(&self, at: usize) -> Option<&[Op]>
-        ensures { option_map (λ (section : Section). section.script.ops) (slice_get self.now.entries at) ≡ option_map (λ ops. ops.now) result }
+        ensures { option_map (λ (section : Section). section.script.ops) (slice_get self.now.entries at) ≡ option_map
+            (λ ops. ops.now) result }
     {
         let Some(head) = self.heads.get(at) else {
             return None;
@@ -135,14 +138,15 @@ impl EntryList {
         self.get(self.len().saturating_sub(1))
     }
 
-    /// Puts an entry behind the others. There is room for it, and its script has no more operations than a job may have.
+    /// Puts an entry behind the others. There is room for it, and its script has no more operations than a job may
+    /// have.
     pub fn push(&mut self, receipt: Receipt, script: &Script)
         requires room { length self.old.entries < self.old.room }
         requires few { script.now.n ≤ 8 }
         ensures entries { self.new.entries ≡ self.old.entries ++ record { receipt = receipt; script = script.now } ∷ [] }
         ensures room { self.new.room ≡ self.old.room }
     {
-        let head = Head {
+        let head = EntryHead {
             receipt,
             start: self.ops.len() as u32,
             count: script.n(),
@@ -153,8 +157,8 @@ impl EntryList {
 }
 
 /// The entry of a head.
-fn entry_of(ops: &[Op], head: Head) -> Entry
-    requires { IsHead (length ops.now) head }
+fn entry_of(ops: &[Op], head: EntryHead) -> Entry
+    requires { IsEntryHead (length ops.now) head }
     ensures { result ≡ section_of ops.now head }
 {
     let start = head.start as usize;

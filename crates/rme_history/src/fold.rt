@@ -5,7 +5,7 @@ ghost use Rattle.std.specs.Bool.{MatchBool};
 ghost use Rattle.rme_program.specs.declared.note.Entry.{Entry};
 ghost use Rattle.rme_program.specs.Conditions.{IsJob};
 ghost use Rattle.rme_machine.specs.Histories.{entry_job};
-ghost use Rattle.rme_history.specs.Folds.{IsFold, FollowsAt};
+ghost use Rattle.rme_history.specs.Folds.{IsReplayFold, EntryFollowsAt};
 
 use crate::entry_list::EntryList;
 use crate::fault::ReplayFault;
@@ -24,7 +24,7 @@ pub struct Fold {
 impl Fold {
     /// What there is before any entry.
     pub fn new(alloc: Global, shape: Shape) -> Result<Fold, ReplayFault>
-        ensures start { IfOk result (λ fold. IsFold shape [] fold.rows.items fold.counts.items) }
+        ensures start { IfOk result (λ fold. IsReplayFold shape [] fold.rows.items fold.counts.items) }
         ensures refused { IfErr result (λ fault. fault ≡ ReplayFault.NoMemory) }
     {
         let locks = shape.locks as usize;
@@ -40,9 +40,11 @@ impl Fold {
     /// Goes on by the entry at `i`, if it follows from those before it.
     pub fn follow(&mut self, shape: Shape, entries: &EntryList, i: usize) -> bool
         requires within { i < length entries.now.entries }
-        requires fold { IsFold shape (take i entries.now.entries) self.old.rows.items self.old.counts.items }
-        ensures follows { MatchBool result (FollowsAt shape entries.now.entries i) (¬ FollowsAt shape entries.now.entries i) }
-        ensures fold { MatchBool result (IsFold shape (take (i + 1) entries.now.entries) self.new.rows.items self.new.counts.items) (Unit {0}) }
+        requires fold { IsReplayFold shape (take i entries.now.entries) self.old.rows.items self.old.counts.items }
+        ensures follows { MatchBool result (EntryFollowsAt shape entries.now.entries i)
+            (¬ EntryFollowsAt shape entries.now.entries i) }
+        ensures fold { MatchBool result (IsReplayFold shape (take (i + 1) entries.now.entries) self.new.rows.items
+            self.new.counts.items) (Unit {0}) }
     {
         let Some(entry) = entries.get(i) else {
             unreachable!();

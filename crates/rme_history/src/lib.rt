@@ -8,10 +8,10 @@
 //! alone, and answers their rows. Begin with `specs/Legal.antt`, and then `replaying.rt`.
 #![tactic(auto)]
 
+mod entry_head;
 mod entry_list;
 mod fault;
 mod fold;
-mod head;
 pub mod laws;
 mod places;
 mod replaying;

@@ -2,7 +2,7 @@
 
 ghost use Rattle.std.specs.Prelude.{◌≡◌, ℕ};
 ghost use Rattle.rme_program.specs.declared.kinds.Phase.{Phase};
-ghost use Rattle.rme_history.specs.Tallies.{most_in, Sees};
+ghost use Rattle.rme_history.specs.Tallies.{tally_of_phase, TallySees};
 
 use rme_program::Phase;
 
@@ -19,7 +19,7 @@ pub struct Tally {
 impl Tally {
     /// Nothing was seen: all are 0.
     pub fn new() -> Tally
-        ensures { (phase : Phase) → most_in result phase ≡ 0 }
+        ensures { (phase : Phase) → tally_of_phase result phase ≡ 0 }
     {
         Tally {
             recover: 0,
@@ -33,7 +33,7 @@ impl Tally {
     /// Keeps the greater of the phase's count and these steps. For phase Ready, which has no steps, it does
     /// nothing.
     pub fn see(&mut self, phase: Phase, steps: u32)
-        ensures { Sees self.old self.new phase steps }
+        ensures { TallySees self.old self.new phase steps }
     {
         match phase {
             Phase::Recover => self.recover = self.recover.max(steps),
@@ -47,7 +47,7 @@ impl Tally {
 
     /// The most steps that were seen of a phase; 0 for phase Ready.
     pub fn most(&self, phase: Phase) -> u32
-        ensures { result ≡ most_in self.now phase }
+        ensures { result ≡ tally_of_phase self.now phase }
     {
         match phase {
             Phase::Recover => self.recover,

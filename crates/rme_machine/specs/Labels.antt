@@ -1,4 +1,4 @@
--- `labels`: the machine's step that an event and its answer tell of.
+-- `event_label`: the machine's step that an event and its answer tell of.
 use Rattle.std.specs.Prelude.{Option, Some, None}
 use Rattle.rme_program.specs.declared.event.Event.{Event}
 use Rattle.rme_program.specs.declared.event.Event.TheVariants as event
@@ -7,14 +7,14 @@ use Rattle.rme_program.specs.declared.event.Answer.TheVariants.{Handed, Stepped,
 use Rattle.rme_machine.specs.declared.label.Act.TheVariants.{Hand, Crash, Restart, Wait}
 use Rattle.rme_machine.specs.declared.label.Label.{Label}
 use Rattle.rme_machine.specs.declared.label.Label.TheVariants.{Nothing, Of}
-use Rattle.rme_machine.specs.Shown.{act_of}
+use Rattle.rme_machine.specs.AbstractState.{act_of_note}
 
 -- A refused event is nothing, an accepted one is its worker's step, and any other pair has no label.
-abbrev pub labels : Event → Answer → Option Label
-labels asked (Refused refusal) = Some Nothing
-labels (event.Submit worker job) (Handed number) = Some (Of worker (Hand number job))
-labels (event.Step worker) (Stepped note) = Some (Of worker (act_of note))
-labels (event.Crash worker) Crashed = Some (Of worker Crash)
-labels (event.Restart worker) Restarted = Some (Of worker Restart)
-labels (event.Withdraw worker) Withdrawing = Some (Of worker Wait)
-labels asked answer = None
+abbrev pub event_label : Event → Answer → Option Label
+event_label asked (Refused refusal) = Some Nothing
+event_label (event.Submit worker job) (Handed number) = Some (Of worker (Hand number job))
+event_label (event.Step worker) (Stepped note) = Some (Of worker (act_of_note note))
+event_label (event.Crash worker) Crashed = Some (Of worker Crash)
+event_label (event.Restart worker) Restarted = Some (Of worker Restart)
+event_label (event.Withdraw worker) Withdrawing = Some (Of worker Wait)
+event_label asked answer = None

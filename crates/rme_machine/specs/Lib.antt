@@ -5,10 +5,10 @@
 pub mod Histories
 pub mod Machine
 pub mod Views
-pub mod Shown
-pub mod ShownCells
-pub mod Fits
-pub mod Fact
+pub mod AbstractState
+pub mod AbstractCells
+pub mod Knowledge
+pub mod Invariant
 pub mod Clauses
 pub mod Labels
 pub mod Changes

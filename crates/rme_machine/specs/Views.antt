@@ -6,7 +6,7 @@ use Rattle.rme_words.specs.declared.address.Address.{Address}
 use Rattle.rme_words.specs.declared.address.Address.TheVariants.{Begun, Done, Reply, Place, At, SlateLock, SlateLen, SlateWord, Turn, Cell, Shadow, ShadowReply, Mask}
 use Rattle.rme_script.specs.declared.job.Job.{Job}
 use Rattle.rme_script.specs.Programs.{Program}
-use Rattle.rme_script.specs.Slates.{script_of}
+use Rattle.rme_script.specs.Slates.{script_from_words}
 
 -- The words of a worker; `slate` are the words of its operations, in order.
 pub record WorkerWords : Type 0 where
@@ -19,8 +19,8 @@ pub record WorkerWords : Type 0 where
   pub slate_len : ℕ
   pub slate : List ℕ
 
-unfoldable pub slate_at : (Address → ℕ) → ℕ → List ℕ
-slate_at memory worker = map (λ (i : ℕ). memory (SlateWord worker (i / 3) (i % 3))) (range_with_len 0 24)
+unfoldable pub slate_of_worker : (Address → ℕ) → ℕ → List ℕ
+slate_of_worker memory worker = map (λ (i : ℕ). memory (SlateWord worker (i / 3) (i % 3))) (range_with_len 0 24)
 
 abbrev pub worker_words : (Address → ℕ) → ℕ → WorkerWords
 worker_words memory worker = record {
@@ -31,7 +31,7 @@ worker_words memory worker = record {
   at = memory (At worker);
   slate_lock = memory (SlateLock worker);
   slate_len = memory (SlateLen worker);
-  slate = slate_at memory worker;
+  slate = slate_of_worker memory worker;
 }
 
 -- The words of a lock beside its nodes.
@@ -56,12 +56,12 @@ abbrev pub is_pending : WorkerWords → Bool
 is_pending own = nat_lt own.done own.begun
 
 -- The lock that the worker is at: its slate's while a job is pending, and else that of its last receipt.
-abbrev pub site_of : WorkerWords → ℕ
-site_of own = if is_pending own then own.slate_lock else own.at
+abbrev pub current_lock : WorkerWords → ℕ
+current_lock own = if is_pending own then own.slate_lock else own.at
 
 -- The job of its slate. Where the words are no script, which no pending job's are, it is an empty one.
 abbrev pub slate_script : WorkerWords → Option Program
-slate_script own = script_of own.slate_len own.slate
+slate_script own = script_from_words own.slate_len own.slate
 
 abbrev pub no_script : Program
 no_script = record { n = 0; ops = [] }

@@ -4,7 +4,7 @@ use rme_script::Job;
 
 /// Where a worker stands with its job, in the abstract machine. The numbers are those of its jobs.
 #[derive(Clone, Copy)]
-pub enum Stance {
+pub enum JobStance {
     /// Has no job.
     Idle,
     /// Was handed a job, which has no number yet.

@@ -3,14 +3,14 @@
 -- place of a worker in a row, the stays that walk the rows, how each step brings a worker on, the laws of rows, whole
 -- walks, and what each step tells.
 pub mod Masks
-pub mod Did
+pub mod ActionEffects
 pub mod Steps
 pub mod Conditions
 pub mod Phases
 pub mod Table
-pub mod Places
+pub mod StepsMade
 pub mod Stays
 pub mod Progress
 pub mod RowLaws
-pub mod Walks
+pub mod StepSequences
 pub mod NoteLaws

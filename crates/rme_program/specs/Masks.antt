@@ -2,7 +2,7 @@
 use Rattle.std.specs.Prelude.{ℕ, ◌^◌, List, [], ◌∷◌, Option, Some, None, bit_or}
 use Rattle.rme_script.specs.declared.op.Op.{Op}
 use Rattle.rme_script.specs.declared.op.Op.TheVariants.{Get, Set, Add, Copy, Swap}
-use Rattle.rme_script.specs.Cells.{cells_from}
+use Rattle.rme_script.specs.Cells.{mask_cells_from}
 
 -- The bits of the cells that one operation names.
 abbrev pub bits_named : Op → ℕ
@@ -17,10 +17,10 @@ unfoldable pub mask_of : List Op → ℕ
 mask_of [] = 0
 mask_of (o ∷ os) = bit_or (bits_named o) (mask_of os)
 
-abbrev pub head_of : List ℕ → Option ℕ
-head_of [] = None
-head_of (c ∷ cs) = Some c
+abbrev pub list_head : List ℕ → Option ℕ
+list_head [] = None
+list_head (c ∷ cs) = Some c
 
 -- The first cell of a mask that is at or after `from` and below `cells`, if there is one.
 unfoldable pub first_cell : ℕ → ℕ → ℕ → Option ℕ
-first_cell mask from cells = head_of (cells_from mask from cells)
+first_cell mask from cells = list_head (mask_cells_from mask from cells)

@@ -8,17 +8,17 @@ use Rattle.rme_words.specs.declared.address.Address.TheVariants.{Begun, Done, Re
 use Rattle.rme_tree.specs.Paths.{node, side}
 use Rattle.rme_script.specs.declared.job.Job.{Job}
 use Rattle.rme_script.specs.Programs.{Program}
-use Rattle.rme_script.specs.Cells.{cells_of, cells_named}
+use Rattle.rme_script.specs.Cells.{cells_of_ops, mask_cells}
 use Rattle.rme_script.specs.Eval.{eval_of}
-use Rattle.rme_script.specs.Slates.{words_of}
+use Rattle.rme_script.specs.Slates.{ops_words}
 use Rattle.rme_program.specs.declared.action.Action.{Action}
 use Rattle.rme_program.specs.declared.action.Action.TheVariants.{Load, Store, Swap}
 use Rattle.rme_program.specs.Masks.{mask_of}
 use Rattle.rme_program.specs.Steps.{withdrawn_place}
 
 -- One action for each of the numbers 0 .. n - 1.
-abbrev pub each : ℕ → (ℕ → Action) → List Action
-each n action = map action (range_with_len 0 n)
+abbrev pub actions_for_each : ℕ → (ℕ → Action) → List Action
+actions_for_each n action = map action (range_with_len 0 n)
 
 -- The node of the worker's path at a level.
 abbrev pub path_node : Shape → ℕ → ℕ → ℕ → Address
@@ -27,25 +27,28 @@ path_node shape worker lock level = Node lock (node shape.leaves worker level)
 -- RECOVER: load Begun, Done, the lock of the last job, and v_1, v_2, .. v_h.
 
 -- A pending job has its lock in the slate, a finished or withdrawn one in At.
-abbrev pub lock_word : ℕ → Bool → Address
-lock_word worker true = SlateLock worker
-lock_word worker false = At worker
+abbrev pub lock_word_address : ℕ → Bool → Address
+lock_word_address worker true = SlateLock worker
+lock_word_address worker false = At worker
 
 abbrev pub recover_row : Shape → ℕ → Bool → ℕ → List Action
 recover_row shape worker pending lock =
-    Load (Begun worker) ∷ Load (Done worker) ∷ Load (lock_word worker pending) ∷ each shape.height (λ i. Load (path_node shape worker lock (i + 1)))
+    Load (Begun worker) ∷ Load (Done worker) ∷ Load (lock_word_address worker pending) ∷ actions_for_each shape.height
+    (λ i. Load (path_node shape worker lock (i + 1)))
 
 -- POST: store the slate's lock, its length and its words, then Begun.
 abbrev pub post_row : ℕ → ℕ → Job → List Action
 post_row worker begun job =
     Store (SlateLock worker) job.lock
     ∷ Store (SlateLen worker) job.script.n
-    ∷ (each (3 * job.script.n) (λ i. Store (SlateWord worker (i / 3) (i % 3)) (slice_index (words_of job.script.ops) i)) ++ Store (Begun worker) (begun + 1) ∷ [])
+    ∷ (actions_for_each (3 * job.script.n) (λ i. Store (SlateWord worker (i / 3) (i % 3))
+    (slice_index (ops_words job.script.ops) i)) ++ Store (Begun worker) (begun + 1) ∷ [])
 
 -- ENTER, so many levels being held already: swap each further node of the path from 0 to the own side.
 abbrev pub enter_row : Shape → ℕ → ℕ → ℕ → List Action
 enter_row shape worker lock from =
-    each (shape.height - from) (λ i. Swap (path_node shape worker lock (from + i + 1)) 0 (side shape.leaves worker (from + i + 1)))
+    actions_for_each (shape.height - from) (λ i. Swap (path_node shape worker lock (from + i + 1)) 0
+    (side shape.leaves worker (from + i + 1)))
 
 -- SECTION
 
@@ -55,9 +58,10 @@ abbrev pub log_row : Shape → ℕ → ℕ → ℕ → Program → List ℕ → 
 log_row shape worker lock turn script cells =
     Load (Turn lock)
     ∷ Load (SlateLen worker)
-    ∷ (each (3 * script.n) (λ i. Load (SlateWord worker (i / 3) (i % 3)))
-    ++ (map (λ c. Load (Cell lock c)) (cells_of script.ops shape.cells)
-    ++ (map (λ c. Store (Shadow lock c) (slice_index (eval_of script.ops cells).row c)) (cells_of script.ops shape.cells)
+    ∷ (actions_for_each (3 * script.n) (λ i. Load (SlateWord worker (i / 3) (i % 3)))
+    ++ (map (λ c. Load (Cell lock c)) (cells_of_ops script.ops shape.cells)
+    ++ (map (λ c. Store (Shadow lock c) (slice_index (eval_of script.ops cells).row c))
+    (cells_of_ops script.ops shape.cells)
     ++ Store (ShadowReply lock) (eval_of script.ops cells).reply
     ∷ Store (Mask lock) (mask_of script.ops)
     ∷ Store (Turn lock) (turn + 1)
@@ -68,7 +72,8 @@ log_row shape worker lock turn script cells =
 abbrev pub redo_row : Shape → ℕ → ℕ → ℕ → ℕ → ℕ → List ℕ → ℕ → List Action
 redo_row shape worker begun lock turn mask shadows reply =
     Load (Mask lock)
-    ∷ (flat_map (λ c. Load (Shadow lock c) ∷ Store (Cell lock c) (slice_index shadows c) ∷ []) (cells_named mask shape.cells)
+    ∷ (flat_map (λ c. Load (Shadow lock c) ∷ Store (Cell lock c) (slice_index shadows c) ∷ [])
+    (mask_cells mask shape.cells)
     ++ Load (ShadowReply lock)
     ∷ Store (Reply worker) reply
     ∷ Store (Place worker) (turn / 2)
@@ -103,7 +108,7 @@ section_row shape worker begun lock reading =
 
 -- Store 0 into the nodes of so many levels, from the topmost downward.
 abbrev pub clear_row : Shape → ℕ → ℕ → ℕ → List Action
-clear_row shape worker lock levels = each levels (λ i. Store (path_node shape worker lock (levels - i)) 0)
+clear_row shape worker lock levels = actions_for_each levels (λ i. Store (path_node shape worker lock (levels - i)) 0)
 
 -- Count an odd turn up.
 abbrev pub settle_row : ℕ → ℕ → List Action
@@ -116,4 +121,5 @@ exit_row shape worker lock turn = Load (Turn lock) ∷ (settle_row lock turn ++ 
 -- number, and release what is held.
 abbrev pub withdraw_row : Shape → ℕ → ℕ → ℕ → ℕ → List Action
 withdraw_row shape worker begun lock levels =
-    Store (Place worker) withdrawn_place ∷ Store (At worker) lock ∷ Store (Reply worker) 0 ∷ Store (Done worker) begun ∷ clear_row shape worker lock levels
+    Store (Place worker) withdrawn_place ∷ Store (At worker) lock ∷ Store (Reply worker) 0 ∷ Store (Done worker) begun ∷
+    clear_row shape worker lock levels

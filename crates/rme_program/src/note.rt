@@ -2,7 +2,7 @@
 
 use rme_script::Script;
 
-/// The word `Place` of a worker whose last number was withdrawn, and so has no receipt; no section has this place.
+/// The word `TableSeat` of a worker whose last number was withdrawn, and so has no receipt; no section has this place.
 pub const WITHDRAWN_PLACE: u64 = u64::MAX;
 
 /// What became of one job: the worker and its number, the lock and the place among that lock's sections

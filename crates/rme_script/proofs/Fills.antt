@@ -3,10 +3,10 @@ use Rattle.std.proofs.Common.{◌≡◌, ℕ, ◌+◌, ◌-◌, ◌<◌, ◌≤�
 use Rattle.std.proofs.lemmas.List.{length-append, length-drop, length-replicate, length-take-le, take_at, drop-replicate, length-set, set-append_left, take-replicate, replicate-append-replicate}
 use Rattle.std.proofs.Math.Seq.{take-set-lt}
 use Rattle.std.specs.Prelude.{slice_set}
-use Rattle.rme_script.specs.Kept.{Kept}
+use Rattle.rme_script.specs.Padding.{IsPaddedList}
 
 -- A list written over the front of an array of fillers.
-pub kept_front : {A : Type 0} (filler : A) (room few count : ℕ) (items : List A) → count ≡ few → length items ≡ count → few ≤ room → Kept filler room few (items ++ drop count (replicate room filler))
+pub kept_front : {A : Type 0} (filler : A) (room few count : ℕ) (items : List A) → count ≡ few → length items ≡ count → few ≤ room → IsPaddedList filler room few (items ++ drop count (replicate room filler))
 kept_front {A = A} filler room few count items c l w =
     let rest : List A = drop count (replicate room filler) in
     let long : length rest ≡ room - count = length-drop count (replicate room filler) ∙ ap (λ (n : ℕ). n - count) (length-replicate room filler) in
@@ -20,7 +20,7 @@ kept_front {A = A} filler room few count items c l w =
     }
 
 -- Fillers alone.
-pub kept_fillers : {A : Type 0} (filler : A) (room few : ℕ) → few ≤ room → Kept filler room few (replicate room filler)
+pub kept_fillers : {A : Type 0} (filler : A) (room few : ℕ) → few ≤ room → IsPaddedList filler room few (replicate room filler)
 kept_fillers {A = A} filler room few w =
     let all : few + (room - few) ≡ room = omega (arith, w) in
     record {
@@ -32,7 +32,7 @@ kept_fillers {A = A} filler room few w =
     }
 
 -- One of the items changed.
-pub kept_set : {A : Type 0} (filler : A) (room few : ℕ) (items : List A) (i : ℕ) (x : A) → Kept filler room few items → i < few → Kept filler room few (slice_set items i x)
+pub kept_set : {A : Type 0} (filler : A) (room few : ℕ) (items : List A) (i : ℕ) (x : A) → IsPaddedList filler room few items → i < few → IsPaddedList filler room few (slice_set items i x)
 kept_set {A = A} filler room few items i x k inside =
     let long : length (slice_set items i x) ≡ room = length-set items i x ∙ k.whole in
     record {

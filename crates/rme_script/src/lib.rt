@@ -26,4 +26,4 @@ pub use op::Op;
 pub use row::Row;
 pub use run::eval;
 pub use script::Script;
-pub use slate::{from_slate, op_of, op_words, read_slate, slate_word, slate_words};
+pub use slate::{from_slate, op_from_words, op_words, read_slate, slate_word, slate_words};

@@ -14,17 +14,18 @@ pub struct Row {
 
 impl Model for Row {
     ghost use Rattle.std.specs.Prelude.{◌-◌, ◌++◌, ℕ, List, take, replicate, length};
-    ghost use Rattle.rme_script.specs.Kept.{Kept, restored};
+    ghost use Rattle.rme_script.specs.Padding.{IsPaddedList, padding_is_restored};
 
     ghost Value = { List ℕ };
 
     ghost view = { λ r. take r.len r.cells };
 
-    ghost invariant = { λ r. Kept 0 16 r.len r.cells };
+    ghost invariant = { λ r. IsPaddedList 0 16 r.len r.cells };
 
     ghost inverse = { λ v. record { cells = v ++ replicate (16 - length v) 0; len = length v } };
 
-    ghost inverse_ok = { λ a h. restored (λ cells len. record { cells = cells; len = len }) 0 16 a.len a.cells h };
+    ghost inverse_ok = { λ a h. padding_is_restored (λ cells len. record { cells = cells; len = len }) 0 16 a.len
+        a.cells h };
 }
 
 impl Row {

@@ -18,18 +18,19 @@ pub struct Script {
 impl Model for Script {
     ghost use Rattle.std.specs.Prelude.{◌≤◌, ◌-◌, ◌++◌, take, replicate, length, min};
     ghost use Rattle.rme_script.specs.Programs.{Program};
-    ghost use Rattle.rme_script.specs.Kept.{Kept, restored};
+    ghost use Rattle.rme_script.specs.Padding.{IsPaddedList, padding_is_restored};
     ghost use Rattle.rme_script.specs.declared.op.Op.TheVariants.{Get};
 
     ghost Value = { Program };
 
     ghost view = { λ s. record { n = s.n; ops = take (min s.n 8) s.ops } };
 
-    ghost invariant = { λ s. (s.n ≤ 9) × Kept (Get 0) 8 (min s.n 8) s.ops };
+    ghost invariant = { λ s. (s.n ≤ 9) × IsPaddedList (Get 0) 8 (min s.n 8) s.ops };
 
     ghost inverse = { λ p. record { ops = p.ops ++ replicate (8 - length p.ops) (Get 0); n = p.n } };
 
-    ghost inverse_ok = { λ s h. restored (λ ops _. record { ops = ops; n = s.n }) (Get 0) 8 (min s.n 8) s.ops h.1 };
+    ghost inverse_ok = { λ s h. padding_is_restored (λ ops _. record { ops = ops; n = s.n }) (Get 0) 8 (min s.n 8) s.ops
+        h.1 };
 }
 
 impl Script {

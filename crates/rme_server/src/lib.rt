@@ -1,37 +1,20 @@
-//! Sessions over lines: clients that take a worker, hand it jobs by their numbers, and let it go.
+//! The running service as what answers sessions.
 //!
-//! A `session` has each line answered by a `Backend`, and `serve` listens, with a thread for each connection, until its
-//! door is closed or its backend is over, or for good. `Host` is the running service as a backend: a session obeys one
-//! order a line with the worker that it took out of its slot; however it ends, the worker falls and its Down is back in
-//! the slot. The crate stands on rme_session_lines, which reads the orders and writes the answers, on rme_lines, which
-//! cuts lines, and on rme_sessions and rme_slots, whose public names it passes on. What those above use is the contract
-//! of `session`: each line is answered as the backend says, `Host` as `obey` has it, and nothing else is written. Begin
-//! with `backend.rt` and `talk.rt`, then `host.rt`.
+//! `ServiceBackend` is a backend of rme_session_server: a session obeys one order a line with the worker that it took out
+//! of its slot; a job that waits for its lock is tried again when the lock may have been left; however a session ends, its
+//! worker falls and its Down is back in the slot. The crate stands on rme_session_server, whose public names it passes on,
+//! and on rme_session_threads, whose `obey` it calls. Its one contract is that of `Backend::answer`: each line is answered
+//! as `obey` has it. Begin with `service_backend.rt`, then `waiting.rt`.
 #![tactic(auto)]
 
-mod backend;
-mod bell;
-mod buffers;
-mod client;
-mod connection;
-mod guests;
-mod hall;
-mod host;
-mod pauses;
-mod server;
-mod talk;
+mod service_backend;
 mod waiting;
 
-pub use backend::Backend;
-pub use bell::Listening;
-pub use buffers::Buffers;
-pub use client::{Client, Present, Reach, Unreached};
-pub use connection::{Closer, Connection, Listener};
-pub use hall::{Hall, Seat, note};
-pub use host::Host;
-pub use pauses::{LONGEST, Pauses};
-pub use rme_lines::{LineReader, ServeFault};
-pub use rme_sessions::{Holding, Plan, Planned, Stand, obey};
-pub use rme_slots::Slots;
-pub use server::{Door, Trouble, serve};
-pub use talk::session;
+pub use rme_line_io::{LineReader, ServeFault};
+pub use rme_session_server::{
+    Backend, Buffers, Client, CloseHandle, Closer, Connection, LONGEST, Listener, LocalClient,
+    NoCloseHandle, ServerLimits, ServerObserver, SessionRegistry, WaitBackoff, Waiter, WorkerClaim,
+    serve, session, update_claim,
+};
+pub use rme_session_threads::{CrashPlan, Holding, PlannedCrash, Slots, Stand, obey};
+pub use service_backend::ServiceBackend;

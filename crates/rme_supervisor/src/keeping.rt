@@ -1,35 +1,39 @@
 //! The keepers: a thread for each worker, and in it a thread for each of the worker's lives.
 
 ghost use Rattle.std.specs.Prelude.{◌≡◌, length};
-ghost use Rattle.rme_supervisor.specs.Berths.{AllOrders, AreOrders};
+ghost use Rattle.rme_supervisor.specs.WorkerSlots.{AreLifeContexts, IsLifeContext};
 
-use crate::course::Course;
-use crate::life::Orders;
+use crate::life::LifeContext;
 use crate::plan::Schedule;
-use crate::slots::{Slot, has_ended, live_in};
+use crate::run_tag::RunTag;
+use crate::slots::{LockedSlot, has_ended, run_life_in};
 use rme_table::{Gate, Service};
 use std::sync::Wait;
 use std::thread;
 use std::thread::Threads;
 
 /// Keeps each worker alive, until all have ended.
-pub(crate) fn keep_all<K: Course + Send + Sync, G: Gate + Sync, R: Threads + Wait + Sync>(
+pub(crate) fn keep_all<K: RunTag + Send + Sync, G: Gate + Sync, R: Threads + Wait + Sync>(
     rt: &R,
-    slots: &[Slot<K>],
+    slots: &[LockedSlot<K>],
     service: &Service,
     schedule: &Schedule<'_>,
     gate: &G,
 )
-    requires orders { AllOrders K.Tag.ident K.turned K.rounds K.plans (G.answered gate.now) G.lets_all service.now schedule.now.rounds schedule.now.plans.now }
-    requires all { (length slots.now ≡ service.now.shape.workers) × (length schedule.now.plans.now ≡ service.now.shape.workers) }
+    requires orders { AreLifeContexts K.Tag.ident K.turned K.rounds K.plans (G.answered gate.now) G.lets_all service.now
+        schedule.now.rounds schedule.now.plans.now }
+    requires all { (length slots.now ≡ service.now.shape.workers)
+        × (length schedule.now.plans.now ≡ service.now.shape.workers) }
 {
     let Schedule { plans, rounds } = *schedule;
     thread::scope(
         thread::scope_env(),
         rt,
         |scope|
-            requires orders { AllOrders K.Tag.ident K.turned K.rounds K.plans (G.answered gate.now) G.lets_all service.now rounds plans.now }
-            requires all { (length slots.now ≡ service.now.shape.workers) × (length plans.now ≡ service.now.shape.workers) }
+            requires orders { AreLifeContexts K.Tag.ident K.turned K.rounds K.plans (G.answered gate.now) G.lets_all
+                service.now rounds plans.now }
+            requires all { (length slots.now ≡ service.now.shape.workers)
+                × (length plans.now ≡ service.now.shape.workers) }
         {
             for worker in 0..service.shape().workers() {
                 let (Some(slot), Some(plan)) = (
@@ -39,13 +43,14 @@ pub(crate) fn keep_all<K: Course + Send + Sync, G: Gate + Sync, R: Threads + Wai
                     unreachable!()
                 };
                 let keeper = move ||
-                    requires orders { AreOrders K.Tag.ident K.turned K.rounds K.plans (G.answered gate.now) G.lets_all service.now worker rounds plan.now }
+                    requires orders { IsLifeContext K.Tag.ident K.turned K.rounds K.plans (G.answered gate.now)
+                        G.lets_all service.now worker rounds plan.now }
                 {
                     keep(
                         rt,
                         slot,
                         worker,
-                        &Orders {
+                        &LifeContext {
                             service,
                             plan,
                             rounds,
@@ -61,39 +66,43 @@ pub(crate) fn keep_all<K: Course + Send + Sync, G: Gate + Sync, R: Threads + Wai
 }
 
 /// Keeps a worker alive: one life after another, until it ends.
-fn keep<K: Course + Send + Sync, G: Gate + Sync, R: Threads + Wait + Sync>(
+fn keep<K: RunTag + Send + Sync, G: Gate + Sync, R: Threads + Wait + Sync>(
     rt: &R,
-    slot: &Slot<K>,
+    slot: &LockedSlot<K>,
     worker: u32,
-    orders: &Orders<'_, G>,
+    orders: &LifeContext<'_, G>,
 )
-    requires orders { AreOrders K.Tag.ident K.turned K.rounds K.plans (G.answered orders.now.gate.now) G.lets_all orders.now.service.now worker orders.now.rounds orders.now.plan.now }
+    requires orders { IsLifeContext K.Tag.ident K.turned K.rounds K.plans (G.answered orders.now.gate.now) G.lets_all
+        orders.now.service.now worker orders.now.rounds orders.now.plan.now }
 {
     for _ in 0..orders.plan.lives {
-        if !is_lived(rt, slot, worker, orders) || has_ended(rt, slot) {
+        if !run_life_in_thread(rt, slot, worker, orders) || has_ended(rt, slot) {
             return;
         }
     }
 }
 
 /// A life in a thread of its own, and whether there was a thread for it.
-fn is_lived<K: Course + Send + Sync, G: Gate + Sync, R: Threads + Wait + Sync>(
+fn run_life_in_thread<K: RunTag + Send + Sync, G: Gate + Sync, R: Threads + Wait + Sync>(
     rt: &R,
-    slot: &Slot<K>,
+    slot: &LockedSlot<K>,
     worker: u32,
-    orders: &Orders<'_, G>,
+    orders: &LifeContext<'_, G>,
 ) -> bool
-    requires orders { AreOrders K.Tag.ident K.turned K.rounds K.plans (G.answered orders.now.gate.now) G.lets_all orders.now.service.now worker orders.now.rounds orders.now.plan.now }
+    requires orders { IsLifeContext K.Tag.ident K.turned K.rounds K.plans (G.answered orders.now.gate.now) G.lets_all
+        orders.now.service.now worker orders.now.rounds orders.now.plan.now }
 {
     thread::scope(
         thread::scope_env(),
         rt,
         |scope| -> bool
-            requires orders { AreOrders K.Tag.ident K.turned K.rounds K.plans (G.answered orders.now.gate.now) G.lets_all orders.now.service.now worker orders.now.rounds orders.now.plan.now }
+            requires orders { IsLifeContext K.Tag.ident K.turned K.rounds K.plans (G.answered orders.now.gate.now)
+                G.lets_all orders.now.service.now worker orders.now.rounds orders.now.plan.now }
         {
             let life = move ||
-                requires orders { AreOrders K.Tag.ident K.turned K.rounds K.plans (G.answered orders.now.gate.now) G.lets_all orders.now.service.now worker orders.now.rounds orders.now.plan.now }
-            { live_in(rt, slot, worker, orders) };
+                requires orders { IsLifeContext K.Tag.ident K.turned K.rounds K.plans (G.answered orders.now.gate.now)
+                    G.lets_all orders.now.service.now worker orders.now.rounds orders.now.plan.now }
+            { run_life_in(rt, slot, worker, orders) };
             scope.spawn(life).is_ok()
         },
     )

@@ -27,12 +27,12 @@ pub struct Schedule<'a> {
 
 impl WorkerPlan {
     ghost use Rattle.std.specs.Prelude.{◌≡◌, ◌≤◌, length, slice_get, Some, None, IfSome};
-    ghost use Rattle.rme_supervisor.specs.Plans.{planned};
+    ghost use Rattle.rme_supervisor.specs.Plans.{planned_jobs};
 
     /// The job at a place, counted over so many rounds; nothing past the last one.
     pub(crate) fn job(&self, rounds: u32, place: usize) -> Option<&Job>
-        ensures some { IfSome result (λ job. slice_get (planned rounds self.now) place ≡ Some job.now) }
-        ensures none { result ≡ None → length (planned rounds self.now) ≤ place }
+        ensures some { IfSome result (λ job. slice_get (planned_jobs rounds self.now) place ≡ Some job.now) }
+        ensures none { result ≡ None → length (planned_jobs rounds self.now) ≤ place }
     {
         let count = self.jobs.len();
         if count == 0 || place / count >= rounds as usize {

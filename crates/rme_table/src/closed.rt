@@ -23,7 +23,7 @@ pub struct ClosedLock {
 
 /// What the locks of a closed service come to, in order.
 #[derive(Drop)]
-pub struct Counted {
+pub struct CountedService {
     pub locks: Vec<CountedLock>,
 }
 

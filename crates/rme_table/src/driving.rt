@@ -4,7 +4,7 @@ use crate::down::Down;
 use crate::kinds::{Climb, Held, Ready, Sweep};
 use crate::service::Service;
 use rme_program::Receipt;
-use rme_seats::Chance;
+use rme_service_steps::Chance;
 
 /// Who watches the sections of workers that go on. It may be asked by many threads at the same time.
 pub trait Gate {
@@ -66,7 +66,7 @@ impl Gate for Shut {
 
 /// The blocked sweeps on one job: how many were made, and the most that may be.
 #[derive(Clone, Copy)]
-pub struct Tries {
+pub struct SweepTries {
     pub blocked: u32,
     pub most: u32,
 }
@@ -85,32 +85,33 @@ pub enum Driven {
 
 impl Climb {
     ghost use Rattle.std.specs.Prelude.{◌≡◌, true, false};
-    ghost use Rattle.rme_table.specs.Driving.{Counts, Drives, Exhausts, Passes, StopsInside, Watches, stand_after};
+    ghost use Rattle.rme_table.specs.Driving.{SweepsAreCounted, DriveOutcome, WaitsAfterAllSweeps, GateLetsPass, GateStopsInside, GateWatches, seat_after_drive};
 
     /// Goes on to readiness: sweep after sweep as long as there are tries, with a pause after each blocked one, and
-    /// then as `Held::go_on`. A job that waits still had all the sweeps that might be.
-    pub fn go_in<C: Chance, G: Gate, P: Fn()>(
+    /// then as `Held::drive_owner`. A job that waits still had all the sweeps that might be.
+    pub fn drive_waiting<C: Chance, G: Gate, P: Fn()>(
         self,
         service: &Service,
         chance: &mut C,
         gate: &G,
-        tries: &mut Tries,
+        tries: &mut SweepTries,
         pause: P,
     ) -> Driven
         requires ours { self.ident ≡ service.now }
         requires pause { P.IsAlwaysCallable pause }
-        ensures drives { Drives service.now.shape false self (C.tally chance.old) (C.tally chance.new) result }
-        ensures passes { G.lets_all ≡ true → Passes result }
-        ensures watches { Watches (G.answered gate.now) (G.told gate.now) service.now.shape false self.part.worker result }
-        ensures stops { StopsInside result }
-        ensures tries { Exhausts self tries.old tries.new result }
-        ensures counts { Counts self (stand_after result) tries.old tries.new }
+        ensures drives { DriveOutcome service.now.shape false self (C.tally chance.old) (C.tally chance.new) result }
+        ensures passes { G.lets_all ≡ true → GateLetsPass result }
+        ensures watches { GateWatches (G.answered gate.now) (G.told gate.now) service.now.shape false self.part.worker
+            result }
+        ensures stops { GateStopsInside result }
+        ensures tries { WaitsAfterAllSweeps self tries.old tries.new result }
+        ensures counts { SweepsAreCounted self (seat_after_drive result) tries.old tries.new }
         ensures most { tries.new.most ≡ tries.old.most }
     {
         let mut climb = self;
         for blocked in tries.blocked..tries.most {
             match climb.try_enter(service, chance) {
-                Sweep::Got(held) => return held.go_on(service, chance, gate),
+                Sweep::Got(held) => return held.drive_owner(service, chance, gate),
                 Sweep::Fell(down) => return Driven::Fell(down),
                 Sweep::Blocked(again) => climb = again,
             }
@@ -123,18 +124,25 @@ impl Climb {
 
 impl Held {
     ghost use Rattle.std.specs.Prelude.{◌≡◌, true};
-    ghost use Rattle.rme_table.specs.Calls.{is_over};
-    ghost use Rattle.rme_table.specs.Driving.{DoesNotWait, Drives, Passes, StopsAt, Watches};
+    ghost use Rattle.rme_table.specs.Calls.{is_section_over};
+    ghost use Rattle.rme_table.specs.Driving.{DriveDoesNotWait, DriveOutcome, GateLetsPass, GateStopsAtEntry, GateWatches};
 
     /// Goes on to readiness: the section, where the gate lets the worker begin it, and the exit. A section that is
     /// finished already is not begun, and the gate is told alone that it is over.
-    pub fn go_on<C: Chance, G: Gate>(self, service: &Service, chance: &mut C, gate: &G) -> Driven
+    pub fn drive_owner<C: Chance, G: Gate>(
+        self,
+        service: &Service,
+        chance: &mut C,
+        gate: &G,
+    ) -> Driven
         requires ours { self.ident ≡ service.now }
-        ensures drives { Drives service.now.shape (is_over self.part.private.stage) self (C.tally chance.old) (C.tally chance.new) result }
-        ensures passes { G.lets_all ≡ true → Passes result }
-        ensures watches { Watches (G.answered gate.now) (G.told gate.now) service.now.shape (is_over self.part.private.stage) self.part.worker result }
-        ensures owns { DoesNotWait result }
-        ensures stops { StopsAt self result }
+        ensures drives { DriveOutcome service.now.shape (is_section_over self.part.private.stage) self
+            (C.tally chance.old) (C.tally chance.new) result }
+        ensures passes { G.lets_all ≡ true → GateLetsPass result }
+        ensures watches { GateWatches (G.answered gate.now) (G.told gate.now) service.now.shape
+            (is_section_over self.part.private.stage) self.part.worker result }
+        ensures owns { DriveDoesNotWait result }
+        ensures stops { GateStopsAtEntry self result }
     {
         if !self.finished() && !gate.inside(self.worker(), self.lock()) {
             return Driven::Stopped(self);

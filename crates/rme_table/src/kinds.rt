@@ -1,8 +1,8 @@
 //! The values of a worker that is up, one for each thing that it can do next.
 
 use crate::down::Down;
-use crate::way::Way;
-use rme_seats::WorkerSeat;
+use crate::exit_form::ExitForm;
+use rme_service_steps::WorkerSeat;
 use rme_words::Refusal;
 use std::marker::Model;
 
@@ -43,7 +43,7 @@ pub struct Leave {
     pub(crate) seat: WorkerSeat,
     pub(crate) begun: u32,
     pub(crate) lock: u32,
-    pub(crate) way: Way,
+    pub(crate) way: ExitForm,
 }
 
 /// What a recovery finds.
@@ -79,45 +79,45 @@ pub enum Sweep {
 }
 
 impl Model for Ready {
-    ghost use Rattle.rme_seats.specs.Stands.{Stand};
-    ghost use Rattle.rme_table.specs.Kinds.{IsReady};
+    ghost use Rattle.rme_service_steps.specs.SeatViews.{SeatView};
+    ghost use Rattle.rme_table.specs.Kinds.{ReadyInvariant};
 
-    ghost Value = { Stand };
+    ghost Value = { SeatView };
 
     ghost view = { λ ready. ready.seat };
 
-    ghost invariant = { λ ready. IsReady ready.seat ready.begun };
+    ghost invariant = { λ ready. ReadyInvariant ready.seat ready.begun };
 }
 
 impl Model for Climb {
-    ghost use Rattle.rme_seats.specs.Stands.{Stand};
-    ghost use Rattle.rme_table.specs.Kinds.{IsClimb};
+    ghost use Rattle.rme_service_steps.specs.SeatViews.{SeatView};
+    ghost use Rattle.rme_table.specs.Kinds.{ClimbInvariant};
 
-    ghost Value = { Stand };
+    ghost Value = { SeatView };
 
     ghost view = { λ climb. climb.seat };
 
-    ghost invariant = { λ climb. IsClimb climb.seat climb.begun climb.lock climb.held };
+    ghost invariant = { λ climb. ClimbInvariant climb.seat climb.begun climb.lock climb.held };
 }
 
 impl Model for Held {
-    ghost use Rattle.rme_seats.specs.Stands.{Stand};
-    ghost use Rattle.rme_table.specs.Kinds.{IsHeld};
+    ghost use Rattle.rme_service_steps.specs.SeatViews.{SeatView};
+    ghost use Rattle.rme_table.specs.Kinds.{HeldInvariant};
 
-    ghost Value = { Stand };
+    ghost Value = { SeatView };
 
     ghost view = { λ held. held.seat };
 
-    ghost invariant = { λ held. IsHeld held.seat held.begun held.lock held.pending };
+    ghost invariant = { λ held. HeldInvariant held.seat held.begun held.lock held.pending };
 }
 
 impl Model for Leave {
-    ghost use Rattle.rme_seats.specs.Stands.{Stand};
-    ghost use Rattle.rme_table.specs.Leaves.{IsLeave};
+    ghost use Rattle.rme_service_steps.specs.SeatViews.{SeatView};
+    ghost use Rattle.rme_table.specs.Leaves.{LeaveInvariant};
 
-    ghost Value = { Stand };
+    ghost Value = { SeatView };
 
     ghost view = { λ leave. leave.seat };
 
-    ghost invariant = { λ leave. IsLeave leave.seat leave.begun leave.lock leave.way };
+    ghost invariant = { λ leave. LeaveInvariant leave.seat leave.begun leave.lock leave.way };
 }

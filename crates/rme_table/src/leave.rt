@@ -1,19 +1,19 @@
 //! A worker whose job is finished, and that has nodes to release.
 
 use crate::down::Down;
+use crate::exit_form::ExitForm;
 use crate::kinds::{Leave, Ready};
 use crate::service::Service;
-use crate::way::Way;
-use rme_phases::{clear, leave};
-use rme_seats::Chance;
+use rme_service_phases::{clear, leave};
+use rme_service_steps::Chance;
 
 impl Leave {
     ghost use Rattle.std.specs.Prelude.{◌≡◌, ◌≢◌, ◌+◌, ◌*◌, ◌<◌, MatchResult};
     ghost use Rattle.rme_program.specs.declared.kinds.Phase.{Phase};
     ghost use Rattle.rme_program.specs.Phases.{phase_of};
-    ghost use Rattle.rme_seats.specs.Doing.{Falling};
-    ghost use Rattle.rme_seats.specs.Parts.{onward};
-    ghost use Rattle.rme_table.specs.Calls.{KnowsNumber, Made};
+    ghost use Rattle.rme_service_steps.specs.CallSteps.{CallFell};
+    ghost use Rattle.rme_service_steps.specs.Parts.{unchanged_part};
+    ghost use Rattle.rme_table.specs.Calls.{PartKnowsNumber, CallIsDone};
 
     /// The worker's number.
     pub fn worker(&self) -> u32
@@ -26,9 +26,13 @@ impl Leave {
     /// Releases the worker's nodes, from the root downward, and leaves it ready.
     pub fn exit<C: Chance>(self, service: &Service, chance: &mut C) -> Result<Ready, Down>
         requires ours { self.ident ≡ service.now }
-        ensures made { MatchResult result (λ ready. Made service.now.shape onward self ready (C.tally chance.old) (C.tally chance.new) 1 (service.now.shape.height + 2)) (λ down. Falling service.now.shape onward self down (C.tally chance.old) (C.tally chance.new) (service.now.shape.height + 2)) }
-        ensures number { MatchResult result (λ ready. ready.part.private.begun ≡ self.part.private.begun) (λ _. Unit {0}) }
-        ensures knows { MatchResult result (λ ready. KnowsNumber service.now.shape ready.part) (λ _. Unit {0}) }
+        ensures made { MatchResult result (λ ready. CallIsDone service.now.shape unchanged_part self ready
+            (C.tally chance.old) (C.tally chance.new) 1 (service.now.shape.height + 2))
+            (λ down. CallFell service.now.shape unchanged_part self down (C.tally chance.old) (C.tally chance.new)
+            (service.now.shape.height + 2)) }
+        ensures number { MatchResult result (λ ready. ready.part.private.begun ≡ self.part.private.begun)
+            (λ _. Unit {0}) }
+        ensures knows { MatchResult result (λ ready. PartKnowsNumber service.now.shape ready.part) (λ _. Unit {0}) }
     {
         let Leave {
             mut seat,
@@ -37,8 +41,8 @@ impl Leave {
             way,
         } = self;
         let left = match way {
-            Way::Whole => leave(&mut seat, &service.words, chance, lock),
-            Way::Partial { level } => clear(&mut seat, &service.words, chance, lock, level),
+            ExitForm::Whole => leave(&mut seat, &service.words, chance, lock),
+            ExitForm::Partial { level } => clear(&mut seat, &service.words, chance, lock, level),
         };
         if left.is_err() {
             return Err(Down { seat });

@@ -3,8 +3,8 @@ use Rattle.std.proofs.Common.{◌≡◌, ◌≢◌, ℕ, zero, suc, ◌+◌, ◌
 use Rattle.std.proofs.Math.Pow.{pow_mono}
 use Rattle.std.proofs.lemmas.Bool.{cases_eq, cases_lt, cases_order}
 use Rattle.std.proofs.lemmas.Option.{same_Some, none-some}
-use Rattle.rme_tree.specs.Paths.{node, side, OwnTo, HoldsNode}
-use Rattle.rme_tree.specs.Rooted.{child}
+use Rattle.rme_tree.specs.Paths.{node, side, OwnsUpTo, HoldsNode}
+use Rattle.rme_tree.specs.HeldTrees.{child_node}
 use Rattle.rme_tree.proofs.Levels.{comes, node-zero, node-down, side_pos, side_le, node_range}
 
 -- A node lies `depth` levels below the root, and `level` levels above the lowest nodes.
@@ -51,7 +51,7 @@ pub record Came (f : ℕ → ℕ) (m h place v : ℕ) : Type 0 where
   pub to_top : (u : ℕ) → u < m → node m u level ≡ v → node m u (suc top) ≡ place
   pub above : (u i : ℕ) → u < m → node m u level ≡ v → level ≤ i → i < suc top → f (node m u (suc i)) ≡ side m u (suc i)
   pub below_top : level ≤ suc top
-  pub passed : (u : ℕ) → u < m → HoldsNode f m h u place → (node m u level ≡ v) × OwnTo f m u (suc top)
+  pub passed : (u : ℕ) → u < m → HoldsNode f m h u place → (node m u level ≡ v) × OwnsUpTo f m u (suc top)
 
 -- It begins at the node.
 pub came_start : (f : ℕ → ℕ) (m h v : ℕ) → m ≡ 2 ^ h → 1 ≤ v → v < m → Came f m h v v
@@ -71,7 +71,7 @@ came_start f m h v power some inside =
       passed = λ u few holds.
           let e : suc holds.level ≡ suc r.level =
           level_at m h u (suc holds.level) r.depth (suc r.level) v power few (omega (arith, holds.is_level)) r.height r.least r.less holds.there in
-          let P : ℕ → Type 0 = λ j. (node m u j ≡ v) × OwnTo f m u j in
+          let P : ℕ → Type 0 = λ j. (node m u j ≡ v) × OwnsUpTo f m u j in
           subst P e (holds.there, holds.own);
     }
 
@@ -94,12 +94,12 @@ module _ (f : ℕ → ℕ) (m h place v : ℕ) (power : m ≡ 2 ^ h) (came : Cam
 
   module _ (inside : v < m) (level : ℕ) (at : came.level ≡ suc level) where
     -- A path that comes to the child that the node's word names comes here from its side.
-    from_child : (u : ℕ) → 1 ≤ f v → f v ≤ 2 → node m u level ≡ child v (f v) → (node m u came.level ≡ v) × (f (node m u (suc level)) ≡ side m u (suc level))
+    from_child : (u : ℕ) → 1 ≤ f v → f v ≤ 2 → node m u level ≡ child_node v (f v) → (node m u came.level ≡ v) × (f (node m u (suc level)) ≡ side m u (suc level))
     from_child u some few meet =
         let up : (node m u (suc level) ≡ v) × (side m u (suc level) ≡ f v) = comes m u level v (f v) (omega arith) few meet in
         (ap (node m u) at ∙ up.0, ap f up.0 ∙ sym up.1)
 
-    above_child : (u i : ℕ) → u < m → 1 ≤ f v → f v ≤ 2 → node m u level ≡ child v (f v) → level ≤ i → i < suc came.top
+    above_child : (u i : ℕ) → u < m → 1 ≤ f v → f v ≤ 2 → node m u level ≡ child_node v (f v) → level ≤ i → i < suc came.top
         → f (node m u (suc i)) ≡ side m u (suc i)
     above_child u i inside_u some few meet from to =
         let up : (node m u came.level ≡ v) × (f (node m u (suc level)) ≡ side m u (suc level)) = from_child u some few meet in
@@ -111,12 +111,12 @@ module _ (f : ℕ → ℕ) (m h place v : ℕ) (power : m ≡ 2 ^ h) (came : Cam
     -- A holder's path comes here from the side of the node's word.
     holder_side : (u : ℕ) → u < m → HoldsNode f m h u place → (node m u (suc level) ≡ v) × (f v ≡ side m u (suc level))
     holder_side u inside_u holds =
-        let by : (node m u came.level ≡ v) × OwnTo f m u (suc came.top) = came.passed u inside_u holds in
+        let by : (node m u came.level ≡ v) × OwnsUpTo f m u (suc came.top) = came.passed u inside_u holds in
         let here : node m u (suc level) ≡ v = sym (ap (node m u) at) ∙ by.0 in
         (here, sym (ap f here) ∙ by.1 level (omega (arith, came.below_top)))
 
 -- One level down, to the child that the node's word names.
-pub came_down : (f : ℕ → ℕ) (m h place v c : ℕ) → m ≡ 2 ^ h → Came f m h place v → v < m → 1 ≤ f v → f v ≤ 2 → c ≡ child v (f v) → Came f m h place c
+pub came_down : (f : ℕ → ℕ) (m h place v c : ℕ) → m ≡ 2 ^ h → Came f m h place v → v < m → 1 ≤ f v → f v ≤ 2 → c ≡ child_node v (f v) → Came f m h place c
 came_down f m h place v c power came inside some few e =
     let below : (level : ℕ) × (came.level ≡ suc level) = level_below f m h place v power came inside in
     record {

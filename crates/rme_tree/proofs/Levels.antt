@@ -4,7 +4,7 @@ use Rattle.std.proofs.Math.Nat.{div-div-eq-div-mul}
 use Rattle.std.proofs.Math.Pow.{pow_mono}
 use Rattle.std.proofs.lemmas.Bool.{cases_order}
 use Rattle.rme_tree.specs.Paths.{node, side}
-use Rattle.rme_tree.specs.Rooted.{child}
+use Rattle.rme_tree.specs.HeldTrees.{child_node}
 
 pub node-zero : (m w : ℕ) → node m w 0 ≡ m + w
 unfolding node
@@ -30,7 +30,7 @@ unfolding side
 side_le m w j = omega arith
 
 -- A path that comes to the child of a node by the side of that node's word comes to the node, by that side.
-pub comes : (m w k v x : ℕ) → x ≢ 0 → x ≤ 2 → node m w k ≡ child v x → (node m w (suc k) ≡ v) × (side m w (suc k) ≡ x)
+pub comes : (m w k v x : ℕ) → x ≢ 0 → x ≤ 2 → node m w k ≡ child_node v x → (node m w (suc k) ≡ v) × (side m w (suc k) ≡ x)
 comes m w k v x some few e =
     (omega (arith, some, few, e, node-suc m w k), omega (arith, some, few, e, side-suc m w k))
 

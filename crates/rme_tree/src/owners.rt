@@ -2,9 +2,9 @@
 
 ghost use Rattle.std.specs.Prelude.{◌≡◌, ◌≢◌, ℕ, ◌<◌, ◌≤◌, ◌↔◌, Some, IfSome, MatchOption};
 ghost use Rattle.rme_words.specs.Words.{memory_of};
-ghost use Rattle.rme_tree.specs.Paths.{IsHeld, OwnTo, Owns, HoldsNode, Blocks};
-ghost use Rattle.rme_tree.specs.Rooted.{child};
-ghost use Rattle.rme_tree.specs.Nodes.{nodes_of, held_in, owner_in};
+ghost use Rattle.rme_tree.specs.Paths.{IsHeldLevels, OwnsUpTo, OwnsTree, HoldsNode, Blocks};
+ghost use Rattle.rme_tree.specs.HeldTrees.{child_node};
+ghost use Rattle.rme_tree.specs.Nodes.{lock_nodes, held_levels_in, owner_in};
 
 use crate::paths::{node, side};
 use rme_words::{Address, Bank};
@@ -16,9 +16,11 @@ use rme_words::{Address, Bank};
 pub fn held(bank: &Bank, lock: u32, w: u32) -> u32
     requires lock { lock < bank.now.shape.locks }
     requires worker { w < bank.now.shape.workers }
-    ensures held { result ≡ held_in bank.now.shape (memory_of bank.now) w lock }
-    ensures levels { IsHeld (nodes_of (memory_of bank.now) lock) bank.now.shape.leaves w bank.now.shape.height result }
-    ensures greatest { (j : ℕ) → j ≤ bank.now.shape.height → OwnTo (nodes_of (memory_of bank.now) lock) bank.now.shape.leaves w j → j ≤ result }
+    ensures held { result ≡ held_levels_in bank.now.shape (memory_of bank.now) w lock }
+    ensures levels { IsHeldLevels (lock_nodes (memory_of bank.now) lock) bank.now.shape.leaves w bank.now.shape.height
+        result }
+    ensures greatest { (j : ℕ) → j ≤ bank.now.shape.height
+        → OwnsUpTo (lock_nodes (memory_of bank.now) lock) bank.now.shape.leaves w j → j ≤ result }
 {
     let shape = bank.shape();
     for below in 0..shape.height {
@@ -35,8 +37,8 @@ fn named_child(bank: &Bank, lock: u32, place: u32) -> Option<u32>
     requires lock { lock < bank.now.shape.locks }
     requires node { 1 ≤ place }
     requires inside { place < bank.now.shape.leaves }
-    ensures { let word = nodes_of (memory_of bank.now) lock place in
-        MatchOption result ((word ≢ 1) × (word ≢ 2)) (λ c. (1 ≤ word) × (word ≤ 2) × (c ≡ child place word)) }
+    ensures { let word = lock_nodes (memory_of bank.now) lock place in
+        MatchOption result ((word ≢ 1) × (word ≢ 2)) (λ c. (1 ≤ word) × (word ≤ 2) × (c ≡ child_node place word)) }
 {
     match bank.load(Address::Node(lock, place)) {
         1 => Some(2 * place),
@@ -56,7 +58,8 @@ pub fn holder(bank: &Bank, lock: u32, place: u32) -> Option<u32>
     requires node { 1 ≤ place }
     requires inside { place < bank.now.shape.leaves }
     ensures shown { (w : ℕ) → w < bank.now.shape.workers
-        → (result ≡ Some w) ↔ HoldsNode (nodes_of (memory_of bank.now) lock) bank.now.shape.leaves bank.now.shape.height w place }
+        → (result ≡ Some w)
+        ↔ HoldsNode (lock_nodes (memory_of bank.now) lock) bank.now.shape.leaves bank.now.shape.height w place }
     ensures worker { IfSome result (λ w. w < bank.now.shape.workers) }
 {
     let shape = bank.shape();
@@ -76,7 +79,8 @@ pub fn owner(bank: &Bank, lock: u32) -> Option<u32>
     requires { lock < bank.now.shape.locks }
     ensures owner { result ≡ owner_in bank.now.shape (memory_of bank.now) lock }
     ensures shown { (w : ℕ) → w < bank.now.shape.workers
-        → (result ≡ Some w) ↔ Owns (nodes_of (memory_of bank.now) lock) bank.now.shape.leaves bank.now.shape.height w }
+        → (result ≡ Some w)
+        ↔ OwnsTree (lock_nodes (memory_of bank.now) lock) bank.now.shape.leaves bank.now.shape.height w }
     ensures worker { IfSome result (λ w. w < bank.now.shape.workers) }
 {
     holder(bank, lock, 1)
@@ -90,7 +94,8 @@ pub fn blocker(bank: &Bank, lock: u32, w: u32) -> Option<u32>
     requires lock { lock < bank.now.shape.locks }
     requires worker { w < bank.now.shape.workers }
     ensures shown { (b : ℕ) → b < bank.now.shape.workers
-        → (result ≡ Some b) ↔ Blocks (nodes_of (memory_of bank.now) lock) bank.now.shape.leaves bank.now.shape.height b w }
+        → (result ≡ Some b)
+        ↔ Blocks (lock_nodes (memory_of bank.now) lock) bank.now.shape.leaves bank.now.shape.height b w }
     ensures worker { IfSome result (λ b. b < bank.now.shape.workers) }
     ensures other { IfSome result (λ b. b ≢ w) }
 {

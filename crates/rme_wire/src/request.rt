@@ -1,15 +1,15 @@
 //! What a line asks of a world.
 
 ghost use Rattle.std.specs.Prelude.{◌≡◌, IfOk, option_map};
-ghost use Rattle.rme_json.specs.View.{view};
+ghost use Rattle.rme_line_json.specs.View.{value_view};
 ghost use Rattle.rme_wire.specs.Requests as spec;
 
 use crate::command::{Command, command_named};
 use crate::loading::{Loading, loading_of};
 use crate::opening::{Opening, opening_of};
-use crate::value::word_of;
-use rme_json::{Room, Value, ValueReader};
-use rme_names::Names;
+use crate::value::do_member;
+use rme_line_io::Names;
+use rme_line_json::{Value, ValueReader, ValueStorage};
 use rme_words::NoMemory;
 use std::alloc::{AllocError, Global};
 
@@ -36,7 +36,7 @@ pub fn request_of(
 ) -> Result<Option<Request>, NoMemory>
     ensures { IfOk result (λ request. request ≡ spec.request_of_line names.now line.now) }
 {
-    let mut room = Room::new();
+    let mut room = ValueStorage::new();
     match values.read(&mut room, line)? {
         None => Ok(None),
         Some(value) => match request_of_value(alloc, names, &value) {
@@ -46,18 +46,18 @@ pub fn request_of(
     }
 }
 
-#[tactic(auto, unfolding(crate::specs::Requests::request_of))]
+#[tactic(auto, unfolding(crate::specs::Requests::request_of_value))]
 fn request_of_value(
     alloc: Global,
     names: &Names,
     value: &Value<'_>,
 ) -> Result<Option<Request>, AllocError>
-    ensures { IfOk result (λ request. request ≡ spec.request_of names.now (view value.now)) }
+    ensures { IfOk result (λ request. request ≡ spec.request_of_value names.now (value_view value.now)) }
 {
     let Some(count) = value.key_count() else {
         return Ok(None);
     };
-    let Some(word) = word_of(value) else {
+    let Some(word) = do_member(value) else {
         return Ok(None);
     };
     if word == "open" {
@@ -74,7 +74,7 @@ fn open_request(
     count: usize,
     value: &Value<'_>,
 ) -> Result<Option<Request>, AllocError>
-    ensures { IfOk result (λ request. request ≡ spec.open_request count (view value.now)) }
+    ensures { IfOk result (λ request. request ≡ spec.open_request count (value_view value.now)) }
 {
     let Some(opening) = opening_of(alloc, count, value)? else {
         return Ok(None);
@@ -87,7 +87,7 @@ fn load_request(
     count: usize,
     value: &Value<'_>,
 ) -> Result<Option<Request>, AllocError>
-    ensures { IfOk result (λ request. request ≡ spec.load_request count (view value.now)) }
+    ensures { IfOk result (λ request. request ≡ spec.load_request count (value_view value.now)) }
 {
     let Some(loading) = loading_of(alloc, count, value)? else {
         return Ok(None);
@@ -96,7 +96,7 @@ fn load_request(
 }
 
 fn world_request(names: &Names, word: &str, count: usize, value: &Value<'_>) -> Option<Request>
-    ensures { result ≡ spec.world_request names.now word.now count (view value.now) }
+    ensures { result ≡ spec.world_request names.now word.now count (value_view value.now) }
 {
     let command = command_named(names, word, count, value)?;
     Some(Request::World(command))

@@ -8,15 +8,23 @@
 /// | Word | What its value means | Who stores it |
 /// |---|---|---|
 /// | `Begun(worker)` | how many jobs the worker has begun | the worker, as the last store of a post |
-/// | `Done(worker)` | the last number that is finished or withdrawn | the worker, as the last store of a section, and when it withdraws |
-/// | `Reply(worker)`, `Place(worker)`, `At(worker)` | the receipt of number `Done`, a receipt only while `Done` is `Begun`; place 2^64-1 says that the number was withdrawn | the worker, before that store of `Done` |
-/// | `SlateLock(worker)`, `SlateLen(worker)`, `SlateWord(worker, operation, part)` | the job of number `Begun`: its lock, how many operations it has, and three words for each | the worker, before its store of `Begun` |
-/// | `Node(lock, node)` | 0 free, 1 held by its left side, 2 held by its right side | the holder of the child on that side |
-/// | `Turn(lock)` | 2p: p sections are over and none is logged; 2p+1: the shadow words of section p are whole | the lock's owner |
+/// | `Done(worker)` | the last number that is finished or withdrawn | the worker, as the last store of a section, and
+/// when it withdraws |
+/// | `Reply(worker)`, `Place(worker)`, `At(worker)` | the receipt of number `Done`, a receipt only while `Done` is
+/// `Begun`; place 2^64-1 says that the number was withdrawn | the worker, before that store of `Done` |
+/// | `SlateLock(worker)`, `SlateLen(worker)`, `SlateWord(worker, operation, part)` | the job of number `Begun`: its
+/// lock, how many operations it has, and three words for each | the worker, before its store of `Begun` |
+/// | `Node(lock, node)` | 0 free, 1 held by its left side, 2 held by its right side | the holder of the child on that
+/// side |
+/// | `Turn(lock)` | 2p: p sections are over and none is logged; 2p+1: the shadow words of section p are whole | the
+/// lock's owner |
 /// | `Cell(lock, cell)` | the cell itself | the lock's owner, from the shadow word |
-/// | `Shadow(lock, cell)` | what section p leaves in the cell, for the mask's cells while `Turn` is 2p+1 | the lock's owner, before that store of `Turn` |
-/// | `ShadowReply(lock)` | the reply of section p, while `Turn` is 2p+1 | the lock's owner, before that store of `Turn` |
-/// | `Mask(lock)` | bit c stands for cell c: the cells that section p copies, while `Turn` is 2p+1 | the lock's owner, before that store of `Turn` |
+/// | `Shadow(lock, cell)` | what section p leaves in the cell, for the mask's cells while `Turn` is 2p+1 | the lock's
+/// owner, before that store of `Turn` |
+/// | `ShadowReply(lock)` | the reply of section p, while `Turn` is 2p+1 | the lock's owner, before that store of `Turn`
+/// |
+/// | `Mask(lock)` | bit c stands for cell c: the cells that section p copies, while `Turn` is 2p+1 | the lock's owner,
+/// before that store of `Turn` |
 #[derive(Clone, Copy, PartialEq, Eq)]
 pub enum Address {
     Begun(u32),

@@ -1,7 +1,7 @@
 //! The words of a shape, in one list.
 
 ghost use Rattle.std.specs.Prelude.{◌≡◌, ◌≢◌, ◌+◌, ◌*◌, ◌<◌, IfOk, length, replicate};
-ghost use Rattle.rme_words.specs.Words.{IsOfShape, Wrote, memory_of, read, word, word_count};
+ghost use Rattle.rme_words.specs.Words.{IsShapeAddress, StoreEffect, memory_of, read_word_at, word_number, word_count};
 
 use crate::address::Address;
 use crate::refusal::NoMemory;
@@ -71,7 +71,7 @@ impl Bank {
 
     /// The value of one word.
     pub fn load(&self, address: Address) -> u64
-        requires { IsOfShape self.now.shape address }
+        requires { IsShapeAddress self.now.shape address }
         ensures { result ≡ memory_of self.now address }
     {
         self.words[self.shape.word(address)]
@@ -79,9 +79,9 @@ impl Bank {
 
     /// Puts a value into one word.
     pub fn store(&mut self, address: Address, value: u64)
-        requires { IsOfShape self.old.shape address }
+        requires { IsShapeAddress self.old.shape address }
         ensures shape { self.new.shape ≡ self.old.shape }
-        ensures stored { Wrote (memory_of self.old) (memory_of self.new) address value }
+        ensures stored { StoreEffect (memory_of self.old) (memory_of self.new) address value }
     {
         let at = self.shape.word(address);
         self.words[at] = value;
@@ -89,10 +89,10 @@ impl Bank {
 
     /// Puts `new` into one word exactly where its value is `old`, and answers the value that it had.
     pub fn compare_exchange(&mut self, address: Address, old: u64, new: u64) -> u64
-        requires { IsOfShape self.old.shape address }
+        requires { IsShapeAddress self.old.shape address }
         ensures shape { self.new.shape ≡ self.old.shape }
         ensures found { result ≡ memory_of self.old address }
-        ensures stored { result ≡ old → Wrote (memory_of self.old) (memory_of self.new) address new }
+        ensures stored { result ≡ old → StoreEffect (memory_of self.old) (memory_of self.new) address new }
         ensures kept { result ≢ old → self.new ≡ self.old }
     {
         let found = self.load(address);

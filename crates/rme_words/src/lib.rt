@@ -2,7 +2,7 @@
 //!
 //! This crate stands on `std` alone, and every other crate stands on it. It knows where each word lies and
 //! that a store changes one address; it does not know what a word means. The one contract that the crates
-//! above use is `Wrote` of `specs/Words.antt`: after a store one address has the value, and every other
+//! above use is `StoreEffect` of `specs/Words.antt`: after a store one address has the value, and every other
 //! address has what it had. Begin with `address.rt`, which says what each word is for.
 #![tactic(auto)]
 

@@ -1,7 +1,7 @@
 //! Why a call was refused.
 
 ghost use Rattle.std.specs.Prelude.{◌≡◌};
-ghost use Rattle.rme_words.specs.Refusals.{code_of, name_of};
+ghost use Rattle.rme_words.specs.Refusals.{refusal_code, refusal_name};
 
 use std::alloc::AllocError;
 
@@ -68,7 +68,8 @@ pub struct NoMemory;
 
 impl From<AllocError> for NoMemory {
     ghost use Rattle.std.specs.Prelude.{◌≡◌};
-    ghost from_gives = { λ _ r. r ≡ record { } };
+
+    ghost from_gives = { λ _ r. r ≡ record {} };
 
     fn from(_value: AllocError) -> NoMemory {
         NoMemory
@@ -89,7 +90,7 @@ impl From<NoMemory> for Refusal {
 impl Refusal {
     /// The number of the refusal, 1 to 26, as it stands in answers.
     pub fn code(&self) -> u32
-        ensures { result ≡ code_of self.now }
+        ensures { result ≡ refusal_code self.now }
     {
         match self {
             Refusal::BadLine => 1,
@@ -123,7 +124,7 @@ impl Refusal {
 
     /// The name of the refusal, as it stands in answers.
     pub fn name(&self) -> &'static str
-        ensures { result.now ≡ name_of self.now }
+        ensures { result.now ≡ refusal_name self.now }
     {
         match self {
             Refusal::BadLine => "BadLine",

@@ -46,7 +46,8 @@ impl Shape {
     /// 1 to 1,000,000; otherwise the answer is `BadShape`.
     pub fn new(workers: u32, locks: u32, cells: u32, jobs: u32) -> Result<Shape, Refusal>
         ensures accepted { IsOk result ↔ IsWithinLimits workers locks cells jobs }
-        ensures numbers { IfOk result (λ s. (s.workers ≡ workers) × (s.locks ≡ locks) × (s.cells ≡ cells) × (s.jobs ≡ jobs)) }
+        ensures numbers { IfOk result (λ s. (s.workers ≡ workers) × (s.locks ≡ locks) × (s.cells ≡ cells)
+            × (s.jobs ≡ jobs)) }
         ensures refused { IfErr result (λ e. e ≡ Refusal.BadShape) }
     {
         if !is_within(workers, MOST_WORKERS) {

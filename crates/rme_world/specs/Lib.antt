@@ -1,14 +1,14 @@
 -- In reading order: the counts of steps, what contracts see of a world, the world at opening, when each event is
--- refused, what each changes, what steps and look-ups show, the headline, what each call promises, a list of events, saved
--- worlds, and what a step tells.
+-- refused, what each changes, what steps and look-ups show, the headline, what each call promises, a list of events,
+-- saved worlds, and what a step tells.
 pub mod Counting
-pub mod Seen
+pub mod WorldViews
 pub mod Opening
-pub mod Refused
+pub mod Refusals
 pub mod Events
-pub mod Looks
-pub mod Running
+pub mod Queries
+pub mod Refinement
 pub mod Calls
 pub mod EventLists
 pub mod Images
-pub mod Strides
+pub mod StepReports

@@ -3,7 +3,7 @@
 ghost use Rattle.std.specs.Prelude.{◌≡◌};
 ghost use Rattle.std.specs.Prelude.{◌<◌, ◌↔◌, IsTrue};
 ghost use Rattle.rme_program.specs.declared.note.Note.{Note};
-ghost use Rattle.rme_world.specs.Counting.{CountsAfter, count_of, counted, begun_stay};
+ghost use Rattle.rme_world.specs.Counting.{CountsAfterStep, phase_count, with_step_counted, with_stay_begun};
 
 use rme_program::{Note, Phase};
 
@@ -29,7 +29,7 @@ impl Counts {
 
     /// The steps of one phase; 0 for phase Ready, which has no steps.
     pub(crate) fn of(&self, phase: Phase) -> u32
-        ensures { result ≡ count_of self.now phase }
+        ensures { result ≡ phase_count self.now phase }
     {
         match phase {
             Phase::Recover => self.recover,
@@ -43,8 +43,8 @@ impl Counts {
 
     /// One more step in a phase.
     fn count(&mut self, phase: Phase)
-        requires { count_of self.old phase < 4294967295 }
-        ensures { self.new ≡ counted self.old phase }
+        requires { phase_count self.old phase < 4294967295 }
+        ensures { self.new ≡ with_step_counted self.old phase }
     {
         match phase {
             Phase::Recover => self.recover += 1,
@@ -58,7 +58,7 @@ impl Counts {
 
     /// A stay in a phase begins.
     pub(crate) fn begin(self, phase: Phase) -> Counts
-        ensures { result ≡ begun_stay self phase }
+        ensures { result ≡ with_stay_begun self phase }
     {
         match phase {
             Phase::Recover => Counts { recover: 0, ..self },
@@ -72,8 +72,8 @@ impl Counts {
 
     /// Counts a step that was made in phase `before` and left the worker in phase `after`.
     pub(crate) fn after_step(&mut self, before: Phase, after: Phase, note: Note)
-        requires { count_of self.old before < 4294967295 }
-        ensures { CountsAfter self.old before after note self.new }
+        requires { phase_count self.old before < 4294967295 }
+        ensures { CountsAfterStep self.old before after note self.new }
     {
         if is_blocked(note) {
             return;

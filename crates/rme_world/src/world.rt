@@ -5,8 +5,8 @@ ghost use Rattle.std.specs.List.{range_with_len};
 ghost use Rattle.rme_program.specs.Steps.{ready_private};
 ghost use Rattle.rme_machine.specs.Machine.{opening_state};
 ghost use Rattle.rme_world.specs.Counting.{no_counts};
-ghost use Rattle.rme_world.specs.Seen.{shown_by};
-ghost use Rattle.rme_world.specs.Opening.{opening};
+ghost use Rattle.rme_world.specs.WorldViews.{world_abstract_state};
+ghost use Rattle.rme_world.specs.Opening.{world_at_opening};
 
 use crate::counts::Counts;
 use rme_history::EntryList;
@@ -29,21 +29,38 @@ pub struct World {
 
 impl Model for World {
     ghost use Rattle.std.specs.Prelude.{◌-◌, length};
-    ghost use Rattle.rme_world.specs.Seen.{Seen, IsKept};
+    ghost use Rattle.rme_world.specs.WorldViews.{WorldView, WorldInvariant};
 
-    ghost Value = { Seen };
+    ghost Value = { WorldView };
 
-    ghost view = { λ world. record { shape = world.bank.shape; words = world.bank.words; privates = world.privates.items; history = world.history.entries; counts = world.counts.items; room = world.history.room - length world.history.entries } };
+    ghost view = { λ world. record {
+      shape = world.bank.shape;
+      words = world.bank.words;
+      privates =
+          world.privates.items;
+      history = world.history.entries;
+      counts = world.counts.items;
+      room = world.history.room -
+          length world.history.entries;
+    } };
 
-    ghost invariant = { λ world. IsKept record { shape = world.bank.shape; words = world.bank.words; privates = world.privates.items; history = world.history.entries; counts = world.counts.items; room = world.history.room - length world.history.entries } };
+    ghost invariant = { λ world. WorldInvariant record {
+      shape = world.bank.shape;
+      words = world.bank.words;
+      privates = world.privates.items;
+      history =
+          world.history.entries;
+      counts = world.counts.items;
+      room = world.history.room - length world.history.entries;
+    } };
 }
 
 impl World {
     /// A world of this shape: all words are 0, and all workers are up and ready. Takes memory for the words
     /// and the workers; `NoMemory` where it was refused.
     pub fn new(alloc: Global, shape: Shape) -> Result<World, NoMemory>
-        ensures opens { IfOk result (λ world. world ≡ opening shape) }
-        ensures shown { IfOk result (λ world. shown_by world ≡ opening_state shape) }
+        ensures opens { IfOk result (λ world. world ≡ world_at_opening shape) }
+        ensures shown { IfOk result (λ world. world_abstract_state world ≡ opening_state shape) }
     {
         let bank = Bank::new(alloc, shape)?;
         let privates = ready_workers(alloc, shape)?;
@@ -66,7 +83,8 @@ impl World {
 
 /// The private states of all workers at opening.
 fn ready_workers(alloc: Global, shape: Shape) -> Result<Vec<Option<Private>>, NoMemory>
-    ensures { IfOk result (λ privates. privates.items ≡ map (λ (worker : ℕ). Some (ready_private worker 0)) (range_with_len 0 shape.workers)) }
+    ensures { IfOk result (λ privates. privates.items ≡ map (λ (worker : ℕ). Some (ready_private worker 0))
+        (range_with_len 0 shape.workers)) }
 {
     match (0..shape.workers)
         .map(|worker| Some(Private::ready(worker, 0)))

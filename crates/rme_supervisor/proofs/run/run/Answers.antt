@@ -7,5 +7,5 @@ returns-in_default-clause-unattended g c = record { ours = c.requires.ours; why 
 
 pub keep_all-requires-clause-orders : goal.keep_all-requires-clause-orders
 keep_all-requires-clause-orders g c = λ κs within worker plan at.
-    ordered g.K.Tag.ident g.K.Course.turned g.K.Course.rounds g.K.Course.plans (g.G.Gate.answered c.args.gate.now) g.G.Gate.lets_all c.args.service.now c.args.schedule.now.rounds c.args.schedule.now.plans.now (length c.args.downs.items) c.requires.named.0 c.requires.named.3 c.requires.named.1
+    ordered g.K.Tag.ident g.K.RunTag.turned g.K.RunTag.rounds g.K.RunTag.plans (g.G.Gate.answered c.args.gate.now) g.G.Gate.lets_all c.args.service.now c.args.schedule.now.rounds c.args.schedule.now.plans.now (length c.args.downs.items) c.requires.named.0 c.requires.named.3 c.requires.named.1
     c.requires.good c.requires.away worker plan at

@@ -1,0 +1,58 @@
+//! How a stance goes on. A stance that a step does not begin from stays as it is.
+
+ghost use Rattle.std.specs.Prelude.{◌≡◌};
+ghost use Rattle.rme_machine.specs.Machine.{stance_after_crash};
+ghost use Rattle.rme_core_checker.specs.Deciding.{stance_after_ask, stance_after_take, stance_after_finish, stance_script};
+
+use rme_machine::JobStance;
+use rme_script::Script;
+
+/// A worker that was handed a job waits with it under this number.
+pub fn stance_after_ask(number: u32, stance: JobStance) -> JobStance
+    ensures { result ≡ stance_after_ask number stance }
+{
+    match stance {
+        JobStance::Handed(job) => JobStance::Waiting(number, job),
+        _ => stance,
+    }
+}
+
+/// A worker that waits is inside.
+pub fn stance_after_take(stance: JobStance) -> JobStance
+    ensures { result ≡ stance_after_take stance }
+{
+    match stance {
+        JobStance::Waiting(number, job) => JobStance::Inside(number, job),
+        _ => stance,
+    }
+}
+
+/// A worker that is inside has finished.
+pub fn stance_after_finish(stance: JobStance) -> JobStance
+    ensures { result ≡ stance_after_finish stance }
+{
+    match stance {
+        JobStance::Inside(number, job) => JobStance::Finished(number, job),
+        _ => stance,
+    }
+}
+
+/// A crash takes back a job that has no number yet.
+pub fn stance_after_crash(stance: JobStance) -> JobStance
+    ensures { result ≡ stance_after_crash stance }
+{
+    match stance {
+        JobStance::Handed(_) => JobStance::Idle,
+        _ => stance,
+    }
+}
+
+/// The script of the section that a worker is inside; an empty one where it is in none.
+pub fn stance_script(stance: &JobStance) -> Script
+    ensures { result ≡ stance_script stance.now }
+{
+    match stance {
+        JobStance::Inside(_, job) => job.script,
+        _ => Script::of(&[]),
+    }
+}

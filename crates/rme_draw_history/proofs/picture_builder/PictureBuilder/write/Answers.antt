@@ -1,0 +1,10 @@
+use Rattle.rme_draw_history.specs.PictureBuilding.{ended_picture, picture_state_of}
+use Rattle.rme_draw_history.proofs.Writing.{broke}
+use Rattle.rme_draw_history.proofs.picture_builder.PictureBuilder.write.Goals as goal
+
+pub returns-clause-broke : goal.returns-clause-broke
+returns-clause-broke g c =
+    let held = g.W.Sink.contents in
+    let took = g.W.Sink.took in
+    λ _. broke (g.P.Paint.paints (ended_picture (picture_state_of c.args.self.now))) c.in-Ok.page.failed (held c.args.writer.now) (held c.painted.new.writer) c.in-Ok.page.pending (took c.args.writer.now) (took c.painted.new.writer)
+    (took c.finish.new.writer) c.in-Ok.ensures.painted c.in-Err.ensures.broke

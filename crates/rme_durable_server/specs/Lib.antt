@@ -1,0 +1,2 @@
+-- How an order of a session is answered, and a line.
+pub mod DurableAnswers
