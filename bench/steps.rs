@@ -1,4 +1,4 @@
-//! The same steps as `rme_helpers steps` makes, by a plain program with no contract, for comparison.
+//! The same steps as `rme_bench steps` makes, by a plain program with no contract, for comparison.
 //!
 //! A worker that is up is a small stage and what it has read so far. Each call of `step` does one operation
 //! on one word and answers what it brought about.

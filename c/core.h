@@ -1,5 +1,5 @@
-/* core.h: what crates/rme_c exports, the proved part: which operation a worker does next on which word, and what it
-   knows once it has the value. For the files of this folder; crates/rme_c/README.md says what each call promises.
+/* core.h: what crates/rme_process_abi exports, the proved part: which operation a worker does next on which word, and what it
+   knows once it has the value. For the files of this folder; crates/rme_process_abi/README.md says what each call promises.
 
    The names, the layouts and the numbers must be those of that crate; nothing but this page and tests say so. */
 #ifndef RME_CORE_H

@@ -1,4 +1,4 @@
-/* rme.c: the calls of rme.h over the proved step machine of crates/rme_c.
+/* rme.c: the calls of rme.h over the proved step machine of crates/rme_process_abi.
 
    The crate decides every own step: which operation on which word comes next, and what the worker knows once it has
    the value. That these are the steps of the algorithm is proved there, and in the crates below it what any

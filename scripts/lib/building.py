@@ -15,28 +15,45 @@ import sys
 import time
 from concurrent.futures import FIRST_COMPLETED, ThreadPoolExecutor, wait
 
-from lib.sources import TOP, below, folder_of, library_of, sources_of, time_of
+from lib.sources import TOP, MadeOf, below, folder_of, library_of, sources_of, time_of
 
 MEMORY_OF_A_LANE = 3_500_000_000
 MOST_JOBS = 4
 # The processor seconds that crates took when this was written. Only their order matters: which chain of crates is the longest.
 SECONDS = {
-    "rme_words": 55, "rme_tree": 31, "rme_script": 60, "rme_lines": 88, "rme_options": 152, "rme_program": 148,
-    "rme_machine": 27, "rme_history": 47, "rme_image": 108, "rme_good": 68, "rme_checker": 99, "rme_world": 143,
-    "rme_names": 40, "rme_json": 56, "rme_texts": 170, "rme_wire": 170, "rme_session_lines": 90, "rme_reasons": 100,
-    "rme_verdicts": 110,
-    "rme_faults": 90, "rme_explanations": 110, "rme_picture": 242, "rme_seats": 96, "rme_phases": 174,
-    "rme_table": 222, "rme_supervisor": 230, "rme_orders": 50, "rme_slots": 40, "rme_sessions": 190,
-    "rme_server": 110, "rme_engine": 190, "rme_draw": 120, "rme_line_commands": 130, "rme_commands": 163,
-    "rme_run": 90, "rme_cli": 120,
+    "rme_words": 55, "rme_tree": 31, "rme_script": 60, "rme_line_io": 128, "rme_cli_options": 152, "rme_program": 148,
+    "rme_machine": 27, "rme_history": 47, "rme_core_image": 108, "rme_core_image_check": 68, "rme_core_checker": 99,
+    "rme_world": 143, "rme_line_json": 56, "rme_line_text": 170, "rme_wire": 170, "rme_session_protocol": 140,
+    "rme_line_diagnose": 100, "rme_line_check": 110, "rme_cli_messages": 200, "rme_draw_picture": 242,
+    "rme_service_steps": 96, "rme_service_phases": 174, "rme_table": 222, "rme_supervisor": 230,
+    "rme_session_threads": 230, "rme_session_server": 250, "rme_server": 110, "rme_line_engine": 190,
+    "rme_draw_history": 120, "rme_cli_lines": 130, "rme_cli_run": 90, "rme_session_world": 180, "rme_durable_log": 110,
+    "rme_durable_format": 200, "rme_durable_checkpoint": 250, "rme_durable_server": 240, "rme_process_file": 150,
+    "rme_durable_file": 120, "rme_cli_listen": 120, "rme_cli_look": 180, "rme_cli_durable": 180,
+    "rme_cli_commands": 250, "rme_cli": 400,
 }  # fmt: skip
+# Side by side crates keep some 2.7 processors busy, where there are four, and a crate that leads with several jobs takes about
+# seven tenths of its seconds.
+BUSY, OF_LEADER = 2.7, 0.7
+LAST_LINES = 40  # of a log, where a crate failed
 # What a program is run with once it is built, on no input; any other is asked for its version.
-FIRST_WORDS = {"rme_run": "run"}
+FIRST_WORDS = {"rme_cli_run": "run"}
 running = set()
 
 
 def say(text):
     print(f"rme: {text}", file=sys.stderr, flush=True)
+
+
+def say_end(name, log):
+    """Says the last lines of a log, and where all of it is."""
+    lines = log.splitlines(keepends=True)
+    sys.stderr.write("".join(lines[-LAST_LINES:]))
+    if len(lines) > LAST_LINES:
+        path = os.path.join(folder_of(name), "out", "failed.log")
+        with open(path, "w", encoding="utf-8") as file:
+            file.write(log)
+        say(f"these are its last lines; all are in {path}")
 
 
 def weight(name):
@@ -123,35 +140,49 @@ def lanes():
     return max(1, min(len(os.sched_getaffinity(0)), free // MEMORY_OF_A_LANE))
 
 
+def expected(weight, chain, places):
+    """How many seconds so much work takes at pace 1, with so many crates side by side, where this is the chain of crates that
+    is the longest."""
+    return max(weight / min(places, BUSY), (OF_LEADER if places > 2 else 1) * chain)
+
+
+def minutes_for(crates, names):
+    """About how many minutes it takes to build these crates, and how fast they were built where this was written."""
+    weights = {name: weight(name) for name in crates if name in names}
+    chain = max(chains(crates, weights).values(), default=0)
+    return round(expected(sum(weights.values()), chain, lanes()) / 60)
+
+
+def to_build(crates, made, name):
+    """What is to be built for a file of a crate: that crate and those below it that are out of date, or nothing."""
+    names = below(crates, name)
+    made_of = MadeOf(made, crates, [*names, name])
+    return [] if made_of.is_fresh() else [*stale(crates, names, made_of), name]
+
+
 class Progress:
     """How far the build is, by the weights of its crates: of all, and of the chain of crates that is the longest.
 
-    Side by side they keep some 2.7 processors busy, where there are four, and a crate that leads with several jobs takes
-    about seven tenths of its weight. That the machine is slow shows slowly, as if so many seconds had gone by at pace 1:
-    its first crate is also the first that reads the toolchain from the disk. That it is fast shows at once, as where
-    most crates are found to be proved already.
+    That the machine is slow shows slowly, as if so many seconds had gone by at pace 1: its first crate is also the first
+    that reads the toolchain from the disk. That it is fast shows at once, as where most crates are found to be proved
+    already.
     """
 
     SECONDS_AT_PACE_1 = 300
 
     def __init__(self, program, weights, chain, places):
-        self.weights, self.chain, self.busy = weights, chain, min(places, 2.7)
-        self.of_leader = 0.7 if places > 2 else 1
+        self.weights, self.chain, self.places = weights, chain, places
         self.began, self.done = time.monotonic(), 0
         say(f"proving and building {program}: {len(weights)} crates; this is done once, and again only for what changes")
-
-    def expected(self, weight, chain):
-        """How many seconds so much work takes at pace 1, of which this is the chain that is the longest."""
-        return max(weight / self.busy, self.of_leader * chain)
 
     def built(self, name, number, chain_left):
         self.done += self.weights[name]
         left = sum(self.weights.values()) - self.done
         took = time.monotonic() - self.began
-        so_far = self.expected(self.done, self.chain - chain_left)
+        so_far = expected(self.done, self.chain - chain_left, self.places)
         slow = (took + self.SECONDS_AT_PACE_1) / (so_far + self.SECONDS_AT_PACE_1)
         pace = min(slow, took / so_far)
-        minutes = round(pace * self.expected(left, chain_left) / 60)
+        minutes = round(pace * expected(left, chain_left, self.places) / 60)
         still = f"some {minutes} minutes still" if minutes > 1 else "a minute still" if left else "done"
         say(f"{number} of {len(self.weights)}: {name}, after {round(took)} s; {still}")
 
@@ -192,7 +223,7 @@ def build(crates, names, program):
                 name = working.pop(it)
                 well, told = it.result()
                 if not well:
-                    sys.stderr.write(told)
+                    say_end(name, told)
                     say(f"{program} was not built: {name} failed")
                     stop()
                 number += 1

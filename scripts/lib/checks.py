@@ -1,4 +1,5 @@
-"""Checks that are counted. A script makes all of its checks, whatever fails, and its last line is `N checks, M failed`."""
+"""Checks that are counted. A part of a script makes all of its checks, whatever fails, and its last line is
+`N checks, M failed`; where the script runs all of its parts, it gets the count in place of the line."""
 
 import os
 import signal
@@ -9,10 +10,12 @@ import traceback
 
 made = 0
 failed = 0
+left_out = 0
+counted = None  # the file, by its number, that is told the count
 
 
 class Stop(Exception):
-    """A part of a script cannot go on: it counts as a failed check, and the other parts are made."""
+    """A group of checks cannot go on: it counts as a failed check, and the other groups are made."""
 
 
 def check(name, holds, told="", quiet=False):
@@ -44,40 +47,55 @@ def note(text):
 
 def skip(name, why):
     """Says that something cannot be tried on this machine."""
+    global left_out
+    left_out += 1
     print(f"skip {name}: {why}", flush=True)
 
 
-def main(*parts):
-    """Makes the parts in turn, each a function without arguments, and ends the script: status 1 where a check failed."""
-    for part in parts:
+def is_well(made, failed, left_out):
+    """Whether all is well after so many checks: none failed, and where none was made, it was said what is left out."""
+    return not failed and bool(made or left_out)
+
+
+def end():
+    """Tells the count, and ends the script: status 1 where a check failed."""
+    if counted is None:
+        print(f"{made} checks, {failed} failed", flush=True)
+    else:
+        os.write(counted, f"{made} {failed} {left_out}".encode())
+    sys.exit(0 if is_well(made, failed, left_out) else 1)
+
+
+def main(*groups):
+    """Makes groups of checks in turn, each a function without arguments, and ends the script."""
+    for group in groups:
         try:
-            part()
+            group()
         except Stop as stop:
-            fail(getattr(part, "__name__", "a part"), stop)
+            fail(getattr(group, "__name__", "a group"), stop)
         except Exception:
-            fail(getattr(part, "__name__", "a part"), traceback.format_exc())
-    print(f"{made} checks, {failed} failed", flush=True)
-    sys.exit(1 if failed or not made else 0)
+            fail(getattr(group, "__name__", "a group"), traceback.format_exc())
+    end()
 
 
-def main_in_folders(*parts, minutes):
-    """Makes the parts as `main` does, each in a folder of its own, within so many minutes, and says how long each took."""
+def main_in_folders(*groups, minutes):
+    """Makes the groups as `main` does, each in a folder of its own, within so many minutes, and says how long each took."""
 
     def too_long(*_):
         raise TimeoutError(f"no end after {minutes} minutes")
 
-    def in_folder(part):
+    def in_folder(group):
         def call():
-            folder = os.path.join(all_of_them, part.__name__)
+            folder = os.path.join(all_of_them, group.__name__)
             os.mkdir(folder)
             began = time.monotonic()
-            part(folder)
-            note(f"{part.__name__}: {time.monotonic() - began:.1f} seconds")
+            group(folder)
+            note(f"{group.__name__}: {time.monotonic() - began:.1f} seconds")
 
-        call.__name__ = part.__name__
+        call.__name__ = group.__name__
         return call
 
     signal.signal(signal.SIGALRM, too_long)
     signal.alarm(60 * minutes)
     with tempfile.TemporaryDirectory() as all_of_them:
-        main(*map(in_folder, parts))
+        main(*map(in_folder, groups))

@@ -3,9 +3,13 @@
 import collections
 import json
 import re
+import subprocess
+import time
 
-from lib.programs import run
+from lib.programs import ends_with, run
 from lib.servers import Server, line_of
+
+LOCKS = ("bank", "shop")
 
 # What may stand behind the last newline of a file where its server was killed: all of it is cut off.
 TORN = (b"{", b'{"do":"crash","worker":0}', b'{"do":"walk","max":1', b"\0" * 4096, b"x" * 70_000, bytes(range(11, 256)))
@@ -22,6 +26,24 @@ def serve(path, *locks, how=(), **options):
     if not {"port", "socket"} & set(options):
         options["port"] = 0
     return Server(words=state_words(path, *locks, **options), how=how)
+
+
+def end_of(words, **how):
+    """How a run ends that must not serve, as `ends_with` says it."""
+    try:
+        return ends_with(run(words, stdin=subprocess.DEVNULL, timeout=10, **how))
+    except subprocess.TimeoutExpired as late:
+        return "no end", late.stdout or b"", late.stderr or b""
+
+
+def until_waiting(session, worker):
+    """What all are at, once this worker waits."""
+    for _ in range(1000):
+        told = session.told(do="status")
+        if told["workers"][worker]["stance"] == "climb":
+            break
+        time.sleep(0.01)
+    return told
 
 
 def kill(server):

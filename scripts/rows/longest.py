@@ -35,9 +35,3 @@ def try_orders():
     for length, wanted in ((MOST, b'{"code":19,"error":"NotAttached"}\n'), (MOST + 1, TOO_LONG)):
         line = line_of(b'{"do":"last"}', length) + b"\n"
         check_session(f"an order of {length} bytes", words, [(1, line)], wanted + b"lock a cells 0 entries 0\n")
-
-
-def try_longest():
-    try_commands()
-    try_event_lines()
-    try_orders()

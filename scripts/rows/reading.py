@@ -1,10 +1,12 @@
-"""The files of rows/ and examples/: their lines, and what the lines that begin with # ask for."""
+"""The files of examples/ and of the folders of rows/: their lines, and what the lines that begin with # ask for."""
 
 import os
 import re
 from collections import namedtuple
 
 from lib.programs import TOP
+
+FOLDERS = ("examples", "rows/lines", "rows/transcripts", "rows/images", "rows/sessions")
 
 # A row: its name, its lines, and by the ends of their names the other files that it has.
 Row = namedtuple("Row", "name items files")
@@ -95,8 +97,8 @@ def rows_of(folder):
 
 
 def all_rows():
-    yield from rows_of("examples")
-    yield from rows_of("rows")
+    for folder in FOLDERS:
+        yield from rows_of(folder)
 
 
 def plain_rows():

@@ -1,11 +1,11 @@
-//! A recoverable lock service, under one name: what a caller needs of the crates below, and nothing else.
+//! A facade: it re-exports what a caller needs of the crates below.
 //!
-//! A caller names this crate alone. What all of its parts speak of stands here: the sizes of a service, jobs and
-//! their scripts, receipts, and the refusals. Each way to use the service has a module: a `world` whose every step
-//! the caller decides, a running `service` whose workers are values that threads hold, a `supervisor` that keeps
-//! such workers alive, `sessions` that hand them to clients, `lines` in and out, and a `checker` for transcripts.
-//! The crate holds no logic: each name is one of a crate below, whose contract and README say what it promises.
-//! Its examples are the tests of rme_tests. Begin with `world.rt`.
+//! A caller names only this crate. The root has the types that all parts share: the sizes of a service, jobs and their
+//! scripts, receipts, and the refusals. Each way to use the service has a module: a `world` whose every step the caller
+//! decides, a running `service` whose workers are values that threads hold, a `supervisor` that restarts such workers,
+//! `sessions` that give them to clients, `lines` in and out, and a `checker` for transcripts. The crate has no logic:
+//! the contract and the README of the crate below say what each name promises. Its examples are the tests of
+//! rme_test_caller. Begin with `world.rt`.
 #![tactic(auto)]
 
 pub mod checker;

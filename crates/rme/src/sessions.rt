@@ -1,16 +1,19 @@
-//! Sessions: clients that take a worker, hand it jobs by their numbers, and let it go.
+//! Sessions: a client attaches a worker, submits numbered jobs to it, and detaches it.
 //!
-//! `Slots` keeps the Downs of a service that no session has, and `Hall` who has which worker; a `Host` is all that
-//! sessions share, and the `Backend` that answers their lines. `session` has those of one client answered, from any reader
-//! to any writer; `serve` does so for connections over TCP and Unix sockets; `obey` is one order by a call, without lines.
+//! `Slots` has the Downs of the workers that no session has, and `SessionRegistry` the claims of the others; a
+//! `ServiceBackend` is all that sessions share, and the `Backend` that answers their lines. `session` answers the lines
+//! of one client, from any reader to any writer; `serve` does so for connections over TCP and Unix sockets; `obey`
+//! executes one order by a call, without lines.
 
-pub use rme_reasons::Reason;
+pub use rme_line_diagnose::Reason;
+pub use rme_line_text::ClientReceipt;
 pub use rme_server::{
-    Backend, Buffers, Client, Closer, Connection, Door, Hall, Holding, Host, Listener, Planned,
-    Present, Reach, ServeFault, Slots, Stand, Trouble, Unreached, obey, serve, session,
+    AnswerError, AttemptError, Backend, Buffers, Client, CloseHandle, Closer, Connection,
+    FirstReply, Holding, Listener, LocalClient, NoCloseHandle, OrderAttempts, OrderRun,
+    PlannedCrash, ServeFault, ServerLimits, ServerObserver, ServiceBackend, SessionRegistry, Slots,
+    Stand, obey, serve, session,
 };
-pub use rme_session_lines::{
-    Attachment, Order, Outcome, Patience, SERVICE_NUMBERS, SessionReply, Standing, Submission,
-    ToldOutcome, ToldReply, WORLD_NUMBERS, order_of, push_session_reply,
+pub use rme_session_protocol::{
+    Attachment, ClientOutcome, ClientReply, JobOutcome, Order, Patience, SERVICE_NUMBERS,
+    SessionReply, SessionStance, Submission, WORLD_NUMBERS, parse_order, push_session_reply,
 };
-pub use rme_texts::ToldReceipt;

@@ -1,45 +1,49 @@
 //! The program `rme`: a recoverable mutual exclusion lock service over lines, and over threads.
 //!
-//! The words of the command line are read by rme_line_commands, and what they ask for is done by that crate, by rme_commands and
-//! by rme_look. It is small, since what stands here is checked against all the crates of the program.
+//! rme_cli_options reads the words of the command line; rme_cli_lines, rme_cli_commands, rme_cli_durable and
+//! rme_cli_look execute the commands. This crate is small, since its code is checked against all crates of the program.
 #![tactic(auto)]
 
-use rme_commands::{run_draw, run_keep, run_serve, run_threads};
-use rme_faults::Fault;
-use rme_line_commands::{Asked, end, perform_lines, read_words};
-use rme_look::run_look;
-use rme_options::Task;
+use rme_cli_commands::{run_draw, run_serve, run_threads};
+use rme_cli_durable::run_serve_durable;
+use rme_cli_lines::perform_lines;
+use rme_cli_look::run_look;
+use rme_cli_messages::CliFault;
+use rme_cli_options::{CliTask, ParsedCommandLine, finish_process, read_words};
 use std::process::ExitCode;
 use std::sync::Wait;
 use std::thread::Threads;
 use std::time::Clock;
 
 fn main(rt: HostRuntime) -> ExitCode {
-    end(&rt, obey(&rt, &rt))
+    finish_process(&rt, run_command_line(&rt, &rt))
 }
 
-/// Does what the words of the command line ask for, and answers the status.
-fn obey<R: Threads + Wait + Clock + Sync>(rt: &HostRuntime, threads: &R) -> Result<u8, Fault> {
+/// Executes the command of the command line, and answers the status.
+fn run_command_line<R: Threads + Wait + Clock + Sync>(
+    rt: &HostRuntime,
+    threads: &R,
+) -> Result<u8, CliFault> {
     match read_words(rt)? {
-        Asked::Task(task) => perform(rt, threads, task),
-        Asked::Told(status) => Ok(status),
+        ParsedCommandLine::Task(task) => perform(rt, threads, task),
+        ParsedCommandLine::Told(status) => Ok(status),
     }
 }
 
-/// Does what is asked for over the standard streams of the process, and answers its status.
+/// Executes a command over the standard streams of the process, and answers its status.
 ///
-/// An error is what ended it early; what the command says of it in `--help` was done before.
+/// An error is the fault that ended it early; `--help` says what a command has done by then.
 fn perform<R: Threads + Wait + Clock + Sync>(
     rt: &HostRuntime,
     threads: &R,
-    task: Task,
-) -> Result<u8, Fault> {
+    task: CliTask,
+) -> Result<u8, CliFault> {
     match task {
-        Task::Lines(task) => perform_lines(rt, task),
-        Task::Draw => run_draw(rt),
-        Task::Threads(task) => run_threads(rt, threads, &task),
-        Task::Serve(task) => run_serve(rt, threads, task),
-        Task::Keep(task) => run_keep(rt, threads, task),
-        Task::Look(task) => run_look(rt, task),
+        CliTask::Lines(task) => perform_lines(rt, task),
+        CliTask::Draw => run_draw(rt),
+        CliTask::Threads(task) => run_threads(rt, threads, &task),
+        CliTask::Serve(task) => run_serve(rt, threads, task),
+        CliTask::ServeDurable(task) => run_serve_durable(rt, threads, task),
+        CliTask::Look(task) => run_look(rt, task),
     }
 }

@@ -1,5 +1,5 @@
--- Which lists of entries are legal, and the machine's; what a replay has found so far, and whether it goes on;
--- lists in order, and a legal history that is put in order.
+-- Legal lists of entries, and the histories of the abstract machine; the state of a replay, and its next step; lists in
+-- order, and a legal history put in order.
 pub mod Legal
 pub mod Machines
 pub mod Folds

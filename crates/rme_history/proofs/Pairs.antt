@@ -1,4 +1,4 @@
--- The first item of a list and the later ones, and what is kept of a list by a filter.
+-- The first item of a list and the later ones, and the items that a filter keeps.
 use Rattle.std.proofs.Common.{◌≡◌, ℕ, zero, suc, ◌+◌, List, [], ◌∷◌, length, refl, sym, ◌∙◌, inl, inr, arith}
 use Rattle.std.specs.Prelude.{Bool, true, filter, if◌then◌else◌}
 use Rattle.std.specs.List.{All, AllPairs, sum_by}
@@ -9,14 +9,14 @@ use Rattle.std.proofs.lemmas.List.Sorted.{sum_by-IsPermutation}
 use Rattle.std.proofs.lemmas.List.Sums.{sum_by-cons}
 
 module _ {X : Type 0} where
-  -- Where each item of a list stands to all later ones as a relation says, so does the first, and so do the others.
+  -- If a relation holds between each item and all later ones, it holds for the first item and for the rest of the list.
   pub pairs_head : (R : X → X → Type 0) (x : X) (xs : List X) → AllPairs R (x ∷ xs) → All (R x) xs
   pairs_head R x xs pairs k d within = pairs zero (suc k) d (omega arith) (omega (arith, within))
 
   pub pairs_tail : (R : X → X → Type 0) (x : X) (xs : List X) → AllPairs R (x ∷ xs) → AllPairs R xs
   pairs_tail R x xs pairs i j d less within = pairs (suc i) (suc j) d (omega (arith, less)) (omega (arith, within))
 
-  -- What holds of all that a filter keeps holds of all that pass it, and the other way round.
+  -- A property of all items that a filter keeps is one of all items that pass it, and conversely.
   pub kept_all : (p : X → Bool) (Q : X → Type 0) (xs : List X) → All Q (filter p xs) → All (λ x. p x ≡ true → Q x) xs
   kept_all p Q [] all = All-nil (λ x. p x ≡ true → Q x)
   kept_all p Q (x ∷ xs) all = elim (cases_Bool (p x)) [
@@ -37,7 +37,7 @@ module _ {X : Type 0} where
         | inr f ↦ rw f rest
       ]
 
-  -- A sum over what a filter keeps does not go by the order.
+  -- A sum over the items that a filter keeps does not depend on the order.
   sum_kept : (f : X → ℕ) (p : X → Bool) (xs : List X) → sum_by f (filter p xs) ≡ sum_by (λ x. if p x then f x else 0) xs
   sum_kept f p [] = refl
   sum_kept f p (x ∷ xs) =
@@ -59,7 +59,7 @@ module _ {X : Type 0} where
   sum_mixed f p xs ys mixed =
       sum_kept f p ys ∙ sum_by-IsPermutation (λ x. if p x then f x else 0) xs ys mixed ∙ sym (sum_kept f p xs)
 
-  -- A sum of ones is the length, and where a sum is 0 all that it adds are.
+  -- A sum of ones is the length, and if a sum is 0 so are all its terms.
   pub sum_ones : (xs : List X) → sum_by (λ x. 1) xs ≡ length xs
   sum_ones [] = refl
   sum_ones (x ∷ xs) = sum_by-cons (λ y. 1) x xs ∙ (let rest = sum_ones xs in omega (arith, rest))

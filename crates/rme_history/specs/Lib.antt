@@ -1,8 +1,8 @@
--- In reading order: the order of entries, which lists of them are legal histories and the laws of these, what a
--- replay has found so far, and the most steps of each phase.
+-- In reading order: the order of entries, legal histories and their laws, the state of a replay, and the greatest
+-- number of steps of each phase.
 pub mod Places
 pub mod Legal
 pub mod Laws
 pub mod Folds
 pub mod Tallies
-pub mod Listings
+pub mod EntryLists

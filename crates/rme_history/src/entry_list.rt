@@ -1,43 +1,44 @@
-//! Finished sections in a list that takes little room.
+//! A compact list of finished sections.
 
 ghost use Rattle.std.specs.Prelude.{◌≡◌, ◌+◌, ◌≤◌, ◌++◌, length, vec_capacity};
-ghost use Rattle.rme_history.specs.Listings.{IsHead, entry_of as section_of};
+ghost use Rattle.rme_history.specs.EntryLists.{IsEntryHead, entry_from_head as section_of};
 
-use crate::head::Head;
+use crate::entry_head::EntryHead;
 use rme_program::{Entry, Receipt};
 use rme_script::{MOST_OPERATIONS, Op, Script};
 use rme_words::NoMemory;
 use std::alloc::Global;
 use std::marker::Model;
 
-/// No list has room for more: where the operations of a script begin is a number of 32 bits.
+/// No list has room for more: the index of an operation has 32 bits.
 const MOST_ENTRIES: usize = u32::MAX as usize / MOST_OPERATIONS;
 
-/// Finished sections, in order. One whose script has a single operation takes 48 bytes, of which an `Entry` has 160: memory that
-/// is written for the first time is dear.
+/// Finished sections, in order. A section whose script has a single operation takes 48 bytes; an `Entry` has 160. This
+/// matters because the first write to a page of memory is expensive.
 #[derive(Drop)]
 pub struct EntryList {
-    heads: Vec<Head>,
+    heads: Vec<EntryHead>,
     ops: Vec<Op>,
     room: usize,
 }
 
 impl Model for EntryList {
     ghost use Rattle.std.specs.Prelude.{vec_capacity};
-    ghost use Rattle.rme_history.specs.Listings.{Listing, IsListed, entries_of};
+    ghost use Rattle.rme_history.specs.EntryLists.{EntryListView, IsEntryList, entries_from_heads};
 
-    ghost Value = { Listing };
+    ghost Value = { EntryListView };
 
-    ghost view = { λ list. record { entries = entries_of list.ops.items list.heads.items; room = list.room } };
+    ghost view = { λ list. record { entries = entries_from_heads list.ops.items list.heads.items; room = list.room } };
 
-    ghost invariant = { λ list. IsListed list.ops.items list.heads.items list.room (vec_capacity list.ops) (vec_capacity list.heads) };
+    ghost invariant = { λ list. IsEntryList list.ops.items list.heads.items list.room (vec_capacity list.ops)
+        (vec_capacity list.heads) };
 }
 
 impl EntryList {
     ghost use Rattle.std.specs.Prelude.{◌≡◌, ◌+◌, ◌-◌, ◌<◌, ◌≤◌, [], ◌∷◌, ◌++◌, IfOk, OnOk, OnErr, length, option_map, slice_get};
     ghost use Rattle.rme_program.specs.declared.note.Entry.{Entry as Section};
 
-    /// An empty list that has no room and takes no memory.
+    /// An empty list without room; takes no memory.
     pub fn new(alloc: Global) -> EntryList
         ensures none { result.entries ≡ [] }
         ensures room { result.room ≡ 0 }
@@ -49,7 +50,7 @@ impl EntryList {
         }
     }
 
-    /// An empty list with room for so many entries, whatever their scripts; `NoMemory` where it was refused.
+    /// An empty list with room for `room` entries, whatever their scripts; `NoMemory` if that was refused.
     pub fn with_room(alloc: Global, room: usize) -> Result<EntryList, NoMemory>
         ensures none { IfOk result (λ list. list.entries ≡ []) }
         ensures room { IfOk result (λ list. list.room ≡ room) }
@@ -66,10 +67,10 @@ impl EntryList {
         Ok(EntryList { heads, ops, room })
     }
 
-    /// Makes room for so many more entries, whatever their scripts. It grows as a `Vec` does, so that many small calls cost as
-    /// much as a large one.
+    /// Makes room for `more` more entries, whatever their scripts. It grows as a `Vec` does, so that many small calls
+    /// cost as much as a large one.
     ///
-    /// `NoMemory` where it was refused, or where there would be more than 536,870,911 entries; the list is as before then.
+    /// `NoMemory` if memory was refused, or there would be more than 536,870,911 entries; the list is then unchanged.
     pub fn reserve(&mut self, more: usize) -> Result<(), NoMemory>
         ensures entries { self.new.entries ≡ self.old.entries }
         ensures made { OnOk result (length self.old.entries + more ≤ self.new.room) }
@@ -90,14 +91,14 @@ impl EntryList {
         Ok(())
     }
 
-    /// How many there are.
+    /// The number of entries.
     pub fn len(&self) -> usize
         ensures { result ≡ length self.now.entries }
     {
         self.heads.len()
     }
 
-    /// The entry at this place, from 0.
+    /// The entry at this index, from 0.
     pub fn get(&self, at: usize) -> Option<Entry>
         ensures { result ≡ slice_get self.now.entries at }
     {
@@ -107,7 +108,7 @@ impl EntryList {
         Some(entry_of(&self.ops, *head))
     }
 
-    /// The receipt of the entry at this place.
+    /// The receipt of the entry at this index.
     pub fn receipt(&self, at: usize) -> Option<Receipt>
         ensures { result ≡ option_map (λ (section : Section). section.receipt) (slice_get self.now.entries at) }
     {
@@ -117,9 +118,10 @@ impl EntryList {
         Some(head.receipt)
     }
 
-    /// The operations of the entry at this place, which are not copied.
+    /// The operations of the entry at this index, without a copy.
     pub fn operations(&self, at: usize) -> Option<&[Op]>
-        ensures { option_map (λ (section : Section). section.script.ops) (slice_get self.now.entries at) ≡ option_map (λ ops. ops.now) result }
+        ensures { option_map (λ (section : Section). section.script.ops) (slice_get self.now.entries at) ≡ option_map
+            (λ ops. ops.now) result }
     {
         let Some(head) = self.heads.get(at) else {
             return None;
@@ -135,14 +137,14 @@ impl EntryList {
         self.get(self.len().saturating_sub(1))
     }
 
-    /// Puts an entry behind the others. There is room for it, and its script has no more operations than a job may have.
+    /// Appends an entry. There is room for it, and its script has at most as many operations as a job may have.
     pub fn push(&mut self, receipt: Receipt, script: &Script)
         requires room { length self.old.entries < self.old.room }
         requires few { script.now.n ≤ 8 }
         ensures entries { self.new.entries ≡ self.old.entries ++ record { receipt = receipt; script = script.now } ∷ [] }
         ensures room { self.new.room ≡ self.old.room }
     {
-        let head = Head {
+        let head = EntryHead {
             receipt,
             start: self.ops.len() as u32,
             count: script.n(),
@@ -153,8 +155,8 @@ impl EntryList {
 }
 
 /// The entry of a head.
-fn entry_of(ops: &[Op], head: Head) -> Entry
-    requires { IsHead (length ops.now) head }
+fn entry_of(ops: &[Op], head: EntryHead) -> Entry
+    requires { IsEntryHead (length ops.now) head }
     ensures { result ≡ section_of ops.now head }
 {
     let start = head.start as usize;
@@ -164,7 +166,7 @@ fn entry_of(ops: &[Op], head: Head) -> Entry
     }
 }
 
-/// Puts a script's operations behind others, in order.
+/// Appends a script's operations, in order.
 fn put_ops(ops: &mut Vec<Op>, script: &Script)
     requires few { script.now.n ≤ 8 }
     requires room { length ops.old.items + script.now.n ≤ vec_capacity ops.old }

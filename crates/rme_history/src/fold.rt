@@ -1,11 +1,11 @@
-//! What a replay has found so far.
+//! The state of a replay.
 
 ghost use Rattle.std.specs.Prelude.{◌≡◌, ℕ, ◌<◌, ◌+◌, ◌↔◌, IsTrue, List, [], IfOk, IfErr, length, take, slice_index_or};
 ghost use Rattle.std.specs.Bool.{MatchBool};
 ghost use Rattle.rme_program.specs.declared.note.Entry.{Entry};
-ghost use Rattle.rme_program.specs.Conditions.{IsJob};
+ghost use Rattle.rme_script.specs.Jobs.{IsJob};
 ghost use Rattle.rme_machine.specs.Histories.{entry_job};
-ghost use Rattle.rme_history.specs.Folds.{IsFold, FollowsAt};
+ghost use Rattle.rme_history.specs.Folds.{IsReplayFold, EntryFollowsAt};
 
 use crate::entry_list::EntryList;
 use crate::fault::ReplayFault;
@@ -14,7 +14,7 @@ use rme_script::{Row, eval};
 use rme_words::Shape;
 use std::alloc::Global;
 
-/// The cells of each lock after some entries, and how many of these are of that lock.
+/// The cells of each lock after some entries, and the number of entries of that lock.
 #[derive(Drop)]
 pub struct Fold {
     pub rows: Vec<Row>,
@@ -22,9 +22,9 @@ pub struct Fold {
 }
 
 impl Fold {
-    /// What there is before any entry.
+    /// The state before any entry.
     pub fn new(alloc: Global, shape: Shape) -> Result<Fold, ReplayFault>
-        ensures start { IfOk result (λ fold. IsFold shape [] fold.rows.items fold.counts.items) }
+        ensures start { IfOk result (λ fold. IsReplayFold shape [] fold.rows.items fold.counts.items) }
         ensures refused { IfErr result (λ fault. fault ≡ ReplayFault.NoMemory) }
     {
         let locks = shape.locks as usize;
@@ -37,12 +37,14 @@ impl Fold {
         Ok(Fold { rows, counts })
     }
 
-    /// Goes on by the entry at `i`, if it follows from those before it.
+    /// Applies the entry at `i`, if it follows from those before it.
     pub fn follow(&mut self, shape: Shape, entries: &EntryList, i: usize) -> bool
         requires within { i < length entries.now.entries }
-        requires fold { IsFold shape (take i entries.now.entries) self.old.rows.items self.old.counts.items }
-        ensures follows { MatchBool result (FollowsAt shape entries.now.entries i) (¬ FollowsAt shape entries.now.entries i) }
-        ensures fold { MatchBool result (IsFold shape (take (i + 1) entries.now.entries) self.new.rows.items self.new.counts.items) (Unit {0}) }
+        requires fold { IsReplayFold shape (take i entries.now.entries) self.old.rows.items self.old.counts.items }
+        ensures follows { MatchBool result (EntryFollowsAt shape entries.now.entries i)
+            (¬ EntryFollowsAt shape entries.now.entries i) }
+        ensures fold { MatchBool result (IsReplayFold shape (take (i + 1) entries.now.entries) self.new.rows.items
+            self.new.counts.items) (Unit {0}) }
     {
         let Some(entry) = entries.get(i) else {
             unreachable!();
@@ -65,7 +67,7 @@ impl Fold {
     }
 }
 
-/// The entry's lock and script are of the shape.
+/// Whether the entry's lock and script are of the shape.
 fn is_of_shape(entry: &Entry, shape: Shape) -> bool
     ensures { IsTrue result ↔ IsJob shape (entry_job entry.now) }
 {

@@ -1,12 +1,12 @@
-//! The most own steps that were seen of each phase.
+//! The greatest number of own steps seen of each phase.
 
 ghost use Rattle.std.specs.Prelude.{◌≡◌, ℕ};
 ghost use Rattle.rme_program.specs.declared.kinds.Phase.{Phase};
-ghost use Rattle.rme_history.specs.Tallies.{most_in, Sees};
+ghost use Rattle.rme_history.specs.Tallies.{tally_of_phase, TallySees};
 
 use rme_program::Phase;
 
-/// For each phase that has steps, the most own steps of a stay in it that were seen. All are 0 at first.
+/// For each phase with steps, the greatest number of own steps of a stay in it that was seen. Initially all are 0.
 #[derive(Clone, Copy, Default, PartialEq, Eq)]
 pub struct Tally {
     pub recover: u32,
@@ -17,9 +17,9 @@ pub struct Tally {
 }
 
 impl Tally {
-    /// Nothing was seen: all are 0.
+    /// No steps seen: all counts are 0.
     pub fn new() -> Tally
-        ensures { (phase : Phase) → most_in result phase ≡ 0 }
+        ensures { (phase : Phase) → tally_of_phase result phase ≡ 0 }
     {
         Tally {
             recover: 0,
@@ -30,10 +30,9 @@ impl Tally {
         }
     }
 
-    /// Keeps the greater of the phase's count and these steps. For phase Ready, which has no steps, it does
-    /// nothing.
+    /// Raises the phase's count to these steps, if they are more. Does nothing for phase Ready, which has no steps.
     pub fn see(&mut self, phase: Phase, steps: u32)
-        ensures { Sees self.old self.new phase steps }
+        ensures { TallySees self.old self.new phase steps }
     {
         match phase {
             Phase::Recover => self.recover = self.recover.max(steps),
@@ -45,9 +44,9 @@ impl Tally {
         }
     }
 
-    /// The most steps that were seen of a phase; 0 for phase Ready.
+    /// The greatest number of steps seen of a phase; 0 for phase Ready.
     pub fn most(&self, phase: Phase) -> u32
-        ensures { result ≡ most_in self.now phase }
+        ensures { result ≡ tally_of_phase self.now phase }
     {
         match phase {
             Phase::Recover => self.recover,

@@ -1,4 +1,4 @@
--- What one worker shows, put together from the lock that it owns, its words, its private state and the history.
+-- The abstract state of one worker, from the lock that it owns, its words, its private state and the history.
 use Rattle.std.proofs.Common.{◌≡◌, ℕ, ◌<◌, List, refl, sym, ◌∙◌, ap, ap₂}
 use Rattle.std.specs.Prelude.{Bool, true, false, Option, Some, None, is_some}
 use Rattle.rme_words.specs.declared.shape.Shape.{Shape}
@@ -9,33 +9,33 @@ use Rattle.rme_program.specs.declared.note.Entry.{Entry}
 use Rattle.rme_program.specs.declared.private.Private.{Private}
 use Rattle.rme_machine.specs.declared.label.Act.{Act}
 use Rattle.rme_machine.specs.declared.label.Act.TheVariants.{Still}
-use Rattle.rme_machine.specs.Histories.{last_by, withdrawn_of}
-use Rattle.rme_machine.specs.Machine.{State, WorkerState, StepOf, Does}
+use Rattle.rme_machine.specs.Histories.{last_entry_of_worker, withdrawn_numbers}
+use Rattle.rme_machine.specs.Machine.{MachineState, WorkerState, ActEffect, MachineStep}
 use Rattle.rme_machine.specs.Views.{WorkerWords, worker_words, is_pending, slate_job}
-use Rattle.rme_machine.specs.Shown.{Privates, lock_owned, job_of, is_inside, stance_outside, stance_by, entered_by, shown_worker, shown}
-use Rattle.rme_machine.specs.Fact.{Fact}
-use Rattle.rme_machine.specs.Laws.{Goes}
+use Rattle.rme_machine.specs.AbstractState.{Privates, lock_owned_by_worker, last_entry_job, is_in_section_or_exit, stance_outside, abstract_stance, abstract_entered, abstract_worker, abstract_state}
+use Rattle.rme_machine.specs.Invariant.{Invariant}
+use Rattle.rme_machine.specs.Laws.{RefinementStep}
 use Rattle.rme_machine.proofs.Shows.{Frame, shown_me, shown_still}
 
--- What a worker shows, from its parts.
+-- The abstract state of a worker, from its parts.
 abbrev pub face : Option ℕ → Bool → ℕ → Job → Job → Option Private → List ℕ → WorkerState
 face owned pending number slate last private withdrawn = record {
   up = is_some private;
-  entered = entered_by owned private;
+  entered = abstract_entered owned private;
   asked = number;
   withdrawn = withdrawn;
-  stance = stance_by owned pending number slate last private;
+  stance = abstract_stance owned pending number slate last private;
 }
 
 pub shown_as : (s : Shape) (mem : Address → ℕ) (privs : Privates) (es : List Entry) (w : ℕ) (owned : Option ℕ) (pending : Bool) (number : ℕ) (private : Option Private)
-    → lock_owned s mem w ≡ owned → is_pending (worker_words mem w) ≡ pending → (worker_words mem w).begun ≡ number → privs w ≡ private
-    → shown_worker s mem privs es w
-    ≡ face owned pending number (slate_job (worker_words mem w)) (job_of (last_by es w)) private (withdrawn_of es w (worker_words mem w).done)
+    → lock_owned_by_worker s mem w ≡ owned → is_pending (worker_words mem w) ≡ pending → (worker_words mem w).begun ≡ number → privs w ≡ private
+    → abstract_worker s mem privs es w
+    ≡ face owned pending number (slate_job (worker_words mem w)) (last_entry_job (last_entry_of_worker es w)) private (withdrawn_numbers es w (worker_words mem w).done)
 shown_as s mem privs es w owned pending number private owns at begun is = rw owns (rw at (rw begun (rw is refl)))
 
--- A step of the machine, from what its worker shows.
-pub does_as : (s : Shape) (act : Act) (mem : Address → ℕ) (privs : Privates) (es : List Entry) (w : ℕ) (me : WorkerState) (new : State) → w < s.workers
-    → shown_worker s mem privs es w ≡ me → StepOf s act (shown s mem privs es) w me new → Does s act (shown s mem privs es) w new
+-- A step of the abstract machine, from the abstract state of its worker.
+pub does_as : (s : Shape) (act : Act) (mem : Address → ℕ) (privs : Privates) (es : List Entry) (w : ℕ) (me : WorkerState) (new : MachineState) → w < s.workers
+    → abstract_worker s mem privs es w ≡ me → ActEffect s act (abstract_state s mem privs es) w me new → MachineStep s act (abstract_state s mem privs es) w new
 does_as s act mem privs es w me new worker shows goes = record {
   me = me;
   is_me = shown_me s mem privs es w worker ∙ ap (λ (state : WorkerState). Some state) shows;
@@ -43,46 +43,45 @@ does_as s act mem privs es w me new worker shows goes = record {
 }
 
 stance_same : (owned : Option ℕ) (pending : Bool) (number : ℕ) (slate last : Job) (p q : Option Private) → stance_outside q ≡ stance_outside p
-    → stance_by owned pending number slate last q ≡ stance_by owned pending number slate last p
+    → abstract_stance owned pending number slate last q ≡ abstract_stance owned pending number slate last p
 stance_same (Some lock) true number slate last p q same = refl
 stance_same (Some lock) false number slate last p q same = refl
 stance_same None true number slate last p q same = refl
 stance_same None false number slate last p q same = same
 
-pub entered_same : (owned : Option ℕ) (p q : Option Private) → is_inside q ≡ is_inside p → entered_by owned q ≡ entered_by owned p
+pub entered_same : (owned : Option ℕ) (p q : Option Private) → is_in_section_or_exit q ≡ is_in_section_or_exit p → abstract_entered owned q ≡ abstract_entered owned p
 entered_same (Some lock) p q same = same
 entered_same None p q same = refl
 
--- Two private states that show the same, beside all else that is the same.
+-- Two private states with the same abstraction, everything else being equal.
 pub face_same : (owned : Option ℕ) (pending : Bool) (number : ℕ) (slate last : Job) (withdrawn : List ℕ) (p q : Option Private)
-    → is_some q ≡ is_some p → entered_by owned q ≡ entered_by owned p → stance_outside q ≡ stance_outside p
+    → is_some q ≡ is_some p → abstract_entered owned q ≡ abstract_entered owned p → stance_outside q ≡ stance_outside p
     → face owned pending number slate last q withdrawn ≡ face owned pending number slate last p withdrawn
 face_same owned pending number slate last withdrawn p q up entered outside =
     rw up (rw entered (rw (stance_same owned pending number slate last p q outside) refl))
 
--- A step that shows nothing: the worker owns what it owned, its job is what it was, and its private state shows
--- the same.
+-- A quiet step: the worker owns the same lock, has the same job, and its private state has the same abstraction.
 pub quiet : (s : Shape) (mem mem' : Address → ℕ) (privs privs' : Privates) (es : List Entry) (w : ℕ) (p p' : Private) (new : WorkerWords)
-    → w < s.workers → Fact s mem' privs' es → Frame s mem mem' privs privs' es es w → ((l : ℕ) → l < s.locks → owner_in s mem' l ≡ owner_in s mem l)
-    → lock_owned s mem' w ≡ lock_owned s mem w → worker_words mem' w ≡ new → is_pending new ≡ is_pending (worker_words mem w)
+    → w < s.workers → Invariant s mem' privs' es → Frame s mem mem' privs privs' es es w → ((l : ℕ) → l < s.locks → owner_in s mem' l ≡ owner_in s mem l)
+    → lock_owned_by_worker s mem' w ≡ lock_owned_by_worker s mem w → worker_words mem' w ≡ new → is_pending new ≡ is_pending (worker_words mem w)
     → new.begun ≡ (worker_words mem w).begun → slate_job new ≡ slate_job (worker_words mem w) → new.done ≡ (worker_words mem w).done
-    → privs w ≡ Some p → privs' w ≡ Some p' → entered_by (lock_owned s mem w) (Some p') ≡ entered_by (lock_owned s mem w) (Some p) → stance_outside (Some p') ≡ stance_outside (Some p)
-    → Goes s mem mem' privs privs' es es w Still
+    → privs w ≡ Some p → privs' w ≡ Some p' → abstract_entered (lock_owned_by_worker s mem w) (Some p') ≡ abstract_entered (lock_owned_by_worker s mem w) (Some p) → stance_outside (Some p') ≡ stance_outside (Some p)
+    → RefinementStep s mem mem' privs privs' es es w Still
 quiet s mem mem' privs privs' es w p p' new worker fact frame owners owned own pending begun slate done was is entered outside =
     let number : (worker_words mem' w).begun ≡ (worker_words mem w).begun = ap (λ (own : WorkerWords). own.begun) own ∙ begun in
     let finished : (worker_words mem' w).done ≡ (worker_words mem w).done = ap (λ (own : WorkerWords). own.done) own ∙ done in
     let job : slate_job (worker_words mem' w) ≡ slate_job (worker_words mem w) = ap (λ (own : WorkerWords). slate_job own) own ∙ slate in
     let begun_job : is_pending (worker_words mem' w) ≡ is_pending (worker_words mem w) = ap (λ (own : WorkerWords). is_pending own) own ∙ pending in
-    let before : shown_worker s mem privs es w ≡ face (lock_owned s mem w) (is_pending (worker_words mem w)) (worker_words mem w).begun
-    (slate_job (worker_words mem w)) (job_of (last_by es w)) (Some p) (withdrawn_of es w (worker_words mem w).done) =
+    let before : abstract_worker s mem privs es w ≡ face (lock_owned_by_worker s mem w) (is_pending (worker_words mem w)) (worker_words mem w).begun
+    (slate_job (worker_words mem w)) (last_entry_job (last_entry_of_worker es w)) (Some p) (withdrawn_numbers es w (worker_words mem w).done) =
     shown_as s mem privs es w _ _ _ _ refl refl refl was in
-    let after : shown_worker s mem' privs' es w ≡ face (lock_owned s mem w) (is_pending (worker_words mem w)) (worker_words mem w).begun
-    (slate_job (worker_words mem w)) (job_of (last_by es w)) (Some p') (withdrawn_of es w (worker_words mem w).done) =
+    let after : abstract_worker s mem' privs' es w ≡ face (lock_owned_by_worker s mem w) (is_pending (worker_words mem w)) (worker_words mem w).begun
+    (slate_job (worker_words mem w)) (last_entry_job (last_entry_of_worker es w)) (Some p') (withdrawn_numbers es w (worker_words mem w).done) =
     shown_as s mem' privs' es w _ _ _ _ owned begun_job number is
-    ∙ ap₂ (λ (job : Job) (done : ℕ). face (lock_owned s mem w) (is_pending (worker_words mem w)) (worker_words mem w).begun
-    job (job_of (last_by es w)) (Some p') (withdrawn_of es w done)) job finished in (
+    ∙ ap₂ (λ (job : Job) (done : ℕ). face (lock_owned_by_worker s mem w) (is_pending (worker_words mem w)) (worker_words mem w).begun
+    job (last_entry_job (last_entry_of_worker es w)) (Some p') (withdrawn_numbers es w done)) job finished in (
       fact,
-      does_as s Still mem privs es w (shown_worker s mem privs es w) (shown s mem' privs' es) worker refl (
+      does_as s Still mem privs es w (abstract_worker s mem privs es w) (abstract_state s mem' privs' es) worker refl (
         ap (λ (o : Option Private). is_some o) was,
         shown_still s mem mem' privs privs' es w worker frame owners
             (after ∙ face_same _ _ _ _ _ _ (Some p) (Some p') refl entered outside ∙ sym before),

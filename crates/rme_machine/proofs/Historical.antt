@@ -1,4 +1,4 @@
--- What one entry more changes of a history, and how many entries there can be.
+-- The effect of one more entry on a history, and the greatest number of entries.
 use Rattle.std.proofs.Common.{◌≡◌, ◌≢◌, ℕ, zero, suc, ◌+◌, ◌*◌, ◌^◌, ◌<◌, ◌≤◌, List, [], ◌∷◌, ◌++◌, length, refl, sym, ◌∙◌, ap, subst, inl, inr, arith, append_assoc}
 use Rattle.std.specs.Prelude.{Bool, true, false, not, ◌&&◌, ◌||◌, ◌==◌, if◌then◌else◌, Some, filter}
 use Rattle.std.specs.List.{range_with_len}
@@ -12,13 +12,13 @@ use Rattle.rme_words.specs.declared.shape.Shape.{Shape}
 use Rattle.rme_words.specs.declared.address.Address.{Address}
 use Rattle.rme_script.specs.Eval.{eval_of}
 use Rattle.rme_program.specs.declared.note.Entry.{Entry}
-use Rattle.rme_machine.specs.Histories.{place_of, row_from, last_of, last_at, last_by, has_entry, withdrawn_of, numbers_by, RisesFrom, IsDue, IsLegalAfter, IsLegal}
+use Rattle.rme_machine.specs.Histories.{place_of, row_after_entries, last_entry_passing, last_entry_of_lock, last_entry_of_worker, has_entry, withdrawn_numbers, numbers_of_worker, NumbersRise, IsLegalNextEntry, HistoryIsLegalAfter, HistoryIsLegal}
 use Rattle.rme_machine.specs.Views.{worker_words}
-use Rattle.rme_machine.specs.Fact.{Fact, Account}
-use Rattle.rme_machine.specs.Shown.{Privates}
-use Rattle.rme_tree.specs.Nodes.{held_in}
+use Rattle.rme_machine.specs.Invariant.{Invariant, WorkerInvariant}
+use Rattle.rme_machine.specs.AbstractState.{Privates}
+use Rattle.rme_tree.specs.Nodes.{held_levels_in}
 
--- The place of the next section of the entry's lock is one more, and of every other lock the same.
+-- The next place of the entry's lock is one more, and that of every other lock is the same.
 pub place_same : (es : List Entry) (e : Entry) (lock : ℕ) → e.receipt.lock ≡ lock → place_of (es ++ e ∷ []) lock ≡ place_of es lock + 1
 unfolding place_of
 place_same [] e lock at = rw (eq-eqb e.receipt.lock lock at) refl
@@ -35,10 +35,10 @@ place_other (d ∷ es) e lock off = elim (cases_Bool (d.receipt.lock == lock)) [
   | inr f ↦ rw f (place_other es e lock off)
 ]
 
--- The row of the entry's lock is what its script leaves, and every other lock's is the same.
+-- The row of the entry's lock is the result of its script, and every other lock's row is the same.
 pub row_same : (row : List ℕ) (es : List Entry) (e : Entry) (lock : ℕ) → e.receipt.lock ≡ lock
-    → row_from row (es ++ e ∷ []) lock ≡ (eval_of e.script.ops (row_from row es lock)).row
-unfolding row_from
+    → row_after_entries row (es ++ e ∷ []) lock ≡ (eval_of e.script.ops (row_after_entries row es lock)).row
+unfolding row_after_entries
 row_same row [] e lock at = rw (eq-eqb e.receipt.lock lock at) refl
 row_same row (d ∷ es) e lock at = elim (cases_Bool (d.receipt.lock == lock)) [
   | inl t ↦ rw t (row_same (eval_of d.script.ops row).row es e lock at)
@@ -46,80 +46,80 @@ row_same row (d ∷ es) e lock at = elim (cases_Bool (d.receipt.lock == lock)) [
 ]
 
 pub row_other : (row : List ℕ) (es : List Entry) (e : Entry) (lock : ℕ) → e.receipt.lock ≢ lock
-    → row_from row (es ++ e ∷ []) lock ≡ row_from row es lock
-unfolding row_from
+    → row_after_entries row (es ++ e ∷ []) lock ≡ row_after_entries row es lock
+unfolding row_after_entries
 row_other row [] e lock off = rw (ne_eqb e.receipt.lock lock off) refl
 row_other row (d ∷ es) e lock off = elim (cases_Bool (d.receipt.lock == lock)) [
   | inl t ↦ rw t (row_other (eval_of d.script.ops row).row es e lock off)
   | inr f ↦ rw f (row_other row es e lock off)
 ]
 
--- The last entry that passes a test is the new one, if that passes.
-pub last_same : (test : Entry → Bool) (es : List Entry) (e : Entry) → test e ≡ true → last_of test (es ++ e ∷ []) ≡ Some e
-unfolding last_of
+-- The last entry that passes a test is the new one, if it passes.
+pub last_same : (test : Entry → Bool) (es : List Entry) (e : Entry) → test e ≡ true → last_entry_passing test (es ++ e ∷ []) ≡ Some e
+unfolding last_entry_passing
 last_same test [] e t = rw t refl
 last_same test (d ∷ es) e t = rw (last_same test es e t) refl
 
-pub last_other : (test : Entry → Bool) (es : List Entry) (e : Entry) → test e ≡ false → last_of test (es ++ e ∷ []) ≡ last_of test es
-unfolding last_of
+pub last_other : (test : Entry → Bool) (es : List Entry) (e : Entry) → test e ≡ false → last_entry_passing test (es ++ e ∷ []) ≡ last_entry_passing test es
+unfolding last_entry_passing
 last_other test [] e f = rw f refl
 last_other test (d ∷ es) e f = rw (last_other test es e f) refl
 
-pub last_at_same : (es : List Entry) (e : Entry) (lock : ℕ) → e.receipt.lock ≡ lock → last_at (es ++ e ∷ []) lock ≡ Some e
+pub last_at_same : (es : List Entry) (e : Entry) (lock : ℕ) → e.receipt.lock ≡ lock → last_entry_of_lock (es ++ e ∷ []) lock ≡ Some e
 last_at_same es e lock at = last_same (λ (d : Entry). d.receipt.lock == lock) es e (eq-eqb e.receipt.lock lock at)
 
-pub last_at_other : (es : List Entry) (e : Entry) (lock : ℕ) → e.receipt.lock ≢ lock → last_at (es ++ e ∷ []) lock ≡ last_at es lock
+pub last_at_other : (es : List Entry) (e : Entry) (lock : ℕ) → e.receipt.lock ≢ lock → last_entry_of_lock (es ++ e ∷ []) lock ≡ last_entry_of_lock es lock
 last_at_other es e lock off = last_other (λ (d : Entry). d.receipt.lock == lock) es e (ne_eqb e.receipt.lock lock off)
 
-pub last_by_same : (es : List Entry) (e : Entry) (worker : ℕ) → e.receipt.worker ≡ worker → last_by (es ++ e ∷ []) worker ≡ Some e
+pub last_by_same : (es : List Entry) (e : Entry) (worker : ℕ) → e.receipt.worker ≡ worker → last_entry_of_worker (es ++ e ∷ []) worker ≡ Some e
 last_by_same es e worker by = last_same (λ (d : Entry). d.receipt.worker == worker) es e (eq-eqb e.receipt.worker worker by)
 
-pub last_by_other : (es : List Entry) (e : Entry) (worker : ℕ) → e.receipt.worker ≢ worker → last_by (es ++ e ∷ []) worker ≡ last_by es worker
+pub last_by_other : (es : List Entry) (e : Entry) (worker : ℕ) → e.receipt.worker ≢ worker → last_entry_of_worker (es ++ e ∷ []) worker ≡ last_entry_of_worker es worker
 last_by_other es e worker off = last_other (λ (d : Entry). d.receipt.worker == worker) es e (ne_eqb e.receipt.worker worker off)
 
--- The numbers of the entry's worker have its number at the end, and every other worker's are the same.
+-- The numbers of the entry's worker end with its number, and those of every other worker are the same.
 pub numbers_same : (es : List Entry) (e : Entry) (worker : ℕ) → e.receipt.worker ≡ worker
-    → numbers_by (es ++ e ∷ []) worker ≡ numbers_by es worker ++ e.receipt.number ∷ []
-unfolding numbers_by
+    → numbers_of_worker (es ++ e ∷ []) worker ≡ numbers_of_worker es worker ++ e.receipt.number ∷ []
+unfolding numbers_of_worker
 numbers_same [] e worker by = rw (eq-eqb e.receipt.worker worker by) refl
 numbers_same (d ∷ es) e worker by = elim (cases_Bool (d.receipt.worker == worker)) [
   | inl t ↦ rw (t, numbers_same es e worker by) refl
   | inr f ↦ rw (f, numbers_same es e worker by) refl
 ]
 
-pub numbers_other : (es : List Entry) (e : Entry) (worker : ℕ) → e.receipt.worker ≢ worker → numbers_by (es ++ e ∷ []) worker ≡ numbers_by es worker
-unfolding numbers_by
+pub numbers_other : (es : List Entry) (e : Entry) (worker : ℕ) → e.receipt.worker ≢ worker → numbers_of_worker (es ++ e ∷ []) worker ≡ numbers_of_worker es worker
+unfolding numbers_of_worker
 numbers_other [] e worker off = rw (ne_eqb e.receipt.worker worker off) refl
 numbers_other (d ∷ es) e worker off = elim (cases_Bool (d.receipt.worker == worker)) [
   | inl t ↦ rw (t, numbers_other es e worker off) refl
   | inr f ↦ rw (f, numbers_other es e worker off) refl
 ]
 
--- Rising numbers go on rising with one that is above them all.
-pub rises_more : (low most k : ℕ) (ks : List ℕ) → low < k → most < k → RisesFrom low most ks → RisesFrom low k (ks ++ k ∷ [])
+-- Rising numbers stay rising when a number above them all is appended.
+pub rises_more : (low most k : ℕ) (ks : List ℕ) → low < k → most < k → NumbersRise low most ks → NumbersRise low k (ks ++ k ∷ [])
 rises_more low most k [] above over rises = (above, omega arith, tt)
 rises_more low most k (j ∷ ks) above over rises =
     (rises.0, omega (arith, rises.1, over), rises_more j most k ks (omega (arith, rises.1, over)) over rises.2)
 
--- They may have room above.
-pub rises_wider : (low most more : ℕ) (ks : List ℕ) → most ≤ more → RisesFrom low most ks → RisesFrom low more ks
+-- The upper bound may be greater.
+pub rises_wider : (low most more : ℕ) (ks : List ℕ) → most ≤ more → NumbersRise low most ks → NumbersRise low more ks
 rises_wider low most more [] wide rises = tt
 rises_wider low most more (k ∷ ks) wide rises = (rises.0, omega (arith, rises.1, wide), rises_wider k most more ks wide rises.2)
 
--- There are no more of them than the numbers that they lie in.
-pub rises_few : (low most : ℕ) (ks : List ℕ) → low ≤ most → RisesFrom low most ks → length ks + low ≤ most
+-- There are at most as many of them as numbers in their range.
+pub rises_few : (low most : ℕ) (ks : List ℕ) → low ≤ most → NumbersRise low most ks → length ks + low ≤ most
 rises_few low most [] room rises = omega (arith, room)
 rises_few low most (k ∷ ks) room rises = omega (arith, rises.0, rises_few k most ks rises.1 rises.2)
 
--- Where an entry is due after a legal history, the history with it is legal.
-legal_after : (s : Shape) (earlier es : List Entry) (e : Entry) → IsLegalAfter s earlier es → IsDue s (earlier ++ es) e → IsLegalAfter s earlier (es ++ e ∷ [])
+-- If an entry is due after a legal history, the history with it is legal.
+legal_after : (s : Shape) (earlier es : List Entry) (e : Entry) → HistoryIsLegalAfter s earlier es → IsLegalNextEntry s (earlier ++ es) e → HistoryIsLegalAfter s earlier (es ++ e ∷ [])
 legal_after s earlier [] e legal due =
-    let here : IsDue s earlier e = subst (λ (before : List Entry). IsDue s before e) (append-nil earlier) due in (here, tt)
+    let here : IsLegalNextEntry s earlier e = subst (λ (before : List Entry). IsLegalNextEntry s before e) (append-nil earlier) due in (here, tt)
 legal_after s earlier (d ∷ es) e legal due =
-    let later : IsDue s ((earlier ++ d ∷ []) ++ es) e = subst (λ (before : List Entry). IsDue s before e) (sym (append_assoc earlier (d ∷ []) es)) due in
+    let later : IsLegalNextEntry s ((earlier ++ d ∷ []) ++ es) e = subst (λ (before : List Entry). IsLegalNextEntry s before e) (sym (append_assoc earlier (d ∷ []) es)) due in
     (legal.0, legal_after s (earlier ++ d ∷ []) es e legal.1 later)
 
-pub legal_more : (s : Shape) (es : List Entry) (e : Entry) → IsLegal s es → IsDue s es e → IsLegal s (es ++ e ∷ [])
+pub legal_more : (s : Shape) (es : List Entry) (e : Entry) → HistoryIsLegal s es → IsLegalNextEntry s es e → HistoryIsLegal s (es ++ e ∷ [])
 legal_more s es e legal due = legal_after s [] es e legal due
 
 -- The entries of a worker after one more.
@@ -144,23 +144,23 @@ entry_other es e worker k off = entry_else es e worker k (and_left (e.receipt.wo
 pub entry_under : (es : List Entry) (e : Entry) (worker k : ℕ) → e.receipt.number ≢ k → has_entry (es ++ e ∷ []) worker k ≡ has_entry es worker k
 entry_under es e worker k off = entry_else es e worker k (and_right (e.receipt.worker == worker) (e.receipt.number == k) (ne_eqb e.receipt.number k off))
 
--- A worker has no entry above its numbers.
-pub no_entry : (es : List Entry) (worker low most k : ℕ) → RisesFrom low most (numbers_by es worker) → most < k → has_entry es worker k ≡ false
-unfolding numbers_by
+-- A worker has no entry above the bound of its numbers.
+pub no_entry : (es : List Entry) (worker low most k : ℕ) → NumbersRise low most (numbers_of_worker es worker) → most < k → has_entry es worker k ≡ false
+unfolding numbers_of_worker
 no_entry [] worker low most k rises over = refl
 no_entry (d ∷ es) worker low most k rises over = elim (cases_Bool (d.receipt.worker == worker)) [
   | inl t ↦
-      let parts : RisesFrom low most (d.receipt.number ∷ numbers_by es worker) = rw t at rises in
+      let parts : NumbersRise low most (d.receipt.number ∷ numbers_of_worker es worker) = rw t at rises in
       let apart : d.receipt.number ≢ k = λ q. omega (arith, q, parts.1, over) in
       or_from ((d.receipt.worker == worker) && (d.receipt.number == k)) (has_entry es worker k)
       (and_right (d.receipt.worker == worker) (d.receipt.number == k) (ne_eqb d.receipt.number k apart)) (no_entry es worker d.receipt.number most k parts.2 over)
   | inr f ↦
-      let parts : RisesFrom low most (numbers_by es worker) = rw f at rises in
+      let parts : NumbersRise low most (numbers_of_worker es worker) = rw f at rises in
       or_from ((d.receipt.worker == worker) && (d.receipt.number == k)) (has_entry es worker k)
       (and_left (d.receipt.worker == worker) (d.receipt.number == k) f) (no_entry es worker low most k parts over)
 ]
 
--- The numbers that pass a test among so many, and among one more.
+-- The numbers of a range that pass a test, and of a range with one more number.
 filter_range : (p q : ℕ → Bool) (a n : ℕ) → ((k : ℕ) → k < a + n → p k ≡ q k) → filter p (range_with_len a n) ≡ filter q (range_with_len a n)
 filter_range p q a zero same = refl
 filter_range p q a (suc n) same =
@@ -173,9 +173,9 @@ filter_more p n j next =
     ap (filter p) (sym (map-id (range_with_len 1 (n + 1)))) ∙ filter_of_map_range_with_len_more p (λ (k : ℕ). k) 1 n j (omega (arith, next))
     ∙ ap (λ (ks : List ℕ). filter p ks ++ (if p j then j ∷ [] else [])) (map-id (range_with_len 1 n))
 
--- A number with an entry is not withdrawn, one without is, and another worker's withdrawn numbers stay.
+-- A number with an entry is not withdrawn, one without an entry is, and another worker's withdrawn numbers stay.
 pub withdrawn_finished : (es : List Entry) (e : Entry) (worker done : ℕ) → e.receipt.worker ≡ worker → e.receipt.number ≡ done + 1
-    → withdrawn_of (es ++ e ∷ []) worker (done + 1) ≡ withdrawn_of es worker done
+    → withdrawn_numbers (es ++ e ∷ []) worker (done + 1) ≡ withdrawn_numbers es worker done
 withdrawn_finished es e worker done by under =
     let test : (ℕ → Bool) = λ (k : ℕ). not (has_entry (es ++ e ∷ []) worker k) in
     let has : test (done + 1) ≡ false = ap not (entry_same es e worker (done + 1) by under) in
@@ -186,31 +186,31 @@ withdrawn_finished es e worker done by under =
     (λ k l. ap not (entry_under es e worker k (λ q. omega (arith, q, l, under))))
 
 pub withdrawn_more : (es : List Entry) (worker done number : ℕ) → number ≡ done + 1 → has_entry es worker number ≡ false
-    → withdrawn_of es worker number ≡ withdrawn_of es worker done ++ number ∷ []
+    → withdrawn_numbers es worker number ≡ withdrawn_numbers es worker done ++ number ∷ []
 withdrawn_more es worker done number next none =
-    ap (λ (n : ℕ). withdrawn_of es worker n) next ∙ filter_more (λ (k : ℕ). not (has_entry es worker k)) done number next ∙ (rw none refl)
+    ap (λ (n : ℕ). withdrawn_numbers es worker n) next ∙ filter_more (λ (k : ℕ). not (has_entry es worker k)) done number next ∙ (rw none refl)
 
-pub withdrawn_other : (es : List Entry) (e : Entry) (worker done : ℕ) → e.receipt.worker ≢ worker → withdrawn_of (es ++ e ∷ []) worker done ≡ withdrawn_of es worker done
+pub withdrawn_other : (es : List Entry) (e : Entry) (worker done : ℕ) → e.receipt.worker ≢ worker → withdrawn_numbers (es ++ e ∷ []) worker done ≡ withdrawn_numbers es worker done
 withdrawn_other es e worker done off =
     filter_agree (λ (k : ℕ). not (has_entry (es ++ e ∷ []) worker k)) (λ (k : ℕ). not (has_entry es worker k))
     (λ k. ap not (entry_other es e worker k off)) (range_with_len 1 done)
 
--- How many entries the workers below a number have.
+-- The number of entries of the workers below a number.
 total : List Entry → ℕ → ℕ
 total es zero = 0
-total es (suc n) = total es n + length (numbers_by es n)
+total es (suc n) = total es n + length (numbers_of_worker es n)
 
 total_none : (n : ℕ) → total [] n ≡ 0
-unfolding total numbers_by
+unfolding total numbers_of_worker
 total_none zero = refl
 total_none (suc n) = omega (arith, total_none n)
 
-numbers_hit : (e : Entry) (es : List Entry) (n : ℕ) → e.receipt.worker ≡ n → length (numbers_by (e ∷ es) n) ≡ length (numbers_by es n) + 1
-unfolding numbers_by
+numbers_hit : (e : Entry) (es : List Entry) (n : ℕ) → e.receipt.worker ≡ n → length (numbers_of_worker (e ∷ es) n) ≡ length (numbers_of_worker es n) + 1
+unfolding numbers_of_worker
 numbers_hit e es n by = rw (eq-eqb e.receipt.worker n by) (omega arith)
 
-numbers_miss : (e : Entry) (es : List Entry) (n : ℕ) → e.receipt.worker ≢ n → length (numbers_by (e ∷ es) n) ≡ length (numbers_by es n)
-unfolding numbers_by
+numbers_miss : (e : Entry) (es : List Entry) (n : ℕ) → e.receipt.worker ≢ n → length (numbers_of_worker (e ∷ es) n) ≡ length (numbers_of_worker es n)
+unfolding numbers_of_worker
 numbers_miss e es n off = rw (ne_eqb e.receipt.worker n off) refl
 
 total_past : (e : Entry) (es : List Entry) (n : ℕ) → n ≤ e.receipt.worker → total (e ∷ es) n ≡ total es n
@@ -226,24 +226,24 @@ total_more e es (suc n) below = elim (cases_eq e.receipt.worker n) [
   | inr off ↦ omega (arith, numbers_miss e es n off, total_more e es n (omega (arith, below, off)))
 ]
 
-total_all : (s : Shape) (earlier es : List Entry) → IsLegalAfter s earlier es → length es ≡ total es s.workers
+total_all : (s : Shape) (earlier es : List Entry) → HistoryIsLegalAfter s earlier es → length es ≡ total es s.workers
 total_all s earlier [] legal = sym (total_none s.workers)
 total_all s earlier (e ∷ es) legal = omega (arith, total_all s (earlier ++ e ∷ []) es legal.1, total_more e es s.workers legal.0.worker)
 
-total_most : (es : List Entry) (most n : ℕ) → ((u : ℕ) → u < n → length (numbers_by es u) ≤ most) → total es n ≤ n * most
+total_most : (es : List Entry) (most n : ℕ) → ((u : ℕ) → u < n → length (numbers_of_worker es u) ≤ most) → total es n ≤ n * most
 unfolding total
 total_most es most zero each = omega arith
 total_most es most (suc n) each =
     let rest : total es n ≤ n * most = total_most es most n (λ u l. each u (omega (arith, l))) in
-    let last : length (numbers_by es n) ≤ most = each n (omega arith) in
+    let last : length (numbers_of_worker es n) ≤ most = each n (omega arith) in
     rw suc-mul (omega (arith, rest, last))
 
--- No history has more entries than the workers have jobs.
-pub entries_few : (s : Shape) (mem : Address → ℕ) (privs : Privates) (es : List Entry) → Fact s mem privs es → length es ≤ s.workers * s.jobs
+-- A history has at most as many entries as the workers have jobs.
+pub entries_few : (s : Shape) (mem : Address → ℕ) (privs : Privates) (es : List Entry) → Invariant s mem privs es → length es ≤ s.workers * s.jobs
 entries_few s mem privs es fact =
-    let each : (u : ℕ) → u < s.workers → length (numbers_by es u) ≤ s.jobs = λ u worker.
-    let account : Account s (worker_words mem u) (held_in s mem u) es u = fact.accounts u worker in
-    omega (arith, rises_few 0 (worker_words mem u).done (numbers_by es u) (omega arith) account.numbered, account.done, account.few) in
+    let each : (u : ℕ) → u < s.workers → length (numbers_of_worker es u) ≤ s.jobs = λ u worker.
+    let account : WorkerInvariant s (worker_words mem u) (held_levels_in s mem u) es u = fact.accounts u worker in
+    omega (arith, rises_few 0 (worker_words mem u).done (numbers_of_worker es u) (omega arith) account.numbered, account.done, account.few) in
     omega (arith, total_all s [] es fact.legal, total_most es s.jobs s.workers each)
 
 pub place_few : (es : List Entry) (lock : ℕ) → place_of es lock ≤ length es
@@ -254,11 +254,11 @@ place_few (e ∷ es) lock = elim (cases_Bool (e.receipt.lock == lock)) [
   | inr f ↦ rw f (omega (arith, place_few es lock))
 ]
 
--- So a place is far below what words hold.
-pub place_small : (s : Shape) (mem : Address → ℕ) (privs : Privates) (es : List Entry) (lock : ℕ) → Fact s mem privs es → place_of es lock ≤ 256000000
+-- So a place is far below the greatest value of a word.
+pub place_small : (s : Shape) (mem : Address → ℕ) (privs : Privates) (es : List Entry) (lock : ℕ) → Invariant s mem privs es → place_of es lock ≤ 256000000
 place_small s mem privs es lock fact =
     let most : s.workers * s.jobs ≤ 256 * 1000000 = mul-le-mul s.counted.limits.few_workers s.counted.limits.few_jobs in
     omega (arith, most, place_few es lock, entries_few s mem privs es fact)
 
-pub turn_small : (s : Shape) (mem : Address → ℕ) (privs : Privates) (es : List Entry) (lock : ℕ) → Fact s mem privs es → 2 * place_of es lock + 1 < 2 ^ 32
+pub turn_small : (s : Shape) (mem : Address → ℕ) (privs : Privates) (es : List Entry) (lock : ℕ) → Invariant s mem privs es → 2 * place_of es lock + 1 < 2 ^ 32
 turn_small s mem privs es lock fact = let few = place_small s mem privs es lock fact in omega (arith, few)

@@ -1,4 +1,5 @@
--- Lists and moves; what keeps the fact and what it shows; the kinds of own step by phase; the events; all stages.
+-- Lists and moves; what preserves the invariant, and the abstract state; the own steps by phase; the events; all
+-- stages.
 pub mod Clearing
 pub mod Climbing
 pub mod Copying

@@ -1,4 +1,4 @@
--- Lists made of a function over 0 .. n - 1, and lists with one item changed.
+-- Lists of the values of a function at 0 .. n - 1, and lists with one item replaced.
 use Rattle.std.proofs.Common.{◌≡◌, ◌≢◌, ℕ, zero, suc, ◌+◌, ◌<◌, List, [], ◌∷◌, length, get_or, refl, sym, ◌∙◌, ap, ap₂, inl, inr, arith}
 use Rattle.std.specs.Prelude.{Some, map, replicate, slice_get, slice_set}
 use Rattle.std.specs.List.{range_with_len}
@@ -7,14 +7,14 @@ use Rattle.std.proofs.lemmas.List.{same_lists, length-set, get_or-set_same, get_
 use Rattle.std.proofs.lemmas.List.FromFn.{length-map-range_with_len, get_or-map-range_with_len}
 use Rattle.std.proofs.lemmas.Option.{slice_get-get_or}
 
--- The length of such a list, and its element at a place.
+-- The length of such a list, and its element at an index.
 pub made_long : {A : Type 0} (f : ℕ → A) (n : ℕ) → length (map f (range_with_len 0 n)) ≡ n
 made_long f n = length-map-range_with_len f 0 n
 
 pub made_at : {A : Type 0} (f : ℕ → A) (n i : ℕ) (d : A) → i < n → get_or (map f (range_with_len 0 n)) i d ≡ f i
 made_at f n i d within = get_or-map-range_with_len f 0 n i i d within (omega arith)
 
--- Functions that agree below n make the same list.
+-- Functions that agree below n give the same list.
 pub made_same : {A : Type 0} (f g : ℕ → A) (n : ℕ) → ((i : ℕ) → i < n → g i ≡ f i) → map g (range_with_len 0 n) ≡ map f (range_with_len 0 n)
 made_same f g n same =
     same_lists _ _ (made_long g n ∙ sym (made_long f n)) (λ k d less.
@@ -26,7 +26,7 @@ made_get f n i within =
     slice_get-get_or (map f (range_with_len 0 n)) i (f i) (omega (arith, made_long f n))
     ∙ ap (λ (x : _). Some x) (made_at f n i (f i) within)
 
--- Functions that agree but at one place make lists that differ there alone.
+-- Functions that agree except at one index give lists that differ only there.
 pub made_set : {A : Type 0} (f g : ℕ → A) (n j : ℕ) (x : A) → j < n → g j ≡ x → ((i : ℕ) → i < n → i ≢ j → g i ≡ f i)
     → map g (range_with_len 0 n) ≡ slice_set (map f (range_with_len 0 n)) j x
 made_set f g n j x within at off =
@@ -42,13 +42,13 @@ made_set f g n j x within at off =
           ∙ sym (get_or-set_other (map f (range_with_len 0 n)) j k x d apart ∙ made_at f n k d inside))
     ])
 
--- A function that is the same everywhere makes one value many times.
+-- A constant function gives a list that repeats one value.
 pub made_of_one : {A : Type 0} (f : ℕ → A) (x : A) (from n : ℕ) → ((i : ℕ) → i < from + n → f i ≡ x) → map f (range_with_len from n) ≡ replicate n x
 made_of_one {A = A} f x from zero same = refl
 made_of_one {A = A} f x from (suc n) same =
     ap₂ (λ (head : A) (rest : List A). head ∷ rest) (same from (omega arith)) (made_of_one f x (from + 1) n (λ i below. same i (omega (arith, below))))
 
--- ---- a list with one item changed
+-- ---- a list with one item replaced
 
 pub get_set : {A : Type 0} (xs : List A) (i : ℕ) (x : A) → i < length xs → slice_get (slice_set xs i x) i ≡ Some x
 get_set [] i x within = absurd (omega (arith, within))

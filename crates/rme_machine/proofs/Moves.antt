@@ -1,60 +1,61 @@
--- What one operation on one word moves: the words of one worker, the words of one lock, or a node.
+-- What an operation on one word changes: the words of one worker, the words of one lock, or a node.
 use Rattle.std.proofs.Common.{◌≡◌, ◌≢◌, ℕ, suc, ◌/◌, ◌%◌, ◌<◌, length, refl, sym, subst, inl, inr, arith}
 use Rattle.std.specs.Prelude.{slice_set, slice_index}
 use Rattle.std.proofs.lemmas.Bool.{cases_eq}
 use Rattle.rme_words.specs.declared.shape.Shape.{Shape}
 use Rattle.rme_words.specs.declared.address.Address.{Address}
 use Rattle.rme_words.specs.declared.address.Address.TheVariants.{Begun, Done, Reply, Place, At, SlateLock, SlateLen, SlateWord, Node, Turn, Cell, Shadow, ShadowReply, Mask}
-use Rattle.rme_words.specs.Words.{Wrote}
-use Rattle.rme_tree.specs.Rooted.{Rooted, TreeStep, OwnerStep}
+use Rattle.rme_words.specs.Words.{StoreEffect}
+use Rattle.rme_tree.specs.HeldTrees.{EveryNodeIsHeld, TreeStep, OwnerStep, tree_size}
 use Rattle.rme_tree.specs.Paths.{node, side}
-use Rattle.rme_tree.specs.Nodes.{nodes_of, held_in, owner_in, SameNodes}
+use Rattle.rme_tree.specs.Nodes.{lock_nodes, held_levels_in, owner_in}
+use Rattle.rme_tree.specs.NodeStores.{SameNodes}
 use Rattle.rme_tree.proofs.Ownership.{same_tree, owner_step_law}
 use Rattle.rme_tree.proofs.Memory.{take_in, clear_in, other_lock, no_node}
-use Rattle.rme_machine.specs.Views.{WorkerWords, LockWords, worker_words, lock_words, slate_at}
+use Rattle.rme_machine.specs.Views.{WorkerWords, LockWords, worker_words, lock_words, slate_of_worker}
 use Rattle.rme_machine.proofs.Lists.{made_same, made_set, made_at, made_long}
 
--- Every lock's tree is as it was.
+-- Every lock's tree is unchanged.
 pub record SameTrees (s : Shape) (mem mem' : Address → ℕ) : Type 0 where
-  pub held : (u l : ℕ) → held_in s mem' u l ≡ held_in s mem u l
+  pub held : (u l : ℕ) → held_levels_in s mem' u l ≡ held_levels_in s mem u l
   pub owner : (l : ℕ) → owner_in s mem' l ≡ owner_in s mem l
-  pub rooted : (l : ℕ) → Rooted (nodes_of mem l) s.leaves s.height s.workers → Rooted (nodes_of mem' l) s.leaves s.height s.workers
+  pub rooted : (l : ℕ) → EveryNodeIsHeld (lock_nodes mem l) s.leaves s.height s.workers → EveryNodeIsHeld (lock_nodes mem' l) s.leaves s.height s.workers
 
--- The words of worker w are new, and all else is as it was.
+-- The words of worker w are new, and everything else is unchanged.
 pub record OwnMove (s : Shape) (mem mem' : Address → ℕ) (w : ℕ) (new : WorkerWords) : Type 0 where
   pub own : worker_words mem' w ≡ new
   pub others : (u : ℕ) → u ≢ w → worker_words mem' u ≡ worker_words mem u
   pub locks : (l : ℕ) → lock_words s mem' l ≡ lock_words s mem l
   pub trees : SameTrees s mem mem'
 
--- The words of lock l are new, and all else is as it was.
+-- The words of lock l are new, and everything else is unchanged.
 pub record LockMove (s : Shape) (mem mem' : Address → ℕ) (l : ℕ) (new : LockWords) : Type 0 where
   pub lock : lock_words s mem' l ≡ new
   pub others : (k : ℕ) → k ≢ l → lock_words s mem' k ≡ lock_words s mem k
   pub owns : (u : ℕ) → worker_words mem' u ≡ worker_words mem u
   pub trees : SameTrees s mem mem'
 
--- Worker w now holds so many levels of lock l, and all else is as it was.
+-- Worker w now holds `levels` levels of lock l, and everything else is unchanged.
 pub record NodeMove (s : Shape) (mem mem' : Address → ℕ) (l w levels : ℕ) : Type 0 where
   pub owns : (u : ℕ) → worker_words mem' u ≡ worker_words mem u
   pub locks : (k : ℕ) → lock_words s mem' k ≡ lock_words s mem k
-  pub self : held_in s mem' w l ≡ levels
-  pub others : (u : ℕ) → u < s.workers → u ≢ w → held_in s mem' u l ≡ held_in s mem u l
-  pub elsewhere : (u k : ℕ) → k ≢ l → held_in s mem' u k ≡ held_in s mem u k
+  pub self : held_levels_in s mem' w l ≡ levels
+  pub others : (u : ℕ) → u < s.workers → u ≢ w → held_levels_in s mem' u l ≡ held_levels_in s mem u l
+  pub elsewhere : (u k : ℕ) → k ≢ l → held_levels_in s mem' u k ≡ held_levels_in s mem u k
   pub owner_elsewhere : (k : ℕ) → k ≢ l → owner_in s mem' k ≡ owner_in s mem k
-  pub owner_step : OwnerStep s.leaves s.height s.workers (nodes_of mem l) (nodes_of mem' l) w levels
-  pub rooted : (k : ℕ) → k < s.locks → Rooted (nodes_of mem k) s.leaves s.height s.workers → Rooted (nodes_of mem' k) s.leaves s.height s.workers
+  pub owner_step : OwnerStep (tree_size s.leaves s.height s.workers) (lock_nodes mem l) (lock_nodes mem' l) w levels
+  pub rooted : (k : ℕ) → k < s.locks → EveryNodeIsHeld (lock_nodes mem k) s.leaves s.height s.workers → EveryNodeIsHeld (lock_nodes mem' k) s.leaves s.height s.workers
 
--- Every other worker holds what it held, in each lock.
+-- Every other worker holds the same levels in each lock.
 pub held_others : (s : Shape) (mem mem' : Address → ℕ) (l w levels : ℕ) → NodeMove s mem mem' l w levels
-    → (u k : ℕ) → u < s.workers → u ≢ w → held_in s mem' u k ≡ held_in s mem u k
+    → (u k : ℕ) → u < s.workers → u ≢ w → held_levels_in s mem' u k ≡ held_levels_in s mem u k
 held_others s mem mem' l w levels move u k other apart =
     elim (cases_eq k l) [
-      | inl here ↦ (let P : ℕ → Type 0 = λ k. held_in s mem' u k ≡ held_in s mem u k in subst P (sym here) (move.others u other apart))
+      | inl here ↦ (let P : ℕ → Type 0 = λ k. held_levels_in s mem' u k ≡ held_levels_in s mem u k in subst P (sym here) (move.others u other apart))
       | inr elsewhere ↦ move.elsewhere u k elsewhere
     ]
 
--- Two views that are the same part by part are the same.
+-- Two views with equal fields are equal.
 own_parts : (one other : WorkerWords) → one.begun ≡ other.begun → one.done ≡ other.done → one.reply ≡ other.reply → one.place ≡ other.place
     → one.at ≡ other.at → one.slate_lock ≡ other.slate_lock → one.slate_len ≡ other.slate_len → one.slate ≡ other.slate → one ≡ other
 own_parts one other begun done reply place at slate_lock slate_len slate =
@@ -65,7 +66,7 @@ lock_parts : (one other : LockWords) → one.turn ≡ other.turn → one.cells �
 lock_parts one other turn cells shadows shadow_reply mask =
     λ i. record { turn = turn i; cells = cells i; shadows = shadows i; shadow_reply = shadow_reply i; mask = mask i }
 
--- An address is one of a worker's own words, or one of a lock's words beside its nodes.
+-- An address is one of a worker's own words, or one of a lock's words other than its nodes.
 abbrev IsOwn : ℕ → Address → Type 0
 IsOwn u (Begun v) = v ≡ u
 IsOwn u (Done v) = v ≡ u
@@ -98,10 +99,10 @@ IsOfLock l (Shadow v c) = v ≡ l
 IsOfLock l (ShadowReply v) = v ≡ l
 IsOfLock l (Mask v) = v ≡ l
 
--- A view of which no word was stored is as it was.
-module _ (s : Shape) (mem mem' : Address → ℕ) (a : Address) (x : ℕ) (wrote : Wrote mem mem' a x) where
-  slate_unmoved : (u : ℕ) → ((i j : ℕ) → SlateWord u i j ≢ a) → slate_at mem' u ≡ slate_at mem u
-  unfolding slate_at
+-- A view is unchanged if none of its words was stored.
+module _ (s : Shape) (mem mem' : Address → ℕ) (a : Address) (x : ℕ) (wrote : StoreEffect mem mem' a x) where
+  slate_unmoved : (u : ℕ) → ((i j : ℕ) → SlateWord u i j ≢ a) → slate_of_worker mem' u ≡ slate_of_worker mem u
+  unfolding slate_of_worker
   slate_unmoved u off = made_same _ _ 24 (λ i within. wrote.off _ (off (i / 3) (i % 3)))
 
   cells_unmoved : (l : ℕ) → ((c : ℕ) → Cell l c ≢ a) → (lock_words s mem' l).cells ≡ (lock_words s mem l).cells
@@ -134,14 +135,14 @@ module _ (s : Shape) (mem mem' : Address → ℕ) (a : Address) (x : ℕ) (wrote
 
   trees_unmoved : ((l p : ℕ) → a ≢ Node l p) → SameTrees s mem mem'
   trees_unmoved off = record {
-    held = λ u l. (same_tree (nodes_of mem l) (nodes_of mem' l) s.leaves s.height s.workers (no_node mem mem' a x wrote off l)).0 u;
-    owner = λ l. (same_tree (nodes_of mem l) (nodes_of mem' l) s.leaves s.height s.workers (no_node mem mem' a x wrote off l)).1;
-    rooted = λ l. (same_tree (nodes_of mem l) (nodes_of mem' l) s.leaves s.height s.workers (no_node mem mem' a x wrote off l)).2;
+    held = λ u l. (same_tree (lock_nodes mem l) (lock_nodes mem' l) s.leaves s.height s.workers (no_node mem mem' a x wrote off l)).0 u;
+    owner = λ l. (same_tree (lock_nodes mem l) (lock_nodes mem' l) s.leaves s.height s.workers (no_node mem mem' a x wrote off l)).1;
+    rooted = λ l. (same_tree (lock_nodes mem l) (lock_nodes mem' l) s.leaves s.height s.workers (no_node mem mem' a x wrote off l)).2;
   }
 
 -- A stored word of a slate.
-slate_stored : (mem mem' : Address → ℕ) (w x i : ℕ) → i < 24 → Wrote mem mem' (SlateWord w (i / 3) (i % 3)) x → slate_at mem' w ≡ slice_set (slate_at mem w) i x
-unfolding slate_at
+slate_stored : (mem mem' : Address → ℕ) (w x i : ℕ) → i < 24 → StoreEffect mem mem' (SlateWord w (i / 3) (i % 3)) x → slate_of_worker mem' w ≡ slice_set (slate_of_worker mem w) i x
+unfolding slate_of_worker
 slate_stored mem mem' w x i within wrote =
     made_set _ _ 24 i x within wrote.at (λ j less apart. wrote.off (SlateWord w (j / 3) (j % 3)) (λ e.
     let operations : j / 3 ≡ i / 3 = cc in
@@ -150,7 +151,7 @@ slate_stored mem mem' w x i within wrote =
 
 -- The kinds of store. An index of a slate's word is below 24: word i is part i % 3 of operation i / 3.
 module _ (s : Shape) (mem mem' : Address → ℕ) (w x : ℕ) where
-  own_move : (a : Address) (new : WorkerWords) → Wrote mem mem' a x → ((u : ℕ) → IsOwn u a → w ≡ u) → ((l : ℕ) → IsOfLock l a → ⊥) → ((l p : ℕ) → a ≢ Node l p)
+  own_move : (a : Address) (new : WorkerWords) → StoreEffect mem mem' a x → ((u : ℕ) → IsOwn u a → w ≡ u) → ((l : ℕ) → IsOfLock l a → ⊥) → ((l p : ℕ) → a ≢ Node l p)
       → worker_words mem' w ≡ new → OwnMove s mem mem' w new
   own_move a new wrote is_own no_lock no_node own = record {
     own = own;
@@ -159,56 +160,56 @@ module _ (s : Shape) (mem mem' : Address → ℕ) (w x : ℕ) where
     trees = trees_unmoved s mem mem' a x wrote no_node;
   }
 
-  pub begun_move : Wrote mem mem' (Begun w) x → OwnMove s mem mem' w record (worker_words mem w) { begun = x }
+  pub begun_move : StoreEffect mem mem' (Begun w) x → OwnMove s mem mem' w record (worker_words mem w) { begun = x }
   begun_move wrote =
       own_move (Begun w) _ wrote (λ u e. e) (λ l e. e) (λ l p. λ e. cc)
       (own_parts _ _ wrote.at (wrote.off (Done w) (λ e. cc)) (wrote.off (Reply w) (λ e. cc)) (wrote.off (Place w) (λ e. cc))
       (wrote.off (At w) (λ e. cc)) (wrote.off (SlateLock w) (λ e. cc)) (wrote.off (SlateLen w) (λ e. cc))
       (slate_unmoved s mem mem' (Begun w) x wrote w (λ i j e. cc)))
 
-  pub done_move : Wrote mem mem' (Done w) x → OwnMove s mem mem' w record (worker_words mem w) { done = x }
+  pub done_move : StoreEffect mem mem' (Done w) x → OwnMove s mem mem' w record (worker_words mem w) { done = x }
   done_move wrote =
       own_move (Done w) _ wrote (λ u e. e) (λ l e. e) (λ l p. λ e. cc)
       (own_parts _ _ (wrote.off (Begun w) (λ e. cc)) wrote.at (wrote.off (Reply w) (λ e. cc)) (wrote.off (Place w) (λ e. cc))
       (wrote.off (At w) (λ e. cc)) (wrote.off (SlateLock w) (λ e. cc)) (wrote.off (SlateLen w) (λ e. cc))
       (slate_unmoved s mem mem' (Done w) x wrote w (λ i j e. cc)))
 
-  pub reply_move : Wrote mem mem' (Reply w) x → OwnMove s mem mem' w record (worker_words mem w) { reply = x }
+  pub reply_move : StoreEffect mem mem' (Reply w) x → OwnMove s mem mem' w record (worker_words mem w) { reply = x }
   reply_move wrote =
       own_move (Reply w) _ wrote (λ u e. e) (λ l e. e) (λ l p. λ e. cc)
       (own_parts _ _ (wrote.off (Begun w) (λ e. cc)) (wrote.off (Done w) (λ e. cc)) wrote.at (wrote.off (Place w) (λ e. cc))
       (wrote.off (At w) (λ e. cc)) (wrote.off (SlateLock w) (λ e. cc)) (wrote.off (SlateLen w) (λ e. cc))
       (slate_unmoved s mem mem' (Reply w) x wrote w (λ i j e. cc)))
 
-  pub place_move : Wrote mem mem' (Place w) x → OwnMove s mem mem' w record (worker_words mem w) { place = x }
+  pub place_move : StoreEffect mem mem' (Place w) x → OwnMove s mem mem' w record (worker_words mem w) { place = x }
   place_move wrote =
       own_move (Place w) _ wrote (λ u e. e) (λ l e. e) (λ l p. λ e. cc)
       (own_parts _ _ (wrote.off (Begun w) (λ e. cc)) (wrote.off (Done w) (λ e. cc)) (wrote.off (Reply w) (λ e. cc)) wrote.at
       (wrote.off (At w) (λ e. cc)) (wrote.off (SlateLock w) (λ e. cc)) (wrote.off (SlateLen w) (λ e. cc))
       (slate_unmoved s mem mem' (Place w) x wrote w (λ i j e. cc)))
 
-  pub at_move : Wrote mem mem' (At w) x → OwnMove s mem mem' w record (worker_words mem w) { at = x }
+  pub at_move : StoreEffect mem mem' (At w) x → OwnMove s mem mem' w record (worker_words mem w) { at = x }
   at_move wrote =
       own_move (At w) _ wrote (λ u e. e) (λ l e. e) (λ l p. λ e. cc)
       (own_parts _ _ (wrote.off (Begun w) (λ e. cc)) (wrote.off (Done w) (λ e. cc)) (wrote.off (Reply w) (λ e. cc)) (wrote.off (Place w) (λ e. cc))
       wrote.at (wrote.off (SlateLock w) (λ e. cc)) (wrote.off (SlateLen w) (λ e. cc))
       (slate_unmoved s mem mem' (At w) x wrote w (λ i j e. cc)))
 
-  pub slate_lock_move : Wrote mem mem' (SlateLock w) x → OwnMove s mem mem' w record (worker_words mem w) { slate_lock = x }
+  pub slate_lock_move : StoreEffect mem mem' (SlateLock w) x → OwnMove s mem mem' w record (worker_words mem w) { slate_lock = x }
   slate_lock_move wrote =
       own_move (SlateLock w) _ wrote (λ u e. e) (λ l e. e) (λ l p. λ e. cc)
       (own_parts _ _ (wrote.off (Begun w) (λ e. cc)) (wrote.off (Done w) (λ e. cc)) (wrote.off (Reply w) (λ e. cc)) (wrote.off (Place w) (λ e. cc))
       (wrote.off (At w) (λ e. cc)) wrote.at (wrote.off (SlateLen w) (λ e. cc))
       (slate_unmoved s mem mem' (SlateLock w) x wrote w (λ i j e. cc)))
 
-  pub slate_len_move : Wrote mem mem' (SlateLen w) x → OwnMove s mem mem' w record (worker_words mem w) { slate_len = x }
+  pub slate_len_move : StoreEffect mem mem' (SlateLen w) x → OwnMove s mem mem' w record (worker_words mem w) { slate_len = x }
   slate_len_move wrote =
       own_move (SlateLen w) _ wrote (λ u e. e) (λ l e. e) (λ l p. λ e. cc)
       (own_parts _ _ (wrote.off (Begun w) (λ e. cc)) (wrote.off (Done w) (λ e. cc)) (wrote.off (Reply w) (λ e. cc)) (wrote.off (Place w) (λ e. cc))
       (wrote.off (At w) (λ e. cc)) (wrote.off (SlateLock w) (λ e. cc)) wrote.at
       (slate_unmoved s mem mem' (SlateLen w) x wrote w (λ i j e. cc)))
 
-  pub slate_word_move : (i : ℕ) → i < 24 → Wrote mem mem' (SlateWord w (i / 3) (i % 3)) x
+  pub slate_word_move : (i : ℕ) → i < 24 → StoreEffect mem mem' (SlateWord w (i / 3) (i % 3)) x
       → OwnMove s mem mem' w record (worker_words mem w) { slate = slice_set (worker_words mem w).slate i x }
   slate_word_move i within wrote =
       own_move (SlateWord w (i / 3) (i % 3)) _ wrote (λ u e. e) (λ l e. e) (λ l p. λ e. cc)
@@ -217,7 +218,7 @@ module _ (s : Shape) (mem mem' : Address → ℕ) (w x : ℕ) where
       (slate_stored mem mem' w x i within wrote))
 
 module _ (s : Shape) (mem mem' : Address → ℕ) (l x : ℕ) where
-  lock_move : (a : Address) (new : LockWords) → Wrote mem mem' a x → ((k : ℕ) → IsOfLock k a → l ≡ k) → ((u : ℕ) → IsOwn u a → ⊥) → ((k p : ℕ) → a ≢ Node k p)
+  lock_move : (a : Address) (new : LockWords) → StoreEffect mem mem' a x → ((k : ℕ) → IsOfLock k a → l ≡ k) → ((u : ℕ) → IsOwn u a → ⊥) → ((k p : ℕ) → a ≢ Node k p)
       → lock_words s mem' l ≡ new → LockMove s mem mem' l new
   lock_move a new wrote is_of no_own no_node lock = record {
     lock = lock;
@@ -226,12 +227,12 @@ module _ (s : Shape) (mem mem' : Address → ℕ) (l x : ℕ) where
     trees = trees_unmoved s mem mem' a x wrote no_node;
   }
 
-  pub turn_move : Wrote mem mem' (Turn l) x → LockMove s mem mem' l record (lock_words s mem l) { turn = x }
+  pub turn_move : StoreEffect mem mem' (Turn l) x → LockMove s mem mem' l record (lock_words s mem l) { turn = x }
   turn_move wrote =
       lock_move (Turn l) _ wrote (λ k e. e) (λ u e. e) (λ k p. λ e. cc)
       (lock_parts _ _ wrote.at (cells_unmoved s mem mem' (Turn l) x wrote l (λ d e. cc)) (shadows_unmoved s mem mem' (Turn l) x wrote l (λ d e. cc)) (wrote.off (ShadowReply l) (λ e. cc)) (wrote.off (Mask l) (λ e. cc)))
 
-  pub cell_move : (c : ℕ) → c < s.cells → Wrote mem mem' (Cell l c) x
+  pub cell_move : (c : ℕ) → c < s.cells → StoreEffect mem mem' (Cell l c) x
       → LockMove s mem mem' l record (lock_words s mem l) { cells = slice_set (lock_words s mem l).cells c x }
   cell_move c within wrote =
       lock_move (Cell l c) _ wrote (λ k e. e) (λ u e. e) (λ k p. λ e. cc)
@@ -239,7 +240,7 @@ module _ (s : Shape) (mem mem' : Address → ℕ) (l x : ℕ) where
       (made_set _ _ s.cells c x within wrote.at (λ d less apart. wrote.off _ (λ e. apart (cc))))
       (shadows_unmoved s mem mem' (Cell l c) x wrote l (λ d e. cc)) (wrote.off (ShadowReply l) (λ e. cc)) (wrote.off (Mask l) (λ e. cc)))
 
-  pub shadow_move : (c : ℕ) → c < s.cells → Wrote mem mem' (Shadow l c) x
+  pub shadow_move : (c : ℕ) → c < s.cells → StoreEffect mem mem' (Shadow l c) x
       → LockMove s mem mem' l record (lock_words s mem l) { shadows = slice_set (lock_words s mem l).shadows c x }
   shadow_move c within wrote =
       lock_move (Shadow l c) _ wrote (λ k e. e) (λ u e. e) (λ k p. λ e. cc)
@@ -247,19 +248,19 @@ module _ (s : Shape) (mem mem' : Address → ℕ) (l x : ℕ) where
       (made_set _ _ s.cells c x within wrote.at (λ d less apart. wrote.off _ (λ e. apart (cc))))
       (wrote.off (ShadowReply l) (λ e. cc)) (wrote.off (Mask l) (λ e. cc)))
 
-  pub shadow_reply_move : Wrote mem mem' (ShadowReply l) x → LockMove s mem mem' l record (lock_words s mem l) { shadow_reply = x }
+  pub shadow_reply_move : StoreEffect mem mem' (ShadowReply l) x → LockMove s mem mem' l record (lock_words s mem l) { shadow_reply = x }
   shadow_reply_move wrote =
       lock_move (ShadowReply l) _ wrote (λ k e. e) (λ u e. e) (λ k p. λ e. cc)
       (lock_parts _ _ (wrote.off (Turn l) (λ e. cc)) (cells_unmoved s mem mem' (ShadowReply l) x wrote l (λ d e. cc)) (shadows_unmoved s mem mem' (ShadowReply l) x wrote l (λ d e. cc)) wrote.at (wrote.off (Mask l) (λ e. cc)))
 
-  pub mask_move : Wrote mem mem' (Mask l) x → LockMove s mem mem' l record (lock_words s mem l) { mask = x }
+  pub mask_move : StoreEffect mem mem' (Mask l) x → LockMove s mem mem' l record (lock_words s mem l) { mask = x }
   mask_move wrote =
       lock_move (Mask l) _ wrote (λ k e. e) (λ u e. e) (λ k p. λ e. cc)
       (lock_parts _ _ (wrote.off (Turn l) (λ e. cc)) (cells_unmoved s mem mem' (Mask l) x wrote l (λ d e. cc)) (shadows_unmoved s mem mem' (Mask l) x wrote l (λ d e. cc)) (wrote.off (ShadowReply l) (λ e. cc)) wrote.at)
 
--- What a store of a node leaves: every word beside the nodes, and every other lock's tree.
-module _ (s : Shape) (mem mem' : Address → ℕ) (l p x w levels : ℕ) (worker : w < s.workers) (wrote : Wrote mem mem' (Node l p) x)
-    (step : TreeStep s.leaves s.height s.workers (nodes_of mem l) (nodes_of mem' l) w levels) where
+-- What a store of a node leaves unchanged: every word other than the nodes, and every other lock's tree.
+module _ (s : Shape) (mem mem' : Address → ℕ) (l p x w levels : ℕ) (worker : w < s.workers) (wrote : StoreEffect mem mem' (Node l p) x)
+    (step : TreeStep (tree_size s.leaves s.height s.workers) (lock_nodes mem l) (lock_nodes mem' l) w levels) where
   node_elsewhere : (k : ℕ) → k ≢ l → SameNodes mem mem' k
   node_elsewhere k apart = other_lock mem mem' l p x k wrote apart
 
@@ -269,29 +270,29 @@ module _ (s : Shape) (mem mem' : Address → ℕ) (l p x w levels : ℕ) (worker
     locks = λ k. lock_unmoved s mem mem' (Node l p) x wrote k (λ e. e);
     self = step.self;
     others = step.others;
-    elsewhere = λ u k apart. (same_tree (nodes_of mem k) (nodes_of mem' k) s.leaves s.height s.workers (node_elsewhere k apart)).0 u;
-    owner_elsewhere = λ k apart. (same_tree (nodes_of mem k) (nodes_of mem' k) s.leaves s.height s.workers (node_elsewhere k apart)).1;
-    owner_step = owner_step_law (nodes_of mem l) (nodes_of mem' l) s.leaves s.height s.workers w levels s.counted.tree.is_power s.counted.tree.enough worker step;
+    elsewhere = λ u k apart. (same_tree (lock_nodes mem k) (lock_nodes mem' k) s.leaves s.height s.workers (node_elsewhere k apart)).0 u;
+    owner_elsewhere = λ k apart. (same_tree (lock_nodes mem k) (lock_nodes mem' k) s.leaves s.height s.workers (node_elsewhere k apart)).1;
+    owner_step = owner_step_law (lock_nodes mem l) (lock_nodes mem' l) s.leaves s.height s.workers w levels s.counted.tree.is_power s.counted.tree.enough worker step;
     rooted = λ k lock root. elim (cases_eq k l) [
-      | inl here ↦ (let P : ℕ → Type 0 = λ k. Rooted (nodes_of mem' k) s.leaves s.height s.workers in subst P (sym here) step.rooted)
-      | inr apart ↦ (same_tree (nodes_of mem k) (nodes_of mem' k) s.leaves s.height s.workers (node_elsewhere k apart)).2 root
+      | inl here ↦ (let P : ℕ → Type 0 = λ k. EveryNodeIsHeld (lock_nodes mem' k) s.leaves s.height s.workers in subst P (sym here) step.rooted)
+      | inr apart ↦ (same_tree (lock_nodes mem k) (lock_nodes mem' k) s.leaves s.height s.workers (node_elsewhere k apart)).2 root
     ];
   }
 
 -- The two kinds of change of a node.
 pub take_move : (s : Shape) (mem mem' : Address → ℕ) (l w k : ℕ) → w < s.workers → k < s.height
-    → Rooted (nodes_of mem l) s.leaves s.height s.workers → held_in s mem w l ≡ k → mem (Node l (node s.leaves w (suc k))) ≡ 0
-    → Wrote mem mem' (Node l (node s.leaves w (suc k))) (side s.leaves w (suc k)) → NodeMove s mem mem' l w (suc k)
+    → EveryNodeIsHeld (lock_nodes mem l) s.leaves s.height s.workers → held_levels_in s mem w l ≡ k → mem (Node l (node s.leaves w (suc k))) ≡ 0
+    → StoreEffect mem mem' (Node l (node s.leaves w (suc k))) (side s.leaves w (suc k)) → NodeMove s mem mem' l w (suc k)
 take_move s mem mem' l w k worker level rooted holds free wrote =
     node_move s mem mem' l _ _ w (suc k) worker wrote (take_in s mem mem' l w k worker level rooted holds free wrote)
 
 pub clear_move : (s : Shape) (mem mem' : Address → ℕ) (l w k : ℕ) → w < s.workers → k < s.height
-    → Rooted (nodes_of mem l) s.leaves s.height s.workers → held_in s mem w l ≡ suc k
-    → Wrote mem mem' (Node l (node s.leaves w (suc k))) 0 → NodeMove s mem mem' l w k
+    → EveryNodeIsHeld (lock_nodes mem l) s.leaves s.height s.workers → held_levels_in s mem w l ≡ suc k
+    → StoreEffect mem mem' (Node l (node s.leaves w (suc k))) 0 → NodeMove s mem mem' l w k
 clear_move s mem mem' l w k worker level rooted holds wrote =
     node_move s mem mem' l _ _ w k worker wrote (clear_in s mem mem' l w k worker level rooted holds wrote)
 
--- The lengths of what is read off a memory.
+-- The lengths of the lists that are read from a memory.
 pub cells_long : (s : Shape) (mem : Address → ℕ) (l : ℕ) → length (lock_words s mem l).cells ≡ s.cells
 cells_long s mem l = made_long (λ (c : ℕ). mem (Cell l c)) s.cells
 
@@ -299,10 +300,10 @@ pub shadows_long : (s : Shape) (mem : Address → ℕ) (l : ℕ) → length (loc
 shadows_long s mem l = made_long (λ (c : ℕ). mem (Shadow l c)) s.cells
 
 pub slate_long : (mem : Address → ℕ) (w : ℕ) → length (worker_words mem w).slate ≡ 24
-unfolding slate_at
+unfolding slate_of_worker
 slate_long mem w = made_long (λ (i : ℕ). mem (SlateWord w (i / 3) (i % 3))) 24
 
--- A cell, a shadow word and a word of a slate, read off a memory.
+-- A cell, a shadow word and a word of a slate, read from a memory.
 pub cell_read : (s : Shape) (mem : Address → ℕ) (l c : ℕ) → c < s.cells → mem (Cell l c) ≡ slice_index (lock_words s mem l).cells c
 cell_read s mem l c within = sym (made_at (λ (c : ℕ). mem (Cell l c)) s.cells c 0 within)
 
@@ -310,5 +311,5 @@ pub shadow_read : (s : Shape) (mem : Address → ℕ) (l c : ℕ) → c < s.cell
 shadow_read s mem l c within = sym (made_at (λ (c : ℕ). mem (Shadow l c)) s.cells c 0 within)
 
 pub slate_read : (mem : Address → ℕ) (w i : ℕ) → i < 24 → mem (SlateWord w (i / 3) (i % 3)) ≡ slice_index (worker_words mem w).slate i
-unfolding slate_at
+unfolding slate_of_worker
 slate_read mem w i within = sym (made_at (λ (i : ℕ). mem (SlateWord w (i / 3) (i % 3))) 24 i 0 within)

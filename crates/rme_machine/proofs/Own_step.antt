@@ -1,4 +1,4 @@
--- Each own step of a worker, of every kind: the laws of the stages, put together.
+-- The law of each own step of a worker, from the laws of the stages.
 use Rattle.std.proofs.Common.{◌≡◌, ◌≢◌, ℕ, ◌<◌, List, refl, sym, subst}
 use Rattle.std.specs.Prelude.{Some}
 use Rattle.rme_words.specs.declared.shape.Shape.{Shape}
@@ -7,12 +7,12 @@ use Rattle.rme_program.specs.declared.note.Entry.{Entry}
 use Rattle.rme_program.specs.declared.private.Private.{Private}
 use Rattle.rme_program.specs.declared.stage.Stage.{Stage}
 use Rattle.rme_program.specs.declared.stage.Stage.TheVariants.{Resting, Recovering, Posting, Climbing, Logging, Copying, Leaving}
-use Rattle.rme_program.specs.Did.{Did}
-use Rattle.rme_program.specs.Steps.{action_of, private_after, note_after}
-use Rattle.rme_machine.specs.Shown.{Privates, act_of}
-use Rattle.rme_machine.specs.Fact.{Fact}
-use Rattle.rme_machine.specs.Changes.{Became, history_after}
-use Rattle.rme_machine.specs.Laws.{Goes, StepLaw}
+use Rattle.rme_program.specs.ActionEffects.{ActionEffect}
+use Rattle.rme_program.specs.Steps.{private_action, private_after, note_after}
+use Rattle.rme_machine.specs.AbstractState.{Privates, act_of_note}
+use Rattle.rme_machine.specs.Invariant.{Invariant}
+use Rattle.rme_machine.specs.Changes.{PrivateChange, history_after}
+use Rattle.rme_machine.specs.Laws.{RefinementStep, StepLaw}
 use Rattle.rme_machine.proofs.Recovering.{recovering}
 use Rattle.rme_machine.proofs.Posting.{posting}
 use Rattle.rme_machine.proofs.Climbing.{climbing}
@@ -22,11 +22,11 @@ use Rattle.rme_machine.proofs.Leaving.{leaving}
 
 -- The law for a private state of this worker at this stage.
 StageLaw : Shape → (Address → ℕ) → (Address → ℕ) → Privates → Privates → List Entry → ℕ → ℕ → Private → Type 0
-StageLaw s mem mem' privs privs' es w found p = privs w ≡ Some p → Did mem mem' (action_of s p) found → Became privs privs' w (Some (private_after s p found))
-    → Goes s mem mem' privs privs' es (history_after es mem w (note_after s p found)) w (act_of (note_after s p found))
+StageLaw s mem mem' privs privs' es w found p = privs w ≡ Some p → ActionEffect mem mem' (private_action s p) found → PrivateChange privs privs' w (Some (private_after s p found))
+    → RefinementStep s mem mem' privs privs' es (history_after es mem w (note_after s p found)) w (act_of_note (note_after s p found))
 
 by_stage : (s : Shape) (mem mem' : Address → ℕ) (privs privs' : Privates) (es : List Entry) (w b found : ℕ) (stage : Stage)
-    → Fact s mem privs es → w < s.workers → stage ≢ Resting → StageLaw s mem mem' privs privs' es w found record { worker = w; begun = b; stage = stage }
+    → Invariant s mem privs es → w < s.workers → stage ≢ Resting → StageLaw s mem mem' privs privs' es w found record { worker = w; begun = b; stage = stage }
 unfolding StageLaw
 by_stage s mem mem' privs privs' es w b found Resting fact worker busy = absurd (busy refl)
 by_stage s mem mem' privs privs' es w b found (Recovering recovery) fact worker busy = recovering s mem mem' privs privs' es w b recovery found fact worker
@@ -36,7 +36,7 @@ by_stage s mem mem' privs privs' es w b found (Logging log) fact worker busy = l
 by_stage s mem mem' privs privs' es w b found (Copying redo) fact worker busy = copying s mem mem' privs privs' es w b redo found fact worker
 by_stage s mem mem' privs privs' es w b found (Leaving departure) fact worker busy = leaving s mem mem' privs privs' es w b departure found fact worker
 
--- Each own step keeps the fact and is the machine's step of its note.
+-- Each own step preserves the invariant and is the machine step of its note.
 pub own_step : StepLaw
 unfolding StageLaw
 own_step s mem mem' privs privs' es w p found fact worker was busy did became =

@@ -1,4 +1,4 @@
--- The owner table and the cells that are shown.
+-- The owner table and the cells of the abstract state.
 use Rattle.std.proofs.Common.{◌≡◌, ℕ, ◌<◌, List, refl, sym, ◌∙◌, ap, subst, inl, inr}
 use Rattle.std.specs.Prelude.{Bool, true, false, not, Option, Some, None, slice_get, slice_index, ◌==◌}
 use Rattle.std.proofs.lemmas.Bool.{cases_Bool, eqb-true}
@@ -6,54 +6,54 @@ use Rattle.std.proofs.lemmas.List.FromFn.{length-map-range_with_len}
 use Rattle.std.proofs.lemmas.Option.{none-some, same_Some}
 use Rattle.rme_words.specs.declared.shape.Shape.{Shape}
 use Rattle.rme_words.specs.declared.address.Address.{Address}
-use Rattle.rme_tree.specs.Nodes.{held_in, owner_in}
+use Rattle.rme_tree.specs.Nodes.{held_levels_in, owner_in}
 use Rattle.rme_script.specs.declared.job.Job.{Job}
 use Rattle.rme_program.specs.declared.note.Entry.{Entry}
 use Rattle.rme_program.specs.declared.stage.Stage.{Stage}
 use Rattle.rme_program.specs.declared.stage.Stage.TheVariants.{Resting, Recovering, Posting, Climbing, Logging, Copying, Leaving}
 use Rattle.rme_program.specs.declared.stage.Departure.TheVariants.{LoadExitTurn, StoreExitTurn, Clear, WithdrawPlace, WithdrawAt, WithdrawReply, WithdrawDone}
 use Rattle.rme_program.specs.Conditions.{IsStage}
-use Rattle.rme_machine.specs.declared.stance.Stance.{Stance}
-use Rattle.rme_machine.specs.Histories.{last_by}
-use Rattle.rme_machine.specs.Shown.{Privates, lock_owned, shown, shown_worker, job_of}
-use Rattle.rme_machine.specs.Shown as shown
-use Rattle.rme_machine.specs.ShownCells.{ShownCells, AreCells, owner_by, owner_at, stance_of_owner, owners_stance, is_settled, settled_by}
-use Rattle.rme_machine.specs.ShownCells as cells
+use Rattle.rme_machine.specs.declared.stance.JobStance.{JobStance}
+use Rattle.rme_machine.specs.Histories.{last_entry_of_worker}
+use Rattle.rme_machine.specs.AbstractState.{Privates, lock_owned_by_worker, abstract_state, abstract_worker, last_entry_job}
+use Rattle.rme_machine.specs.AbstractState as abstract_state
+use Rattle.rme_machine.specs.AbstractCells.{AbstractCells, CellsByStance, owner_if_any, state_owner, stance_of_owner, stance_of_lock_owner, is_lock_settled, is_settled_by_stance}
+use Rattle.rme_machine.specs.AbstractCells as cells
 use Rattle.rme_machine.specs.Views.{worker_words, lock_words, is_pending, slate_job}
-use Rattle.rme_machine.specs.Fact.{Fact, StandsOwned, Stands}
-use Rattle.rme_machine.specs.Fits.{Knows, log_lock, redo_lock}
-use Rattle.rme_machine.specs.FurtherLaws.{TablesLaw, OwnsLaw, owned_by}
+use Rattle.rme_machine.specs.Invariant.{Invariant, OwnedLockInvariant, LockInvariant}
+use Rattle.rme_machine.specs.Knowledge.{StageKnowledge, log_lock, redo_lock}
+use Rattle.rme_machine.specs.FurtherLaws.{TablesLaw, SectionOwnerLaw, stage_owned_lock}
 use Rattle.rme_machine.proofs.Copying.{redo_lock_less}
 use Rattle.rme_machine.proofs.Kept.{owner_holds_in, owner_of}
 use Rattle.rme_machine.proofs.Lists.{made_get}
 use Rattle.rme_machine.proofs.Logging.{log_lock_less}
 use Rattle.rme_machine.proofs.Shows.{owned_at}
 
--- The owner of a lock by the words is that of the state shown.
-pub shown_owner : (s : Shape) (mem : Address → ℕ) (privs : Privates) (es : List Entry) (lock : ℕ) → lock < s.locks → owner_in s mem lock ≡ owner_at (shown s mem privs es) lock
-shown_owner s mem privs es lock below = sym (ap owner_by (made_get (λ (l : ℕ). owner_in s mem l) s.locks lock below))
+-- The owner of a lock by the words is that of the abstract state.
+pub shown_owner : (s : Shape) (mem : Address → ℕ) (privs : Privates) (es : List Entry) (lock : ℕ) → lock < s.locks → owner_in s mem lock ≡ state_owner (abstract_state s mem privs es) lock
+shown_owner s mem privs es lock below = sym (ap owner_if_any (made_get (λ (l : ℕ). owner_in s mem l) s.locks lock below))
 
-module _ (s : Shape) (mem : Address → ℕ) (privs : Privates) (es : List Entry) (fact : Fact s mem privs es) (lock : ℕ) (below : lock < s.locks) where
-  stance_is : (owner : Option ℕ) → owner_in s mem lock ≡ owner → owners_stance (shown s mem privs es) lock ≡ stance_of_owner (shown s mem privs es) owner
-  stance_is owner is = ap (stance_of_owner (shown s mem privs es)) (sym (shown_owner s mem privs es lock below) ∙ is)
+module _ (s : Shape) (mem : Address → ℕ) (privs : Privates) (es : List Entry) (fact : Invariant s mem privs es) (lock : ℕ) (below : lock < s.locks) where
+  stance_is : (owner : Option ℕ) → owner_in s mem lock ≡ owner → stance_of_lock_owner (abstract_state s mem privs es) lock ≡ stance_of_owner (abstract_state s mem privs es) owner
+  stance_is owner is = ap (stance_of_owner (abstract_state s mem privs es)) (sym (shown_owner s mem privs es lock below) ∙ is)
 
   -- The stance of a lock's owner.
   owner_stance : (w : ℕ) → owner_in s mem lock ≡ Some w → (last : Job)
-      × (owners_stance (shown s mem privs es) lock ≡ Some (shown.stance_by (Some lock) (is_pending (worker_words mem w)) (worker_words mem w).begun (slate_job (worker_words mem w)) last (privs w)))
+      × (stance_of_lock_owner (abstract_state s mem privs es) lock ≡ Some (abstract_state.abstract_stance (Some lock) (is_pending (worker_words mem w)) (worker_words mem w).begun (slate_job (worker_words mem w)) last (privs w)))
   owner_stance w is =
-      let holds : (w < s.workers) × (held_in s mem w lock ≡ s.height) = owner_holds_in s mem lock w is in
-      let there : slice_get (shown s mem privs es).workers w ≡ Some (shown_worker s mem privs es w) = made_get (λ (u : ℕ). shown_worker s mem privs es u) s.workers w holds.0 in
-      let owned : lock_owned s mem w ≡ Some lock = owned_at s mem privs es w lock fact holds.0 below holds.1 in (
-        job_of (last_by es w),
-        stance_is (Some w) is ∙ ap cells.stance_found there
-            ∙ ap (λ (o : Option ℕ). Some (shown.stance_by o (is_pending (worker_words mem w)) (worker_words mem w).begun (slate_job (worker_words mem w)) (job_of (last_by es w)) (privs w))) owned,
+      let holds : (w < s.workers) × (held_levels_in s mem w lock ≡ s.height) = owner_holds_in s mem lock w is in
+      let there : slice_get (abstract_state s mem privs es).workers w ≡ Some (abstract_worker s mem privs es w) = made_get (λ (u : ℕ). abstract_worker s mem privs es u) s.workers w holds.0 in
+      let owned : lock_owned_by_worker s mem w ≡ Some lock = owned_at s mem privs es w lock fact holds.0 below holds.1 in (
+        last_entry_job (last_entry_of_worker es w),
+        stance_is (Some w) is ∙ ap cells.stance_if_any there
+            ∙ ap (λ (o : Option ℕ). Some (abstract_state.abstract_stance o (is_pending (worker_words mem w)) (worker_words mem w).begun (slate_job (worker_words mem w)) (last_entry_job (last_entry_of_worker es w)) (privs w))) owned,
       )
 
-  abbrev Shows : Option Stance → Type 0
-  Shows stance = AreCells s es lock stance (lock_words s mem lock).cells
+  abbrev Shows : Option JobStance → Type 0
+  Shows stance = CellsByStance s es lock stance (lock_words s mem lock).cells
 
-  owned_cells : (w : ℕ) (pending : Bool) (last : Job) → StandsOwned s (lock_words s mem lock) es lock w (worker_words mem w) pending
-      → Shows (Some (shown.stance_by (Some lock) pending (worker_words mem w).begun (slate_job (worker_words mem w)) last (privs w)))
+  owned_cells : (w : ℕ) (pending : Bool) (last : Job) → OwnedLockInvariant s (lock_words s mem lock) es lock w (worker_words mem w) pending
+      → Shows (Some (abstract_state.abstract_stance (Some lock) pending (worker_words mem w).begun (slate_job (worker_words mem w)) last (privs w)))
   owned_cells w true last stands = elim stands [
     | inl settled ↦ (length-map-range_with_len _ 0 s.cells, λ c within. inl (ap (λ (xs : List ℕ). slice_index xs c) settled.cells))
     | inr logged ↦ (length-map-range_with_len _ 0 s.cells, λ c within. logged.cells c within)
@@ -63,27 +63,27 @@ module _ (s : Shape) (mem : Address → ℕ) (privs : Privates) (es : List Entry
     | inr over ↦ over.cells
   ]
 
-  cells_by : (owner : Option ℕ) → owner_in s mem lock ≡ owner → Stands s (lock_words s mem lock) es lock owner (worker_words mem) → Shows (owners_stance (shown s mem privs es) lock)
-  cells_by None is stands = subst (λ (t : Option Stance). Shows t) (sym (stance_is None is)) stands.cells
+  cells_by : (owner : Option ℕ) → owner_in s mem lock ≡ owner → LockInvariant s (lock_words s mem lock) es lock owner (worker_words mem) → Shows (stance_of_lock_owner (abstract_state s mem privs es) lock)
+  cells_by None is stands = subst (λ (t : Option JobStance). Shows t) (sym (stance_is None is)) stands.cells
   cells_by (Some w) is stands =
       let its = owner_stance w is in
-      subst (λ (t : Option Stance). Shows t) (sym its.1) (owned_cells w (is_pending (worker_words mem w)) its.0 stands)
+      subst (λ (t : Option JobStance). Shows t) (sym its.1) (owned_cells w (is_pending (worker_words mem w)) its.0 stands)
 
-  shown_cells : ShownCells s (shown s mem privs es) lock (lock_words s mem lock).cells
+  shown_cells : AbstractCells s (abstract_state s mem privs es) lock (lock_words s mem lock).cells
   shown_cells = cells_by (owner_in s mem lock) refl (fact.stands lock below)
 
-  free_settled : owner_in s mem lock ≡ None → is_settled (shown s mem privs es) lock ≡ true
-  free_settled is = ap settled_by (stance_is None is)
+  free_settled : owner_in s mem lock ≡ None → is_lock_settled (abstract_state s mem privs es) lock ≡ true
+  free_settled is = ap is_settled_by_stance (stance_is None is)
 
   settled_when : (w : ℕ) (pending : Bool) (last : Job)
-      → settled_by (Some (shown.stance_by (Some lock) pending (worker_words mem w).begun (slate_job (worker_words mem w)) last (privs w))) ≡ not pending
+      → is_settled_by_stance (Some (abstract_state.abstract_stance (Some lock) pending (worker_words mem w).begun (slate_job (worker_words mem w)) last (privs w))) ≡ not pending
   settled_when w true last = refl
   settled_when w false last = refl
 
-  owned_settled : (w : ℕ) → owner_in s mem lock ≡ Some w → is_settled (shown s mem privs es) lock ≡ not (is_pending (worker_words mem w))
+  owned_settled : (w : ℕ) → owner_in s mem lock ≡ Some w → is_lock_settled (abstract_state s mem privs es) lock ≡ not (is_pending (worker_words mem w))
   owned_settled w is =
       let its = owner_stance w is in
-      ap settled_by its.1 ∙ settled_when w (is_pending (worker_words mem w)) its.0
+      ap is_settled_by_stance its.1 ∙ settled_when w (is_pending (worker_words mem w)) its.0
 
 pub tables : TablesLaw
 tables = record {
@@ -92,17 +92,17 @@ tables = record {
   owned = λ s mem privs es lock w fact below. owned_settled s mem privs es fact lock below w;
 }
 
--- ---- who owns
+-- ---- the owner
 
-pub owning : OwnsLaw
+pub owning : SectionOwnerLaw
 owning s mem privs es w lock p fact worker was owned =
     let fits = fact.fits w p worker was in
     by_stage p.stage owned fits.shaped.stage fits.knows
   where
-    owns : (l : ℕ) → l < s.locks → held_in s mem w l ≡ s.height → l ≡ lock → (lock < s.locks) × (owner_in s mem lock ≡ Some w)
+    owns : (l : ℕ) → l < s.locks → held_levels_in s mem w l ≡ s.height → l ≡ lock → (lock < s.locks) × (owner_in s mem lock ≡ Some w)
     owns l less holds same = subst (λ (k : ℕ). (k < s.locks) × (owner_in s mem k ≡ Some w)) same (less, owner_of s mem l w worker holds)
 
-    by_stage : (stage : Stage) → owned_by s stage ≡ Some lock → IsStage s p.begun stage → Knows s (worker_words mem w) (held_in s mem w) (lock_words s mem) p.begun stage
+    by_stage : (stage : Stage) → stage_owned_lock s stage ≡ Some lock → IsStage s p.begun stage → StageKnowledge s (worker_words mem w) (held_levels_in s mem w) (lock_words s mem) p.begun stage
         → (lock < s.locks) × (owner_in s mem lock ≡ Some w)
     by_stage Resting owned is knows = absurd (none-some lock owned)
     by_stage (Recovering recovery) owned is knows = absurd (none-some lock owned)

@@ -1,4 +1,4 @@
--- `labels`: the machine's step that an event and its answer tell of.
+-- `event_label`: the machine step that an event and its answer stand for.
 use Rattle.std.specs.Prelude.{Option, Some, None}
 use Rattle.rme_program.specs.declared.event.Event.{Event}
 use Rattle.rme_program.specs.declared.event.Event.TheVariants as event
@@ -7,33 +7,14 @@ use Rattle.rme_program.specs.declared.event.Answer.TheVariants.{Handed, Stepped,
 use Rattle.rme_machine.specs.declared.label.Act.TheVariants.{Hand, Crash, Restart, Wait}
 use Rattle.rme_machine.specs.declared.label.Label.{Label}
 use Rattle.rme_machine.specs.declared.label.Label.TheVariants.{Nothing, Of}
-use Rattle.rme_machine.specs.Shown.{act_of}
+use Rattle.rme_machine.specs.AbstractState.{act_of_note}
 
--- A refused event is nothing, an accepted one is its worker's step, and any other pair has no label.
-abbrev pub labels : Event → Answer → Option Label
-labels asked (Refused refusal) = Some Nothing
-labels (event.Submit worker job) (Handed number) = Some (Of worker (Hand number job))
-labels (event.Step worker) (Stepped note) = Some (Of worker (act_of note))
-labels (event.Crash worker) Crashed = Some (Of worker Crash)
-labels (event.Restart worker) Restarted = Some (Of worker Restart)
-labels (event.Withdraw worker) Withdrawing = Some (Of worker Wait)
-labels (event.Submit worker job) (Stepped note) = None
-labels (event.Submit worker job) Crashed = None
-labels (event.Submit worker job) Restarted = None
-labels (event.Submit worker job) Withdrawing = None
-labels (event.Step worker) (Handed number) = None
-labels (event.Step worker) Crashed = None
-labels (event.Step worker) Restarted = None
-labels (event.Step worker) Withdrawing = None
-labels (event.Crash worker) (Handed number) = None
-labels (event.Crash worker) (Stepped note) = None
-labels (event.Crash worker) Restarted = None
-labels (event.Crash worker) Withdrawing = None
-labels (event.Restart worker) (Handed number) = None
-labels (event.Restart worker) (Stepped note) = None
-labels (event.Restart worker) Crashed = None
-labels (event.Restart worker) Withdrawing = None
-labels (event.Withdraw worker) (Handed number) = None
-labels (event.Withdraw worker) (Stepped note) = None
-labels (event.Withdraw worker) Crashed = None
-labels (event.Withdraw worker) Restarted = None
+-- A refused event is `Nothing`, an accepted one is its worker's step, and any other pair has no label.
+abbrev pub event_label : Event → Answer → Option Label
+event_label asked (Refused refusal) = Some Nothing
+event_label (event.Submit worker job) (Handed number) = Some (Of worker (Hand number job))
+event_label (event.Step worker) (Stepped note) = Some (Of worker (act_of_note note))
+event_label (event.Crash worker) Crashed = Some (Of worker Crash)
+event_label (event.Restart worker) Restarted = Some (Of worker Restart)
+event_label (event.Withdraw worker) Withdrawing = Some (Of worker Wait)
+event_label asked answer = None

@@ -1,4 +1,4 @@
--- The laws of a step and of the events. Each stands on the contract of a function of the module `laws`.
+-- The laws of a step and of the events. Each is the contract of a function of the module `laws`.
 use Rattle.std.specs.Prelude.{◌≡◌, ◌≢◌, ℕ, ◌+◌, ◌<◌, List, [], Some, None}
 use Rattle.rme_words.specs.declared.shape.Shape.{Shape}
 use Rattle.rme_words.specs.declared.address.Address.{Address}
@@ -7,59 +7,83 @@ use Rattle.rme_program.specs.declared.note.Entry.{Entry}
 use Rattle.rme_program.specs.declared.private.Private.{Private}
 use Rattle.rme_program.specs.declared.stage.Stage.TheVariants.{Resting, Climbing}
 use Rattle.rme_program.specs.declared.stage.Ascent.{Ascent}
-use Rattle.rme_program.specs.Did.{Did}
-use Rattle.rme_program.specs.Steps.{action_of, private_after, note_after, ready_private, restarted_private, submitted_private, withdrawing_private}
-use Rattle.rme_program.specs.Conditions.{IsJob, Takes}
+use Rattle.rme_program.specs.ActionEffects.{ActionEffect}
+use Rattle.rme_program.specs.Steps.{private_action, private_after, note_after, ready_private, restarted_private, submitted_private, withdrawing_private}
+use Rattle.rme_program.specs.Conditions.{IsValidLoad}
+use Rattle.rme_script.specs.Jobs.{IsJob}
 use Rattle.rme_machine.specs.declared.label.Act.{Act}
 use Rattle.rme_machine.specs.declared.label.Act.TheVariants.{Hand, Crash, Restart, Wait}
-use Rattle.rme_machine.specs.Machine.{Does, opening_state}
-use Rattle.rme_machine.specs.Shown.{Privates, shown, act_of}
-use Rattle.rme_machine.specs.Fact.{Fact}
-use Rattle.rme_machine.specs.Changes.{Became, history_after}
+use Rattle.rme_machine.specs.Machine.{MachineStep, opening_state}
+use Rattle.rme_machine.specs.AbstractState.{Privates, abstract_state, act_of_note}
+use Rattle.rme_machine.specs.Invariant.{Invariant}
+use Rattle.rme_machine.specs.Changes.{PrivateChange, history_after}
 
--- The fact is kept, and the state shown goes on by the machine's step.
-abbrev pub Goes : Shape → (Address → ℕ) → (Address → ℕ) → Privates → Privates → List Entry → List Entry → ℕ → Act → Type 0
-Goes shape old new before after history later worker act =
-    Fact shape new after later × Does shape act (shown shape old before history) worker (shown shape new after later)
+-- The invariant is preserved, and the abstract state makes the machine's step.
+abbrev pub RefinementStep : Shape → (Address → ℕ) → (Address → ℕ) → Privates → Privates → List Entry → List Entry → ℕ
+    → Act → Type 0
+RefinementStep shape old new before after history later worker act =
+    Invariant shape new after later
+    × MachineStep shape act (abstract_state shape old before history) worker (abstract_state shape new after later)
 
--- Each own step of a worker, of every kind, keeps the fact and is the machine's step of its note.
+-- Each own step of a worker, of every kind, preserves the invariant and is the machine step of its note.
 abbrev pub StepLaw : Type 0
-StepLaw = (shape : Shape) (old new : Address → ℕ) (before after : Privates) (history : List Entry) (worker : ℕ) (private : Private) (found : ℕ)
-    → Fact shape old before history → worker < shape.workers → before worker ≡ Some private → private.stage ≢ Resting
-    → Did old new (action_of shape private) found → Became before after worker (Some (private_after shape private found))
-    → Goes shape old new before after history (history_after history old worker (note_after shape private found)) worker (act_of (note_after shape private found))
+StepLaw =
+    (shape : Shape) (old new : Address → ℕ) (before after : Privates) (history : List Entry) (worker : ℕ)
+    (private : Private) (found : ℕ)
+    → Invariant shape old before history → worker < shape.workers → before worker ≡ Some private
+    → private.stage ≢ Resting
+    → ActionEffect old new (private_action shape private) found
+    → PrivateChange before after worker (Some (private_after shape private found))
+    → RefinementStep shape old new before after history
+    (history_after history old worker (note_after shape private found)) worker
+    (act_of_note (note_after shape private found))
 
--- What a step finds is a value that the worker may go on with.
-abbrev pub TakesLaw : Type 0
-TakesLaw = (shape : Shape) (old new : Address → ℕ) (before : Privates) (history : List Entry) (worker : ℕ) (private : Private) (found : ℕ)
-    → Fact shape old before history → worker < shape.workers → before worker ≡ Some private → private.stage ≢ Resting
-    → Did old new (action_of shape private) found → Takes shape private.stage found
+-- The value that a step finds is one that the worker accepts.
+abbrev pub ValidLoadLaw : Type 0
+ValidLoadLaw =
+    (shape : Shape) (old new : Address → ℕ) (before : Privates) (history : List Entry) (worker : ℕ) (private : Private)
+    (found : ℕ)
+    → Invariant shape old before history → worker < shape.workers → before worker ≡ Some private
+    → private.stage ≢ Resting
+    → ActionEffect old new (private_action shape private) found → IsValidLoad shape private.stage found
 
--- The events beside a step change one private state alone.
+-- The events other than a step change only one private state.
 abbrev pub SubmitLaw : Type 0
-SubmitLaw = (shape : Shape) (memory : Address → ℕ) (before after : Privates) (history : List Entry) (worker : ℕ) (private : Private) (job : Job)
-    → Fact shape memory before history → worker < shape.workers → before worker ≡ Some private → private.stage ≡ Resting
-    → private.begun < shape.jobs → IsJob shape job → Became before after worker (Some (submitted_private private job))
-    → Goes shape memory memory before after history history worker (Hand (private.begun + 1) job)
+SubmitLaw =
+    (shape : Shape) (memory : Address → ℕ) (before after : Privates) (history : List Entry) (worker : ℕ)
+    (private : Private) (job : Job)
+    → Invariant shape memory before history → worker < shape.workers → before worker ≡ Some private
+    → private.stage ≡ Resting
+    → private.begun < shape.jobs → IsJob shape job
+    → PrivateChange before after worker (Some (submitted_private private job))
+    → RefinementStep shape memory memory before after history history worker (Hand (private.begun + 1) job)
 
 abbrev pub CrashLaw : Type 0
-CrashLaw = (shape : Shape) (memory : Address → ℕ) (before after : Privates) (history : List Entry) (worker : ℕ) (private : Private)
-    → Fact shape memory before history → worker < shape.workers → before worker ≡ Some private → Became before after worker None
-    → Goes shape memory memory before after history history worker Crash
+CrashLaw =
+    (shape : Shape) (memory : Address → ℕ) (before after : Privates) (history : List Entry) (worker : ℕ)
+    (private : Private)
+    → Invariant shape memory before history → worker < shape.workers → before worker ≡ Some private
+    → PrivateChange before after worker None
+    → RefinementStep shape memory memory before after history history worker Crash
 
 abbrev pub RestartLaw : Type 0
 RestartLaw = (shape : Shape) (memory : Address → ℕ) (before after : Privates) (history : List Entry) (worker : ℕ)
-    → Fact shape memory before history → worker < shape.workers → before worker ≡ None → Became before after worker (Some (restarted_private worker))
-    → Goes shape memory memory before after history history worker Restart
+    → Invariant shape memory before history → worker < shape.workers → before worker ≡ None
+    → PrivateChange before after worker (Some (restarted_private worker))
+    → RefinementStep shape memory memory before after history history worker Restart
 
 abbrev pub WithdrawLaw : Type 0
-WithdrawLaw = (shape : Shape) (memory : Address → ℕ) (before after : Privates) (history : List Entry) (worker : ℕ) (private : Private) (ascent : Ascent)
-    → Fact shape memory before history → worker < shape.workers → before worker ≡ Some private → private.stage ≡ Climbing ascent
-    → Became before after worker (Some (withdrawing_private private))
-    → Goes shape memory memory before after history history worker Wait
+WithdrawLaw =
+    (shape : Shape) (memory : Address → ℕ) (before after : Privates) (history : List Entry) (worker : ℕ)
+    (private : Private) (ascent : Ascent)
+    → Invariant shape memory before history → worker < shape.workers → before worker ≡ Some private
+    → private.stage ≡ Climbing ascent
+    → PrivateChange before after worker (Some (withdrawing_private private))
+    → RefinementStep shape memory memory before after history history worker Wait
 
--- The fact holds at the opening, which shows the opening state.
+-- The invariant holds initially, and the abstract state is the machine's initial state.
 abbrev pub OpeningLaw : Type 0
 OpeningLaw = (shape : Shape) (memory : Address → ℕ) (privates : Privates)
-    → ((address : Address) → memory address ≡ 0) → ((worker : ℕ) → worker < shape.workers → privates worker ≡ Some (ready_private worker 0))
-    → Fact shape memory privates [] × (shown shape memory privates [] ≡ opening_state shape)
+    → ((address : Address) → memory address ≡ 0)
+    → ((worker : ℕ) → worker < shape.workers → privates worker ≡ Some (ready_private worker 0))
+    → Invariant shape memory privates [] × (abstract_state shape memory privates [] ≡ opening_state shape)

@@ -1,14 +1,13 @@
--- In reading order: histories; the machine, its steps and its runs; the words of a worker and of a lock; the
--- state that a world shows; what fits a private state; the one fact, and the clauses of an image as written; the
--- label of an event; how private states and histories change; the laws of a
--- step, and further laws; the machine's own theorems.
+-- In reading order: histories; the abstract machine, its steps and its runs; the words of a worker and of a lock; the
+-- abstraction function; the private invariant; the invariant, and the clauses of an image as written; the label of an
+-- event; how private states and histories change; the laws of a step, and further laws; the machine's theorems.
 pub mod Histories
 pub mod Machine
 pub mod Views
-pub mod Shown
-pub mod ShownCells
-pub mod Fits
-pub mod Fact
+pub mod AbstractState
+pub mod AbstractCells
+pub mod Knowledge
+pub mod Invariant
 pub mod Clauses
 pub mod Labels
 pub mod Changes

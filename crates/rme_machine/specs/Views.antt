@@ -1,4 +1,4 @@
--- The words of one worker and of one lock, read off a memory, and what they say by themselves.
+-- The words of one worker and of one lock, read from a memory, and what follows from them.
 use Rattle.std.specs.Prelude.{ℕ, ◌/◌, ◌%◌, Bool, nat_lt, List, [], Option, map, if◌then◌else◌, unwrap_or}
 use Rattle.std.specs.List.{range_with_len}
 use Rattle.rme_words.specs.declared.shape.Shape.{Shape}
@@ -6,7 +6,7 @@ use Rattle.rme_words.specs.declared.address.Address.{Address}
 use Rattle.rme_words.specs.declared.address.Address.TheVariants.{Begun, Done, Reply, Place, At, SlateLock, SlateLen, SlateWord, Turn, Cell, Shadow, ShadowReply, Mask}
 use Rattle.rme_script.specs.declared.job.Job.{Job}
 use Rattle.rme_script.specs.Programs.{Program}
-use Rattle.rme_script.specs.Slates.{script_of}
+use Rattle.rme_script.specs.Slates.{script_from_words}
 
 -- The words of a worker; `slate` are the words of its operations, in order.
 pub record WorkerWords : Type 0 where
@@ -19,8 +19,8 @@ pub record WorkerWords : Type 0 where
   pub slate_len : ℕ
   pub slate : List ℕ
 
-unfoldable pub slate_at : (Address → ℕ) → ℕ → List ℕ
-slate_at memory worker = map (λ (i : ℕ). memory (SlateWord worker (i / 3) (i % 3))) (range_with_len 0 24)
+unfoldable pub slate_of_worker : (Address → ℕ) → ℕ → List ℕ
+slate_of_worker memory worker = map (λ (i : ℕ). memory (SlateWord worker (i / 3) (i % 3))) (range_with_len 0 24)
 
 abbrev pub worker_words : (Address → ℕ) → ℕ → WorkerWords
 worker_words memory worker = record {
@@ -31,10 +31,10 @@ worker_words memory worker = record {
   at = memory (At worker);
   slate_lock = memory (SlateLock worker);
   slate_len = memory (SlateLen worker);
-  slate = slate_at memory worker;
+  slate = slate_of_worker memory worker;
 }
 
--- The words of a lock beside its nodes.
+-- The words of a lock other than its nodes.
 pub record LockWords : Type 0 where
   pub turn : ℕ
   pub cells : List ℕ
@@ -51,17 +51,17 @@ lock_words shape memory lock = record {
   mask = memory (Mask lock);
 }
 
--- The worker's last job is begun and not done.
+-- Whether the worker's last job is begun and not done.
 abbrev pub is_pending : WorkerWords → Bool
 is_pending own = nat_lt own.done own.begun
 
--- The lock that the worker is at: its slate's while a job is pending, and else that of its last receipt.
-abbrev pub site_of : WorkerWords → ℕ
-site_of own = if is_pending own then own.slate_lock else own.at
+-- The lock that the worker is at: its slate's while a job is pending, otherwise that of its last receipt.
+abbrev pub current_lock : WorkerWords → ℕ
+current_lock own = if is_pending own then own.slate_lock else own.at
 
--- The job of its slate. Where the words are no script, which no pending job's are, it is an empty one.
+-- The job of its slate. Words that encode no script (never those of a pending job) give an empty one.
 abbrev pub slate_script : WorkerWords → Option Program
-slate_script own = script_of own.slate_len own.slate
+slate_script own = script_from_words own.slate_len own.slate
 
 abbrev pub no_script : Program
 no_script = record { n = 0; ops = [] }

@@ -6,7 +6,7 @@ use rme_script::Job;
 /// One step of a worker in the abstract machine.
 #[derive(Clone, Copy)]
 pub enum Act {
-    /// Is handed a job that will have this number.
+    /// Is given a job that will have this number.
     Hand(u32, Job),
     /// Asks for the lock, under this number.
     Ask(u32),
@@ -16,21 +16,21 @@ pub enum Act {
     Finish(Receipt),
     /// Leaves the lock.
     Leave(u32),
-    /// Gives the job of this number up.
+    /// Withdraws the job of this number.
     Withdraw(u32),
-    /// Falls.
+    /// Crashes.
     Crash,
-    /// Comes up.
+    /// Restarts.
     Restart,
-    /// Is in its section again after a crash.
+    /// Re-enters its section after a crash.
     Reenter(u32),
-    /// Does nothing that shows.
+    /// Makes a step that is not observable.
     Still,
-    /// Still waits.
+    /// Is blocked, and still waits.
     Wait,
 }
 
-/// The label of a step: nothing at all, or a worker's.
+/// The label of a step: no step, or a worker's step.
 #[derive(Clone, Copy)]
 pub enum Label {
     Nothing,

@@ -1,12 +1,11 @@
-//! The abstract machine, and why each step of a worker is one of its steps.
+//! The abstract machine, and the proof that each step of a worker refines it.
 //!
-//! In the machine a lock is free or one worker's, any waiting worker may take it, a crash releases nothing,
-//! and a section counts once. `specs/Machine.antt` has the machine, `specs/Shown.antt` the state of it that
-//! words, private states and a history show, and `specs/Fact.antt` the one fact that every world keeps. The
-//! module `laws` says that each own step and each event keeps the fact and is a step of the machine, what
-//! holds wherever the fact does, and the machine's own theorems. The crates above use these laws, and cite
-//! their lemmas and those on histories and lists in `proofs/`. The crate stands on rme_program. Begin with
-//! `specs/Machine.antt`.
+//! In the machine a lock is free or owned by one worker, any waiting worker may take a free lock, a crash releases
+//! nothing, and a section counts once. `specs/Machine.antt` has the machine, `specs/AbstractState.antt` the abstraction
+//! function, and `specs/Invariant.antt` the invariant of every world. The contracts of the module `laws` say that each
+//! own step and each event preserves the invariant and is a step of the machine, what follows from the invariant, and
+//! the theorems of the machine. The crates above use these laws, and cite their lemmas and those on histories and lists
+//! in `proofs/`. The crate stands on rme_program. Begin with `specs/Machine.antt`.
 #![tactic(auto)]
 
 mod label;
@@ -14,4 +13,4 @@ pub mod laws;
 mod stance;
 
 pub use label::{Act, Label};
-pub use stance::Stance;
+pub use stance::JobStance;

@@ -1,13 +1,13 @@
-//! Where a worker stands with its job.
+//! The stance of a worker: the state of its job.
 
 use rme_script::Job;
 
-/// Where a worker stands with its job, in the abstract machine. The numbers are those of its jobs.
+/// The state of a worker's job, in the abstract machine. The numbers are those of its jobs.
 #[derive(Clone, Copy)]
-pub enum Stance {
+pub enum JobStance {
     /// Has no job.
     Idle,
-    /// Was handed a job, which has no number yet.
+    /// Was given a job, which has no number yet.
     Handed(Job),
     /// Waits for the job's lock.
     Waiting(u32, Job),

@@ -1,4 +1,4 @@
--- What a store finds does not matter.
+-- The value that a store finds does not matter.
 use Rattle.std.proofs.Common.{◌≡◌, ℕ, true, false, refl}
 use Rattle.rme_words.specs.declared.shape.Shape.{Shape}
 use Rattle.rme_program.specs.declared.action.Action.{Action}
@@ -9,8 +9,8 @@ use Rattle.rme_program.specs.declared.stage.Recovery.TheVariants.{LoadBegun, Loa
 use Rattle.rme_program.specs.declared.stage.Log.TheVariants.{LoadTurn, LoadLen, LoadSlate, LoadCells, StoreShadows, StoreShadowReply, StoreMask, StoreTurn}
 use Rattle.rme_program.specs.declared.stage.Redo.TheVariants.{LoadMask, LoadShadow, StoreCell, LoadReply, StoreReply, StorePlace, StoreAt, StoreDone}
 use Rattle.rme_program.specs.declared.stage.Departure.TheVariants.{LoadExitTurn, StoreExitTurn, Clear, WithdrawPlace, WithdrawAt, WithdrawReply, WithdrawDone}
-use Rattle.rme_program.specs.Conditions.{Takes}
-use Rattle.rme_program.specs.Steps.{action_at, after_at, begun_after}
+use Rattle.rme_program.specs.Conditions.{IsValidLoad}
+use Rattle.rme_program.specs.Steps.{stage_action, outcome_at, begun_after}
 
 abbrev pub IsStore : Action → Type 0
 IsStore (Load address) = ⊥
@@ -18,11 +18,11 @@ IsStore (Store address value) = Unit {0}
 IsStore (Swap address from to) = ⊥
 
 pub record IsBlind (shape : Shape) (worker begun : ℕ) (stage : Stage) : Type 0 where
-  pub takes : (value : ℕ) → Takes shape stage value
-  pub leads : (value other : ℕ) → after_at shape worker begun stage value ≡ after_at shape worker begun stage other
+  pub takes : (value : ℕ) → IsValidLoad shape stage value
+  pub leads : (value other : ℕ) → outcome_at shape worker begun stage value ≡ outcome_at shape worker begun stage other
   pub knows : (value other : ℕ) → begun_after begun stage value ≡ begun_after begun stage other
 
-pub stores_blindly : (shape : Shape) (worker begun : ℕ) (stage : Stage) → IsStore (action_at shape worker begun stage) → IsBlind shape worker begun stage
+pub stores_blindly : (shape : Shape) (worker begun : ℕ) (stage : Stage) → IsStore (stage_action shape worker begun stage) → IsBlind shape worker begun stage
 stores_blindly shape worker begun Resting store = absurd store
 stores_blindly shape worker begun (Recovering LoadBegun) store = absurd store
 stores_blindly shape worker begun (Recovering LoadDone) store = absurd store

@@ -1,4 +1,4 @@
--- The action of a stage is its row's at its place, and how long each row is.
+-- The action of a stage is its row's at its place, and the length of each row.
 use Rattle.std.proofs.Common.{◌≡◌, ℕ, ◌+◌, ◌-◌, ◌*◌, ◌/◌, ◌%◌, ◌<◌, ◌≤◌, Bool, true, false, nat_lt, List, [], ◌∷◌, ◌++◌, length, refl, ap, ◌∙◌, inl, inr, arith, length-append}
 use Rattle.std.specs.Prelude.{Some, slice_index, ◌⊎◌}
 use Rattle.std.specs.List.{slice_get}
@@ -8,7 +8,7 @@ use Rattle.rme_words.specs.declared.shape.Shape.{Shape}
 use Rattle.rme_words.specs.declared.address.Address.TheVariants.{Begun, Done, Reply, Place, At, SlateLock, SlateLen, SlateWord, Turn}
 use Rattle.rme_tree.specs.Paths.{side}
 use Rattle.rme_script.specs.declared.job.Job.{Job}
-use Rattle.rme_script.specs.Slates.{words_of, slate_of}
+use Rattle.rme_script.specs.Slates.{ops_words, slate_of}
 use Rattle.rme_script.proofs.Slating.{words_length}
 use Rattle.rme_program.specs.declared.action.Action.{Action}
 use Rattle.rme_program.specs.declared.action.Action.TheVariants.{Load, Store, Swap}
@@ -18,31 +18,32 @@ use Rattle.rme_program.specs.declared.stage.Slate.{Slate}
 use Rattle.rme_program.specs.declared.stage.Ascent.{Ascent}
 use Rattle.rme_program.specs.declared.stage.Departure.{Departure}
 use Rattle.rme_program.specs.declared.stage.Departure.TheVariants.{LoadExitTurn, StoreExitTurn, Clear, WithdrawPlace, WithdrawAt, WithdrawReply, WithdrawDone}
-use Rattle.rme_program.specs.Conditions.{IsRecovery, IsDeparture, IsJob}
+use Rattle.rme_program.specs.Conditions.{IsRecoveryStage, IsDepartureStage}
+use Rattle.rme_script.specs.Jobs.{IsJob}
 use Rattle.rme_program.specs.Steps.{recovery_action, slate_action, ascent_action, departure_action}
-use Rattle.rme_program.specs.Table.{each, path_node, lock_word, recover_row, post_row, enter_row, clear_row, settle_row, exit_row, withdraw_row}
-use Rattle.rme_program.specs.Places.{place_of_recovery}
-use Rattle.rme_program.specs.Stays.{FitsRecovery, FitsExit, FitsPartialExit, FitsWithdrawal, place_in_exit, place_in_partial_exit, place_in_withdrawal}
+use Rattle.rme_program.specs.Table.{actions_for_each, path_node, lock_word_address, recover_row, post_row, enter_row, clear_row, settle_row, exit_row, withdraw_row}
+use Rattle.rme_program.specs.StepsMade.{steps_made_in_recovery}
+use Rattle.rme_program.specs.Stays.{RecoveryIsInStay, ExitIsInStay, PartialExitIsInStay, WithdrawalIsInStay, steps_made_in_exit, steps_made_in_partial_exit, steps_made_in_withdrawal}
 use Rattle.rme_program.proofs.Lists.{at_left, at_right, at_each, length_each}
 
 -- ---- RECOVER
 
-pub recover_at : (shape : Shape) (worker known begun done lock : ℕ) (recovery : Recovery) → IsRecovery shape recovery → FitsRecovery known begun done lock recovery
-    → slice_get (recover_row shape worker (nat_lt done begun) lock) (place_of_recovery recovery) ≡ Some (recovery_action shape worker recovery)
+pub recover_at : (shape : Shape) (worker known begun done lock : ℕ) (recovery : Recovery) → IsRecoveryStage shape recovery → RecoveryIsInStay known begun done lock recovery
+    → slice_get (recover_row shape worker (nat_lt done begun) lock) (steps_made_in_recovery recovery) ≡ Some (recovery_action shape worker recovery)
 recover_at shape worker known begun done lock LoadBegun is fits = refl
 recover_at shape worker known begun done lock LoadDone is fits = refl
 recover_at shape worker known begun done lock (LoadLock true) is fits = rw (← fits.1) refl
 recover_at shape worker known begun done lock (LoadLock false) is fits = rw (← fits.1) refl
 recover_at shape worker known begun done lock (LoadPath pending here held) is fits =
-    rw fits.2 (at_right (Load (Begun worker) ∷ Load (Done worker) ∷ Load (lock_word worker (nat_lt done begun)) ∷ [])
-    (each shape.height (λ i. Load (path_node shape worker lock (i + 1)))) held (3 + held) (Load (path_node shape worker lock (held + 1)))
+    rw fits.2 (at_right (Load (Begun worker) ∷ Load (Done worker) ∷ Load (lock_word_address worker (nat_lt done begun)) ∷ [])
+    (actions_for_each shape.height (λ i. Load (path_node shape worker lock (i + 1)))) held (3 + held) (Load (path_node shape worker lock (held + 1)))
     (at_each shape.height (λ i. Load (path_node shape worker lock (i + 1))) held is.1) (omega arith))
 
 pub path_at : (shape : Shape) (worker : ℕ) (pending : Bool) (lock held place level : ℕ) → held < shape.height → place ≡ 3 + held → held + 1 ≡ level
     → slice_get (recover_row shape worker pending lock) place ≡ Some (Load (path_node shape worker lock level))
 path_at shape worker pending lock held place level l p e =
-    at_right (Load (Begun worker) ∷ Load (Done worker) ∷ Load (lock_word worker pending) ∷ [])
-    (each shape.height (λ i. Load (path_node shape worker lock (i + 1)))) held place (Load (path_node shape worker lock level))
+    at_right (Load (Begun worker) ∷ Load (Done worker) ∷ Load (lock_word_address worker pending) ∷ [])
+    (actions_for_each shape.height (λ i. Load (path_node shape worker lock (i + 1)))) held place (Load (path_node shape worker lock level))
     (at_each shape.height (λ i. Load (path_node shape worker lock (i + 1))) held l ∙ ap (λ (n : ℕ). Some (Load (path_node shape worker lock n))) e) (omega (arith, p))
 
 pub recover_length : (shape : Shape) (worker : ℕ) (pending : Bool) (lock : ℕ) → length (recover_row shape worker pending lock) ≡ shape.height + 3
@@ -51,11 +52,11 @@ recover_length shape worker pending lock = omega (arith, length_each shape.heigh
 -- ---- POST
 
 abbrev pub slate_stores : ℕ → Job → List Action
-slate_stores worker job = each (3 * job.script.n) (λ i. Store (SlateWord worker (i / 3) (i % 3)) (slice_index (words_of job.script.ops) i))
+slate_stores worker job = actions_for_each (3 * job.script.n) (λ i. Store (SlateWord worker (i / 3) (i % 3)) (slice_index (ops_words job.script.ops) i))
 
 -- The words of the operations are the first of the slate.
-slate_word : (job : Job) (i : ℕ) → length job.script.ops ≡ job.script.n → i < 3 * job.script.n → slice_index (slate_of job.script.ops) i ≡ slice_index (words_of job.script.ops) i
-slate_word job i counted l = get_or_append_left (words_of job.script.ops) _ 0 i (omega (arith, l, counted, words_length job.script.ops))
+slate_word : (job : Job) (i : ℕ) → length job.script.ops ≡ job.script.n → i < 3 * job.script.n → slice_index (slate_of job.script.ops) i ≡ slice_index (ops_words job.script.ops) i
+slate_word job i counted l = get_or_append_left (ops_words job.script.ops) _ 0 i (omega (arith, l, counted, words_length job.script.ops))
 
 pub post_at : (shape : Shape) (worker known : ℕ) (slate : Slate) → IsJob shape slate.job → slate.stored ≤ 2 + 3 * slate.job.script.n
     → slice_get (post_row worker known slate.job) slate.stored ≡ Some (slate_action worker known slate)
@@ -68,13 +69,13 @@ post_at shape worker known slate is most = elim (cases_eq slate.stored 0) [
           (at_right (Store (SlateLock worker) slate.job.lock ∷ Store (SlateLen worker) slate.job.script.n ∷ [])
           (slate_stores worker slate.job ++ Store (Begun worker) (known + 1) ∷ []) (slate.stored - 2) slate.stored _
           (at_left (slate_stores worker slate.job) _ (slate.stored - 2) _
-          (at_each (3 * slate.job.script.n) (λ i. Store (SlateWord worker (i / 3) (i % 3)) (slice_index (words_of slate.job.script.ops) i)) (slate.stored - 2) (omega (arith, l, n, m))))
+          (at_each (3 * slate.job.script.n) (λ i. Store (SlateWord worker (i / 3) (i % 3)) (slice_index (ops_words slate.job.script.ops) i)) (slate.stored - 2) (omega (arith, l, n, m))))
           (omega (arith, n, m)))
       | inr g ↦ rw (le-ltb slate.stored (2 + 3 * slate.job.script.n) g)
           (at_right (Store (SlateLock worker) slate.job.lock ∷ Store (SlateLen worker) slate.job.script.n ∷ [])
           (slate_stores worker slate.job ++ Store (Begun worker) (known + 1) ∷ []) (slate.stored - 2) slate.stored _
           (at_right (slate_stores worker slate.job) (Store (Begun worker) (known + 1) ∷ []) 0 (slate.stored - 2) _ refl
-          (omega (arith, g, most, length_each (3 * slate.job.script.n) (λ i. Store (SlateWord worker (i / 3) (i % 3)) (slice_index (words_of slate.job.script.ops) i)))))
+          (omega (arith, g, most, length_each (3 * slate.job.script.n) (λ i. Store (SlateWord worker (i / 3) (i % 3)) (slice_index (ops_words slate.job.script.ops) i)))))
           (omega (arith, n, m)))
     ])
   ])
@@ -85,7 +86,7 @@ post_length worker known job =
     omega (
       arith,
       length-append (slate_stores worker job) (Store (Begun worker) (known + 1) ∷ []),
-      length_each (3 * job.script.n) (λ i. Store (SlateWord worker (i / 3) (i % 3)) (slice_index (words_of job.script.ops) i)),
+      length_each (3 * job.script.n) (λ i. Store (SlateWord worker (i / 3) (i % 3)) (slice_index (ops_words job.script.ops) i)),
     )
 
 -- ---- ENTER
@@ -122,8 +123,8 @@ settle_length lock turn = elim (parity turn) [
   | inr q ↦ rw (ne_eqb (turn % 2) 0 (omega (arith, q)), q) refl
 ]
 
-pub exit_at : (shape : Shape) (worker known lock turn : ℕ) (departure : Departure) → IsDeparture shape departure → FitsExit shape lock turn departure
-    → slice_get (exit_row shape worker lock turn) (place_in_exit shape turn departure) ≡ Some (departure_action shape worker known departure)
+pub exit_at : (shape : Shape) (worker known lock turn : ℕ) (departure : Departure) → IsDepartureStage shape departure → ExitIsInStay shape lock turn departure
+    → slice_get (exit_row shape worker lock turn) (steps_made_in_exit shape turn departure) ≡ Some (departure_action shape worker known departure)
 exit_at shape worker known lock turn (LoadExitTurn here) is fits = rw fits refl
 exit_at shape worker known lock turn (StoreExitTurn here odd) is fits = rw (ne_eqb (turn % 2) 0 fits.2, fits.0, fits.1) refl
 exit_at shape worker known lock turn (Clear here level) is fits =
@@ -141,8 +142,8 @@ pub exit_length : (shape : Shape) (worker lock turn : ℕ) → length (exit_row 
 exit_length shape worker lock turn =
     omega (arith, length-append (settle_row lock turn) (clear_row shape worker lock shape.height), settle_length lock turn, clear_length shape worker lock shape.height)
 
-pub partial_at : (shape : Shape) (worker known lock levels : ℕ) (departure : Departure) → IsDeparture shape departure → FitsPartialExit shape lock levels departure
-    → slice_get (clear_row shape worker lock levels) (place_in_partial_exit levels departure) ≡ Some (departure_action shape worker known departure)
+pub partial_at : (shape : Shape) (worker known lock levels : ℕ) (departure : Departure) → IsDepartureStage shape departure → PartialExitIsInStay shape lock levels departure
+    → slice_get (clear_row shape worker lock levels) (steps_made_in_partial_exit levels departure) ≡ Some (departure_action shape worker known departure)
 partial_at shape worker known lock levels (Clear here level) is fits = rw fits.0 (clear_at shape worker lock levels level is.1 fits.1)
 partial_at shape worker known lock levels (LoadExitTurn here) is fits = absurd fits
 partial_at shape worker known lock levels (StoreExitTurn here odd) is fits = absurd fits
@@ -151,8 +152,8 @@ partial_at shape worker known lock levels (WithdrawAt here held) is fits = absur
 partial_at shape worker known lock levels (WithdrawReply here held) is fits = absurd fits
 partial_at shape worker known lock levels (WithdrawDone here held) is fits = absurd fits
 
-pub withdraw_at : (shape : Shape) (worker known lock levels : ℕ) (departure : Departure) → IsDeparture shape departure → FitsWithdrawal shape lock levels departure
-    → slice_get (withdraw_row shape worker known lock levels) (place_in_withdrawal levels departure) ≡ Some (departure_action shape worker known departure)
+pub withdraw_at : (shape : Shape) (worker known lock levels : ℕ) (departure : Departure) → IsDepartureStage shape departure → WithdrawalIsInStay shape lock levels departure
+    → slice_get (withdraw_row shape worker known lock levels) (steps_made_in_withdrawal levels departure) ≡ Some (departure_action shape worker known departure)
 withdraw_at shape worker known lock levels (WithdrawPlace here held) is fits = refl
 withdraw_at shape worker known lock levels (WithdrawAt here held) is fits = rw fits.0 refl
 withdraw_at shape worker known lock levels (WithdrawReply here held) is fits = refl

@@ -1,7 +1,7 @@
--- The phase of each stage, and how many own steps are left in it at most.
+-- The phase of each stage, and an upper bound for the own steps left in it.
 use Rattle.std.specs.Prelude.{ℕ, ◌+◌, ◌-◌, ◌*◌, length}
 use Rattle.rme_words.specs.declared.shape.Shape.{Shape}
-use Rattle.rme_script.specs.Cells.{cells_named}
+use Rattle.rme_script.specs.Cells.{mask_cells}
 use Rattle.rme_program.specs.declared.kinds.Phase.{Phase}
 use Rattle.rme_program.specs.declared.kinds.Phase.TheVariants.{Recover, Post, Enter, Section, Exit, Ready}
 use Rattle.rme_program.specs.declared.stage.Stage.{Stage}
@@ -24,62 +24,65 @@ phase_of (Logging log) = Section
 phase_of (Copying redo) = Section
 phase_of (Leaving departure) = Exit
 
--- How many cells of a mask are below a number.
-abbrev pub cells_below : ℕ → ℕ → ℕ
-cells_below mask cells = length (cells_named mask cells)
+-- The number of cells of a mask below a bound.
+abbrev pub mask_cells_below : ℕ → ℕ → ℕ
+mask_cells_below mask cells = length (mask_cells mask cells)
 
-abbrev pub left_of_recovery : Shape → Recovery → ℕ
-left_of_recovery shape LoadBegun = shape.height + 3
-left_of_recovery shape LoadDone = shape.height + 3 - 1
-left_of_recovery shape (LoadLock pending) = shape.height + 3 - 2
-left_of_recovery shape (LoadPath pending lock held) = shape.height + 3 - (3 + held)
+abbrev pub recovery_steps_left : Shape → Recovery → ℕ
+recovery_steps_left shape LoadBegun = shape.height + 3
+recovery_steps_left shape LoadDone = shape.height + 3 - 1
+recovery_steps_left shape (LoadLock pending) = shape.height + 3 - 2
+recovery_steps_left shape (LoadPath pending lock held) = shape.height + 3 - (3 + held)
 
--- An even section takes 11 + 3n + 2t steps and two for each cell that the mask may have: n operations, 8 until
--- n is loaded, and t named cells, all cells until the operations are.
+-- An even section takes 11 + 3n + 2t steps and two for each cell that the mask may have: n operations (8 until n is
+-- loaded) and t named cells (all cells until the operations are loaded).
 abbrev pub even_steps : Shape → ℕ → ℕ → ℕ
 even_steps shape operations named = 11 + 3 * operations + 2 * named + 2 * shape.cells
 
-abbrev pub left_of_log : Shape → Log → ℕ
-left_of_log shape (LoadTurn lock) = even_steps shape 8 shape.cells
-left_of_log shape (LoadLen lock turn) = even_steps shape 8 shape.cells - 1
-left_of_log shape (LoadSlate lock turn operations words loaded) = even_steps shape operations shape.cells - (2 + loaded)
-left_of_log shape (LoadCells lock turn script named row cell) =
-    even_steps shape script.n (cells_below named shape.cells) - (2 + 3 * script.n + cells_below named cell)
-left_of_log shape (StoreShadows visit named row reply cell) =
-    even_steps shape 0 (cells_below named shape.cells) - (2 + cells_below named shape.cells + cells_below named cell)
-left_of_log shape (StoreShadowReply visit named reply) = even_steps shape 0 0 - 2
-left_of_log shape (StoreMask visit named) = even_steps shape 0 0 - 3
-left_of_log shape (StoreTurn visit) = even_steps shape 0 0 - 4
+abbrev pub log_steps_left : Shape → Log → ℕ
+log_steps_left shape (LoadTurn lock) = even_steps shape 8 shape.cells
+log_steps_left shape (LoadLen lock turn) = even_steps shape 8 shape.cells - 1
+log_steps_left shape (LoadSlate lock turn operations words loaded) =
+    even_steps shape operations shape.cells - (2 + loaded)
+log_steps_left shape (LoadCells lock turn script named row cell) =
+    even_steps shape script.n (mask_cells_below named shape.cells) - (2 + 3 * script.n + mask_cells_below named cell)
+log_steps_left shape (StoreShadows visit named row reply cell) =
+    even_steps shape 0 (mask_cells_below named shape.cells) -
+    (2 + mask_cells_below named shape.cells + mask_cells_below named cell)
+log_steps_left shape (StoreShadowReply visit named reply) = even_steps shape 0 0 - 2
+log_steps_left shape (StoreMask visit named) = even_steps shape 0 0 - 3
+log_steps_left shape (StoreTurn visit) = even_steps shape 0 0 - 4
 
--- From the load of the mask on a section takes what is left of 7 + 2m steps, m cells of the mask.
+-- From the load of the mask on, a section takes the rest of 7 + 2m steps, with m cells of the mask.
 abbrev pub odd_steps : ℕ → ℕ → ℕ
-odd_steps mask cells = 7 + 2 * cells_below mask cells
+odd_steps mask cells = 7 + 2 * mask_cells_below mask cells
 
-abbrev pub left_of_redo : Shape → Redo → ℕ
-left_of_redo shape (LoadMask visit) = 6 + 2 * shape.cells
-left_of_redo shape (LoadShadow visit mask cell) = odd_steps mask shape.cells - (2 + 2 * cells_below mask cell)
-left_of_redo shape (StoreCell visit mask cell value) = odd_steps mask shape.cells - (3 + 2 * cells_below mask cell)
-left_of_redo shape (LoadReply visit mask) = 5
-left_of_redo shape (StoreReply visit mask reply) = 4
-left_of_redo shape (StorePlace visit mask reply) = 3
-left_of_redo shape (StoreAt visit mask reply) = 2
-left_of_redo shape (StoreDone visit mask reply) = 1
+abbrev pub redo_steps_left : Shape → Redo → ℕ
+redo_steps_left shape (LoadMask visit) = 6 + 2 * shape.cells
+redo_steps_left shape (LoadShadow visit mask cell) = odd_steps mask shape.cells - (2 + 2 * mask_cells_below mask cell)
+redo_steps_left shape (StoreCell visit mask cell value) =
+    odd_steps mask shape.cells - (3 + 2 * mask_cells_below mask cell)
+redo_steps_left shape (LoadReply visit mask) = 5
+redo_steps_left shape (StoreReply visit mask reply) = 4
+redo_steps_left shape (StorePlace visit mask reply) = 3
+redo_steps_left shape (StoreAt visit mask reply) = 2
+redo_steps_left shape (StoreDone visit mask reply) = 1
 
-abbrev pub left_of_departure : Shape → Departure → ℕ
-left_of_departure shape (LoadExitTurn lock) = shape.height + 2
-left_of_departure shape (StoreExitTurn lock turn) = shape.height + 1
-left_of_departure shape (Clear lock level) = level
-left_of_departure shape (WithdrawPlace lock held) = 4 + held
-left_of_departure shape (WithdrawAt lock held) = 4 + held - 1
-left_of_departure shape (WithdrawReply lock held) = 4 + held - 2
-left_of_departure shape (WithdrawDone lock held) = 4 + held - 3
+abbrev pub departure_steps_left : Shape → Departure → ℕ
+departure_steps_left shape (LoadExitTurn lock) = shape.height + 2
+departure_steps_left shape (StoreExitTurn lock turn) = shape.height + 1
+departure_steps_left shape (Clear lock level) = level
+departure_steps_left shape (WithdrawPlace lock held) = 4 + held
+departure_steps_left shape (WithdrawAt lock held) = 4 + held - 1
+departure_steps_left shape (WithdrawReply lock held) = 4 + held - 2
+departure_steps_left shape (WithdrawDone lock held) = 4 + held - 3
 
--- The most own steps that are left in the phase, blocked ones aside.
-abbrev pub left_of : Shape → Stage → ℕ
-left_of shape Resting = 0
-left_of shape (Recovering recovery) = left_of_recovery shape recovery
-left_of shape (Posting slate) = 3 + 3 * slate.job.script.n - slate.stored
-left_of shape (Climbing ascent) = shape.height - ascent.held
-left_of shape (Logging log) = left_of_log shape log
-left_of shape (Copying redo) = left_of_redo shape redo
-left_of shape (Leaving departure) = left_of_departure shape departure
+-- An upper bound for the own steps left in the phase, without blocked ones.
+abbrev pub steps_left : Shape → Stage → ℕ
+steps_left shape Resting = 0
+steps_left shape (Recovering recovery) = recovery_steps_left shape recovery
+steps_left shape (Posting slate) = 3 + 3 * slate.job.script.n - slate.stored
+steps_left shape (Climbing ascent) = shape.height - ascent.held
+steps_left shape (Logging log) = log_steps_left shape log
+steps_left shape (Copying redo) = redo_steps_left shape redo
+steps_left shape (Leaving departure) = departure_steps_left shape departure

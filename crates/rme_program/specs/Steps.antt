@@ -1,5 +1,5 @@
--- What each stage does next, and what follows from the value that is loaded or found. The rows of the step
--- table stand above this, in `Table`; here each stage has its own lines.
+-- The next action of each stage, and its outcome for the value that is loaded or found. The rows of the step table are
+-- in `Table`; here each stage has its own lines.
 use Rattle.std.specs.Prelude.{ℕ, ◌+◌, ◌-◌, ◌*◌, ◌/◌, ◌%◌, Bool, true, false, ◌==◌, nat_lt, if◌then◌else◌, List, replicate, slice_index, slice_set, Option, Some, None}
 use Rattle.rme_words.specs.declared.shape.Shape.{Shape}
 use Rattle.rme_words.specs.declared.address.Address.TheVariants.{Begun, Done, Reply, Place, At, SlateLock, SlateLen, SlateWord, Node, Turn, Cell, Shadow, ShadowReply, Mask}
@@ -8,7 +8,7 @@ use Rattle.rme_script.specs.declared.job.Job.{Job}
 use Rattle.rme_script.specs.Programs.{Program}
 use Rattle.rme_script.specs.Eval.{eval_of}
 use Rattle.rme_program.specs.Masks.{mask_of, first_cell}
-use Rattle.rme_script.specs.Slates.{slate_of, script_of}
+use Rattle.rme_script.specs.Slates.{slate_of, script_from_words}
 use Rattle.rme_program.specs.declared.action.Action.{Action}
 use Rattle.rme_program.specs.declared.action.Action.TheVariants.{Load, Store, Swap}
 use Rattle.rme_program.specs.declared.note.Note.{Note}
@@ -29,13 +29,13 @@ use Rattle.rme_program.specs.declared.stage.Departure.TheVariants.{LoadExitTurn,
 use Rattle.rme_program.specs.declared.stage.Visit.{Visit}
 use Rattle.rme_program.specs.declared.stage.Parity.TheVariants.{Even, Odd}
 
--- The place that says that a number was withdrawn.
+-- The place that marks a withdrawn number.
 abbrev pub withdrawn_place : ℕ
 withdrawn_place = 18446744073709551615
 
--- A stage that a step leads to with nothing else brought about.
-abbrev pub quietly : Stage → Stage × Note
-quietly stage = (stage, Quiet)
+-- The stage to which a step leads, with a quiet note.
+abbrev pub with_quiet_note : Stage → Stage × Note
+with_quiet_note stage = (stage, Quiet)
 
 -- RECOVER
 
@@ -46,20 +46,21 @@ recovery_action shape worker (LoadLock true) = Load (SlateLock worker)
 recovery_action shape worker (LoadLock false) = Load (At worker)
 recovery_action shape worker (LoadPath pending lock held) = Load (Node lock (node shape.leaves worker (held + 1)))
 
--- The whole path is the worker's: its section goes on, or its exit does.
-abbrev pub re_entry : Bool → ℕ → Stage
-re_entry true lock = Logging (LoadTurn lock)
-re_entry false lock = Leaving (LoadExitTurn lock)
+-- The whole path is the worker's: its section continues, or its exit does.
+abbrev pub reentry_stage : Bool → ℕ → Stage
+reentry_stage true lock = Logging (LoadTurn lock)
+reentry_stage false lock = Leaving (LoadExitTurn lock)
 
--- So many nodes of the path are the worker's, the last of them just found.
-abbrev pub after_own : Shape → Bool → ℕ → ℕ → Stage × Note
-after_own shape pending lock held =
-    if held == shape.height then (re_entry pending lock, Reentered lock) else (Recovering (LoadPath pending lock held), Quiet)
+-- The first `held` nodes of the path are the worker's, the last of them just found.
+abbrev pub after_own_node : Shape → Bool → ℕ → ℕ → Stage × Note
+after_own_node shape pending lock held =
+    if held == shape.height then (reentry_stage pending lock, Reentered lock) else
+    (Recovering (LoadPath pending lock held), Quiet)
 
 -- The next node is not the worker's.
-abbrev pub after_other : Bool → ℕ → ℕ → Stage × Note
-after_other true lock held = (Climbing record { lock = lock; held = held }, Quiet)
-after_other false lock held = if held == 0 then (Resting, Ready) else (Leaving (Clear lock held), Quiet)
+abbrev pub after_other_node : Bool → ℕ → ℕ → Stage × Note
+after_other_node true lock held = (Climbing record { lock = lock; held = held }, Quiet)
+after_other_node false lock held = if held == 0 then (Resting, Ready) else (Leaving (Clear lock held), Quiet)
 
 abbrev pub after_recovery : Shape → ℕ → ℕ → Recovery → ℕ → Stage × Note
 after_recovery shape worker begun LoadBegun value = (Recovering LoadDone, Quiet)
@@ -67,7 +68,8 @@ after_recovery shape worker begun LoadDone value =
     if begun == 0 then (Resting, Ready) else (Recovering (LoadLock (nat_lt value begun)), Quiet)
 after_recovery shape worker begun (LoadLock pending) value = (Recovering (LoadPath pending value 0), Quiet)
 after_recovery shape worker begun (LoadPath pending lock held) value =
-    if value == side shape.leaves worker (held + 1) then after_own shape pending lock (held + 1) else after_other pending lock held
+    if value == side shape.leaves worker (held + 1) then after_own_node shape pending lock (held + 1) else
+    after_other_node pending lock held
 
 -- POST
 
@@ -76,7 +78,8 @@ slate_action worker begun slate =
     if slate.stored == 0 then Store (SlateLock worker) slate.job.lock
     else if slate.stored == 1 then Store (SlateLen worker) slate.job.script.n
     else if nat_lt slate.stored (2 + 3 * slate.job.script.n)
-    then Store (SlateWord worker ((slate.stored - 2) / 3) ((slate.stored - 2) % 3)) (slice_index (slate_of slate.job.script.ops) (slate.stored - 2))
+    then Store (SlateWord worker ((slate.stored - 2) / 3) ((slate.stored - 2) % 3))
+    (slice_index (slate_of slate.job.script.ops) (slate.stored - 2))
     else Store (Begun worker) (begun + 1)
 
 abbrev pub after_slate : ℕ → Slate → Stage × Note
@@ -91,12 +94,14 @@ abbrev pub ascent_action : Shape → ℕ → Ascent → Action
 ascent_action shape worker ascent =
     Swap (Node ascent.lock (node shape.leaves worker (ascent.held + 1))) 0 (side shape.leaves worker (ascent.held + 1))
 
-abbrev pub after_taken : Shape → ℕ → ℕ → Stage × Note
-after_taken shape lock held =
-    if held == shape.height then (Logging (LoadTurn lock), Entered lock) else (Climbing record { lock = lock; held = held }, Quiet)
+abbrev pub after_taken_node : Shape → ℕ → ℕ → Stage × Note
+after_taken_node shape lock held =
+    if held == shape.height then (Logging (LoadTurn lock), Entered lock) else
+    (Climbing record { lock = lock; held = held }, Quiet)
 
 abbrev pub after_ascent : Shape → Ascent → ℕ → Stage × Note
-after_ascent shape ascent value = if value == 0 then after_taken shape ascent.lock (ascent.held + 1) else (Climbing ascent, Blocked)
+after_ascent shape ascent value =
+    if value == 0 then after_taken_node shape ascent.lock (ascent.held + 1) else (Climbing ascent, Blocked)
 
 -- SECTION, until the turn is odd
 
@@ -110,48 +115,58 @@ log_action worker (StoreShadowReply visit named reply) = Store (ShadowReply visi
 log_action worker (StoreMask visit named) = Store (Mask visit.lock) named
 log_action worker (StoreTurn visit) = Store (Turn visit.lock) (visit.turn + 1)
 
--- The shadow words of the named cells from here on are not stored yet.
-abbrev pub shadows_from : Visit → ℕ → List ℕ → ℕ → Option ℕ → Stage
-shadows_from visit named row reply (Some cell) = Logging (StoreShadows visit named row reply cell)
-shadows_from visit named row reply None = Logging (StoreShadowReply visit named reply)
+-- The shadow words of the named cells from here on are not yet stored.
+abbrev pub shadow_stage_from : Visit → ℕ → List ℕ → ℕ → Option ℕ → Stage
+shadow_stage_from visit named row reply (Some cell) = Logging (StoreShadows visit named row reply cell)
+shadow_stage_from visit named row reply None = Logging (StoreShadowReply visit named reply)
+
+-- A section at an even turn, of a script that names these cells.
+abbrev pub even_visit : ℕ → ℕ → Program → ℕ → Visit
+even_visit lock turn script named = record { lock = lock; turn = turn; parity = Even script.n named }
 
 -- The script is run on the row of the named cells.
 abbrev pub run_stage : Shape → ℕ → ℕ → Program → ℕ → List ℕ → Stage
 run_stage shape lock turn script named row =
-    shadows_from record { lock = lock; turn = turn; parity = Even script.n named } named (eval_of script.ops row).row (eval_of script.ops row).reply (first_cell named 0 shape.cells)
+    shadow_stage_from (even_visit lock turn script named) named (eval_of script.ops row).row
+    (eval_of script.ops row).reply (first_cell named 0 shape.cells)
 
--- The named cells from here on are not loaded yet.
-abbrev pub cells_from_here : Shape → ℕ → ℕ → Program → ℕ → List ℕ → Option ℕ → Stage
-cells_from_here shape lock turn script named row (Some cell) = Logging (LoadCells lock turn script named row cell)
-cells_from_here shape lock turn script named row None = run_stage shape lock turn script named row
+-- The named cells from here on are not yet loaded.
+abbrev pub cell_stage_from : Shape → ℕ → ℕ → Program → ℕ → List ℕ → Option ℕ → Stage
+cell_stage_from shape lock turn script named row (Some cell) = Logging (LoadCells lock turn script named row cell)
+cell_stage_from shape lock turn script named row None = run_stage shape lock turn script named row
 
 -- The script is known.
 abbrev pub script_stage : Shape → ℕ → ℕ → Option Program → Stage
 script_stage shape lock turn (Some script) =
-    cells_from_here shape lock turn script (mask_of script.ops) (replicate shape.cells 0) (first_cell (mask_of script.ops) 0 shape.cells)
+    cell_stage_from shape lock turn script (mask_of script.ops) (replicate shape.cells 0)
+    (first_cell (mask_of script.ops) 0 shape.cells)
 script_stage shape lock turn None = Resting
 
--- So many words of the slate are known.
+-- The first `loaded` words of the slate are known.
 abbrev pub slate_stage : Shape → ℕ → ℕ → ℕ → List ℕ → ℕ → Stage
 slate_stage shape lock turn operations words loaded =
-    if loaded == 3 * operations then script_stage shape lock turn (script_of operations words) else Logging (LoadSlate lock turn operations words loaded)
+    if loaded == 3 * operations then script_stage shape lock turn (script_from_words operations words) else Logging
+    (LoadSlate lock turn operations words loaded)
 
 abbrev pub turn_stage : ℕ → ℕ → Stage
 turn_stage lock turn =
-    if turn % 2 == 0 then Logging (LoadLen lock turn) else Copying (LoadMask record { lock = lock; turn = turn; parity = Odd })
+    if turn % 2 == 0 then Logging (LoadLen lock turn) else Copying
+    (LoadMask record { lock = lock; turn = turn; parity = Odd })
 
--- The writing down goes on, or all is written down and the copying begins.
-abbrev pub logged : Log → Option Visit → Stage
-logged log None = Logging log
-logged log (Some visit) = Copying (LoadMask visit)
+-- The logging continues, or everything is logged and the copying begins.
+abbrev pub log_or_copy_stage : Log → Option Visit → Stage
+log_or_copy_stage log None = Logging log
+log_or_copy_stage log (Some visit) = Copying (LoadMask visit)
 
 abbrev pub after_log : Shape → Log → ℕ → Stage
 after_log shape (LoadTurn lock) value = turn_stage lock value
 after_log shape (LoadLen lock turn) value = slate_stage shape lock turn value (replicate 24 0) 0
-after_log shape (LoadSlate lock turn operations words loaded) value = slate_stage shape lock turn operations (slice_set words loaded value) (loaded + 1)
+after_log shape (LoadSlate lock turn operations words loaded) value =
+    slate_stage shape lock turn operations (slice_set words loaded value) (loaded + 1)
 after_log shape (LoadCells lock turn script named row cell) value =
-    cells_from_here shape lock turn script named (slice_set row cell value) (first_cell named (cell + 1) shape.cells)
-after_log shape (StoreShadows visit named row reply cell) value = shadows_from visit named row reply (first_cell named (cell + 1) shape.cells)
+    cell_stage_from shape lock turn script named (slice_set row cell value) (first_cell named (cell + 1) shape.cells)
+after_log shape (StoreShadows visit named row reply cell) value =
+    shadow_stage_from visit named row reply (first_cell named (cell + 1) shape.cells)
 after_log shape (StoreShadowReply visit named reply) value = Logging (StoreMask visit named)
 after_log shape (StoreMask visit named) value = Logging (StoreTurn visit)
 after_log shape (StoreTurn visit) value = Copying (LoadMask visit)
@@ -168,25 +183,30 @@ redo_action worker begun (StorePlace visit mask reply) = Store (Place worker) (v
 redo_action worker begun (StoreAt visit mask reply) = Store (At worker) visit.lock
 redo_action worker begun (StoreDone visit mask reply) = Store (Done worker) begun
 
--- The mask's cells from here on are not copied yet.
-abbrev pub copies_from : Visit → ℕ → Option ℕ → Stage
-copies_from visit mask (Some cell) = Copying (LoadShadow visit mask cell)
-copies_from visit mask None = Copying (LoadReply visit mask)
+-- The mask's cells from here on are not yet copied.
+abbrev pub copy_stage_from : Visit → ℕ → Option ℕ → Stage
+copy_stage_from visit mask (Some cell) = Copying (LoadShadow visit mask cell)
+copy_stage_from visit mask None = Copying (LoadReply visit mask)
 
 -- The job is done.
-abbrev pub finished : ℕ → ℕ → Visit → ℕ → Stage × Note
-finished worker begun visit reply =
-    (Leaving (LoadExitTurn visit.lock), Finished record { worker = worker; lock = visit.lock; number = begun; place = visit.turn / 2; reply = reply })
+abbrev pub finish_outcome : ℕ → ℕ → Visit → ℕ → Stage × Note
+finish_outcome worker begun visit reply = (
+  Leaving (LoadExitTurn visit.lock),
+  Finished record
+      { worker = worker; lock = visit.lock; number = begun; place = visit.turn / 2; reply = reply },
+)
 
 abbrev pub after_redo : Shape → ℕ → ℕ → Redo → ℕ → Stage × Note
-after_redo shape worker begun (LoadMask visit) value = (copies_from visit value (first_cell value 0 shape.cells), Quiet)
+after_redo shape worker begun (LoadMask visit) value =
+    (copy_stage_from visit value (first_cell value 0 shape.cells), Quiet)
 after_redo shape worker begun (LoadShadow visit mask cell) value = (Copying (StoreCell visit mask cell value), Quiet)
-after_redo shape worker begun (StoreCell visit mask cell copied) value = (copies_from visit mask (first_cell mask (cell + 1) shape.cells), Quiet)
+after_redo shape worker begun (StoreCell visit mask cell copied) value =
+    (copy_stage_from visit mask (first_cell mask (cell + 1) shape.cells), Quiet)
 after_redo shape worker begun (LoadReply visit mask) value = (Copying (StoreReply visit mask value), Quiet)
 after_redo shape worker begun (StoreReply visit mask reply) value = (Copying (StorePlace visit mask reply), Quiet)
 after_redo shape worker begun (StorePlace visit mask reply) value = (Copying (StoreAt visit mask reply), Quiet)
 after_redo shape worker begun (StoreAt visit mask reply) value = (Copying (StoreDone visit mask reply), Quiet)
-after_redo shape worker begun (StoreDone visit mask reply) value = finished worker begun visit reply
+after_redo shape worker begun (StoreDone visit mask reply) value = finish_outcome worker begun visit reply
 
 -- EXIT
 
@@ -199,16 +219,17 @@ departure_action shape worker begun (WithdrawAt lock held) = Store (At worker) l
 departure_action shape worker begun (WithdrawReply lock held) = Store (Reply worker) 0
 departure_action shape worker begun (WithdrawDone lock held) = Store (Done worker) begun
 
--- So many levels are still to be cleared.
+-- The levels up to this one are still to be cleared.
 abbrev pub clear_stage : ℕ → ℕ → Stage
 clear_stage lock level = if level == 0 then Resting else Leaving (Clear lock level)
 
--- The node of a level was cleared: the root's leaves the lock, and the lowest makes the worker ready.
+-- The node of a level was cleared: the root's clearing leaves the lock, and the lowest one's makes the worker ready.
 abbrev pub cleared_note : Shape → ℕ → ℕ → Note
 cleared_note shape lock level = if level == shape.height then Left lock else if level == 1 then Ready else Quiet
 
 abbrev pub exit_stage : Shape → ℕ → ℕ → Stage
-exit_stage shape lock turn = if turn % 2 == 0 then Leaving (Clear lock shape.height) else Leaving (StoreExitTurn lock turn)
+exit_stage shape lock turn =
+    if turn % 2 == 0 then Leaving (Clear lock shape.height) else Leaving (StoreExitTurn lock turn)
 
 abbrev pub after_departure : Shape → ℕ → Departure → ℕ → Stage × Note
 after_departure shape begun (LoadExitTurn lock) value = (exit_stage shape lock value, Quiet)
@@ -221,25 +242,25 @@ after_departure shape begun (WithdrawDone lock held) value = (clear_stage lock h
 
 -- ALL STAGES
 
-abbrev pub action_at : Shape → ℕ → ℕ → Stage → Action
-action_at shape worker begun Resting = Load (Begun worker)
-action_at shape worker begun (Recovering recovery) = recovery_action shape worker recovery
-action_at shape worker begun (Posting slate) = slate_action worker begun slate
-action_at shape worker begun (Climbing ascent) = ascent_action shape worker ascent
-action_at shape worker begun (Logging log) = log_action worker log
-action_at shape worker begun (Copying redo) = redo_action worker begun redo
-action_at shape worker begun (Leaving departure) = departure_action shape worker begun departure
+abbrev pub stage_action : Shape → ℕ → ℕ → Stage → Action
+stage_action shape worker begun Resting = Load (Begun worker)
+stage_action shape worker begun (Recovering recovery) = recovery_action shape worker recovery
+stage_action shape worker begun (Posting slate) = slate_action worker begun slate
+stage_action shape worker begun (Climbing ascent) = ascent_action shape worker ascent
+stage_action shape worker begun (Logging log) = log_action worker log
+stage_action shape worker begun (Copying redo) = redo_action worker begun redo
+stage_action shape worker begun (Leaving departure) = departure_action shape worker begun departure
 
-abbrev pub after_at : Shape → ℕ → ℕ → Stage → ℕ → Stage × Note
-after_at shape worker begun Resting value = (Resting, Quiet)
-after_at shape worker begun (Recovering recovery) value = after_recovery shape worker begun recovery value
-after_at shape worker begun (Posting slate) value = after_slate begun slate
-after_at shape worker begun (Climbing ascent) value = after_ascent shape ascent value
-after_at shape worker begun (Logging log) value = (after_log shape log value, Quiet)
-after_at shape worker begun (Copying redo) value = after_redo shape worker begun redo value
-after_at shape worker begun (Leaving departure) value = after_departure shape begun departure value
+abbrev pub outcome_at : Shape → ℕ → ℕ → Stage → ℕ → Stage × Note
+outcome_at shape worker begun Resting value = (Resting, Quiet)
+outcome_at shape worker begun (Recovering recovery) value = after_recovery shape worker begun recovery value
+outcome_at shape worker begun (Posting slate) value = after_slate begun slate
+outcome_at shape worker begun (Climbing ascent) value = after_ascent shape ascent value
+outcome_at shape worker begun (Logging log) value = (after_log shape log value, Quiet)
+outcome_at shape worker begun (Copying redo) value = after_redo shape worker begun redo value
+outcome_at shape worker begun (Leaving departure) value = after_departure shape begun departure value
 
--- What the worker then knows of `begun`: it is learnt in Recover, and counted up where a job is posted.
+-- The known value of `begun` after a step: it becomes known in Recover, and is counted up when a job is posted.
 abbrev pub begun_after : ℕ → Stage → ℕ → ℕ
 begun_after begun Resting value = begun
 begun_after begun (Recovering LoadBegun) value = value
@@ -252,22 +273,22 @@ begun_after begun (Logging log) value = begun
 begun_after begun (Copying redo) value = begun
 begun_after begun (Leaving departure) value = begun
 
--- The step that a worker makes next.
-abbrev pub action_of : Shape → Private → Action
-action_of shape private = action_at shape private.worker private.begun private.stage
+-- The next action of a worker.
+abbrev pub private_action : Shape → Private → Action
+private_action shape private = stage_action shape private.worker private.begun private.stage
 
--- What it knows after that step, and what the step brought about.
+-- The private state after that step, and its note.
 abbrev pub private_after : Shape → Private → ℕ → Private
 private_after shape private value = record {
   worker = private.worker;
   begun = begun_after private.begun private.stage value;
-  stage = (after_at shape private.worker private.begun private.stage value).0;
+  stage = (outcome_at shape private.worker private.begun private.stage value).0;
 }
 
 abbrev pub note_after : Shape → Private → ℕ → Note
-note_after shape private value = (after_at shape private.worker private.begun private.stage value).1
+note_after shape private value = (outcome_at shape private.worker private.begun private.stage value).1
 
--- The private state of a worker that is ready, that comes up, that was handed a job, that gives up.
+-- The private states of a worker that is ready, that restarts, that is given a job, and that withdraws.
 abbrev pub ready_private : ℕ → ℕ → Private
 ready_private worker begun = record { worker = worker; begun = begun; stage = Resting }
 
@@ -275,7 +296,8 @@ abbrev pub restarted_private : ℕ → Private
 restarted_private worker = record { worker = worker; begun = 0; stage = Recovering LoadBegun }
 
 abbrev pub submitted_private : Private → Job → Private
-submitted_private private job = record { worker = private.worker; begun = private.begun; stage = Posting record { job = job; stored = 0 } }
+submitted_private private job =
+    record { worker = private.worker; begun = private.begun; stage = Posting record { job = job; stored = 0 } }
 
 abbrev pub withdrawing_stage : Stage → Stage
 withdrawing_stage (Climbing ascent) = Leaving (WithdrawPlace ascent.lock ascent.held)
@@ -287,4 +309,5 @@ withdrawing_stage (Copying redo) = Copying redo
 withdrawing_stage (Leaving departure) = Leaving departure
 
 abbrev pub withdrawing_private : Private → Private
-withdrawing_private private = record { worker = private.worker; begun = private.begun; stage = withdrawing_stage private.stage }
+withdrawing_private private =
+    record { worker = private.worker; begun = private.begun; stage = withdrawing_stage private.stage }

@@ -7,8 +7,8 @@ use rme_words::Address;
 pub enum Action {
     /// Reads the word.
     Load(Address),
-    /// Puts this value into the word.
+    /// Stores this value into the word.
     Store(Address, u64),
-    /// Puts the second value into the word exactly where it has the first, and finds what it had.
+    /// Compare-and-swap: stores the second value if the word has the first, and finds the value that the word had.
     Swap(Address, u64, u64),
 }

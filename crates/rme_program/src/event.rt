@@ -1,34 +1,34 @@
-//! What a caller may ask of a world, and what it is answered.
+//! The events of a world, and their answers.
 
 use crate::note::Note;
 use rme_script::Job;
 use rme_words::Refusal;
 
-/// What a caller asks of one worker.
+/// A request for one worker.
 #[derive(Clone, Copy, PartialEq, Eq)]
 pub enum Event {
-    /// Hands the worker a job.
+    /// Submits a job to the worker.
     Submit(u32, Job),
-    /// Lets the worker make one own step.
+    /// Executes one own step of the worker.
     Step(u32),
-    /// Takes the worker's private state away.
+    /// Crashes the worker: its private state is lost.
     Crash(u32),
-    /// Begins the worker's recovery.
+    /// Restarts the worker, which begins its recovery.
     Restart(u32),
-    /// Has the waiting worker give up its job.
+    /// Makes the waiting worker withdraw its job.
     Withdraw(u32),
 }
 
-/// What an event was answered.
+/// The answer to an event.
 #[derive(Clone, Copy, PartialEq, Eq)]
 pub enum Answer {
-    /// The job was handed over and will have this number.
+    /// The job is submitted and will have this number.
     Handed(u32),
     /// One own step was made.
     Stepped(Note),
     Crashed,
     Restarted,
     Withdrawing,
-    /// Nothing was done.
+    /// Refused; nothing has changed.
     Refused(Refusal),
 }

@@ -1,6 +1,6 @@
-//! The phases of a worker's way.
+//! The phases of a worker.
 
-/// The phases of a worker's way, in order.
+/// The phases of a worker, in order.
 #[derive(Clone, Copy, PartialEq, Eq)]
 pub enum Phase {
     Recover,

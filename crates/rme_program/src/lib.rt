@@ -1,12 +1,13 @@
-//! What one worker does next: its private state, and the rows of the step table.
+//! The next step of one worker: its private state, and the rows of the step table.
 //!
-//! A worker goes through Recover, Post, Enter, Section and Exit, one operation on one shared word a step.
-//! `next` says which word the next step touches and how; `after` says what the worker knows once it has the
-//! value, and what happened. Nothing here holds a memory: whoever does, does the action and hands the value
-//! back. The crate stands on rme_words, rme_tree and rme_script. The one contract that the crates above use
-//! is that `next` and `after` walk the rows of the step table of `specs/Table.antt`, as `specs/Stays.antt`
-//! says, and that `left` is its column; `specs/Steps.antt` has their values at each stage. Begin with
-//! `stage.rt`, which says what a worker knows before each kind of step, and then read the table.
+//! A worker goes through Recover, Post, Enter, Section and Exit, with one operation on one shared word per step. `next`
+//! answers the operation of the next step; `after` takes the value that it loaded or found, updates the private state
+//! and answers the note. This is a sans-I/O core: nothing here holds a memory, and the caller executes the operation.
+//!
+//! The crate stands on rme_words, rme_tree and rme_script. The crates above use one contract: `next` and `after` walk
+//! the rows of the step table of `specs/Table.antt`, as `specs/Stays.antt` defines it, and `left` is its column.
+//! `specs/Steps.antt` has their values at each stage. Begin with `stage.rt`, which says what a worker knows before each
+//! kind of step, and then read the table.
 #![tactic(auto)]
 
 mod action;

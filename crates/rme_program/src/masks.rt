@@ -1,4 +1,4 @@
-//! The cells of a mask, one after another.
+//! The cells of a mask, in order.
 
 ghost use Rattle.std.specs.Prelude.{◌≡◌, ◌<◌, ◌≤◌, IfSome};
 ghost use Rattle.rme_script.specs.Scripts.{IsScript};

@@ -1,12 +1,13 @@
-//! What a step brought about, and what a finished section leaves behind.
+//! The note of a step, and the record of a finished section.
 
 use rme_script::Script;
 
-/// The word `Place` of a worker whose last number was withdrawn, and so has no receipt; no section has this place.
+/// The value of the word `Place` of a worker whose last number was withdrawn: it has no receipt. No section has this
+/// place.
 pub const WITHDRAWN_PLACE: u64 = u64::MAX;
 
-/// What became of one job: the worker and its number, the lock and the place among that lock's sections
-/// (from 0), and the reply of the script.
+/// The receipt of one job: the worker and its number, the lock, the place among that lock's sections (from 0), and the
+/// reply of the script.
 #[derive(Clone, Copy, PartialEq, Eq)]
 pub struct Receipt {
     pub worker: u32,
@@ -23,25 +24,25 @@ pub struct Entry {
     pub script: Script,
 }
 
-/// What one step of a worker brought about.
+/// The observable effect of one step of a worker.
 #[derive(Clone, Copy, PartialEq, Eq)]
 pub enum Note {
-    /// Nothing that another can see.
+    /// Nothing observable.
     Quiet,
-    /// The job has this number now, and the worker waits for its lock.
+    /// The job has this number, and the worker waits for its lock.
     Asked(u32),
-    /// The worker's node is the other side's, and the worker stays where it is.
+    /// The other side holds the worker's node, and the worker keeps its stage.
     Blocked,
     /// The worker owns this lock.
     Entered(u32),
-    /// The worker found that it owns this lock since before its crash.
+    /// The worker found that it has owned this lock since before its crash.
     Reentered(u32),
     /// The job is finished.
     Finished(Receipt),
     /// The lock is free.
     Left(u32),
-    /// The worker may be handed a job.
+    /// The worker may be given a job.
     Ready,
-    /// The job of this number is given up.
+    /// The job of this number is withdrawn.
     Withdrew(u32),
 }

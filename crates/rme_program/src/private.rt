@@ -3,8 +3,7 @@
 use crate::stage::{Ascent, Departure, Recovery, Slate, Stage};
 use rme_script::Job;
 
-/// What one worker knows: its own number, how many jobs it has begun, and where it is in its way. A crash
-/// loses it all.
+/// What one worker knows: its own number, the number of jobs that it has begun, and its stage. A crash loses it all.
 #[derive(Clone, Copy)]
 pub struct Private {
     pub worker: u32,
@@ -13,13 +12,21 @@ pub struct Private {
     pub stage: Stage,
 }
 
+/// What every step of a worker may write: its own number, and that of the last job that it has begun.
+#[derive(Clone, Copy)]
+pub struct StepNumbers {
+    pub worker: u32,
+    pub begun: u32,
+}
+
 impl Private {
     ghost use Rattle.std.specs.Prelude.{◌≡◌, ◌<◌};
     ghost use Rattle.rme_words.specs.declared.shape.Shape.{Shape};
-    ghost use Rattle.rme_program.specs.Conditions.{IsJob, IsPrivate};
+    ghost use Rattle.rme_program.specs.Conditions.{IsPrivate};
+    ghost use Rattle.rme_script.specs.Jobs.{IsJob};
     ghost use Rattle.rme_program.specs.Steps.{ready_private, restarted_private, submitted_private, withdrawing_private};
 
-    /// A worker that is ready; `begun` is the value of its word of that name.
+    /// The private state of a ready worker; `begun` is the value of its word of that name.
     pub fn ready(worker: u32, begun: u32) -> Private
         ensures { result ≡ ready_private worker begun }
     {
@@ -30,7 +37,7 @@ impl Private {
         }
     }
 
-    /// A worker that comes up after a crash: it knows its own number alone.
+    /// The private state of a worker that restarts after a crash: it knows only its own number.
     pub fn restart(worker: u32) -> Private
         ensures { result ≡ restarted_private worker }
     {
@@ -41,7 +48,7 @@ impl Private {
         }
     }
 
-    /// A ready worker that was handed a job, which is one of the shape's.
+    /// The private state of a ready worker that is given a job of the shape.
     pub fn submit(private: Private, job: Job) -> Private
         requires { private.stage ≡ Stage.Resting }
         ensures { result ≡ submitted_private private job }
@@ -52,7 +59,7 @@ impl Private {
         }
     }
 
-    /// A worker in phase Enter that gives its job up.
+    /// The private state of a worker in phase Enter that withdraws its job.
     pub fn withdraw(private: Private) -> Private
         requires { (ascent : Ascent) × (private.stage ≡ Stage.Climbing ascent) }
         ensures { result ≡ withdrawing_private private }

@@ -1,9 +1,9 @@
-//! How far a worker is: its phase, and how many steps are left in it.
+//! The progress of a worker: its phase, and the steps left in it.
 
 ghost use Rattle.std.specs.Prelude.{◌≡◌, ◌≤◌, ◌+◌};
-ghost use Rattle.rme_program.specs.Phases.{cells_below, phase_of, left_of, left_of_recovery, left_of_log, left_of_redo, left_of_departure};
-ghost use Rattle.rme_program.specs.Progress.{IsOnTrack, IsColumn, IsWithinMost};
-ghost use Rattle.rme_program.specs.Conditions.{IsPrivate, IsRecovery, IsLog, IsRedo, IsDeparture};
+ghost use Rattle.rme_program.specs.Phases.{mask_cells_below, phase_of, steps_left, recovery_steps_left, log_steps_left, redo_steps_left, departure_steps_left};
+ghost use Rattle.rme_program.specs.Progress.{IsOnTrack, StepsLeftInAnyStay, IsWithinStayLimit};
+ghost use Rattle.rme_program.specs.Conditions.{IsPrivate, IsRecoveryStage, IsLogStage, IsRedoStage, IsDepartureStage};
 
 use crate::kinds::Phase;
 use crate::private::Private;
@@ -11,7 +11,7 @@ use crate::stage::{Departure, Log, Recovery, Redo, Stage};
 use rme_script::cell_count;
 use rme_words::Shape;
 
-/// The phase that a worker is in.
+/// The phase of a worker.
 pub fn phase(private: &Private) -> Phase
     ensures { result ≡ phase_of private.now.stage }
 {
@@ -25,31 +25,31 @@ pub fn phase(private: &Private) -> Phase
     }
 }
 
-/// The most own steps that are left to a worker in its phase, blocked ones aside.
+/// An upper bound for the own steps that a worker has left in its phase, without blocked ones.
 ///
-/// In a section it is an upper bound until the mask is loaded: a script that names fewer cells than the lock
-/// has takes fewer steps.
+/// Until the mask of a section is loaded, the bound allows for all cells of the lock: a script that names fewer cells
+/// takes fewer steps.
 #[tactic(auto, using(crate::proofs::Columns::column_by, crate::proofs::Columns::most_by))]
 pub fn left(shape: Shape, private: &Private) -> u32
     requires { IsPrivate shape private.now }
-    ensures left { result ≡ left_of shape private.now.stage }
-    ensures column { IsColumn shape private.now result }
-    ensures most { IsOnTrack private.now.stage → IsWithinMost shape private.now.stage result }
+    ensures left { result ≡ steps_left shape private.now.stage }
+    ensures column { StepsLeftInAnyStay shape private.now result }
+    ensures most { IsOnTrack private.now.stage → IsWithinStayLimit shape private.now.stage result }
 {
     match private.stage {
         Stage::Resting => 0,
-        Stage::Recovering(recovery) => left_of_recovery(shape, recovery),
+        Stage::Recovering(recovery) => recovery_steps_left(shape, recovery),
         Stage::Posting(slate) => 3 + 3 * slate.job.script.n() - slate.stored,
         Stage::Climbing(ascent) => shape.height - ascent.held,
-        Stage::Logging(log) => left_of_log(shape, log),
-        Stage::Copying(redo) => left_of_redo(shape, redo),
-        Stage::Leaving(departure) => left_of_departure(shape, departure),
+        Stage::Logging(log) => log_steps_left(shape, log),
+        Stage::Copying(redo) => redo_steps_left(shape, redo),
+        Stage::Leaving(departure) => departure_steps_left(shape, departure),
     }
 }
 
-fn left_of_recovery(shape: Shape, recovery: Recovery) -> u32
-    requires { IsRecovery shape recovery }
-    ensures { result ≡ left_of_recovery shape recovery }
+fn recovery_steps_left(shape: Shape, recovery: Recovery) -> u32
+    requires { IsRecoveryStage shape recovery }
+    ensures { result ≡ recovery_steps_left shape recovery }
 {
     match recovery {
         Recovery::LoadBegun => shape.height + 3,
@@ -59,9 +59,9 @@ fn left_of_recovery(shape: Shape, recovery: Recovery) -> u32
     }
 }
 
-fn left_of_log(shape: Shape, log: Log) -> u32
-    requires { IsLog shape log }
-    ensures { result ≡ left_of_log shape log }
+fn log_steps_left(shape: Shape, log: Log) -> u32
+    requires { IsLogStage shape log }
+    ensures { result ≡ log_steps_left shape log }
 {
     let cells = shape.cells;
     match log {
@@ -84,19 +84,19 @@ fn left_of_log(shape: Shape, log: Log) -> u32
     }
 }
 
-/// How many cells of a mask are at or after `cell` and below `cells`.
+/// The number of cells of a mask at or after `cell` and below `cells`.
 fn cells_left(mask: u64, cell: u32, cells: u32) -> u32
     requires within { cell ≤ cells }
     requires few { cells ≤ 16 }
-    ensures sum { result + cells_below mask cell ≡ cells_below mask cells }
+    ensures sum { result + mask_cells_below mask cell ≡ mask_cells_below mask cells }
     ensures most { result ≤ cells }
 {
     cell_count(mask, cells) - cell_count(mask, cell)
 }
 
-fn left_of_redo(shape: Shape, redo: Redo) -> u32
-    requires { IsRedo shape redo }
-    ensures { result ≡ left_of_redo shape redo }
+fn redo_steps_left(shape: Shape, redo: Redo) -> u32
+    requires { IsRedoStage shape redo }
+    ensures { result ≡ redo_steps_left shape redo }
 {
     let cells = shape.cells;
     match redo {
@@ -111,9 +111,9 @@ fn left_of_redo(shape: Shape, redo: Redo) -> u32
     }
 }
 
-fn left_of_departure(shape: Shape, departure: Departure) -> u32
-    requires { IsDeparture shape departure }
-    ensures { result ≡ left_of_departure shape departure }
+fn departure_steps_left(shape: Shape, departure: Departure) -> u32
+    requires { IsDepartureStage shape departure }
+    ensures { result ≡ departure_steps_left shape departure }
 {
     match departure {
         Departure::LoadExitTurn { .. } => shape.height + 2,

@@ -1,43 +1,43 @@
 //! What a worker knows before each kind of step.
 //!
-//! There is one stage for each kind of step, with just what is known there. `lock` is the lock that the
-//! worker is at, and `held` counts the nodes of its path that it holds, from the leaf upward.
+//! There is one stage for each kind of step, with exactly what is known there. `lock` is the worker's lock, and `held`
+//! is the number of nodes of its path that it holds, from the leaf upward.
 
 use rme_script::{Job, Row, Script};
 
-/// Where a worker is in its way.
+/// The program counter of a worker, with what it knows there.
 #[derive(Clone, Copy)]
 pub enum Stage {
     /// Ready for a job, with no step to make.
     Resting,
-    /// Finding out where its last life ended.
+    /// Finding where it was before its crash.
     Recovering(Recovery),
-    /// Writing its job down.
+    /// Writing its job to the slate.
     Posting(Slate),
     /// Waiting for the lock.
     Climbing(Ascent),
-    /// Owning the lock, and writing down what its script leaves.
+    /// Owning the lock, and logging the result of its script.
     Logging(Log),
-    /// Owning the lock, and copying what was written down.
+    /// Owning the lock, and copying the logged values.
     Copying(Redo),
-    /// Releasing its nodes, after a section or to give up waiting.
+    /// Releasing its nodes, after a section or to withdraw.
     Leaving(Departure),
 }
 
 /// Phase Recover.
 #[derive(Clone, Copy)]
 pub enum Recovery {
-    /// Came up after a crash, and knows its own number alone.
+    /// Restarted after a crash, and knows only its own number.
     LoadBegun,
     /// Knows `begun`.
     LoadDone,
-    /// Knows whether its last job is pending, and so which word names the lock.
+    /// Knows whether its last job is pending, and thereby which word names the lock.
     LoadLock { pending: bool },
-    /// Knows the lock, and that so many nodes of its path are its own.
+    /// Knows the lock, and that the first `held` nodes of its path are its own.
     LoadPath { pending: bool, lock: u32, held: u32 },
 }
 
-/// Phase Post: so many words of the job's slate are stored; after the last of them `begun` is stored.
+/// Phase Post: the first `stored` words of the job's slate are stored; after the last of them `begun` is stored.
 #[derive(Clone, Copy)]
 pub struct Slate {
     pub job: Job,
@@ -63,7 +63,7 @@ pub enum Log {
         lock: u32,
         turn: u32,
     },
-    /// Knows how many operations its script has, and so many words of them.
+    /// Knows the number of operations of its script, and the first `loaded` words of them.
     LoadSlate {
         lock: u32,
         turn: u32,
@@ -80,7 +80,7 @@ pub enum Log {
         row: Row,
         cell: u32,
     },
-    /// Knows what the script leaves, and has stored the shadow words of the named cells before `cell`.
+    /// Knows the result of the script, and has stored the shadow words of the named cells before `cell`.
     StoreShadows {
         visit: Visit,
         named: u64,
@@ -99,7 +99,7 @@ pub enum Log {
         visit: Visit,
         named: u64,
     },
-    /// Has stored the mask too: all is written down but for the turn.
+    /// Has stored the mask too: everything is logged except the turn.
     StoreTurn {
         visit: Visit,
     },
@@ -108,7 +108,7 @@ pub enum Log {
 /// Phase Section, from the odd turn on.
 #[derive(Clone, Copy)]
 pub enum Redo {
-    /// The turn is odd: from here on a crash redoes the copying alone.
+    /// The turn is odd: from here on a crash only redoes the copying.
     LoadMask {
         visit: Visit,
     },
@@ -165,13 +165,13 @@ pub enum Departure {
     StoreExitTurn { lock: u32, turn: u32 },
     /// Holds its path up to this level, and releases the node there.
     Clear { lock: u32, level: u32 },
-    /// Gives its job up.
+    /// Withdraws its job.
     WithdrawPlace { lock: u32, held: u32 },
-    /// Has stored the place that says that the number was withdrawn.
+    /// Has stored the place that marks a withdrawn number.
     WithdrawAt { lock: u32, held: u32 },
     /// Has stored the lock too.
     WithdrawReply { lock: u32, held: u32 },
-    /// Has stored the reply 0 too: the next store gives the job up.
+    /// Has stored the reply 0 too: the next store withdraws the job.
     WithdrawDone { lock: u32, held: u32 },
 }
 
@@ -180,16 +180,16 @@ pub enum Departure {
 pub struct Visit {
     /// The lock that the worker owns.
     pub lock: u32,
-    /// The turn that was loaded: 2p or 2p+1 in section p.
+    /// The loaded turn: 2p or 2p+1 in section p.
     pub turn: u32,
-    /// How the section was begun.
+    /// How the section began.
     pub parity: Parity,
 }
 
-/// How a section was begun.
+/// How a section began.
 #[derive(Clone, Copy)]
 pub enum Parity {
-    /// At an even turn: the script has so many operations, and names the cells of this mask.
+    /// At an even turn: the script has `operations` operations, and names the cells of this mask.
     Even { operations: u32, cells: u64 },
     /// At an odd turn: the shadow words were whole already.
     Odd,

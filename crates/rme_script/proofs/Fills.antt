@@ -1,12 +1,12 @@
--- An array of so many places that holds a list and then a filler.
+-- An array with a list at its front and a filler in the other places.
 use Rattle.std.proofs.Common.{◌≡◌, ℕ, ◌+◌, ◌-◌, ◌<◌, ◌≤◌, List, ◌++◌, length, take, drop, replicate, sym, ap, ◌∙◌, arith}
 use Rattle.std.proofs.lemmas.List.{length-append, length-drop, length-replicate, length-take-le, take_at, drop-replicate, length-set, set-append_left, take-replicate, replicate-append-replicate}
 use Rattle.std.proofs.Math.Seq.{take-set-lt}
 use Rattle.std.specs.Prelude.{slice_set}
-use Rattle.rme_script.specs.Kept.{Kept}
+use Rattle.rme_script.specs.Padding.{IsPaddedList}
 
 -- A list written over the front of an array of fillers.
-pub kept_front : {A : Type 0} (filler : A) (room few count : ℕ) (items : List A) → count ≡ few → length items ≡ count → few ≤ room → Kept filler room few (items ++ drop count (replicate room filler))
+pub kept_front : {A : Type 0} (filler : A) (room few count : ℕ) (items : List A) → count ≡ few → length items ≡ count → few ≤ room → IsPaddedList filler room few (items ++ drop count (replicate room filler))
 kept_front {A = A} filler room few count items c l w =
     let rest : List A = drop count (replicate room filler) in
     let long : length rest ≡ room - count = length-drop count (replicate room filler) ∙ ap (λ (n : ℕ). n - count) (length-replicate room filler) in
@@ -19,8 +19,8 @@ kept_front {A = A} filler room few count items c l w =
           rw front (ap (λ (xs : List A). items ++ xs) (sym (drop-replicate count room filler ∙ ap (λ (n : ℕ). replicate (room - n) filler) c)));
     }
 
--- Fillers alone.
-pub kept_fillers : {A : Type 0} (filler : A) (room few : ℕ) → few ≤ room → Kept filler room few (replicate room filler)
+-- An array of fillers.
+pub kept_fillers : {A : Type 0} (filler : A) (room few : ℕ) → few ≤ room → IsPaddedList filler room few (replicate room filler)
 kept_fillers {A = A} filler room few w =
     let all : few + (room - few) ≡ room = omega (arith, w) in
     record {
@@ -31,8 +31,8 @@ kept_fillers {A = A} filler room few w =
           ∙ replicate-append-replicate few (room - few) filler ∙ ap (λ (n : ℕ). replicate n filler) all;
     }
 
--- One of the items changed.
-pub kept_set : {A : Type 0} (filler : A) (room few : ℕ) (items : List A) (i : ℕ) (x : A) → Kept filler room few items → i < few → Kept filler room few (slice_set items i x)
+-- One of the items replaced.
+pub kept_set : {A : Type 0} (filler : A) (room few : ℕ) (items : List A) (i : ℕ) (x : A) → IsPaddedList filler room few items → i < few → IsPaddedList filler room few (slice_set items i x)
 kept_set {A = A} filler room few items i x k inside =
     let long : length (slice_set items i x) ≡ room = length-set items i x ∙ k.whole in
     record {

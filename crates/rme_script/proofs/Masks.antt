@@ -1,4 +1,4 @@
--- Bits of masks: the mask of one operation, and of one operation more.
+-- Bits of masks: the mask of one operation, and of one more operation.
 use Rattle.std.proofs.Common.{◌≡◌, ℕ, ◌+◌, ◌≤◌, Some, length, take, slice_get, subst, ◌^◌, max, Bool, true, false, ◌==◌, ◌||◌, bit_or, List, [], ◌∷◌, ◌++◌, refl, sym, ap, ◌∙◌, inl, inr}
 use Rattle.std.specs.Int.{bit_at}
 use Rattle.std.proofs.lemmas.Bool.{cases_eq, eq-eqb, ne_eqb}
@@ -6,7 +6,7 @@ use Rattle.std.proofs.lemmas.Nat.Bits.{bit_at_or, bit_at-pow_same, bit_at-pow_ot
 use Rattle.std.proofs.lemmas.List.{take_all}
 use Rattle.std.proofs.lemmas.List.Folds.{list_any-append}
 use Rattle.rme_script.specs.declared.op.Op.{Op}
-use Rattle.rme_script.specs.Cells.{names, named_by, bit_of, IsMask}
+use Rattle.rme_script.specs.Cells.{op_names_cell, ops_name_cell, bit_of, IsMaskOfOps}
 use Rattle.rme_script.proofs.Lists.{take_next}
 
 or_false : (x : Bool) → (x || false) ≡ x
@@ -36,25 +36,25 @@ two_bits a b x =
     ∙ bits_or (a == x) (b == x)
     ∙ ap (λ (t : Bool). bit_of t) (sym (or_false ((a == x) || (b == x))))
 
-mask_next : (mask more : ℕ) (ops : List Op) (o : Op) → IsMask mask ops → IsMask more (o ∷ []) → IsMask (bit_or mask more) (ops ++ o ∷ [])
+mask_next : (mask more : ℕ) (ops : List Op) (o : Op) → IsMaskOfOps mask ops → IsMaskOfOps more (o ∷ []) → IsMaskOfOps (bit_or mask more) (ops ++ o ∷ [])
 mask_next mask more ops o h k c =
     bit_at_or mask more c
     ∙ ap (λ (m : ℕ). max m (bit_at more c)) (h c)
-    ∙ ap (λ (m : ℕ). max (bit_of (named_by ops c)) m) (k c)
-    ∙ bits_or (named_by ops c) (named_by (o ∷ []) c)
-    ∙ ap (λ (t : Bool). bit_of t) (sym (list_any-append (λ (p : Op). names p c) ops (o ∷ [])))
+    ∙ ap (λ (m : ℕ). max (bit_of (ops_name_cell ops c)) m) (k c)
+    ∙ bits_or (ops_name_cell ops c) (ops_name_cell (o ∷ []) c)
+    ∙ ap (λ (t : Bool). bit_of t) (sym (list_any-append (λ (p : Op). op_names_cell p c) ops (o ∷ [])))
 
 -- The loop of `named`.
-pub mask_step : (mask more i : ℕ) (ops : List Op) (o : Op) → slice_get ops i ≡ Some o → IsMask mask (take i ops) → IsMask more (o ∷ []) → IsMask (bit_or mask more) (take (i + 1) ops)
+pub mask_step : (mask more i : ℕ) (ops : List Op) (o : Op) → slice_get ops i ≡ Some o → IsMaskOfOps mask (take i ops) → IsMaskOfOps more (o ∷ []) → IsMaskOfOps (bit_or mask more) (take (i + 1) ops)
 mask_step mask more i ops o here h k =
-    let P : List Op → Type 0 = λ os. IsMask (bit_or mask more) os in
+    let P : List Op → Type 0 = λ os. IsMaskOfOps (bit_or mask more) os in
     subst P (sym (take_next ops i o here)) (mask_next mask more (take i ops) o h k)
 
-pub mask_end : (mask i : ℕ) (ops : List Op) → length ops ≤ i → IsMask mask (take i ops) → IsMask mask ops
+pub mask_end : (mask i : ℕ) (ops : List Op) → length ops ≤ i → IsMaskOfOps mask (take i ops) → IsMaskOfOps mask ops
 mask_end mask i ops past h =
-    let P : List Op → Type 0 = λ os. IsMask mask os in
+    let P : List Op → Type 0 = λ os. IsMaskOfOps mask os in
     subst P (take_all i ops past) h
 
--- There is one mask.
-pub mask_unique : (mask other : ℕ) (ops : List Op) → IsMask mask ops → IsMask other ops → mask ≡ other
+-- The mask is unique.
+pub mask_unique : (mask other : ℕ) (ops : List Op) → IsMaskOfOps mask ops → IsMaskOfOps other ops → mask ≡ other
 mask_unique mask other ops m k = same_from_bits mask other (λ c. m c ∙ sym (k c))

@@ -1,8 +1,7 @@
--- `eval`: what a script does to a row, as a fold over its operations, and what two rows share.
-use Rattle.std.specs.Prelude.{◌≡◌, ℕ, ◌+◌, ◌%◌, ◌^◌, true, List, [], ◌∷◌, length, slice_index, slice_set}
+-- `eval`: the effect of a script on a row, as a fold over its operations.
+use Rattle.std.specs.Prelude.{ℕ, ◌+◌, ◌%◌, ◌^◌, List, [], ◌∷◌, slice_index, slice_set}
 use Rattle.rme_script.specs.declared.op.Op.{Op}
 use Rattle.rme_script.specs.declared.op.Op.TheVariants.{Get, Set, Add, Copy, Swap}
-use Rattle.rme_script.specs.Cells.{named_by}
 
 -- The row after an operation.
 abbrev pub op_row : Op → List ℕ → List ℕ
@@ -20,29 +19,20 @@ last_named (Add c v) = c
 last_named (Copy a b) = b
 last_named (Swap a b) = b
 
--- The value of an operation: what its last-named cell holds afterwards.
+-- The value of an operation: the value of its last-named cell afterwards.
 abbrev pub op_value : Op → List ℕ → ℕ
 op_value o row = slice_index (op_row o row) (last_named o)
 
--- What a run leaves: the row, and the value of the last operation.
-pub record Ran : Type 0 where
+-- The result of a run: the row, and the value of the last operation.
+pub record RunResult : Type 0 where
   pub row : List ℕ
   pub reply : ℕ
 
 -- The operations in order.
-unfoldable pub run_from : Ran → List Op → Ran
-run_from ran [] = ran
-run_from ran (o ∷ os) = run_from record { row = op_row o ran.row; reply = op_value o ran.row } os
+unfoldable pub run_ops_from : RunResult → List Op → RunResult
+run_ops_from ran [] = ran
+run_ops_from ran (o ∷ os) = run_ops_from record { row = op_row o ran.row; reply = op_value o ran.row } os
 
--- A script's row and reply. The reply of no operation at all is 0.
-abbrev pub eval_of : List Op → List ℕ → Ran
-eval_of ops row = run_from record { row = row; reply = 0 } ops
-
--- Two rows of one length that hold the same in each cell of which P holds.
-pub record Agree (P : ℕ → Type 0) (r s : List ℕ) : Type 0 where
-  pub long : length r ≡ length s
-  pub at : (c : ℕ) → P c → slice_index r c ≡ slice_index s c
-
--- Two rows that hold the same in the cells that the operations name.
-abbrev pub AgreeNamed : List Op → List ℕ → List ℕ → Type 0
-AgreeNamed ops r s = Agree (λ (c : ℕ). named_by ops c ≡ true) r s
+-- A script's row and reply. The reply of a script without operations is 0.
+abbrev pub eval_of : List Op → List ℕ → RunResult
+eval_of ops row = run_ops_from record { row = row; reply = 0 } ops

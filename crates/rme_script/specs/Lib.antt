@@ -1,9 +1,11 @@
--- In reading order: a script as the list of its operations, which scripts fit a row, which cells a script
--- names, what it does to a row, and the words that it is written in. `Kept` alone speaks of how scripts and
--- rows lie in memory.
+-- In reading order: a script as the list of its operations, the scripts that fit a row, the cells that a script names,
+-- its effect on a row, and its words. Only `IsPaddedList` is about the layout of scripts and rows in memory.
 pub mod Programs
 pub mod Scripts
 pub mod Cells
+pub mod Jobs
+pub mod JobRefusals
 pub mod Eval
+pub mod RowAgreement
 pub mod Slates
-pub mod Kept
+pub mod Padding

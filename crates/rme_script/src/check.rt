@@ -1,7 +1,7 @@
 //! Whether a script may run on the rows of a shape.
 
 ghost use Rattle.std.specs.Prelude.{◌≡◌, ◌↔◌};
-ghost use Rattle.rme_script.specs.Scripts.{IsScript, check_of, fits};
+ghost use Rattle.rme_script.specs.Scripts.{IsScript, script_check, op_is_within};
 
 use crate::limits::MOST_OPERATIONS;
 use crate::op::Op;
@@ -10,7 +10,7 @@ use rme_words::{Refusal, Shape};
 
 /// Each cell that the operation names is below `cells`.
 fn is_within(op: Op, cells: u32) -> bool
-    ensures { result ≡ fits cells op }
+    ensures { result ≡ op_is_within cells op }
 {
     match op {
         Op::Get(c) | Op::Set(c, _) | Op::Add(c, _) => c < cells,
@@ -19,12 +19,12 @@ fn is_within(op: Op, cells: u32) -> bool
 }
 
 impl Script {
-    /// Says whether the script may run on the rows of the shape.
+    /// Checks that the script may run on the rows of the shape.
     ///
-    /// It answers `BadScript` for more than eight operations, and else `NoCell` where an operation names a
-    /// cell that the shape's locks don't have.
+    /// Refused by `BadScript` for more than eight operations, otherwise by `NoCell` if an operation names a cell that
+    /// the shape's locks don't have.
     pub fn check(&self, shape: Shape) -> Result<(), Refusal>
-        ensures exact { result ≡ check_of shape.cells self.now }
+        ensures exact { result ≡ script_check shape.cells self.now }
         ensures script { (result ≡ Ok tt) ↔ IsScript shape.cells self.now }
     {
         let n = self.n();

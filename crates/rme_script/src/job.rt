@@ -1,4 +1,4 @@
-//! A job: what a worker asks of a lock.
+//! A job: the request of a worker to a lock.
 
 use crate::script::Script;
 
@@ -7,6 +7,6 @@ use crate::script::Script;
 pub struct Job {
     /// The lock's number.
     pub lock: u32,
-    /// What to do to the lock's cells.
+    /// The operations on the lock's cells.
     pub script: Script,
 }

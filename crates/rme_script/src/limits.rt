@@ -1,6 +1,6 @@
-//! How much a script and its slate hold.
+//! The sizes of a script and its slate.
 
-/// The most operations of one script.
+/// The greatest number of operations of one script.
 pub const MOST_OPERATIONS: usize = 8;
 
 /// The words of one operation on a slate: its kind, and two more.

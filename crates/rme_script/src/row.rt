@@ -14,17 +14,18 @@ pub struct Row {
 
 impl Model for Row {
     ghost use Rattle.std.specs.Prelude.{◌-◌, ◌++◌, ℕ, List, take, replicate, length};
-    ghost use Rattle.rme_script.specs.Kept.{Kept, restored};
+    ghost use Rattle.rme_script.specs.Padding.{IsPaddedList, padding_is_restored};
 
     ghost Value = { List ℕ };
 
     ghost view = { λ r. take r.len r.cells };
 
-    ghost invariant = { λ r. Kept 0 16 r.len r.cells };
+    ghost invariant = { λ r. IsPaddedList 0 16 r.len r.cells };
 
     ghost inverse = { λ v. record { cells = v ++ replicate (16 - length v) 0; len = length v } };
 
-    ghost inverse_ok = { λ a h. restored (λ cells len. record { cells = cells; len = len }) 0 16 a.len a.cells h };
+    ghost inverse_ok = { λ a h. padding_is_restored (λ cells len. record { cells = cells; len = len }) 0 16 a.len
+        a.cells h };
 }
 
 impl Row {
@@ -38,14 +39,14 @@ impl Row {
         }
     }
 
-    /// How many cells the row has.
+    /// The number of cells of the row.
     pub fn len(&self) -> u32
         ensures { result ≡ length self.now }
     {
         self.len
     }
 
-    /// What a cell holds.
+    /// The value of a cell.
     pub fn get(&self, c: u32) -> u64
         requires { c < length self.now }
         ensures { result ≡ slice_index self.now c }
@@ -53,7 +54,7 @@ impl Row {
         self.cells[c as usize]
     }
 
-    /// Writes one cell. The others stay.
+    /// Writes one cell.
     pub fn set(&mut self, c: u32, value: u64)
         requires { c < length self.old }
         ensures { self.new ≡ slice_set self.old c value }

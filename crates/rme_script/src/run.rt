@@ -1,17 +1,18 @@
-//! What a script does to a row.
+//! The effect of a script on a row.
 
 ghost use Rattle.std.specs.Prelude.{◌≡◌, ℕ, false, List, length, slice_index};
-ghost use Rattle.rme_script.specs.Scripts.{IsWithin, IsScript};
-ghost use Rattle.rme_script.specs.Cells.{named_by};
-ghost use Rattle.rme_script.specs.Eval.{op_row, op_value, eval_of, AgreeNamed};
+ghost use Rattle.rme_script.specs.Scripts.{OpIsWithin, IsScript};
+ghost use Rattle.rme_script.specs.Cells.{ops_name_cell};
+ghost use Rattle.rme_script.specs.Eval.{op_row, op_value, eval_of};
+ghost use Rattle.rme_script.specs.RowAgreement.{RowsAgreeOnNamed};
 
 use crate::op::Op;
 use crate::row::Row;
 use crate::script::Script;
 
-/// Does one operation, and answers its value.
+/// Executes one operation, and answers its value.
 fn perform(op: Op, row: &mut Row) -> u64
-    requires { IsWithin (length row.old) op }
+    requires { OpIsWithin (length row.old) op }
     ensures row { row.new ≡ op_row op row.old }
     ensures value { result ≡ op_value op row.old }
 {
@@ -40,13 +41,15 @@ fn perform(op: Op, row: &mut Row) -> u64
 
 /// Runs a script on a row, and answers the reply: the value of the last operation, and 0 for an empty script.
 ///
-/// The cells that the script does not name stay, and neither the reply nor a named cell goes by them. The
+/// The cells that the script does not name are unchanged, and neither the reply nor a named cell depends on them. The
 /// script passes `check` for a shape with as many cells as the row has.
 pub fn eval(script: &Script, row: &mut Row) -> u64
     requires { IsScript (length row.old) script.now }
     ensures fold { eval_of script.now.ops row.old ≡ record { row = row.new; reply = result } }
-    ensures unnamed { (c : ℕ) → named_by script.now.ops c ≡ false → slice_index row.new c ≡ slice_index row.old c }
-    ensures local { (other : List ℕ) → AgreeNamed script.now.ops row.old other → AgreeNamed script.now.ops row.new ((eval_of script.now.ops other).row) × (result ≡ (eval_of script.now.ops other).reply) }
+    ensures unnamed { (c : ℕ) → ops_name_cell script.now.ops c ≡ false → slice_index row.new c ≡ slice_index row.old c }
+    ensures local { (other : List ℕ) → RowsAgreeOnNamed script.now.ops row.old other
+        → RowsAgreeOnNamed script.now.ops row.new ((eval_of script.now.ops other).row)
+        × (result ≡ (eval_of script.now.ops other).reply) }
 {
     let mut reply = 0;
     for i in 0..script.n() {

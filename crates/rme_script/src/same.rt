@@ -14,7 +14,7 @@ fn is_same(a: Op, b: Op) -> bool
 }
 
 impl Script {
-    /// Says whether the two scripts have the same operations in the same order, and were given as many.
+    /// Whether the two scripts have the same operations in the same order, and the same number given.
     pub fn same(&self, other: &Script) -> bool
         ensures { IsTrue result ↔ (self.now ≡ other.now) }
     {

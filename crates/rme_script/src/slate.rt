@@ -2,8 +2,8 @@
 
 ghost use Rattle.std.specs.Prelude.{◌≡◌, ◌*◌, ◌^◌, ◌<◌, ◌≤◌, ◌↔◌, Some, None, IsTrue, IsFalse, length, slice_index};
 ghost use Rattle.rme_script.specs.Programs.{Program};
-ghost use Rattle.rme_script.specs.Scripts.{IsWithin};
-ghost use Rattle.rme_script.specs.Slates.{IsSlate, op_words, op_of, slate_of, script_of};
+ghost use Rattle.rme_script.specs.Scripts.{OpIsWithin};
+ghost use Rattle.rme_script.specs.Slates.{IsSlate, op_words, op_from_words, slate_of, script_from_words};
 
 use crate::limits::{MOST_OPERATIONS, OPERATION_WORDS, SLATE_WORDS};
 use crate::op::Op;
@@ -12,7 +12,7 @@ use crate::script::Script;
 /// The three words of an operation: its kind, and its first and second word.
 pub fn op_words(op: Op) -> [u64; OPERATION_WORDS]
     ensures words { result ≡ op_words op }
-    ensures within { IsWithin (2 ^ 32) op }
+    ensures within { OpIsWithin (2 ^ 32) op }
 {
     match op {
         Op::Get(c) => [0, c as u64, 0],
@@ -23,10 +23,10 @@ pub fn op_words(op: Op) -> [u64; OPERATION_WORDS]
     }
 }
 
-/// The operation of three words, or `None` where they are none: a kind above 4, a get whose second word is not
-/// 0, or a cell number of 2^32 or more.
-pub fn op_of(kind: u64, first: u64, second: u64) -> Option<Op>
-    ensures { result ≡ op_of kind first second }
+/// The operation of three words, or `None` if they encode none: a kind above 4, a get whose second word is not 0, or a
+/// cell number of 2^32 or more.
+pub fn op_from_words(kind: u64, first: u64, second: u64) -> Option<Op>
+    ensures { result ≡ op_from_words kind first second }
 {
     let c = u32::try_from(first).ok()?;
     match kind {
@@ -39,7 +39,7 @@ pub fn op_of(kind: u64, first: u64, second: u64) -> Option<Op>
     }
 }
 
-/// One word of a script's slate, which is one of an operation of the script: what `slate_words` has at `at`.
+/// One word of a script's slate, within the words of its operations: the word of `slate_words` at `at`.
 pub fn slate_word(script: &Script, at: u32) -> u64
     requires { at < 3 * length script.now.ops }
     ensures { result ≡ slice_index (slate_of script.now.ops) at }
@@ -60,7 +60,7 @@ pub fn slate_word(script: &Script, at: u32) -> u64
 pub fn slate_words(script: &Script) -> [u64; SLATE_WORDS]
     requires { script.now.n ≤ 8 }
     ensures words { result ≡ slate_of script.now.ops }
-    ensures back { script_of script.now.n result ≡ Some script.now }
+    ensures back { script_from_words script.now.n result ≡ Some script.now }
 {
     let mut words = [0; SLATE_WORDS];
     for i in 0..script.n() {
@@ -70,12 +70,12 @@ pub fn slate_words(script: &Script) -> [u64; SLATE_WORDS]
     words
 }
 
-/// The script of `n` operations that these words are.
+/// The script of `n` operations that these words encode.
 ///
-/// It answers `None` where `n` is over 8, and where three of the first words are no operation: a kind above 4,
-/// a get whose second word is not 0, a cell number of 2^32 or more. Words after the first 3n are not read.
+/// `None` if `n` is over 8, or three of the first words encode no operation: a kind above 4, a get whose second word is
+/// not 0, a cell number of 2^32 or more. Words after the first 3n are not read.
 pub fn from_slate(n: u64, words: &[u64; SLATE_WORDS]) -> Option<Script>
-    ensures decoded { result ≡ script_of n words.now }
+    ensures decoded { result ≡ script_from_words n words.now }
     ensures exact { (p : Program) → (result ≡ Some p) ↔ IsSlate n words.now p }
 {
     let mut script = Script::of(&[]);
@@ -85,11 +85,11 @@ pub fn from_slate(n: u64, words: &[u64; SLATE_WORDS]) -> Option<Script>
     None
 }
 
-/// Reads what `from_slate` would answer into a script in place, and answers whether there is one. Where there is
-/// none, the script may be any.
+/// Reads the script of `from_slate` into `script`, and answers whether there is one. If there is none, `script` may
+/// have any value.
 pub fn read_slate(n: u64, words: &[u64; SLATE_WORDS], script: &mut Script) -> bool
-    ensures read { IsTrue result → Some script.new ≡ script_of n words.now }
-    ensures none { IsFalse result → None ≡ script_of n words.now }
+    ensures read { IsTrue result → Some script.new ≡ script_from_words n words.now }
+    ensures none { IsFalse result → None ≡ script_from_words n words.now }
 {
     if n > MOST_OPERATIONS as u64 {
         return false;
@@ -97,7 +97,7 @@ pub fn read_slate(n: u64, words: &[u64; SLATE_WORDS], script: &mut Script) -> bo
     script.begin(n as u32);
     for i in 0..n as u32 {
         let at = OPERATION_WORDS * i as usize;
-        let Some(op) = op_of(words[at], words[at + 1], words[at + 2]) else {
+        let Some(op) = op_from_words(words[at], words[at + 1], words[at + 2]) else {
             return false;
         };
         script.put(i, op);

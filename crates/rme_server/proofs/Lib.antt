@@ -1,3 +1,1 @@
-pub mod Asking
 mod Trying
-mod Talking

@@ -1,4 +1,4 @@
--- An order that is obeyed in parts is obeyed.
+-- An order that is executed in parts is executed.
 use Rattle.std.proofs.Common.{◌≡◌, ℕ, ◌+◌, ◌<◌, ◌≤◌, List, [], arith, inl, inr, refl, sym, ap, ◌∙◌, subst}
 use Rattle.std.specs.Prelude.{◌==◌, ◌⊎◌, Bool, true, false, Option, Some}
 use Rattle.rme_words.specs.declared.shape.Shape.{Shape}
@@ -7,50 +7,53 @@ use Rattle.rme_script.specs.Programs.{Program}
 use Rattle.rme_script.specs.declared.job.Job.{Job}
 use Rattle.rme_program.specs.declared.note.Entry.{Entry}
 use Rattle.rme_program.specs.declared.note.Receipt as program
-use Rattle.rme_seats.specs.declared.record.Part.{Part}
-use Rattle.rme_seats.specs.Parts.{draft_script, onward}
-use Rattle.rme_seats.specs.Stands.{Ident, Stand}
-use Rattle.rme_session_lines.specs.declared.session.Outcome.{Outcome}
-use Rattle.rme_session_lines.specs.declared.session.Outcome.TheVariants.{Receipt, Withdrawn, Waiting, Fell, Inside}
-use Rattle.rme_session_lines.specs.declared.session.SessionReply.{SessionReply}
-use Rattle.rme_session_lines.specs.declared.session.SessionReply.TheVariants.{Submitted, Resumed, Entered, Refused}
-use Rattle.rme_session_lines.specs.declared.order.Order.{Order}
-use Rattle.rme_session_lines.specs.declared.order.Order.TheVariants.{Submit, Resume, Enter}
-use Rattle.rme_session_lines.specs.declared.order.Patience.TheVariants.{Tries}
-use Rattle.rme_session_lines.specs.declared.order.Submission.{Submission}
-use Rattle.rme_orders.specs.Obeyed.{ObeysBy, Resumes}
-use Rattle.rme_orders.specs.Refusals.{resume_refusal}
-use Rattle.rme_orders.specs.Parts.{answer_as, once_more, still_waits, tried, with_tries}
-use Rattle.rme_orders.specs.declared.view.PendingWorker.{PendingWorker}
-use Rattle.rme_orders.specs.declared.view.Session as shown
-use Rattle.rme_orders.specs.declared.view.View.{View}
-use Rattle.rme_orders.proofs.Trying as sight
-use Rattle.rme_orders.proofs.Trying.{IsClimb, climb_not_refused, enter_not_refused, false_true}
-use Rattle.rme_sessions.specs.Obeyed.{Adds, Enters, EntersInside, HandsInside, HandsOver, IsInside, IsWalked, Obeys, ResumeEnters, SubmitEnters}
-use Rattle.rme_sessions.specs.Stands.{draft_in, entries_in, held_by, session_of, view_of}
-use Rattle.rme_sessions.specs.Works.{WentOn, lead_of}
-use Rattle.rme_sessions.specs.declared.stand.Holding.{Holding}
-use Rattle.rme_sessions.specs.declared.stand.Holding.TheVariants.{Empty, Ready, Climb, Held}
-use Rattle.rme_sessions.specs.declared.stand.Stand.{Stand as Session}
-use Rattle.rme_sessions.proofs.Planning.{went_on}
-use Rattle.rme_server.specs.Sessions.{HasAll}
+use Rattle.rme_service_steps.specs.declared.seat_record.Part.{Part}
+use Rattle.rme_service_steps.specs.Parts.{draft_script, unchanged_part}
+use Rattle.rme_service_steps.specs.SeatViews.{ServiceId, SeatView}
+use Rattle.rme_session_protocol.specs.declared.reply.JobOutcome.{JobOutcome}
+use Rattle.rme_session_protocol.specs.declared.reply.JobOutcome.TheVariants.{Receipt, Withdrawn, Waiting, Fell, Inside}
+use Rattle.rme_session_protocol.specs.declared.reply.SessionReply.{SessionReply}
+use Rattle.rme_session_protocol.specs.declared.reply.SessionReply.TheVariants.{Submitted, Resumed, Entered, Refused}
+use Rattle.rme_session_protocol.specs.declared.order.Order.{Order}
+use Rattle.rme_session_protocol.specs.declared.order.Order.TheVariants.{Attach, Submit, Resume, Enter}
+use Rattle.rme_session_protocol.specs.declared.order.Patience.TheVariants.{Tries}
+use Rattle.rme_session_protocol.specs.declared.order.Submission.{Submission}
+use Rattle.rme_session_protocol.specs.SessionSteps.{SessionStepInSteps, ResumeOrderEffect}
+use Rattle.rme_session_protocol.specs.Refusals.{resume_refusal}
+use Rattle.rme_session_protocol.specs.Attempts.{merged_reply, retry_order, is_still_waiting, submission_with_tries, with_tries}
+use Rattle.rme_session_protocol.specs.declared.view.PendingWorker.{PendingWorker}
+use Rattle.rme_session_protocol.specs.declared.view.Session as shown
+use Rattle.rme_session_protocol.specs.declared.view.SessionView.{SessionView}
+use Rattle.rme_session_protocol.proofs.Trying as sight
+use Rattle.rme_session_protocol.proofs.Trying.{IsClimb, climb_not_refused, enter_not_refused, false_true}
+use Rattle.rme_session_threads.specs.ThreadSteps.{stand_change, ThreadOrderEffect, AppendsJobEntry, EnterEntries, ReadyEnterEntries, ReadySubmitEntries, EntersWithoutEntry, OrderOwnSteps, ThreadSessionStep, ResumeEntries, SubmitEntries}
+use Rattle.rme_session_threads.specs.Stands.{held_draft, held_entries, held_worker, holding_session, stand_view}
+use Rattle.rme_session_threads.specs.JobOutcomes.{OwnStepsBetween, submit_lead}
+use Rattle.rme_session_threads.specs.declared.stand.Holding.{Holding}
+use Rattle.rme_session_threads.specs.declared.stand.Holding.TheVariants.{Empty, Ready, Climb, Held}
+use Rattle.rme_session_threads.specs.declared.stand.Stand.{Stand as Session}
+use Rattle.rme_session_threads.proofs.Planning.{went_on}
+use Rattle.rme_session_protocol.specs.Attempts.{least_patience_tries, order_patience}
+use Rattle.rme_session_server.specs.OrderRuns.{IsReplyOfTries, MayStopAfter}
+use Rattle.rme_session_server.specs.SessionAnswers.{MayContinueOrder}
+use Rattle.rme_server.specs.ServiceAttempts.{HasMadeAllTries, SessionStepUntilGone}
 
--- How many tries an order has changes nothing of what it does to the entries.
+-- The number of tries of an order does not change its effect on the entries.
 module _ (tries : ℕ) (its : Submission) (shape : Shape) where
-  submit_tried : (start now : Holding) (became : Outcome) → SubmitEnters shape start (tried tries its) now became → SubmitEnters shape start its now became
+  submit_tried : (start now : Holding) (became : JobOutcome) → SubmitEntries shape start (submission_with_tries tries its) now became → SubmitEntries shape start its now became
   submit_tried Empty now became enters = enters
   submit_tried (Ready ready) now became enters = enters
   submit_tried (Climb climb) now became enters = enters
   submit_tried (Held held) now became enters = enters
 
-  inside_tried : (start now : Holding) (became : Outcome) → EntersInside shape start (tried tries its) now became → EntersInside shape start its now became
+  inside_tried : (start now : Holding) (became : JobOutcome) → EnterEntries shape start (submission_with_tries tries its) now became → EnterEntries shape start its now became
   inside_tried Empty now became enters = enters
   inside_tried (Ready ready) now became enters = enters
   inside_tried (Climb climb) now became enters = enters
   inside_tried (Held held) now became enters = enters
 
-module _ (ident : Ident) (count made tries : ℕ) (old now : Session) (let_go : Option Stand) where
-  adds_tried : (its : Order) (reply : SessionReply) → Adds ident count made old (with_tries tries its) now reply let_go → Adds ident count made old its now reply let_go
+module _ (ident : ServiceId) (count made tries : ℕ) (old now : Session) (let_go : Option SeatView) where
+  adds_tried : (its : Order) (reply : SessionReply) → ThreadOrderEffect ident count made (stand_change old now let_go) (with_tries tries its) reply → ThreadOrderEffect ident count made (stand_change old now let_go) its reply
   adds_tried (Submit its) (Refused why) adds = adds
   adds_tried (Submit its) (Submitted became) (enters, walked) = (submit_tried tries its ident.shape old.value now.value became enters, walked)
   adds_tried (Submit its) reply adds = absurd adds
@@ -62,15 +65,15 @@ module _ (ident : Ident) (count made tries : ℕ) (old now : Session) (let_go : 
   adds_tried (Enter its) reply adds = absurd adds
   adds_tried its reply adds = adds
 
-pub all_tries : (ident : Ident) (count tries : ℕ) (old now : Session) (its : Order) (reply : SessionReply) → HasAll tries its reply → Obeys ident count old (with_tries tries its) now reply
-    → Obeys ident count old its now reply
+pub all_tries : (ident : ServiceId) (count tries : ℕ) (old now : Session) (its : Order) (reply : SessionReply) → HasMadeAllTries tries its reply → ThreadSessionStep ident count old (with_tries tries its) now reply
+    → ThreadSessionStep ident count old its now reply
 all_tries ident count tries old now its reply all obeys = let acts = obeys.acts in record {
   let_go = obeys.let_go;
   acts = record {
     made = acts.made;
     before = acts.before;
     after = acts.after;
-    obeys = sight.all_tries ident.shape acts.made tries (view_of acts.before old) (view_of acts.after now) its reply all acts.obeys;
+    obeys = sight.all_tries ident.shape acts.made tries (stand_view acts.before old) (stand_view acts.after now) its reply all acts.obeys;
     told_before = acts.told_before;
     told_after = acts.told_after;
     adds = adds_tried ident count acts.made tries old now obeys.let_go its reply acts.adds;
@@ -78,86 +81,86 @@ all_tries ident count tries old now its reply all obeys = let acts = obeys.acts 
 }
 
 -- Two parts: the entries, and the own steps.
-enters_both : (before : List Entry) (script second : Program) (mid now : Holding) (became : Outcome) → Enters before script mid Waiting → second ≡ script
-    → Enters (entries_in (held_by mid)) second now became → Enters before script now became
+enters_both : (before : List Entry) (script second : Program) (mid now : Holding) (became : JobOutcome) → AppendsJobEntry before script mid Waiting → second ≡ script
+    → AppendsJobEntry (held_entries (held_worker mid)) second now became → AppendsJobEntry before script now became
 enters_both before script second mid now (Receipt receipt) waits same enters =
-    let P : List Entry → Type 0 = λ es. Enters es second now (Receipt receipt) in
-    let Q : Program → Type 0 = λ its. Enters before its now (Receipt receipt) in subst Q same (subst P waits enters)
+    let P : List Entry → Type 0 = λ es. AppendsJobEntry es second now (Receipt receipt) in
+    let Q : Program → Type 0 = λ its. AppendsJobEntry before its now (Receipt receipt) in subst Q same (subst P waits enters)
 enters_both before script second mid now Withdrawn waits same enters = absurd enters
 enters_both before script second mid now Waiting waits same enters = enters ∙ waits
 enters_both before script second mid now Fell waits same enters = tt
 enters_both before script second mid now (Inside number) waits same enters = absurd enters
 
-hands_both : (shape : Shape) (again : Bool) (ready : Stand) (job : Job) (mid now : Holding) (became : Outcome) → HandsOver shape again ready job mid Waiting → draft_in (held_by mid) ≡ Some job
-    → ResumeEnters mid now became → HandsOver shape again ready job now became
+hands_both : (shape : Shape) (again : Bool) (ready : SeatView) (job : Job) (mid now : Holding) (became : JobOutcome) → ReadySubmitEntries shape again ready job mid Waiting → held_draft (held_worker mid) ≡ Some job
+    → ResumeEntries mid now became → ReadySubmitEntries shape again ready job now became
 hands_both shape true ready job mid now became waits has enters = absurd waits
 hands_both shape false ready job mid now became waits has enters =
-    enters_both ready.part.entries job.script (draft_script (draft_in (held_by mid))) mid now became waits (ap (λ (d : Option Job). draft_script d) has) enters
+    enters_both ready.part.entries job.script (draft_script (held_draft (held_worker mid))) mid now became waits (ap (λ (d : Option Job). draft_script d) has) enters
 
-submit_both : (shape : Shape) (start mid now : Holding) (its : Submission) (became : Outcome) → SubmitEnters shape start its mid Waiting → draft_in (held_by mid) ≡ Some its.job
-    → ResumeEnters mid now became → SubmitEnters shape start its now became
+submit_both : (shape : Shape) (start mid now : Holding) (its : Submission) (became : JobOutcome) → SubmitEntries shape start its mid Waiting → held_draft (held_worker mid) ≡ Some its.job
+    → ResumeEntries mid now became → SubmitEntries shape start its now became
 submit_both shape Empty mid now its became waits has enters =
-    enters_both [] its.job.script (draft_script (draft_in (held_by mid))) mid now became waits (ap (λ (d : Option Job). draft_script d) has) enters
+    enters_both [] its.job.script (draft_script (held_draft (held_worker mid))) mid now became waits (ap (λ (d : Option Job). draft_script d) has) enters
 submit_both shape (Ready ready) mid now its became waits has enters = hands_both shape (its.number == ready.part.private.begun) ready its.job mid now became waits has enters
 submit_both shape (Climb climb) mid now its became waits has enters =
-    enters_both climb.part.entries its.job.script (draft_script (draft_in (held_by mid))) mid now became waits (ap (λ (d : Option Job). draft_script d) has) enters
+    enters_both climb.part.entries its.job.script (draft_script (held_draft (held_worker mid))) mid now became waits (ap (λ (d : Option Job). draft_script d) has) enters
 submit_both shape (Held held) mid now its became waits has enters =
-    enters_both held.part.entries its.job.script (draft_script (draft_in (held_by mid))) mid now became waits (ap (λ (d : Option Job). draft_script d) has) enters
+    enters_both held.part.entries its.job.script (draft_script (held_draft (held_worker mid))) mid now became waits (ap (λ (d : Option Job). draft_script d) has) enters
 
--- A worker that climbs was not inside before, and nothing stands before its next step.
-module _ (shape : Shape) (mid : Holding) (between : Option program.Receipt) (climbs : IsClimb (session_of between mid)) where
-  climb_inside : (value : Holding) → IsClimb (session_of between value) → (before : List Entry) (its : Submission) (now : Holding) (became : Outcome) → IsInside before value Waiting
-      → EntersInside shape value its now became → IsInside before now became
+-- A worker that climbs was not inside before, and there is no entry before its next step.
+module _ (shape : Shape) (mid : Holding) (between : Option program.Receipt) (climbs : IsClimb (holding_session between mid)) where
+  climb_inside : (value : Holding) → IsClimb (holding_session between value) → (before : List Entry) (its : Submission) (now : Holding) (became : JobOutcome) → EntersWithoutEntry before value Waiting
+      → EnterEntries shape value its now became → EntersWithoutEntry before now became
   climb_inside Empty climbed before its now became waits enters = absurd climbed
   climb_inside (Ready ready) climbed before its now became waits enters = absurd climbed
-  climb_inside (Climb climb) climbed before its now became waits enters = let P : List Entry → Type 0 = λ es. IsInside es now became in subst P waits enters
+  climb_inside (Climb climb) climbed before its now became waits enters = let P : List Entry → Type 0 = λ es. EntersWithoutEntry es now became in subst P waits enters
   climb_inside (Held held) climbed before its now became waits enters = absurd climbed
 
-  hands_inside_both : (again : Bool) (ready : Stand) (its : Submission) (now : Holding) (became : Outcome) → HandsInside shape again ready mid Waiting → EntersInside shape mid its now became
-      → HandsInside shape again ready now became
+  hands_inside_both : (again : Bool) (ready : SeatView) (its : Submission) (now : Holding) (became : JobOutcome) → ReadyEnterEntries shape again ready mid Waiting → EnterEntries shape mid its now became
+      → ReadyEnterEntries shape again ready now became
   hands_inside_both true ready its now became waits enters = absurd waits
   hands_inside_both false ready its now became waits enters = climb_inside mid climbs ready.part.entries its now became waits enters
 
-  enter_both : (start : Holding) (its : Submission) (now : Holding) (became : Outcome) → EntersInside shape start its mid Waiting → EntersInside shape mid its now became
-      → EntersInside shape start its now became
+  enter_both : (start : Holding) (its : Submission) (now : Holding) (became : JobOutcome) → EnterEntries shape start its mid Waiting → EnterEntries shape mid its now became
+      → EnterEntries shape start its now became
   enter_both Empty its now became waits enters = absurd waits
   enter_both (Ready ready) its now became waits enters = hands_inside_both (its.number == ready.part.private.begun) ready its now became waits enters
   enter_both (Climb climb) its now became waits enters = climb_inside mid climbs climb.part.entries its now became waits enters
-  enter_both (Held held) its now became waits enters = let P : Holding → Type 0 = λ value. IsClimb (session_of between value) in absurd (subst P waits climbs)
+  enter_both (Held held) its now became waits enters = let P : Holding → Type 0 = λ value. IsClimb (holding_session between value) in absurd (subst P waits climbs)
 
-  lead_onward : (value : Holding) → IsClimb (session_of between value) → (job : Job) → lead_of value job ≡ onward
+  lead_onward : (value : Holding) → IsClimb (holding_session between value) → (job : Job) → submit_lead value job ≡ unchanged_part
   lead_onward Empty climbed job = absurd climbed
   lead_onward (Ready ready) climbed job = absurd climbed
   lead_onward (Climb climb) climbed job = refl
   lead_onward (Held held) climbed job = absurd climbed
 
-walked_both : (shape : Shape) (lead : Part → Part) (one two : ℕ) (old mid now : Session) (became : Outcome) (let_go : Option Stand) → 0 < one
-    → WentOn shape lead (held_by old.value) (held_by mid.value) one → IsWalked shape onward two mid now became let_go → IsWalked shape lead (one + two) old now became let_go
-walked_both shape lead one two old mid now (Receipt receipt) let_go some first (went, none) = (went_on shape lead (held_by old.value) (held_by mid.value) (held_by now.value) one two some first went, none)
-walked_both shape lead one two old mid now Withdrawn let_go some first (went, none) = (went_on shape lead (held_by old.value) (held_by mid.value) (held_by now.value) one two some first went, none)
-walked_both shape lead one two old mid now Waiting let_go some first (went, none) = (went_on shape lead (held_by old.value) (held_by mid.value) (held_by now.value) one two some first went, none)
-walked_both shape lead one two old mid now (Inside number) let_go some first (went, none) = (went_on shape lead (held_by old.value) (held_by mid.value) (held_by now.value) one two some first went, none)
-walked_both shape lead one two old mid now Fell let_go some first went = went_on shape lead (held_by old.value) (held_by mid.value) let_go one two some first went
+walked_both : (shape : Shape) (lead : Part → Part) (one two : ℕ) (old mid now : Session) (became : JobOutcome) (let_go : Option SeatView) → 0 < one
+    → OwnStepsBetween shape lead (held_worker old.value) (held_worker mid.value) one → OrderOwnSteps shape unchanged_part two (stand_change mid now let_go) became → OrderOwnSteps shape lead (one + two) (stand_change old now let_go) became
+walked_both shape lead one two old mid now (Receipt receipt) let_go some first (went, none) = (went_on shape lead (held_worker old.value) (held_worker mid.value) (held_worker now.value) one two some first went, none)
+walked_both shape lead one two old mid now Withdrawn let_go some first (went, none) = (went_on shape lead (held_worker old.value) (held_worker mid.value) (held_worker now.value) one two some first went, none)
+walked_both shape lead one two old mid now Waiting let_go some first (went, none) = (went_on shape lead (held_worker old.value) (held_worker mid.value) (held_worker now.value) one two some first went, none)
+walked_both shape lead one two old mid now (Inside number) let_go some first (went, none) = (went_on shape lead (held_worker old.value) (held_worker mid.value) (held_worker now.value) one two some first went, none)
+walked_both shape lead one two old mid now Fell let_go some first went = went_on shape lead (held_worker old.value) (held_worker mid.value) let_go one two some first went
 
--- What a worker that waits shows does not depend on its last receipt.
-same_session : (value : Holding) (one two : Option program.Receipt) → IsClimb (session_of one value) → session_of one value ≡ session_of two value
+-- The session view of a worker that waits does not depend on its last receipt.
+same_session : (value : Holding) (one two : Option program.Receipt) → IsClimb (holding_session one value) → holding_session one value ≡ holding_session two value
 same_session Empty one two climbs = absurd climbs
 same_session (Ready ready) one two climbs = absurd climbs
 same_session (Climb climb) one two climbs = refl
 same_session (Held held) one two climbs = absurd climbs
 
-same_view : (mid : Session) (one two : Option program.Receipt) → IsClimb (session_of one mid.value) → view_of one mid ≡ view_of two mid
+same_view : (mid : Session) (one two : Option program.Receipt) → IsClimb (holding_session one mid.value) → stand_view one mid ≡ stand_view two mid
 same_view mid one two climbs = ap (λ (s : shown.Session). record { session = s; planned = mid.planned }) (same_session mid.value one two climbs)
 
 -- The job of a worker that waits.
-draft_of_waiting : (shape : Shape) (made : ℕ) (old : View) (value : Holding) (mid : View) (last : Option program.Receipt) (its : Submission) → mid.session ≡ session_of last value
-    → IsClimb (session_of last value) → ObeysBy shape made old (Submit its) mid (Submitted Waiting) → draft_in (held_by value) ≡ Some its.job
+draft_of_waiting : (shape : Shape) (made : ℕ) (old : SessionView) (value : Holding) (mid : SessionView) (last : Option program.Receipt) (its : Submission) → mid.session ≡ holding_session last value
+    → IsClimb (holding_session last value) → SessionStepInSteps shape made old (Submit its) mid (Submitted Waiting) → held_draft (held_worker value) ≡ Some its.job
 draft_of_waiting shape made old Empty mid last its at climbs obeys = absurd climbs
 draft_of_waiting shape made old (Ready ready) mid last its at climbs obeys = absurd climbs
 draft_of_waiting shape made old (Climb climb) mid last its at climbs obeys = sight.waits_with shape made old mid _ its at obeys
 draft_of_waiting shape made old (Held held) mid last its at climbs obeys = absurd climbs
 
-draft_of_resumed : (start value : Holding) (one two : Option program.Receipt) → Resumes (session_of one start) (session_of two value) Waiting → draft_in (held_by value) ≡ draft_in (held_by start)
+draft_of_resumed : (start value : Holding) (one two : Option program.Receipt) → ResumeOrderEffect (holding_session one start) (holding_session two value) Waiting → held_draft (held_worker value) ≡ held_draft (held_worker start)
 draft_of_resumed Empty value one two waits = absurd waits
 draft_of_resumed (Ready ready) value one two waits = absurd waits
 draft_of_resumed (Climb start) Empty one two waits = absurd waits
@@ -169,52 +172,52 @@ draft_of_resumed (Held start) (Ready ready) one two waits = absurd waits
 draft_of_resumed (Held start) (Climb climb) one two waits = ap (λ (p : PendingWorker). p.draft) waits
 draft_of_resumed (Held start) (Held held) one two waits = absurd waits
 
-module _ (ident : Ident) (count tries one two : ℕ) (old mid now : Session) (before between : Option program.Receipt) (shows : View) (first_go let_go : Option Stand)
-    (climbs : IsClimb (session_of between mid.value)) (some : 0 < one) where
-  never_refused : (why : Refusal) → (Some why ≡ resume_refusal (session_of between mid.value)) ⊎ ⊥ → ⊥
-  never_refused why (inl refuses) = climb_not_refused (session_of between mid.value) why climbs refuses
+module _ (ident : ServiceId) (count tries one two : ℕ) (old mid now : Session) (before between : Option program.Receipt) (shows : SessionView) (first_go let_go : Option SeatView)
+    (climbs : IsClimb (holding_session between mid.value)) (some : 0 < one) where
+  never_refused : (why : Refusal) → (Some why ≡ resume_refusal (holding_session between mid.value)) ⊎ ⊥ → ⊥
+  never_refused why (inl refuses) = climb_not_refused (holding_session between mid.value) why climbs refuses
   never_refused why (inr misses) = misses
 
-  submit_adds : (its : Submission) (last : SessionReply) → ObeysBy ident.shape one (view_of before old) (Submit (tried tries its)) (view_of between mid) (Submitted Waiting)
-      → Adds ident count one old (Submit (tried tries its)) mid (Submitted Waiting) first_go → ObeysBy ident.shape two (view_of between mid) (Resume (Tries 1)) shows last
-      → Adds ident count two mid (Resume (Tries 1)) now last let_go → Adds ident count (one + two) old (Submit (tried (tries + 1) its)) now (answer_as (Submitted Waiting) last) let_go
+  submit_adds : (its : Submission) (last : SessionReply) → SessionStepInSteps ident.shape one (stand_view before old) (Submit (submission_with_tries tries its)) (stand_view between mid) (Submitted Waiting)
+      → ThreadOrderEffect ident count one (stand_change old mid first_go) (Submit (submission_with_tries tries its)) (Submitted Waiting) → SessionStepInSteps ident.shape two (stand_view between mid) (Resume (Tries 1)) shows last
+      → ThreadOrderEffect ident count two (stand_change mid now let_go) (Resume (Tries 1)) last → ThreadOrderEffect ident count (one + two) (stand_change old now let_go) (Submit (submission_with_tries (tries + 1) its)) (merged_reply (Submitted Waiting) last)
   submit_adds its (Resumed became) obeys (enters, (went, none)) more (later, walked) = (
-    submit_tried tries (tried (tries + 1) its) ident.shape old.value now.value became
-        (submit_both ident.shape old.value mid.value now.value (tried tries its) became enters
-        (draft_of_waiting ident.shape one (view_of before old) mid.value (view_of between mid) between (tried tries its) refl climbs obeys) later),
-    walked_both ident.shape (lead_of old.value its.job) one two old mid now became let_go some went walked,
+    submit_tried tries (submission_with_tries (tries + 1) its) ident.shape old.value now.value became
+        (submit_both ident.shape old.value mid.value now.value (submission_with_tries tries its) became enters
+        (draft_of_waiting ident.shape one (stand_view before old) mid.value (stand_view between mid) between (submission_with_tries tries its) refl climbs obeys) later),
+    walked_both ident.shape (submit_lead old.value its.job) one two old mid now became let_go some went walked,
   )
   submit_adds its (Refused why) obeys adds more later = absurd (never_refused why more.1)
   submit_adds its last obeys adds more later = absurd later
 
-  resume_adds : (last : SessionReply) → ObeysBy ident.shape one (view_of before old) (Resume (Tries tries)) (view_of between mid) (Resumed Waiting)
-      → Adds ident count one old (Resume (Tries tries)) mid (Resumed Waiting) first_go → ObeysBy ident.shape two (view_of between mid) (Resume (Tries 1)) shows last
-      → Adds ident count two mid (Resume (Tries 1)) now last let_go → Adds ident count (one + two) old (Resume (Tries (tries + 1))) now (answer_as (Resumed Waiting) last) let_go
+  resume_adds : (last : SessionReply) → SessionStepInSteps ident.shape one (stand_view before old) (Resume (Tries tries)) (stand_view between mid) (Resumed Waiting)
+      → ThreadOrderEffect ident count one (stand_change old mid first_go) (Resume (Tries tries)) (Resumed Waiting) → SessionStepInSteps ident.shape two (stand_view between mid) (Resume (Tries 1)) shows last
+      → ThreadOrderEffect ident count two (stand_change mid now let_go) (Resume (Tries 1)) last → ThreadOrderEffect ident count (one + two) (stand_change old now let_go) (Resume (Tries (tries + 1))) (merged_reply (Resumed Waiting) last)
   resume_adds (Resumed became) (refuses, (resumes, left, first)) (enters, (went, none)) more (later, walked) = (
-    enters_both (entries_in (held_by old.value)) (draft_script (draft_in (held_by old.value))) (draft_script (draft_in (held_by mid.value))) mid.value now.value became enters
+    enters_both (held_entries (held_worker old.value)) (draft_script (held_draft (held_worker old.value))) (draft_script (held_draft (held_worker mid.value))) mid.value now.value became enters
         (ap (λ (d : Option Job). draft_script d) (draft_of_resumed old.value mid.value before between resumes)) later,
-    walked_both ident.shape onward one two old mid now became let_go some went walked,
+    walked_both ident.shape unchanged_part one two old mid now became let_go some went walked,
   )
   resume_adds (Refused why) obeys adds more later = absurd (never_refused why more.1)
   resume_adds last obeys adds more later = absurd later
 
-  enter_adds : (its : Submission) (last : SessionReply) → ObeysBy ident.shape one (view_of before old) (Enter (tried tries its)) (view_of between mid) (Entered Waiting)
-      → Adds ident count one old (Enter (tried tries its)) mid (Entered Waiting) first_go → ObeysBy ident.shape two (view_of between mid) (Enter (tried 1 its)) shows last
-      → Adds ident count two mid (Enter (tried 1 its)) now last let_go → Adds ident count (one + two) old (Enter (tried (tries + 1) its)) now (answer_as (Entered Waiting) last) let_go
+  enter_adds : (its : Submission) (last : SessionReply) → SessionStepInSteps ident.shape one (stand_view before old) (Enter (submission_with_tries tries its)) (stand_view between mid) (Entered Waiting)
+      → ThreadOrderEffect ident count one (stand_change old mid first_go) (Enter (submission_with_tries tries its)) (Entered Waiting) → SessionStepInSteps ident.shape two (stand_view between mid) (Enter (submission_with_tries 1 its)) shows last
+      → ThreadOrderEffect ident count two (stand_change mid now let_go) (Enter (submission_with_tries 1 its)) last → ThreadOrderEffect ident count (one + two) (stand_change old now let_go) (Enter (submission_with_tries (tries + 1) its)) (merged_reply (Entered Waiting) last)
   enter_adds its (Entered became) obeys (enters, (went, none)) more (later, walked) =
-      let P : (Part → Part) → Type 0 = λ lead. IsWalked ident.shape lead two mid now became let_go in (
-        inside_tried tries (tried (tries + 1) its) ident.shape old.value now.value became
-            (enter_both ident.shape mid.value between climbs old.value (tried tries its) now.value became enters (inside_tried 1 (tried tries its) ident.shape mid.value now.value became later)),
-        walked_both ident.shape (lead_of old.value its.job) one two old mid now became let_go some went
+      let P : (Part → Part) → Type 0 = λ lead. OrderOwnSteps ident.shape lead two (stand_change mid now let_go) became in (
+        inside_tried tries (submission_with_tries (tries + 1) its) ident.shape old.value now.value became
+            (enter_both ident.shape mid.value between climbs old.value (submission_with_tries tries its) now.value became enters (inside_tried 1 (submission_with_tries tries its) ident.shape mid.value now.value became later)),
+        walked_both ident.shape (submit_lead old.value its.job) one two old mid now became let_go some went
             (subst P (lead_onward ident.shape mid.value between climbs mid.value climbs its.job) walked),
       )
-  enter_adds its (Refused why) obeys adds (same, inl refuses) later = absurd (enter_not_refused ident.shape tries one (view_of before old) (view_of between mid) its why obeys refuses)
+  enter_adds its (Refused why) obeys adds (same, inl refuses) later = absurd (enter_not_refused ident.shape tries one (stand_view before old) (stand_view between mid) its why obeys refuses)
   enter_adds its (Refused why) obeys adds (same, inr misses) later = absurd misses
   enter_adds its last obeys adds more later = absurd later
 
-  adds_both : (its : Order) (reply last : SessionReply) → still_waits reply ≡ true → ObeysBy ident.shape one (view_of before old) (with_tries tries its) (view_of between mid) reply
-      → Adds ident count one old (with_tries tries its) mid reply first_go → ObeysBy ident.shape two (view_of between mid) (once_more its) shows last
-      → Adds ident count two mid (once_more its) now last let_go → Adds ident count (one + two) old (with_tries (tries + 1) its) now (answer_as reply last) let_go
+  adds_both : (its : Order) (reply last : SessionReply) → is_still_waiting reply ≡ true → SessionStepInSteps ident.shape one (stand_view before old) (with_tries tries its) (stand_view between mid) reply
+      → ThreadOrderEffect ident count one (stand_change old mid first_go) (with_tries tries its) reply → SessionStepInSteps ident.shape two (stand_view between mid) (retry_order its) shows last
+      → ThreadOrderEffect ident count two (stand_change mid now let_go) (retry_order its) last → ThreadOrderEffect ident count (one + two) (stand_change old now let_go) (with_tries (tries + 1) its) (merged_reply reply last)
   adds_both (Submit its) (Submitted Waiting) last waits obeys adds more later = submit_adds its last obeys adds more later
   adds_both (Resume patience) (Resumed Waiting) last waits obeys adds more later = resume_adds last obeys adds more later
   adds_both (Enter its) (Entered Waiting) last waits obeys adds more later = enter_adds its last obeys adds more later
@@ -229,36 +232,65 @@ module _ (ident : Ident) (count tries one two : ℕ) (old mid now : Session) (be
   adds_both its (Entered Waiting) last waits obeys adds more later = absurd obeys.1
   adds_both its reply last waits obeys adds more later = absurd (false_true waits)
 
--- So many tries, and one more where the job waits then, are the order with one try more.
-pub both_parts : (ident : Ident) (count tries : ℕ) (old mid now : Session) (its : Order) (reply last : SessionReply) → 0 < tries → still_waits reply ≡ true
-    → Obeys ident count old (with_tries tries its) mid reply → Obeys ident count mid (once_more its) now last → Obeys ident count old (with_tries (tries + 1) its) now (answer_as reply last)
+-- Some tries, and one more if the job then waits, are the order with one more try.
+pub both_parts : (ident : ServiceId) (count tries : ℕ) (old mid now : Session) (its : Order) (reply last : SessionReply) → 0 < tries → is_still_waiting reply ≡ true
+    → ThreadSessionStep ident count old (with_tries tries its) mid reply → ThreadSessionStep ident count mid (retry_order its) now last → ThreadSessionStep ident count old (with_tries (tries + 1) its) now (merged_reply reply last)
 both_parts ident count tries old mid now its reply last some waits first then =
     let one = first.acts in
     let two = then.acts in
-    let still = sight.still_climbs ident.shape tries one.made (view_of one.before old) (view_of one.after mid) some its reply waits one.obeys in
+    let still = sight.still_climbs ident.shape tries one.made (stand_view one.before old) (stand_view one.after mid) some its reply waits one.obeys in
     let same = same_view mid one.after two.before still.0 in
-    let P : View → Type 0 = λ view. ObeysBy ident.shape two.made view (once_more its) (view_of two.after now) last in
+    let P : SessionView → Type 0 = λ view. SessionStepInSteps ident.shape two.made view (retry_order its) (stand_view two.after now) last in
     let more = subst P (sym same) two.obeys in record {
       let_go = then.let_go;
       acts = record {
         made = one.made + two.made;
         before = one.before;
         after = two.after;
-        obeys = sight.both_parts ident.shape tries one.made two.made (view_of one.before old) (view_of one.after mid) (view_of two.after now) its reply last waits one.obeys more;
+        obeys = sight.both_parts ident.shape tries one.made two.made (stand_view one.before old) (stand_view one.after mid) (stand_view two.after now) its reply last waits one.obeys more;
         told_before = one.told_before;
         told_after = two.told_after;
-        adds = adds_both ident count tries one.made two.made old mid now one.before one.after (view_of two.after now) first.let_go then.let_go still.0 still.1 its reply last waits one.obeys
+        adds = adds_both ident count tries one.made two.made old mid now one.before one.after (stand_view two.after now) first.let_go then.let_go still.0 still.1 its reply last waits one.obeys
             one.adds more two.adds;
       };
     }
 
--- The same, of an order and an answer that are found to be those.
-pub one_more : (ident : Ident) (count tries : ℕ) (old mid now : Session) (its again : Order) (reply last told : SessionReply) → 1 ≤ tries → still_waits reply ≡ true → again ≡ once_more its
-    → told ≡ answer_as reply last → Obeys ident count old (with_tries tries its) mid reply → Obeys ident count mid again now last → Obeys ident count old (with_tries (tries + 1) its) now told
+-- The same, for an order and an answer that are equal to these.
+pub one_more : (ident : ServiceId) (count tries : ℕ) (old mid now : Session) (its again : Order) (reply last told : SessionReply) → 1 ≤ tries → is_still_waiting reply ≡ true → again ≡ retry_order its
+    → told ≡ merged_reply reply last → ThreadSessionStep ident count old (with_tries tries its) mid reply → ThreadSessionStep ident count mid again now last → ThreadSessionStep ident count old (with_tries (tries + 1) its) now told
 one_more ident count tries old mid now its again reply last told some waits is so first then =
-    let P : Order → Type 0 = λ its. Obeys ident count mid its now last in
+    let P : Order → Type 0 = λ its. ThreadSessionStep ident count mid its now last in
     rw so (both_parts ident count tries old mid now its reply last (omega (arith, some)) waits first (subst P is then))
 
--- A job that does not wait was tried as often as its order asks for.
-pub over : (tries : ℕ) (its : Order) (reply : SessionReply) → still_waits reply ≡ false → HasAll tries its reply
+-- One more try at an order that may be tried again.
+pub retried : (ident : ServiceId) (count tries : ℕ) (old mid now : Session) (its again : Order) (reply last told : SessionReply) → 1 ≤ tries → MayContinueOrder its reply → again ≡ retry_order its → told ≡ merged_reply reply last
+    → ThreadSessionStep ident count old (with_tries tries its) mid reply → ThreadSessionStep ident count mid again now last → ThreadSessionStep ident count old (with_tries (tries + 1) its) now told
+retried ident count tries old mid now (Attach asked) again reply last told some taken is so first then =
+    let F : SessionReply → Type 0 = λ r. ThreadSessionStep ident count old (Attach asked) mid r in
+    let M : SessionReply → Type 0 = λ r. told ≡ merged_reply r last in
+    let same : mid ≡ old = (subst F taken first).acts.adds.0 in
+    let S : Session → Type 0 = λ s. ThreadSessionStep ident count s (Attach asked) now last in
+    let T : SessionReply → Type 0 = λ r. ThreadSessionStep ident count old (Attach asked) now r in
+    let O : Order → Type 0 = λ o. ThreadSessionStep ident count mid o now last in
+    subst T (sym (subst M taken so)) (subst S same (subst O is then))
+retried ident count tries old mid now its again reply last told some waits is so first then = one_more ident count tries old mid now its again reply last told some waits is so first then
+
+-- A job that does not wait has made all tries of its order.
+pub over : (tries : ℕ) (its : Order) (reply : SessionReply) → is_still_waiting reply ≡ false → HasMadeAllTries tries its reply
 over tries its reply not waits = absurd (false_true (sym not ∙ waits))
+
+-- The reply of some number of tries, after which no further try is needed, is that of the order, or the client is gone.
+module _ (gone : Type 0) (ident : ServiceId) (count : ℕ) (old now : Session) (its : Order) (reply : SessionReply) where
+  until_gone : (tries : ℕ) → 1 ≤ tries → ThreadSessionStep ident count old (with_tries tries its) now reply → is_still_waiting reply ≡ true → (least_patience_tries (order_patience its) ≤ tries) ⊎ gone
+      → SessionStepUntilGone gone ident count old its now reply
+  until_gone tries some step waits (inl all) = inl (all_tries ident count tries old now its reply (λ w. all) step)
+  until_gone tries some step waits (inr is) = inr (is, waits, (tries, some, step))
+
+  by_waiting : (waits : Bool) → is_still_waiting reply ≡ waits → (tries : ℕ) → 1 ≤ tries → ThreadSessionStep ident count old (with_tries tries its) now reply → MayStopAfter gone its tries reply
+      → SessionStepUntilGone gone ident count old its now reply
+  by_waiting true is tries some step stops = until_gone tries some step is (stops is)
+  by_waiting false is tries some step stops = inl (all_tries ident count tries old now its reply (over tries its reply is) step)
+
+  pub tries_until_gone : IsReplyOfTries (λ (tries : ℕ). λ (r : SessionReply). ThreadSessionStep ident count old (with_tries tries its) now r) (λ (tries : ℕ). λ (r : SessionReply). MayStopAfter gone its tries r) reply
+      → SessionStepUntilGone gone ident count old its now reply
+  tries_until_gone (tries, some, step, stops) = by_waiting (is_still_waiting reply) refl tries some step stops

@@ -1,37 +1,19 @@
-//! Sessions over lines: clients that take a worker, hand it jobs by their numbers, and let it go.
+//! The running service as a backend of sessions.
 //!
-//! A `session` has each line answered by a `Backend`, and `serve` listens, with a thread for each connection, until its
-//! door is closed or its backend is over, or for good. `Host` is the running service as a backend: a session obeys one
-//! order a line with the worker that it took out of its slot; however it ends, the worker falls and its Down is back in
-//! the slot. The crate stands on rme_session_lines, which reads the orders and writes the answers, on rme_lines, which
-//! cuts lines, and on rme_sessions and rme_slots, whose public names it passes on. What those above use is the contract
-//! of `session`: each line is answered as the backend says, `Host` as `obey` has it, and nothing else is written. Begin
-//! with `backend.rt` and `talk.rt`, then `host.rt`.
+//! `ServiceBackend` is a backend of rme_session_server: a session executes one order a line with the worker that it
+//! took out of its slot; a job that waits for its lock is tried again when the lock may have been released; however a
+//! session ends, its worker crashes and the worker's Down is back in the slot. The crate stands on rme_session_server,
+//! whose public names it re-exports, and on rme_session_threads, whose `obey` it calls. Its one contract is that of
+//! `Backend::answer`: each line is answered by the reply of `obey`. Begin with `service_backend.rt`.
 #![tactic(auto)]
 
-mod backend;
-mod bell;
-mod buffers;
-mod client;
-mod connection;
-mod guests;
-mod hall;
-mod host;
-mod pauses;
-mod server;
-mod talk;
-mod waiting;
+mod service_backend;
 
-pub use backend::Backend;
-pub use bell::Listening;
-pub use buffers::Buffers;
-pub use client::{Client, Present, Reach, Unreached};
-pub use connection::{Closer, Connection, Listener};
-pub use hall::{Hall, Seat, note};
-pub use host::Host;
-pub use pauses::{LONGEST, Pauses};
-pub use rme_lines::{LineReader, ServeFault};
-pub use rme_sessions::{Holding, Plan, Planned, Stand, obey};
-pub use rme_slots::Slots;
-pub use server::{Door, Trouble, serve};
-pub use talk::session;
+pub use rme_line_io::{LineReader, ServeFault};
+pub use rme_session_server::{
+    AnswerError, AttemptError, Backend, Buffers, Client, CloseHandle, Closer, Connection,
+    FirstReply, Listener, LocalClient, NoCloseHandle, OrderAttempts, OrderRun, ServerLimits,
+    ServerObserver, SessionRegistry, WorkerClaim, serve, session, update_claim,
+};
+pub use rme_session_threads::{CrashPlan, Holding, PlannedCrash, Slots, Stand, obey};
+pub use service_backend::ServiceBackend;

@@ -5,53 +5,61 @@ use Rattle.std.proofs.lemmas.Bool.{eq-eqb}
 use Rattle.std.proofs.lemmas.List.Folds.{list_any_at}
 use Rattle.std.proofs.lemmas.Option.{slice_get_cases}
 use Rattle.rme_words.specs.declared.shape.Shape.{Shape}
-use Rattle.rme_seats.specs.Stands.{Ident, Stand}
+use Rattle.rme_service_steps.specs.SeatViews.{ServiceId, SeatView}
 use Rattle.rme_words.specs.declared.refusal.Refusal.TheVariants.{NoMemory}
 use Rattle.rme_table.specs.declared.closed.Unclosed.{Unclosed}
 use Rattle.rme_table.specs.Closing.{IsUnclosed}
 use Rattle.rme_table.specs.Downs.{has_down, all_given}
 use Rattle.rme_table.proofs.Entries.{all_pass}
 use Rattle.rme_supervisor.specs.declared.plan.WorkerPlan.{WorkerPlan}
-use Rattle.rme_supervisor.specs.declared.settling.Settled.{Settled}
-use Rattle.rme_supervisor.specs.Settled.{IsSettled}
+use Rattle.rme_supervisor.specs.declared.life_results.LifeResults.{LifeResults}
+use Rattle.rme_supervisor.specs.LifeResults.{ResultsFollowPlans}
 use Rattle.rme_supervisor.specs.declared.end.End.{End}
-use Rattle.rme_supervisor.specs.Supervised.{AreAll, AllFollow, IsOver, IsWhole}
+use Rattle.rme_supervisor.specs.Plans.{SupervisedRun}
+use Rattle.rme_supervisor.specs.Supervised.{AreAllDowns, AllEntriesFollowPlans, RunIsOver, DownsFollowPlans, all_fresh}
 
--- Where these are the Downs of all workers, each worker is among them.
-pub given_all : (shape : Shape) (downs : List Stand) → AreAll shape downs → all_given shape downs ≡ true
+-- If these are the Downs of all workers, each worker is among them.
+pub given_all : (shape : Shape) (downs : List SeatView) → AreAllDowns shape downs → all_given shape downs ≡ true
 given_all shape downs all = all_pass (has_down downs) 0 shape.workers (λ w less. elim (slice_get_cases downs w).1 [
-  | inl p ↦ list_any_at (λ (down : Stand). down.part.worker == w) downs w p.0 p.1 (rw p.3 (eq-eqb _ _ (all.order w p.0 p.2)))
+  | inl p ↦ list_any_at (λ (down : SeatView). down.part.worker == w) downs w p.0 p.1 (rw p.3 (eq-eqb _ _ (all.order w p.0 p.2)))
   | inr p ↦ absurd (omega (arith, less, p.0, all.count))
 ])
 
--- What was found in slices is found in the lists that they show.
-module _ (s t : Shape) (rounds : ℕ) (plans : List WorkerPlan) (fresh : Bool) (d downs : List Stand) (e ends : List End) (same : s ≡ t) (all_d : d ≡ downs) (all_e : e ≡ ends) where
-  pub whole_so : IsWhole s rounds plans fresh d e → IsWhole t rounds plans fresh downs ends
+-- Look-ups in slices are look-ups in the lists that they stand for.
+module _ (s t : Shape) (made rounds : ℕ) (own plans : List WorkerPlan) (found fresh : Bool) (d downs : List SeatView) (e ends : List End) (same : s ≡ t) (so_many : made ≡ rounds) (planned : own ≡ plans) (is : found ≡ fresh)
+    (all_d : d ≡ downs) (all_e : e ≡ ends) where
+  pub whole_so : DownsFollowPlans s made own found d e → DownsFollowPlans t rounds plans fresh downs ends
   whole_so whole =
-      let P : List End → Type 0 = λ es. IsWhole t rounds plans fresh downs es in
-      let Q : List Stand → Type 0 = λ ds. IsWhole t rounds plans fresh ds e in
-      let R : Shape → Type 0 = λ u. IsWhole u rounds plans fresh d e in
-      subst P all_e (subst Q all_d (subst R same whole))
+      let P : List End → Type 0 = λ es. DownsFollowPlans t rounds plans fresh downs es in
+      let Q : List SeatView → Type 0 = λ ds. DownsFollowPlans t rounds plans fresh ds e in
+      let R : Shape → Type 0 = λ u. DownsFollowPlans u rounds plans fresh d e in
+      let F : Bool → Type 0 = λ f. DownsFollowPlans s rounds plans f d e in
+      let L : List WorkerPlan → Type 0 = λ ps. DownsFollowPlans s rounds ps found d e in
+      let N : ℕ → Type 0 = λ n. DownsFollowPlans s n own found d e in
+      subst P all_e (subst Q all_d (subst R same (subst F is (subst L planned (subst N so_many whole)))))
 
-  whole_back : IsWhole t rounds plans fresh downs ends → IsWhole s rounds plans fresh d e
+  whole_back : DownsFollowPlans t rounds plans fresh downs ends → DownsFollowPlans s made own found d e
   whole_back whole =
-      let P : List End → Type 0 = λ es. IsWhole s rounds plans fresh d es in
-      let Q : List Stand → Type 0 = λ ds. IsWhole s rounds plans fresh ds ends in
-      let R : Shape → Type 0 = λ u. IsWhole u rounds plans fresh downs ends in
-      subst P (sym all_e) (subst Q (sym all_d) (subst R (sym same) whole))
+      let P : List End → Type 0 = λ es. DownsFollowPlans s made own found d es in
+      let Q : List SeatView → Type 0 = λ ds. DownsFollowPlans s made own found ds ends in
+      let R : Shape → Type 0 = λ u. DownsFollowPlans u made own found downs ends in
+      let F : Bool → Type 0 = λ f. DownsFollowPlans t made own f downs ends in
+      let L : List WorkerPlan → Type 0 = λ ps. DownsFollowPlans t made ps fresh downs ends in
+      let N : ℕ → Type 0 = λ n. DownsFollowPlans t n plans fresh downs ends in
+      subst P (sym all_e) (subst Q (sym all_d) (subst R (sym same) (subst F (sym is) (subst L (sym planned) (subst N (sym so_many) whole)))))
 
-  pub not_whole : (found : Bool) → (IsTrue found ↔ IsWhole s rounds plans fresh d e) → found ≡ false → IsWhole t rounds plans fresh downs ends → ⊥
-  not_whole found means denied whole = let both : true ≡ false = sym (means.1 (whole_back whole)) ∙ denied in cc
+  pub not_whole : (told : Bool) → (IsTrue told ↔ DownsFollowPlans s made own found d e) → told ≡ false → DownsFollowPlans t rounds plans fresh downs ends → ⊥
+  not_whole told means denied whole = let both : true ≡ false = sym (means.1 (whole_back whole)) ∙ denied in cc
 
--- A close that found all workers had no memory.
-pub no_memory : (ident : Ident) (downs : List Stand) (u : Unclosed) → AreAll ident.shape downs → IsUnclosed ident downs u → u.why ≡ NoMemory
+-- A close that found all workers failed for lack of memory.
+pub no_memory : (ident : ServiceId) (downs : List SeatView) (u : Unclosed) → AreAllDowns ident.shape downs → IsUnclosed ident downs u → u.why ≡ NoMemory
 no_memory ident downs u all un =
     let found = given_all ident.shape downs all in
     rw found at un.why
 
-module _ (ident : Ident) (turned : ℕ → Type 0) (rounds : ℕ) (plans : List WorkerPlan) (given : List Stand) (s : Settled) (fresh : Bool) (is : IsSettled ident turned rounds plans given s) (all : AreAll ident.shape s.downs.items)
-    (follow : fresh ≡ true → AllFollow rounds plans s.downs.items s.ends.items) where
-  pub over : IsOver ident.shape turned rounds plans given fresh s.downs.items s.ends.items s.lives.items
+module _ (ident : ServiceId) (run : SupervisedRun) (s : LifeResults) (is : ResultsFollowPlans ident run s) (all : AreAllDowns ident.shape s.downs.items)
+    (follow : all_fresh run.given ≡ true → AllEntriesFollowPlans run.rounds run.plans s.downs.items s.ends.items) where
+  pub over : RunIsOver ident.shape run s.downs.items s.ends.items s.lives.items
   over = record {
     all = all;
     ended = is.ends ∙ all.count;

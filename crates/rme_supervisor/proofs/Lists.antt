@@ -1,9 +1,9 @@
--- Elements of lists by their places.
+-- Items of lists by index.
 use Rattle.std.proofs.Common.{◌≡◌, ℕ, zero, suc, List, [], ◌∷◌, ◌++◌, length, refl, ap, inl, inr, ◌⊎◌}
 use Rattle.std.specs.Prelude.{slice_get, Some}
 use Rattle.std.proofs.lemmas.Option.{none-some, same_Some}
 
--- An element of a list with one more at its end is one of the list, or the one more.
+-- An item of a list with one item appended is one of the list, or the appended one.
 pub in_snoc : {A : Type 0} (xs : List A) (x : A) (k : ℕ) (y : A) → slice_get (xs ++ x ∷ []) k ≡ Some y → (slice_get xs k ≡ Some y) ⊎ ((k ≡ length xs) × (x ≡ y))
 in_snoc [] x zero y at = inr (refl, same_Some _ _ at)
 in_snoc [] x (suc k) y at = absurd (none-some _ at)

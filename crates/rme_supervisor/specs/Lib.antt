@@ -1,9 +1,9 @@
--- In reading order: what plans have their workers do, and which may be supervised; where they fall; how a worker's lives may
--- end; where one life stops; a worker between two lives; what the slots held in the end; and what a run answers.
+-- In reading order: the jobs of plans, and the plans that can be supervised; the falls; the possible ends of a worker's
+-- lives; the stop of one life; a worker between two lives; the final contents of the slots; and the answers of a run.
 pub mod Plans
 pub mod Falling
 pub mod Ends
 pub mod Stops
-pub mod Berths
-pub mod Settled
+pub mod WorkerSlots
+pub mod LifeResults
 pub mod Supervised

@@ -1,28 +1,38 @@
--- What a plan has its worker do, and which plans may be supervised.
+-- The jobs of a plan, and the plans that can be supervised.
 use Rattle.std.specs.Prelude.{◌≡◌, ℕ, zero, suc, ◌+◌, ◌<◌, List, [], ◌++◌, length, slice_get, Some}
 use Rattle.rme_script.specs.declared.job.Job.{Job}
+use Rattle.rme_service_steps.specs.SeatViews.{SeatView}
 use Rattle.rme_supervisor.specs.declared.plan.WorkerPlan.{WorkerPlan}
 
--- Jobs that are made so many times over, in order.
-unfoldable pub repeated : ℕ → List Job → List Job
-repeated zero jobs = []
-repeated (suc n) jobs = jobs ++ repeated n jobs
+-- Jobs repeated this number of times, in order.
+unfoldable pub jobs_repeated : ℕ → List Job → List Job
+jobs_repeated zero jobs = []
+jobs_repeated (suc n) jobs = jobs ++ jobs_repeated n jobs
 
--- All that a plan has its worker do in so many rounds, in order: its jobs, in each round.
-abbrev pub planned : ℕ → WorkerPlan → List Job
-planned rounds plan = repeated rounds plan.jobs.items
+-- All jobs of a plan in this number of rounds, in order.
+abbrev pub planned_jobs : ℕ → WorkerPlan → List Job
+planned_jobs rounds plan = jobs_repeated rounds plan.jobs.items
+
+-- A supervised run: how often each worker makes the jobs of its plan, the plan of each worker and its Down at the call,
+-- in order, and what is known of a worker that the gate turned away.
+pub record SupervisedRun : Type 1 where
+  pub rounds : ℕ
+  pub plans : List WorkerPlan
+  pub given : List SeatView
+  pub turned : ℕ → Type 0
 
 -- Each number is less than the next.
-abbrev pub IsRising : List ℕ → Type 0
-IsRising counts = (i : ℕ) (count next : ℕ) → slice_get counts i ≡ Some count → slice_get counts (i + 1) ≡ Some next → count < next
+abbrev pub CountsRise : List ℕ → Type 0
+CountsRise counts =
+    (i : ℕ) (count next : ℕ) → slice_get counts i ≡ Some count → slice_get counts (i + 1) ≡ Some next → count < next
 
--- The falls rise strictly, and there is a life, and a sweep.
-pub record IsPlan (plan : WorkerPlan) : Type 0 where
-  pub falls : IsRising plan.falls.items
+-- The falls increase strictly, and there is at least one life and one sweep.
+pub record IsWorkerPlan (plan : WorkerPlan) : Type 0 where
+  pub falls : CountsRise plan.falls.items
   pub lives : 0 < plan.lives
   pub sweeps : 0 < plan.sweeps
 
--- There are so many plans, and each may be supervised.
-pub record ArePlans (plans : List WorkerPlan) (count : ℕ) : Type 0 where
+-- There are `count` plans, and each can be supervised.
+pub record AreWorkerPlans (plans : List WorkerPlan) (count : ℕ) : Type 0 where
   pub as_many : length plans ≡ count
-  pub each : (worker : ℕ) (plan : WorkerPlan) → slice_get plans worker ≡ Some plan → IsPlan plan
+  pub each : (worker : ℕ) (plan : WorkerPlan) → slice_get plans worker ≡ Some plan → IsWorkerPlan plan

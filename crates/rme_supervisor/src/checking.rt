@@ -1,8 +1,8 @@
-//! What a run looks at before it begins, and when it is over.
+//! The checks before and after a run.
 
 ghost use Rattle.std.specs.Prelude.{◌≡◌, ◌↔◌, IsTrue, true, length, take};
-ghost use Rattle.rme_supervisor.specs.Plans.{IsRising, IsPlan, ArePlans, planned};
-ghost use Rattle.rme_supervisor.specs.Supervised.{AreAll, AllFollow, Follows, IsWhole, all_fresh, job_of, jobs_in};
+ghost use Rattle.rme_supervisor.specs.Plans.{CountsRise, IsWorkerPlan, AreWorkerPlans, planned_jobs};
+ghost use Rattle.rme_supervisor.specs.Supervised.{AreAllDowns, AllEntriesFollowPlans, EntriesFollowPlan, DownsFollowPlans, all_fresh, job_of_entry, jobs_of_entries};
 
 use crate::end::End;
 use crate::plan::{Schedule, WorkerPlan};
@@ -12,31 +12,31 @@ use rme_script::Job;
 use rme_table::Down;
 use rme_words::Shape;
 
-/// Whether there are so many plans, and each may be supervised.
-pub(crate) fn are_plans(plans: &[WorkerPlan], count: usize) -> bool
-    ensures { IsTrue result ↔ ArePlans plans.now count }
+/// Whether there are `count` plans, and each can be supervised.
+pub(crate) fn are_worker_plans(plans: &[WorkerPlan], count: usize) -> bool
+    ensures { IsTrue result ↔ AreWorkerPlans plans.now count }
 {
     if plans.len() != count {
         return false;
     }
     for plan in plans {
-        if !is_plan(plan) {
+        if !is_worker_plan(plan) {
             return false;
         }
     }
     true
 }
 
-/// Whether the falls of a plan rise strictly, and its lives and sweeps are not 0.
-fn is_plan(plan: &WorkerPlan) -> bool
-    ensures { IsTrue result ↔ IsPlan plan.now }
+/// Whether the falls of a plan increase strictly, and its lives and sweeps are not 0.
+fn is_worker_plan(plan: &WorkerPlan) -> bool
+    ensures { IsTrue result ↔ IsWorkerPlan plan.now }
 {
     plan.lives != 0 && plan.sweeps != 0 && is_rising(plan.falls.as_slice())
 }
 
 /// Whether each count is less than the next.
 fn is_rising(counts: &[u32]) -> bool
-    ensures { IsTrue result ↔ IsRising counts.now }
+    ensures { IsTrue result ↔ CountsRise counts.now }
 {
     for i in 1..counts.len() {
         if counts[i - 1] >= counts[i] {
@@ -59,7 +59,7 @@ pub(crate) fn are_fresh(downs: &[Down]) -> bool
 }
 
 /// Whether these are the Downs of all workers, in order, and the entries of each follow its plan, if all were fresh.
-pub(crate) fn is_whole(
+pub(crate) fn are_downs_as_planned(
     fresh: bool,
     schedule: &Schedule<'_>,
     downs: &[Down],
@@ -68,17 +68,18 @@ pub(crate) fn is_whole(
 ) -> bool
     requires plans { length schedule.now.plans.now ≡ shape.workers }
     requires ends { length ends.now ≡ length downs.now }
-    ensures { IsTrue result ↔ IsWhole shape schedule.now.rounds schedule.now.plans.now fresh downs.now ends.now }
+    ensures { IsTrue result
+        ↔ DownsFollowPlans shape schedule.now.rounds schedule.now.plans.now fresh downs.now ends.now }
 {
-    if !are_all(downs, shape) {
+    if !are_all_downs(downs, shape) {
         return false;
     }
-    all_follow(fresh, schedule, downs, ends)
+    are_entries_as_planned(fresh, schedule, downs, ends)
 }
 
 /// Whether these are the Downs of all workers, in order.
-fn are_all(downs: &[Down], shape: Shape) -> bool
-    ensures { IsTrue result ↔ AreAll shape downs.now }
+fn are_all_downs(downs: &[Down], shape: Shape) -> bool
+    ensures { IsTrue result ↔ AreAllDowns shape downs.now }
 {
     if downs.len() != shape.workers() as usize {
         return false;
@@ -92,17 +93,23 @@ fn are_all(downs: &[Down], shape: Shape) -> bool
 }
 
 /// Whether the entries of each worker follow its plan, if all were fresh.
-fn all_follow(fresh: bool, schedule: &Schedule<'_>, downs: &[Down], ends: &[End]) -> bool
+fn are_entries_as_planned(
+    fresh: bool,
+    schedule: &Schedule<'_>,
+    downs: &[Down],
+    ends: &[End],
+) -> bool
     requires plans { length schedule.now.plans.now ≡ length downs.now }
     requires ends { length ends.now ≡ length downs.now }
-    ensures { IsTrue result ↔ (fresh ≡ true → AllFollow schedule.now.rounds schedule.now.plans.now downs.now ends.now) }
+    ensures { IsTrue result
+        ↔ (fresh ≡ true → AllEntriesFollowPlans schedule.now.rounds schedule.now.plans.now downs.now ends.now) }
 {
     let Schedule { plans, rounds } = *schedule;
     if !fresh {
         return true;
     }
     for worker in 0..downs.len() {
-        if !follows(
+        if !is_plan_followed(
             &plans[worker],
             rounds,
             downs[worker].entries(),
@@ -114,17 +121,18 @@ fn all_follow(fresh: bool, schedule: &Schedule<'_>, downs: &[Down], ends: &[End]
     true
 }
 
-/// Whether entries are the first jobs of a plan, in order, each once, and all of them where all are done.
-fn follows(plan: &WorkerPlan, rounds: u32, entries: &EntryList, end: End) -> bool
-    ensures { IsTrue result ↔ Follows rounds plan.now entries.now.entries end }
+/// Whether entries are the first jobs of a plan, in order, each once, and all of them if the end is AllDone.
+fn is_plan_followed(plan: &WorkerPlan, rounds: u32, entries: &EntryList, end: End) -> bool
+    ensures { IsTrue result ↔ EntriesFollowPlan rounds plan.now entries.now.entries end }
 {
-    are_first(plan, rounds, entries)
+    are_first_jobs(plan, rounds, entries)
         && (end != End::AllDone || plan.job(rounds, entries.len()).is_none())
 }
 
 /// Whether entries are the first jobs of a plan, in order, each once.
-fn are_first(plan: &WorkerPlan, rounds: u32, entries: &EntryList) -> bool
-    ensures { IsTrue result ↔ (jobs_in entries.now.entries ≡ take (length entries.now.entries) (planned rounds plan.now)) }
+fn are_first_jobs(plan: &WorkerPlan, rounds: u32, entries: &EntryList) -> bool
+    ensures { IsTrue result
+        ↔ (jobs_of_entries entries.now.entries ≡ take (length entries.now.entries) (planned_jobs rounds plan.now)) }
 {
     for i in 0..entries.len() {
         let Some(entry) = entries.get(i) else {
@@ -142,7 +150,7 @@ fn are_first(plan: &WorkerPlan, rounds: u32, entries: &EntryList) -> bool
 
 /// Whether an entry is of this job.
 fn is_of_job(entry: &Entry, job: &Job) -> bool
-    ensures { IsTrue result ↔ (job_of entry.now ≡ job.now) }
+    ensures { IsTrue result ↔ (job_of_entry entry.now ≡ job.now) }
 {
     entry.receipt.lock == job.lock && entry.script.same(&job.script)
 }

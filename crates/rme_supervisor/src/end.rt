@@ -1,15 +1,15 @@
-//! How the lives of a supervised worker ended.
+//! The end of a supervised worker's lives.
 
 use rme_words::Refusal;
 
-/// How the lives of a worker ended.
+/// The end of a worker's lives.
 #[derive(Clone, Copy, Debug, PartialEq, Eq)]
 pub enum End {
     /// Its plan has no further job.
     AllDone,
-    /// It made as many blocked sweeps on one job as its plan allows, or the gate answered false.
+    /// It made the greatest number of blocked sweeps on one job that its plan allows, or the gate answered false.
     Stalled,
-    /// It fell as often as its plan has lives.
+    /// It fell as many times as its plan has lives.
     OutOfLives,
     /// No thread could be started for it, or for its next life.
     NoStart,

@@ -1,35 +1,39 @@
 //! The keepers: a thread for each worker, and in it a thread for each of the worker's lives.
 
 ghost use Rattle.std.specs.Prelude.{◌≡◌, length};
-ghost use Rattle.rme_supervisor.specs.Berths.{AllOrders, AreOrders};
+ghost use Rattle.rme_supervisor.specs.WorkerSlots.{AreLifeContexts, IsLifeContext, life_terms};
 
-use crate::course::Course;
-use crate::life::Orders;
+use crate::life::LifeContext;
 use crate::plan::Schedule;
-use crate::slots::{Slot, has_ended, live_in};
+use crate::run_tag::RunTag;
+use crate::slots::{LockedSlot, has_ended, run_life_in};
 use rme_table::{Gate, Service};
 use std::sync::Wait;
 use std::thread;
 use std::thread::Threads;
 
-/// Keeps each worker alive, until all have ended.
-pub(crate) fn keep_all<K: Course + Send + Sync, G: Gate + Sync, R: Threads + Wait + Sync>(
+/// Keeps each worker alive until all have ended.
+pub(crate) fn keep_all<K: RunTag + Send + Sync, G: Gate + Sync, R: Threads + Wait + Sync>(
     rt: &R,
-    slots: &[Slot<K>],
+    slots: &[LockedSlot<K>],
     service: &Service,
     schedule: &Schedule<'_>,
     gate: &G,
 )
-    requires orders { AllOrders K.Tag.ident K.turned K.rounds K.plans (G.answered gate.now) G.lets_all service.now schedule.now.rounds schedule.now.plans.now }
-    requires all { (length slots.now ≡ service.now.shape.workers) × (length schedule.now.plans.now ≡ service.now.shape.workers) }
+    requires orders { AreLifeContexts K.Tag.ident K.run
+        (λ plan. life_terms service.now schedule.now.rounds plan (G.answered gate.now) G.lets_all) schedule.now.plans.now }
+    requires all { (length slots.now ≡ service.now.shape.workers)
+        × (length schedule.now.plans.now ≡ service.now.shape.workers) }
 {
     let Schedule { plans, rounds } = *schedule;
     thread::scope(
         thread::scope_env(),
         rt,
         |scope|
-            requires orders { AllOrders K.Tag.ident K.turned K.rounds K.plans (G.answered gate.now) G.lets_all service.now rounds plans.now }
-            requires all { (length slots.now ≡ service.now.shape.workers) × (length plans.now ≡ service.now.shape.workers) }
+            requires orders { AreLifeContexts K.Tag.ident K.run
+                (λ plan. life_terms service.now rounds plan (G.answered gate.now) G.lets_all) plans.now }
+            requires all { (length slots.now ≡ service.now.shape.workers)
+                × (length plans.now ≡ service.now.shape.workers) }
         {
             for worker in 0..service.shape().workers() {
                 let (Some(slot), Some(plan)) = (
@@ -39,13 +43,14 @@ pub(crate) fn keep_all<K: Course + Send + Sync, G: Gate + Sync, R: Threads + Wai
                     unreachable!()
                 };
                 let keeper = move ||
-                    requires orders { AreOrders K.Tag.ident K.turned K.rounds K.plans (G.answered gate.now) G.lets_all service.now worker rounds plan.now }
+                    requires orders { IsLifeContext K.Tag.ident K.run worker
+                        (life_terms service.now rounds plan.now (G.answered gate.now) G.lets_all) }
                 {
                     keep(
                         rt,
                         slot,
                         worker,
-                        &Orders {
+                        &LifeContext {
                             service,
                             plan,
                             rounds,
@@ -53,47 +58,55 @@ pub(crate) fn keep_all<K: Course + Send + Sync, G: Gate + Sync, R: Threads + Wai
                         },
                     )
                 };
-                // Where no thread can be made the worker has no life, and its end stays NoStart.
+                // If no thread can be made, the worker has no life, and its end stays NoStart.
                 let _ = scope.spawn(keeper);
             }
         },
     )
 }
 
-/// Keeps a worker alive: one life after another, until it ends.
-fn keep<K: Course + Send + Sync, G: Gate + Sync, R: Threads + Wait + Sync>(
+/// Keeps a worker alive, life after life, until it ends.
+fn keep<K: RunTag + Send + Sync, G: Gate + Sync, R: Threads + Wait + Sync>(
     rt: &R,
-    slot: &Slot<K>,
+    slot: &LockedSlot<K>,
     worker: u32,
-    orders: &Orders<'_, G>,
+    orders: &LifeContext<'_, G>,
 )
-    requires orders { AreOrders K.Tag.ident K.turned K.rounds K.plans (G.answered orders.now.gate.now) G.lets_all orders.now.service.now worker orders.now.rounds orders.now.plan.now }
+    requires orders { IsLifeContext K.Tag.ident K.run worker
+        (life_terms orders.now.service.now orders.now.rounds orders.now.plan.now
+        (G.answered orders.now.gate.now) G.lets_all) }
 {
     for _ in 0..orders.plan.lives {
-        if !is_lived(rt, slot, worker, orders) || has_ended(rt, slot) {
+        if !run_life_in_thread(rt, slot, worker, orders) || has_ended(rt, slot) {
             return;
         }
     }
 }
 
-/// A life in a thread of its own, and whether there was a thread for it.
-fn is_lived<K: Course + Send + Sync, G: Gate + Sync, R: Threads + Wait + Sync>(
+/// Runs a life in a thread of its own, and answers whether there was a thread for it.
+fn run_life_in_thread<K: RunTag + Send + Sync, G: Gate + Sync, R: Threads + Wait + Sync>(
     rt: &R,
-    slot: &Slot<K>,
+    slot: &LockedSlot<K>,
     worker: u32,
-    orders: &Orders<'_, G>,
+    orders: &LifeContext<'_, G>,
 ) -> bool
-    requires orders { AreOrders K.Tag.ident K.turned K.rounds K.plans (G.answered orders.now.gate.now) G.lets_all orders.now.service.now worker orders.now.rounds orders.now.plan.now }
+    requires orders { IsLifeContext K.Tag.ident K.run worker
+        (life_terms orders.now.service.now orders.now.rounds orders.now.plan.now
+        (G.answered orders.now.gate.now) G.lets_all) }
 {
     thread::scope(
         thread::scope_env(),
         rt,
         |scope| -> bool
-            requires orders { AreOrders K.Tag.ident K.turned K.rounds K.plans (G.answered orders.now.gate.now) G.lets_all orders.now.service.now worker orders.now.rounds orders.now.plan.now }
+            requires orders { IsLifeContext K.Tag.ident K.run worker
+                (life_terms orders.now.service.now orders.now.rounds orders.now.plan.now
+                (G.answered orders.now.gate.now) G.lets_all) }
         {
             let life = move ||
-                requires orders { AreOrders K.Tag.ident K.turned K.rounds K.plans (G.answered orders.now.gate.now) G.lets_all orders.now.service.now worker orders.now.rounds orders.now.plan.now }
-            { live_in(rt, slot, worker, orders) };
+                requires orders { IsLifeContext K.Tag.ident K.run worker
+                    (life_terms orders.now.service.now orders.now.rounds orders.now.plan.now
+                    (G.answered orders.now.gate.now) G.lets_all) }
+            { run_life_in(rt, slot, worker, orders) };
             scope.spawn(life).is_ok()
         },
     )

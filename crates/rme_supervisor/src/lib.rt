@@ -1,27 +1,28 @@
-//! Workers that are kept alive: each has a keeper thread, which starts a thread for each of its lives.
+//! Supervised workers: each has a keeper thread, which starts a thread for each of its lives.
 //!
-//! A plan says which jobs a worker has, where it falls, and how many lives and blocked sweeps it is given. A life
-//! recovers, goes on with the pending job, and posts the plan's jobs from the next one on, until the worker falls
-//! or ends. Between two lives its Down waits in a locked slot, whose type names the service. The crate stands on
-//! rme_table, whose values the lives hold. What those above use is the contract of `attend`, and of
-//! `supervise` (`specs/Supervised.antt`): this closes the service as `Service::close` says. Each end came as it says, each fall
-//! where its plan says, and the entries of workers that began with none are the first jobs of their plans. Begin
-//! with `plan.rt` and `run.rt`.
+//! A plan gives the jobs of a worker, its falls, and its greatest numbers of lives and blocked sweeps. A life recovers,
+//! continues the pending job, and posts the plan's jobs from the next one on, until the worker falls or ends. Between
+//! two lives its Down is in a locked slot, whose type names the service. The crate stands on rme_table, whose values
+//! the lives hold.
+//!
+//! The crates above use the contracts of `attend` and of `supervise` (`specs/Supervised.antt`), which also closes the
+//! service as `Service::close` does: each end has its stated condition, each fall is where its plan says, and the
+//! entries of workers that began without any are the first jobs of their plans. Begin with `plan.rt` and `run.rt`.
 #![tactic(auto)]
 
-mod berth;
 mod checking;
-mod course;
 mod end;
-mod falls;
+mod fall_countdown;
 mod keeping;
 mod life;
+mod life_results;
+mod life_stop;
 mod plan;
 mod report;
 mod run;
-mod settling;
+mod run_tag;
 mod slots;
-mod stop;
+mod worker_slot;
 
 pub use end::End;
 pub use plan::{Schedule, WorkerPlan};

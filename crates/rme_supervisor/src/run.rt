@@ -1,20 +1,20 @@
 //! A supervised run.
 
 ghost use Rattle.std.specs.Prelude.{◌≡◌, ℕ, ◌≤◌, [], length, vec_capacity, IfOk, IfErr};
-ghost use Rattle.rme_seats.specs.Closing.{AreOf};
-ghost use Rattle.rme_supervisor.specs.Plans.{ArePlans};
-ghost use Rattle.rme_supervisor.specs.Settled.{IsSettled, IsEmpty};
-ghost use Rattle.rme_supervisor.specs.Stops.{IsTurnedAway};
-ghost use Rattle.rme_table.specs.Closing.{IsClose};
-ghost use Rattle.rme_supervisor.specs.Supervised.{AreAll, IsAttended, IsFault, IsLate, IsOver, IsReport, IsUnattended};
+ghost use Rattle.rme_service_steps.specs.Closing.{SeatsAreOfService};
+ghost use Rattle.rme_supervisor.specs.Plans.{AreWorkerPlans};
+ghost use Rattle.rme_supervisor.specs.LifeResults.{ResultsFollowPlans, ResultsAreEmpty};
+ghost use Rattle.rme_supervisor.specs.Stops.{GateTurnsAway, gate_view, run_at_gate};
+ghost use Rattle.rme_table.specs.Closing.{IsClosedService};
+ghost use Rattle.rme_supervisor.specs.Supervised.{AreAllDowns, IsAttended, IsRunFault, IsLateFault, RunIsOver, IsReport, IsUnattended, all_fresh};
 
-use crate::checking::{are_fresh, are_plans, is_whole};
-use crate::course::Course;
+use crate::checking::{are_downs_as_planned, are_fresh, are_worker_plans};
 use crate::keeping::keep_all;
+use crate::life_results::{LifeResults, collect_results};
 use crate::plan::{Schedule, WorkerPlan};
 use crate::report::{Attended, Fault, Report, Unattended};
-use crate::settling::{Settled, settle};
-use crate::slots::{Slot, fill};
+use crate::run_tag::RunTag;
+use crate::slots::{LockedSlot, fill};
 use rme_table::{Down, Gate, Service, Unclosed};
 use rme_words::{NoMemory, Refusal};
 use std::alloc::Global;
@@ -24,14 +24,14 @@ use std::thread::Threads;
 
 /// Keeps each worker alive by its plan, and closes the service when all lives have ended.
 ///
-/// The Downs are those of all workers, in order. Each worker has a keeper thread, which starts a thread for each
-/// of its lives and joins it. A life recovers, goes on with the pending job, and then makes the plan's jobs from
-/// the next one on.
+/// The Downs are those of all workers, in order. Each worker has a keeper thread, which starts a thread for each of its
+/// lives and joins it. A life recovers, continues the pending job, and then executes the plan's jobs from the next one
+/// on.
 ///
-/// A `Fault` with `BadShape` where the plans are not as many as the Downs, or one of them may not be supervised:
-/// nothing was done then. With `NoMemory` where a growth was refused: room for the slots and the answer is taken
-/// before the run, that for the close after it, and the jobs that were run stay done. It may wait for as long as
-/// the gate does, and its contract holds if it returns.
+/// A `Fault` with `BadShape` if the number of plans is not that of the Downs, or a plan cannot be supervised: then
+/// nothing was done. With `NoMemory` if memory was refused: that for the slots and the answer is taken before the run,
+/// that for the close after it, and the jobs that were run stay done. It may wait for as long as the gate does, and its
+/// contract holds if it returns.
 pub fn supervise<G: Gate + Sync, R: Threads + Wait + Sync>(
     rt: &R,
     alloc: Global,
@@ -40,10 +40,14 @@ pub fn supervise<G: Gate + Sync, R: Threads + Wait + Sync>(
     plans: Vec<WorkerPlan>,
     gate: &G,
 ) -> Result<Report, Fault>
-    requires ours { AreOf service downs.items }
-    requires all { AreAll service.shape downs.items }
-    ensures report { IfOk result (λ report. IsReport service.shape (IsTurnedAway (G.answered gate.now) G.lets_all service.shape) 1 plans.items downs.items report) }
-    ensures fault { IfErr result (λ fault. IsFault service (IsTurnedAway (G.answered gate.now) G.lets_all service.shape) 1 plans.items downs.items fault) }
+    requires ours { SeatsAreOfService service downs.items }
+    requires all { AreAllDowns service.shape downs.items }
+    ensures report { let run = run_at_gate 1 plans.items downs.items
+        (gate_view (G.answered gate.now) G.lets_all service.shape) in
+        IfOk result (λ report. IsReport service.shape run report) }
+    ensures fault { let run = run_at_gate 1 plans.items downs.items
+        (gate_view (G.answered gate.now) G.lets_all service.shape) in
+        IfErr result (λ fault. IsRunFault service run fault) }
 {
     let schedule = Schedule {
         plans: &plans,
@@ -62,10 +66,10 @@ pub fn supervise<G: Gate + Sync, R: Threads + Wait + Sync>(
     }
 }
 
-/// Keeps each worker alive by its plan, as `supervise` does, whose schedule has one round, and gives the Downs back when
+/// Keeps each worker alive by its plan, as `supervise` does with a schedule of one round, and gives the Downs back when
 /// all lives have ended. The service stays open.
 ///
-/// An `Unattended` with `BadShape`, `NoMemory` or `NoWorker` where `supervise` would have a `Fault` so; all memory is
+/// An `Unattended` with `BadShape`, `NoMemory` or `NoWorker` if `supervise` would have such a `Fault`; all memory is
 /// taken before the run. It may wait for as long as the gate does, and its contract holds if it returns.
 pub fn attend<G: Gate + Sync, R: Threads + Wait + Sync>(
     rt: &R,
@@ -75,12 +79,16 @@ pub fn attend<G: Gate + Sync, R: Threads + Wait + Sync>(
     schedule: &Schedule<'_>,
     gate: &G,
 ) -> Result<Attended, Unattended>
-    requires ours { AreOf service.now downs.items }
-    requires all { AreAll service.now.shape downs.items }
-    ensures attended { IfOk result (λ attended. IsAttended service.now (IsTurnedAway (G.answered gate.now) G.lets_all service.now.shape) schedule.now.rounds schedule.now.plans.now downs.items attended) }
-    ensures unattended { IfErr result (λ unattended. IsUnattended service.now (IsTurnedAway (G.answered gate.now) G.lets_all service.now.shape) schedule.now.rounds schedule.now.plans.now downs.items unattended) }
+    requires ours { SeatsAreOfService service.now downs.items }
+    requires all { AreAllDowns service.now.shape downs.items }
+    ensures attended { let run = run_at_gate schedule.now.rounds schedule.now.plans.now downs.items
+        (gate_view (G.answered gate.now) G.lets_all service.now.shape) in
+        IfOk result (λ attended. IsAttended service.now run attended) }
+    ensures unattended { let run = run_at_gate schedule.now.rounds schedule.now.plans.now downs.items
+        (gate_view (G.answered gate.now) G.lets_all service.now.shape) in
+        IfErr result (λ unattended. IsUnattended service.now run unattended) }
 {
-    if !are_plans(schedule.plans, downs.len()) {
+    if !are_worker_plans(schedule.plans, downs.len()) {
         return Err(Unattended {
             why: Refusal::BadShape,
             downs,
@@ -89,8 +97,8 @@ pub fn attend<G: Gate + Sync, R: Threads + Wait + Sync>(
     run::<Brand, G, R>(rt, alloc, service, downs, schedule, gate)
 }
 
-/// A run with plans that may be supervised.
-fn run<K: Course + Send + Sync, G: Gate + Sync, R: Threads + Wait + Sync>(
+/// A run with plans that can be supervised.
+fn run<K: RunTag + Send + Sync, G: Gate + Sync, R: Threads + Wait + Sync>(
     rt: &R,
     alloc: Global,
     service: &Service,
@@ -98,13 +106,15 @@ fn run<K: Course + Send + Sync, G: Gate + Sync, R: Threads + Wait + Sync>(
     schedule: &Schedule<'_>,
     gate: &G,
 ) -> Result<Attended, Unattended>
-    requires named { (service.now ≡ K.Tag.ident) × (schedule.now.plans.now ≡ K.plans) × (downs.items ≡ K.given) × (schedule.now.rounds ≡ K.rounds) }
-    requires away { (worker : ℕ) → IsTurnedAway (G.answered gate.now) G.lets_all service.now.shape worker → K.turned worker }
-    requires ours { AreOf service.now downs.items }
-    requires all { AreAll service.now.shape downs.items }
-    requires good { ArePlans schedule.now.plans.now (length downs.items) }
-    ensures attended { IfOk result (λ attended. IsAttended service.now K.turned schedule.now.rounds schedule.now.plans.now downs.items attended) }
-    ensures unattended { IfErr result (λ unattended. IsUnattended service.now K.turned schedule.now.rounds schedule.now.plans.now downs.items unattended) }
+    requires named { (service.now ≡ K.Tag.ident) × (schedule.now.plans.now ≡ K.run.plans)
+        × (downs.items ≡ K.run.given) × (schedule.now.rounds ≡ K.run.rounds) }
+    requires away { (worker : ℕ)
+        → GateTurnsAway (gate_view (G.answered gate.now) G.lets_all service.now.shape) worker → K.run.turned worker }
+    requires ours { SeatsAreOfService service.now downs.items }
+    requires all { AreAllDowns service.now.shape downs.items }
+    requires good { AreWorkerPlans schedule.now.plans.now (length downs.items) }
+    ensures attended { IfOk result (λ attended. IsAttended service.now K.run attended) }
+    ensures unattended { IfErr result (λ unattended. IsUnattended service.now K.run unattended) }
 {
     let Ok((slots, settled)) = room_for::<K>(alloc, downs.len()) else {
         return Err(Unattended {
@@ -115,36 +125,43 @@ fn run<K: Course + Send + Sync, G: Gate + Sync, R: Threads + Wait + Sync>(
     let fresh = are_fresh(&downs);
     let slots = fill(downs, slots);
     keep_all(rt, &slots, service, schedule, gate);
-    end::<K>(service, schedule, settle(slots, settled), fresh)
+    finish_run::<K>(service, schedule, collect_results(slots, settled), fresh)
 }
 
-/// Room for so many slots, and for what they hold in the end.
-fn room_for<K: Course>(alloc: Global, count: usize) -> Result<(Vec<Slot<K>>, Settled), NoMemory>
+/// Room for `count` slots, and for their final contents.
+fn room_for<K: RunTag>(
+    alloc: Global,
+    count: usize,
+) -> Result<(Vec<LockedSlot<K>>, LifeResults), NoMemory>
     ensures slots { IfOk result (λ room. (room.0.items ≡ []) × (count ≤ vec_capacity room.0)) }
-    ensures settled { IfOk result (λ room. IsEmpty count room.1) }
+    ensures settled { IfOk result (λ room. ResultsAreEmpty count room.1) }
 {
     let Ok(slots) = Vec::with_capacity(alloc, count) else {
         return Err(NoMemory);
     };
-    let settled = Settled::with_capacity(alloc, count)?;
+    let settled = LifeResults::with_capacity(alloc, count)?;
     Ok((slots, settled))
 }
 
 /// The answer of a run that is over.
-fn end<K: Course>(
+fn finish_run<K: RunTag>(
     service: &Service,
     schedule: &Schedule<'_>,
-    settled: Settled,
+    settled: LifeResults,
     fresh: bool,
 ) -> Result<Attended, Unattended>
-    requires settled { IsSettled service.now K.turned schedule.now.rounds schedule.now.plans.now K.given settled }
-    requires plans { length schedule.now.plans.now ≡ service.now.shape.workers }
-    ensures ours { IfOk result (λ attended. AreOf service.now attended.downs.items) }
-    ensures attended { IfOk result (λ attended. IsOver service.now.shape K.turned schedule.now.rounds schedule.now.plans.now K.given fresh attended.downs.items attended.ends.items attended.lives.items) }
-    ensures unattended { IfErr result (λ unattended. IsLate service.now K.turned schedule.now.rounds schedule.now.plans.now K.given fresh unattended) }
+    requires settled { ResultsFollowPlans service.now K.run settled }
+    requires plans { (length schedule.now.plans.now ≡ service.now.shape.workers)
+        × (schedule.now.plans.now ≡ K.run.plans) }
+    requires rounds { schedule.now.rounds ≡ K.run.rounds }
+    requires fresh { fresh ≡ all_fresh K.run.given }
+    ensures ours { IfOk result (λ attended. SeatsAreOfService service.now attended.downs.items) }
+    ensures attended { IfOk result (λ attended. RunIsOver service.now.shape K.run attended.downs.items
+        attended.ends.items attended.lives.items) }
+    ensures unattended { IfErr result (λ unattended. IsLateFault service.now K.run unattended) }
 {
-    let Settled { downs, ends, lives } = settled;
-    if !is_whole(fresh, schedule, &downs, &ends, service.shape()) {
+    let LifeResults { downs, ends, lives } = settled;
+    if !are_downs_as_planned(fresh, schedule, &downs, &ends, service.shape()) {
         return Err(Unattended {
             why: Refusal::NoWorker,
             downs,
@@ -155,10 +172,12 @@ fn end<K: Course>(
 
 /// Closes the service of a run.
 fn close(service: Service, attended: Attended) -> Result<Report, Fault>
-    requires ours { AreOf service attended.downs.items }
-    requires all { AreAll service.shape attended.downs.items }
-    ensures report { IfOk result (λ report. (report.ends ≡ attended.ends) × (report.lives ≡ attended.lives) × IsClose service.shape attended.downs.items report.closed.locks.items) }
-    ensures fault { IfErr result (λ fault. (fault.why ≡ Refusal.NoMemory) × (fault.service ≡ service) × (fault.downs.items ≡ attended.downs.items)) }
+    requires ours { SeatsAreOfService service attended.downs.items }
+    requires all { AreAllDowns service.shape attended.downs.items }
+    ensures report { IfOk result (λ report. (report.ends ≡ attended.ends) × (report.lives ≡ attended.lives)
+        × IsClosedService service.shape attended.downs.items report.closed.locks.items) }
+    ensures fault { IfErr result (λ fault. (fault.why ≡ Refusal.NoMemory) × (fault.service ≡ service)
+        × (fault.downs.items ≡ attended.downs.items)) }
 {
     let Attended { ends, lives, downs } = attended;
     match service.close(downs) {

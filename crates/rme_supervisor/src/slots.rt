@@ -1,53 +1,55 @@
-//! The places where workers wait between two lives.
+//! The slots of workers between two lives.
 
 ghost use Rattle.std.specs.Prelude.{◌≡◌, ◌≤◌, [], length, vec_capacity};
-ghost use Rattle.rme_seats.specs.Closing.{AreOf};
-ghost use Rattle.rme_supervisor.specs.Berths.{AreGiven, AreOrders};
+ghost use Rattle.rme_service_steps.specs.Closing.{SeatsAreOfService};
+ghost use Rattle.rme_supervisor.specs.WorkerSlots.{AreDownsAtCall, IsLifeContext, life_terms};
 
-use crate::berth::Berth;
-use crate::course::Course;
-use crate::life::Orders;
-use rme_table::{Down, Gate, Kept};
+use crate::life::LifeContext;
+use crate::run_tag::RunTag;
+use crate::worker_slot::WorkerSlot;
+use rme_table::{Down, Gate, OwnedDown};
 use std::marker::PhantomData;
 use std::sync::{Mutex, Wait};
 
-/// A worker's place: empty while a life has the worker.
-pub(crate) type Slot<K> = Mutex<Option<Berth<K>>>;
+/// A worker's slot: empty while a life has the worker.
+pub(crate) type LockedSlot<K> = Mutex<Option<WorkerSlot<K>>>;
 
 /// Puts each worker into a slot of its own, before its first life.
-pub(crate) fn fill<K: Course>(downs: Vec<Down>, mut slots: Vec<Slot<K>>) -> Vec<Slot<K>>
-    requires ours { AreOf K.Tag.ident downs.items }
-    requires given { AreGiven K.given downs.items }
+pub(crate) fn fill<K: RunTag>(downs: Vec<Down>, mut slots: Vec<LockedSlot<K>>) -> Vec<LockedSlot<K>>
+    requires ours { SeatsAreOfService K.Tag.ident downs.items }
+    requires given { AreDownsAtCall K.run.given downs.items }
     requires none { slots.items ≡ [] }
     requires room { length downs.items ≤ vec_capacity slots }
     ensures { length result.items ≡ length downs.items }
 {
     for down in downs {
-        let kept = Kept {
+        let kept = OwnedDown {
             down,
             of: PhantomData,
         };
-        slots.push_reserved(Mutex::new(Some(Berth::new(kept))));
+        slots.push_reserved(Mutex::new(Some(WorkerSlot::new(kept))));
     }
     slots
 }
 
 /// The next life of the worker in the slot, if it is this one.
-pub(crate) fn live_in<K: Course, G: Gate, R: Wait>(
+pub(crate) fn run_life_in<K: RunTag, G: Gate, R: Wait>(
     rt: &R,
-    slot: &Slot<K>,
+    slot: &LockedSlot<K>,
     worker: u32,
-    orders: &Orders<'_, G>,
+    orders: &LifeContext<'_, G>,
 )
-    requires orders { AreOrders K.Tag.ident K.turned K.rounds K.plans (G.answered orders.now.gate.now) G.lets_all orders.now.service.now worker orders.now.rounds orders.now.plan.now }
+    requires orders { IsLifeContext K.Tag.ident K.run worker
+        (life_terms orders.now.service.now orders.now.rounds orders.now.plan.now
+        (G.answered orders.now.gate.now) G.lets_all) }
 {
     let Some(berth) = slot.lock(rt).take() else {
         return;
     };
-    // A slot's type cannot tell its number, nor that the worker goes on: no other worker is ever put here, and none
-    // whose lives have ended is asked to live.
+    // A slot's type can state neither its number nor that the worker may live again; no other worker is ever put here,
+    // and no worker whose lives have ended is asked to live.
     let berth = if berth.worker() == worker && berth.may_live(orders.plan.lives) {
-        berth.live(rt, orders)
+        berth.run_life(rt, orders)
     } else {
         berth
     };
@@ -55,7 +57,7 @@ pub(crate) fn live_in<K: Course, G: Gate, R: Wait>(
 }
 
 /// Whether the lives of the worker in the slot have ended.
-pub(crate) fn has_ended<K: Course, R: Wait>(rt: &R, slot: &Slot<K>) -> bool {
+pub(crate) fn has_ended<K: RunTag, R: Wait>(rt: &R, slot: &LockedSlot<K>) -> bool {
     match &*slot.lock(rt) {
         Some(berth) => berth.end.is_some(),
         None => true,

@@ -1,4 +1,4 @@
--- Lists that are gone through from the front: what is counted and what is kept of them.
+-- Lists that are traversed from the front: counting and filtering.
 use Rattle.std.proofs.Common.{◌≡◌, ℕ, zero, suc, ◌+◌, ◌<◌, ◌≤◌, ◌-◌, List, [], ◌∷◌, ◌++◌, length, take, get_or, Some, slice_get, refl, sym, ◌∙◌, ap, inl, inr, arith}
 use Rattle.std.specs.Prelude.{Bool, true, false, ◌==◌, filter, if◌then◌else◌}
 use Rattle.std.specs.List.{list_all, range_with_len}
@@ -11,18 +11,18 @@ use Rattle.std.proofs.Math.Seq.{take-length}
 use Rattle.rme_script.proofs.Lists.{take_next}
 use Rattle.rme_program.specs.declared.note.Entry.{Entry}
 use Rattle.rme_program.specs.declared.note.Receipt.{Receipt}
-use Rattle.rme_machine.specs.Histories.{entries_at}
-use Rattle.rme_seats.specs.Rule.{total}
-use Rattle.rme_seats.specs.Stands.{Stand}
-use Rattle.rme_seats.specs.Closing.{entries_given}
+use Rattle.rme_machine.specs.Histories.{history_of_lock}
+use Rattle.rme_service_steps.specs.Rule.{total_of}
+use Rattle.rme_service_steps.specs.SeatViews.{SeatView}
+use Rattle.rme_service_steps.specs.Closing.{entries_given}
 
--- One more is counted.
-pub total_more : {A : Type 0} (f : A → ℕ) (xs : List A) (i : ℕ) (d : A) → i < length xs → total f (take (suc i) xs) ≡ total f (take i xs) + f (get_or xs i d)
+-- One more item is counted.
+pub total_more : {A : Type 0} (f : A → ℕ) (xs : List A) (i : ℕ) (d : A) → i < length xs → total_of f (take (suc i) xs) ≡ total_of f (take i xs) + f (get_or xs i d)
 total_more f [] i d within = absurd (omega (arith, within))
 total_more f (x ∷ xs) zero d within = omega arith
 total_more f (x ∷ xs) (suc i) d within = let rest = total_more f xs i d (omega (arith, within)) in omega (arith, rest)
 
--- One more is looked at.
+-- One more item is tested.
 filter_more : {A : Type 0} (p : A → Bool) (xs : List A) (i : ℕ) (d : A) → i < length xs
     → filter p (take (suc i) xs) ≡ filter p (take i xs) ++ filter p (get_or xs i d ∷ [])
 filter_more p [] i d within = absurd (omega (arith, within))
@@ -38,37 +38,37 @@ one_more : (i : ℕ) → i + 1 ≡ suc i
 one_more i = omega arith
 
 module _ (lock : ℕ) (es : List Entry) (i : ℕ) (d : Entry) (within : i < length es) where
-  more : entries_at (take (i + 1) es) lock ≡ entries_at (take i es) lock ++ entries_at (get_or es i d ∷ []) lock
-  more = ap (λ (k : ℕ). entries_at (take k es) lock) (one_more i) ∙ filter_more (λ (e : Entry). e.receipt.lock == lock) es i d within
+  more : history_of_lock (take (i + 1) es) lock ≡ history_of_lock (take i es) lock ++ history_of_lock (get_or es i d ∷ []) lock
+  more = ap (λ (k : ℕ). history_of_lock (take k es) lock) (one_more i) ∙ filter_more (λ (e : Entry). e.receipt.lock == lock) es i d within
 
-  pub kept_one : ((get_or es i d).receipt.lock == lock) ≡ true → entries_at (take (i + 1) es) lock ≡ entries_at (take i es) lock ++ get_or es i d ∷ []
-  kept_one is = more ∙ ap (λ (b : Bool). entries_at (take i es) lock ++ (if b then get_or es i d ∷ [] else [])) is
+  pub kept_one : ((get_or es i d).receipt.lock == lock) ≡ true → history_of_lock (take (i + 1) es) lock ≡ history_of_lock (take i es) lock ++ get_or es i d ∷ []
+  kept_one is = more ∙ ap (λ (b : Bool). history_of_lock (take i es) lock ++ (if b then get_or es i d ∷ [] else [])) is
 
-  pub left_one : ((get_or es i d).receipt.lock == lock) ≡ false → entries_at (take (i + 1) es) lock ≡ entries_at (take i es) lock
-  left_one is = more ∙ ap (λ (b : Bool). entries_at (take i es) lock ++ (if b then get_or es i d ∷ [] else [])) is ∙ append-nil (entries_at (take i es) lock)
+  pub left_one : ((get_or es i d).receipt.lock == lock) ≡ false → history_of_lock (take (i + 1) es) lock ≡ history_of_lock (take i es) lock
+  left_one is = more ∙ ap (λ (b : Bool). history_of_lock (take i es) lock ++ (if b then get_or es i d ∷ [] else [])) is ∙ append-nil (history_of_lock (take i es) lock)
 
--- One more of a lock is counted where the next one's receipt is of that lock.
+-- One more entry of a lock is counted if the next receipt is of that lock.
 pub count_more : (lock : ℕ) (es : List Entry) (i : ℕ) (r : Receipt) → option_map (λ (e : Entry). e.receipt) (slice_get es i) ≡ Some r
-    → length (entries_at (take (i + 1) es) lock) ≡ length (entries_at (take i es) lock) + (if r.lock == lock then 1 else 0)
+    → length (history_of_lock (take (i + 1) es) lock) ≡ length (history_of_lock (take i es) lock) + (if r.lock == lock then 1 else 0)
 count_more lock es i r is = elim (slice_get_cases es i).1 [
   | inl (e, within, found, there) ↦
       let same : (get_or es i e).receipt ≡ r = ap (λ (d : Entry). d.receipt) there ∙ same_Some _ _ (ap (option_map (λ (d : Entry). d.receipt)) (sym found) ∙ is) in
       elim (cases_Bool (r.lock == lock)) [
-        | inl t ↦ rw t (ap length (kept_one lock es i e within (ap (λ (q : Receipt). q.lock == lock) same ∙ t)) ∙ length-append (entries_at (take i es) lock) (get_or es i e ∷ []))
+        | inl t ↦ rw t (ap length (kept_one lock es i e within (ap (λ (q : Receipt). q.lock == lock) same ∙ t)) ∙ length-append (history_of_lock (take i es) lock) (get_or es i e ∷ []))
         | inr f ↦ rw f (let here = ap length (left_one lock es i e within (ap (λ (q : Receipt). q.lock == lock) same ∙ f)) in omega (arith, here))
       ]
   | inr (past, none) ↦ absurd (none-some _ (ap (option_map (λ (d : Entry). d.receipt)) (sym none) ∙ is))
 ]
 
--- The last one of a list stands behind the others.
+-- The last item of a list comes after the others.
 pub split_last : (es : List Entry) (e : Entry) → slice_get es (length es - 1) ≡ Some e → (before : List Entry) × (last : Entry) × (es ≡ before ++ last ∷ []) × (last.receipt ≡ e.receipt)
 split_last es e is =
     let within = slice_get_within es (length es - 1) e is in
     let all : (length es - 1) + 1 ≡ length es = omega (arith, within) in
     (take (length es - 1) es, e, sym (take-length es) ∙ ap (λ (n : ℕ). take n es) (sym all) ∙ take_next es (length es - 1) e is, refl)
 
--- What is kept of the first ones is no more than what is kept of all.
-pub few_kept : (lock : ℕ) (es : List Entry) (i : ℕ) → length (entries_at (take i es) lock) ≤ length (entries_at es lock)
+-- The entries of a lock among the first are at most as many as among all.
+pub few_kept : (lock : ℕ) (es : List Entry) (i : ℕ) → length (history_of_lock (take i es) lock) ≤ length (history_of_lock es lock)
 few_kept lock [] zero = omega arith
 few_kept lock [] (suc i) = omega arith
 few_kept lock (e ∷ es) zero = omega arith
@@ -77,20 +77,20 @@ few_kept lock (e ∷ es) (suc i) = elim (cases_Bool (e.receipt.lock == lock)) [
   | inr f ↦ rw f (few_kept lock es i)
 ]
 
--- The entries of all are as many as those of each together.
-pub all_counted : (downs : List Stand) → length (entries_given downs) ≡ total (λ (down : Stand). length down.part.entries) downs
+-- The number of all entries is the sum of each worker's.
+pub all_counted : (downs : List SeatView) → length (entries_given downs) ≡ total_of (λ (down : SeatView). length down.part.entries) downs
 all_counted [] = refl
 all_counted (d ∷ downs) = let rest = all_counted downs in let both = length-append (entries_given downs) d.part.entries in omega (arith, rest, both)
 
-pub lock_counted : (lock : ℕ) (downs : List Stand) → length (entries_at (entries_given downs) lock) ≡ total (λ (down : Stand). length (entries_at down.part.entries lock)) downs
+pub lock_counted : (lock : ℕ) (downs : List SeatView) → length (history_of_lock (entries_given downs) lock) ≡ total_of (λ (down : SeatView). length (history_of_lock down.part.entries lock)) downs
 lock_counted lock [] = refl
 lock_counted lock (d ∷ downs) =
     let rest = lock_counted lock downs in
     let apart = ap (λ (es : List Entry). length es) (filter-append (λ (e : Entry). e.receipt.lock == lock) (entries_given downs) d.part.entries) in
-    let both = length-append (entries_at (entries_given downs) lock) (entries_at d.part.entries lock) in
+    let both = length-append (history_of_lock (entries_given downs) lock) (history_of_lock d.part.entries lock) in
     omega (arith, rest, apart, both)
 
--- All of a row pass a test where each does, and the other way round.
+-- All items of a range pass a test if each does, and conversely.
 pub all_pass : (p : ℕ → Bool) (from n : ℕ) → ((w : ℕ) → w < from + n → p w ≡ true) → list_all p (range_with_len from n) ≡ true
 all_pass p from zero each = refl
 all_pass p from (suc n) each = rw (each from (omega arith)) (all_pass p (from + 1) n (λ w less. each w (omega (arith, less))))
@@ -110,21 +110,21 @@ one_fails p n w less fails = elim (cases_Bool (list_all p (range_with_len 0 n)))
   | inr otherwise ↦ otherwise
 ]
 
--- One more is counted, where the count is kept in a number.
-pub total_next : {A : Type 0} (f : A → ℕ) (xs : List A) (i : ℕ) (d : A) (before later here : ℕ) → before ≡ total f (take i xs) → i < length xs → d ≡ get_or xs i d → here ≡ f d
-    → later ≡ before + here → later ≡ total f (take (i + 1) xs)
+-- One more item is counted, with the count in a machine number.
+pub total_next : {A : Type 0} (f : A → ℕ) (xs : List A) (i : ℕ) (d : A) (before later here : ℕ) → before ≡ total_of f (take i xs) → i < length xs → d ≡ get_or xs i d → here ≡ f d
+    → later ≡ before + here → later ≡ total_of f (take (i + 1) xs)
 total_next f xs i d before later here so_far within is its adds =
     let one = total_more f xs i d within in
     let same : f d ≡ f (get_or xs i d) = ap f is in
-    let more : total f (take (i + 1) xs) ≡ total f (take (suc i) xs) = ap (λ (k : ℕ). total f (take k xs)) (one_more i) in
+    let more : total_of f (take (i + 1) xs) ≡ total_of f (take (suc i) xs) = ap (λ (k : ℕ). total_of f (take k xs)) (one_more i) in
     omega (arith, so_far, its, adds, one, same, more)
 
--- There is room for one more of a lock.
-pub room_kept : (lock : ℕ) (es own : List Entry) (i : ℕ) (d : Entry) (room : ℕ) → own ≡ entries_at (take i es) lock → i < length es → d ≡ get_or es i d → d.receipt.lock ≡ lock
-    → length (entries_at es lock) ≤ room → length own < room
+-- There is room for one more entry of a lock.
+pub room_kept : (lock : ℕ) (es own : List Entry) (i : ℕ) (d : Entry) (room : ℕ) → own ≡ history_of_lock (take i es) lock → i < length es → d ≡ get_or es i d → d.receipt.lock ≡ lock
+    → length (history_of_lock es lock) ≤ room → length own < room
 room_kept lock es own i d room is within here its wide =
     let kept = kept_one lock es i d within (eq-eqb (get_or es i d).receipt.lock lock (ap (λ (e : Entry). e.receipt.lock) (sym here) ∙ its)) in
-    let long : length (entries_at (take (i + 1) es) lock) ≡ length (entries_at (take i es) lock) + 1 = ap (λ (xs : List Entry). length xs) kept ∙ length-append (entries_at (take i es) lock) (get_or es i d ∷ []) in
+    let long : length (history_of_lock (take (i + 1) es) lock) ≡ length (history_of_lock (take i es) lock) + 1 = ap (λ (xs : List Entry). length xs) kept ∙ length-append (history_of_lock (take i es) lock) (get_or es i d ∷ []) in
     let few = few_kept lock es (i + 1) in
-    let now : length own ≡ length (entries_at (take i es) lock) = ap (λ (xs : List Entry). length xs) is in
+    let now : length own ≡ length (history_of_lock (take i es) lock) = ap (λ (xs : List Entry). length xs) is in
     omega (arith, long, few, now, wide)

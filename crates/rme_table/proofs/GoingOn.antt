@@ -1,53 +1,53 @@
--- A worker that goes on by one call after another.
+-- A worker that is driven by one call after another.
 use Rattle.std.proofs.Common.{◌≡◌, ℕ, ◌∙◌, [], ◌∷◌, ◌++◌, refl, sym, ap, subst, arith}
 use Rattle.std.specs.Prelude.{Bool, true, false, Option, Some, None}
 use Rattle.rme_words.specs.declared.shape.Shape.{Shape}
 use Rattle.rme_program.specs.declared.note.Note.TheVariants.{Entered}
 use Rattle.rme_program.specs.declared.note.Receipt.{Receipt}
 use Rattle.rme_program.specs.declared.private.Private.{Private}
-use Rattle.rme_seats.specs.Chances.{IsCounted, Tally}
-use Rattle.rme_seats.specs.Doing.{Falling}
-use Rattle.rme_seats.specs.Parts.{draft_script, onward}
-use Rattle.rme_seats.specs.declared.record.Part.{Part}
-use Rattle.rme_seats.specs.Stands.{Ident, Stand}
-use Rattle.rme_seats.proofs.Chains.{walks_then}
-use Rattle.rme_table.specs.Calls.{Made, OwnsLock, Performed, is_over}
-use Rattle.rme_table.specs.Driving.{DoesNotWait, Drives, Exhausts, Finishes, Goes, HasFinished, IsAsked, StillHas, StopsAt, StopsInside}
+use Rattle.rme_service_steps.specs.Chances.{QuestionsAreCounted, ChanceCounts}
+use Rattle.rme_service_steps.specs.CallSteps.{seat_call, CallFell}
+use Rattle.rme_service_steps.specs.Parts.{draft_script, unchanged_part}
+use Rattle.rme_service_steps.specs.declared.seat_record.Part.{Part}
+use Rattle.rme_service_steps.specs.SeatViews.{ServiceId, SeatView}
+use Rattle.rme_service_steps.proofs.Chains.{walks_then}
+use Rattle.rme_table.specs.Calls.{CallIsDone, PartOwnsLock, PerformContract, is_section_over}
+use Rattle.rme_table.specs.Driving.{DriveDoesNotWait, DriveOutcome, WaitsAfterAllSweeps, JobIsFinished, DriveSteps, FinishesJobNow, GateWasAsked, SeatStillHasJob, GateStopsAtEntry, GateStopsInside}
 use Rattle.rme_table.specs.declared.driving.Driven.{Driven}
-use Rattle.rme_table.specs.declared.driving.Tries.{Tries}
+use Rattle.rme_table.specs.declared.driving.SweepTries.{SweepTries}
 use Rattle.rme_table.specs.declared.driving.Driven.TheVariants.{Done, Waits, Stopped, Fell}
 
-pub goes_on : (s : Shape) (a b c : Stand) (t u v : Tally) (falls : ℕ) → Goes s a b t u 0 → Goes s b c u v falls → Goes s a c t v falls
+pub goes_on : (s : Shape) (a b c : SeatView) (t u v : ChanceCounts) (falls : ℕ) → DriveSteps s a b t u 0 → DriveSteps s b c u v falls → DriveSteps s a c t v falls
 goes_on s a b c t u v falls one two =
-    record { ident = two.ident ∙ one.ident; own = two.own ∙ one.own; walks = walks_then s a.part b.part c.part t u v falls one.walks two.walks }
+    record { ident = two.ident ∙ one.ident; own = two.own ∙ one.own; walks = walks_then s a b c t u v falls one.walks two.walks }
 
--- Nothing was done yet.
-counted_none : (count : Option ℕ) → IsCounted count count 0
+-- No step was made yet.
+counted_none : (count : Option ℕ) → QuestionsAreCounted count count 0
 counted_none None = tt
 counted_none (Some x) = omega arith
 
-pub goes_none : (s : Shape) (a : Stand) (t : Tally) → Goes s a a t t 0
+pub goes_none : (s : Shape) (a : SeatView) (t : ChanceCounts) → DriveSteps s a a t t 0
 goes_none s a t = record {
   ident = refl;
   own = refl;
   walks = record { values = []; walk = refl; found = tt; steps = omega arith; asks = record { yes = omega arith; asked = counted_none t.questions } };
 }
 
-pub goes_made : (s : Shape) (a b : Stand) (t u : Tally) (least most : ℕ) → Made s onward a b t u least most → Goes s a b t u 0
+pub goes_made : (s : Shape) (a b : SeatView) (t u : ChanceCounts) (least most : ℕ) → CallIsDone (seat_call s unchanged_part a b t u) least most → DriveSteps s a b t u 0
 goes_made s a b t u least most made = record { ident = made.stays.ident; own = made.stays.own; walks = made.walks }
 
-pub goes_fell : (s : Shape) (a b : Stand) (t u : Tally) (most : ℕ) → Falling s onward a b t u most → Goes s a b t u 1
+pub goes_fell : (s : Shape) (a b : SeatView) (t u : ChanceCounts) (most : ℕ) → CallFell (seat_call s unchanged_part a b t u) most → DriveSteps s a b t u 1
 goes_fell s a b t u most fell = record { ident = fell.ident; own = fell.own; walks = fell.walks }
 
-pub still_on : (a b c : Stand) → StillHas a b → StillHas b c → StillHas a c
+pub still_on : (a b c : SeatView) → SeatStillHasJob a b → SeatStillHasJob b c → SeatStillHasJob a c
 still_on a b c one two = record { draft = two.draft ∙ one.draft; entries = two.entries ∙ one.entries; number = two.number ∙ one.number }
 
-pub still_made : (s : Shape) (a b : Stand) (t u : Tally) (least most : ℕ) → Made s onward a b t u least most → b.part.private.begun ≡ a.part.private.begun → StillHas a b
+pub still_made : (s : Shape) (a b : SeatView) (t u : ChanceCounts) (least most : ℕ) → CallIsDone (seat_call s unchanged_part a b t u) least most → b.part.private.begun ≡ a.part.private.begun → SeatStillHasJob a b
 still_made s a b t u least most made number = record { draft = made.stays.draft; entries = made.stays.entries; number = number }
 
--- A worker that still had its job went on.
-module _ (s : Shape) (a b : Stand) (t u v : Tally) (one : Goes s a b t u 0) (still : StillHas a b) where
-  finished_on : (ready : Stand) (receipt : Receipt) → HasFinished b ready receipt → HasFinished a ready receipt
+-- A worker that still had its job was driven.
+module _ (s : Shape) (a b : SeatView) (t u v : ChanceCounts) (one : DriveSteps s a b t u 0) (still : SeatStillHasJob a b) where
+  finished_on : (ready : SeatView) (receipt : Receipt) → FinishesJobNow b ready receipt → FinishesJobNow a ready receipt
   finished_on ready receipt its = record {
     job = its.job;
     draft = sym still.draft ∙ its.draft;
@@ -57,29 +57,29 @@ module _ (s : Shape) (a b : Stand) (t u v : Tally) (one : Goes s a b t u 0) (sti
     lock = its.lock;
   }
 
-  pub drives_on : (driven : Driven) → Drives s false b u v driven → Drives s false a t v driven
+  pub drives_on : (driven : Driven) → DriveOutcome s false b u v driven → DriveOutcome s false a t v driven
   drives_on (Done ready receipt) (went, its, number) = (goes_on s a b ready t u v 0 one went, finished_on ready receipt its, number ∙ still.number)
   drives_on (Waits climb) (went, has) = (goes_on s a b climb t u v 0 one went, still_on a b climb still has)
   drives_on (Stopped held) (went, has) = (goes_on s a b held t u v 0 one went, still_on a b held still has)
   drives_on (Fell down) went = goes_on s a b down t u v 1 one went
 
 -- The section, and then the exit.
-module _ (s : Shape) (start leave : Stand) (t u : Tally) (receipt : Receipt) where
-  same_goes : leave ≡ start → u ≡ t → Goes s start leave t u 0
+module _ (s : Shape) (start leave : SeatView) (t u : ChanceCounts) (receipt : Receipt) where
+  same_goes : leave ≡ start → u ≡ t → DriveSteps s start leave t u 0
   same_goes same unasked =
-      let P : Stand → Type 0 = λ x. Goes s start x t u 0 in
-      let Q : Tally → Type 0 = λ x. Goes s start start t x 0 in subst P (sym same) (subst Q (sym unasked) (goes_none s start t))
+      let P : SeatView → Type 0 = λ x. DriveSteps s start x t u 0 in
+      let Q : ChanceCounts → Type 0 = λ x. DriveSteps s start start t x 0 in subst P (sym same) (subst Q (sym unasked) (goes_none s start t))
 
-  pub performed : (over : Bool) → Performed s over start leave t u receipt → Goes s start leave t u 0
+  pub performed : (over : Bool) → PerformContract over (seat_call s unchanged_part start leave t u) receipt → DriveSteps s start leave t u 0
   performed true told = same_goes told.idles.same told.idles.unasked
   performed false (job, draft, performs, owns) = let f = performs.finishes in record { ident = f.ident; own = f.own; walks = f.walks }
 
-  pub finishes_so : (ready : Stand) (over : Bool) → Performed s over start leave t u receipt → ready.part.entries ≡ leave.part.entries → Finishes over start ready receipt
+  pub finishes_so : (ready : SeatView) (over : Bool) → PerformContract over (seat_call s unchanged_part start leave t u) receipt → ready.part.entries ≡ leave.part.entries → JobIsFinished over start ready receipt
   finishes_so ready true told same = record {
     before = told.before;
     last = told.last;
     entries = told.entries;
-    same = same ∙ ap (λ (x : Stand). x.part.entries) told.idles.same;
+    same = same ∙ ap (λ (x : SeatView). x.part.entries) told.idles.same;
     told = told.receipt_is;
   }
   finishes_so ready false (job, draft, performs, owns) same =
@@ -92,32 +92,32 @@ module _ (s : Shape) (start leave : Stand) (t u : Tally) (receipt : Receipt) whe
         lock = f.at_lock;
       }
 
-  pub same_number : (over : Bool) → Performed s over start leave t u receipt → leave.part.private.begun ≡ start.part.private.begun
-  same_number true told = ap (λ (x : Stand). x.part.private.begun) told.idles.same
+  pub same_number : (over : Bool) → PerformContract over (seat_call s unchanged_part start leave t u) receipt → leave.part.private.begun ≡ start.part.private.begun
+  same_number true told = ap (λ (x : SeatView). x.part.private.begun) told.idles.same
   same_number false (job, draft, performs, owns) = ap (λ (q : Private). q.begun) performs.finishes.at.private
 
--- A worker that owned the lock leaves no tries to be made.
-pub exhausts_owning : (start : Stand) (old new : Tries) (driven : Driven) → DoesNotWait driven → Exhausts start old new driven
+-- A worker that owned the lock makes no further sweep.
+pub exhausts_owning : (start : SeatView) (old new : SweepTries) (driven : Driven) → DriveDoesNotWait driven → WaitsAfterAllSweeps start old new driven
 exhausts_owning start old new (Done ready receipt) owns = tt
 exhausts_owning start old new (Waits climb) owns = absurd owns
 exhausts_owning start old new (Stopped held) owns = tt
 exhausts_owning start old new (Fell down) owns = tt
 
 -- A worker that had just entered is stopped there.
-pub stops_inside : (start : Stand) (driven : Driven) → ((lock : ℕ) × (start.part.note ≡ Entered lock)) → StopsAt start driven → StopsInside driven
+pub stops_inside : (start : SeatView) (driven : Driven) → ((lock : ℕ) × (start.part.note ≡ Entered lock)) → GateStopsAtEntry start driven → GateStopsInside driven
 stops_inside start (Done ready receipt) entered stops = tt
 stops_inside start (Waits climb) entered stops = tt
 stops_inside start (Stopped held) entered (same, pending) =
-    let P : Stand → Type 0 = λ x. ((lock : ℕ) × (x.part.note ≡ Entered lock)) × (is_over x.part.private.stage ≡ false) in subst P (sym same) (entered, pending)
+    let P : SeatView → Type 0 = λ x. ((lock : ℕ) × (x.part.note ≡ Entered lock)) × (is_section_over x.part.private.stage ≡ false) in subst P (sym same) (entered, pending)
 stops_inside start (Fell down) entered stops = tt
 
--- The gate was asked of the worker and the lock that its value names.
-pub asked_so : (answered : ℕ → ℕ → Bool → Type 0) (ident now : Ident) (part : Part) (worker lock : ℕ) (answer : Bool) → ident ≡ now → worker ≡ part.worker → OwnsLock ident.shape part lock
-    → answered worker lock answer → IsAsked answered now.shape part.worker answer
+-- The gate was asked about the worker and the lock that its value names.
+pub asked_so : (answered : ℕ → ℕ → Bool → Type 0) (ident now : ServiceId) (part : Part) (worker lock : ℕ) (answer : Bool) → ident ≡ now → worker ≡ part.worker → PartOwnsLock ident.shape part lock
+    → answered worker lock answer → GateWasAsked answered now.shape part.worker answer
 asked_so answered ident now part worker lock answer same own owns asked = record {
   part = part;
   lock = lock;
   own = refl;
-  owns = subst (λ (i : Ident). OwnsLock i.shape part lock) same owns;
+  owns = subst (λ (i : ServiceId). PartOwnsLock i.shape part lock) same owns;
   asked = subst (λ (w : ℕ). answered w lock answer) own asked;
 }

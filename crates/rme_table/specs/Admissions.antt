@@ -2,16 +2,16 @@
 use Rattle.std.specs.Prelude.{◌≡◌, ℕ, ◌<◌, None}
 use Rattle.rme_words.specs.declared.shape.Shape.{Shape}
 use Rattle.rme_script.specs.declared.job.Job.{Job}
-use Rattle.rme_program.specs.Conditions.{IsJob}
-use Rattle.rme_seats.specs.Stands.{Stand}
-use Rattle.rme_table.specs.Calls.{post_refusal}
+use Rattle.rme_script.specs.Jobs.{IsJob}
+use Rattle.rme_service_steps.specs.SeatViews.{SeatView}
+use Rattle.rme_script.specs.JobRefusals.{job_refusal}
 
 pub record Admission : Type 0 where
-  pub ready : Stand
+  pub ready : SeatView
   pub job : Job
 
--- A worker that has begun so many jobs may post this one: nothing refuses it.
-pub record MayPost (shape : Shape) (begun : ℕ) (job : Job) : Type 0 where
+-- A worker that has begun this number of jobs may post this one: it is not refused.
+pub record PostIsAllowed (shape : Shape) (begun : ℕ) (job : Job) : Type 0 where
   pub good : IsJob shape job
   pub few : begun < shape.jobs
-  pub none : post_refusal shape begun job ≡ None
+  pub none : job_refusal shape begun job ≡ None

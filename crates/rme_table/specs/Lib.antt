@@ -1,6 +1,6 @@
--- In reading order: the values of workers that are down, and of those that are up; what their calls promise, and a job that
--- may be posted; what becomes of a worker that goes on with its job; the tag of no service; the room that a close takes
--- first, what a close shows, and what one shows that only counts.
+-- In reading order: the values of workers that are down, and of those that are up; the contracts of their calls, and a
+-- job that may be posted; the outcome of driving a worker; the tag of no service; the room of a close, its answer, and
+-- the answer of a close with counts.
 pub mod Downs
 pub mod Kinds
 pub mod Leaves

@@ -4,20 +4,22 @@ use crate::down::Down;
 use crate::job::read_job;
 use crate::kinds::{Climb, Held, Ready, Sweep};
 use crate::service::Service;
-use rme_phases::{Climbed, climb, withdraw};
+use rme_program::Ascent;
 use rme_script::Job;
-use rme_seats::Chance;
+use rme_service_phases::{Climbed, climb, withdraw};
+use rme_service_steps::Chance;
 
 impl Climb {
     ghost use Rattle.std.specs.Prelude.{◌≡◌, ◌≢◌, ◌+◌, ◌*◌, ◌<◌, MatchResult};
     ghost use Rattle.rme_program.specs.declared.kinds.Phase.{Phase};
     ghost use Rattle.rme_program.specs.Phases.{phase_of};
-    ghost use Rattle.rme_seats.specs.Doing.{Falling};
+    ghost use Rattle.rme_service_steps.specs.CallSteps.{seat_call, CallFell};
+    ghost use Rattle.rme_service_steps.specs.SeatViews.{SeatView};
     ghost use Rattle.rme_script.specs.declared.job.Job.{Job};
     ghost use Rattle.std.specs.Prelude.{Some};
-    ghost use Rattle.rme_seats.specs.Parts.{withdrawing};
-    ghost use Rattle.rme_seats.specs.Running.{IsLed, withdraw_labels};
-    ghost use Rattle.rme_table.specs.Calls.{HoldsNone, Made, Sweeps, levels_held};
+    ghost use Rattle.rme_service_steps.specs.Parts.{withdrawing_part};
+    ghost use Rattle.rme_service_steps.specs.Running.{ChangeIsServiceRun, withdraw_labels};
+    ghost use Rattle.rme_table.specs.Calls.{PartHoldsNoNode, CallIsDone, TryEnterContract, levels_held};
 
     /// The worker's number.
     pub fn worker(&self) -> u32
@@ -50,10 +52,10 @@ impl Climb {
         read_job(&mut self.seat, &service.words, self.lock)
     }
 
-    /// One sweep: climbs until the root is taken, or the first node that another holds.
+    /// One sweep: climbs until the root is taken, or to the first node that another worker holds.
     pub fn try_enter<C: Chance>(self, service: &Service, chance: &mut C) -> Sweep
         requires ours { self.ident ≡ service.now }
-        ensures { Sweeps service.now.shape self (C.tally chance.old) (C.tally chance.new) result }
+        ensures { TryEnterContract service.now.shape self (C.tally chance.old) (C.tally chance.new) result }
     {
         let Climb {
             mut seat,
@@ -78,14 +80,19 @@ impl Climb {
         }
     }
 
-    /// Gives the job up: its number is withdrawn, all nodes are released, and the worker is ready again.
+    /// Withdraws the job: its number is withdrawn, all nodes are released, and the worker is ready again.
     pub fn withdraw<C: Chance>(self, service: &Service, chance: &mut C) -> Result<Ready, Down>
         requires ours { self.ident ≡ service.now }
-        ensures made { MatchResult result (λ ready. Made service.now.shape withdrawing self ready (C.tally chance.old) (C.tally chance.new) 4 (service.now.shape.height + 3)) (λ down. Falling service.now.shape withdrawing self down (C.tally chance.old) (C.tally chance.new) (service.now.shape.height + 3)) }
-        ensures steps { MatchResult result (λ ready. ready.part.steps ≡ self.part.steps + 4 + levels_held self.part.private.stage) (λ _. Unit {0}) }
-        ensures lead { IsLed service.now.shape self.part withdrawing (withdraw_labels self.part) }
-        ensures number { MatchResult result (λ ready. ready.part.private.begun ≡ self.part.private.begun) (λ _. Unit {0}) }
-        ensures holds_none { MatchResult result (λ ready. HoldsNone service.now.shape ready.part) (λ _. Unit {0}) }
+        ensures made { let call_to = λ (end : SeatView). seat_call service.now.shape withdrawing_part self end
+            (C.tally chance.old) (C.tally chance.new) in
+            MatchResult result (λ ready. CallIsDone (call_to ready) 4 (service.now.shape.height + 3))
+            (λ down. CallFell (call_to down) (service.now.shape.height + 3)) }
+        ensures steps { MatchResult result (λ ready. ready.part.steps ≡ self.part.steps + 4 + levels_held
+            self.part.private.stage) (λ _. Unit {0}) }
+        ensures lead { ChangeIsServiceRun service.now.shape self.part withdrawing_part (withdraw_labels self.part) }
+        ensures number { MatchResult result (λ ready. ready.part.private.begun ≡ self.part.private.begun)
+            (λ _. Unit {0}) }
+        ensures holds_none { MatchResult result (λ ready. PartHoldsNoNode service.now.shape ready.part) (λ _. Unit {0}) }
     {
         let Climb {
             mut seat,
@@ -93,13 +100,14 @@ impl Climb {
             lock,
             held,
         } = self;
-        let Ok(()) = withdraw(&mut seat, &service.words, chance, lock, held, begun) else {
+        let ascent = Ascent { lock, held };
+        let Ok(()) = withdraw(&mut seat, &service.words, chance, ascent, begun) else {
             return Err(Down { seat });
         };
         Ok(Ready { seat, begun })
     }
 
-    /// The worker falls.
+    /// Crashes the worker.
     pub fn crash(self) -> Down
         ensures { result ≡ self }
     {

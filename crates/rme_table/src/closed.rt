@@ -1,18 +1,18 @@
-//! What a closed service answers.
+//! The answers of a closed service.
 
 use crate::down::Down;
 use crate::service::Service;
 use rme_program::Entry;
 use rme_words::Refusal;
 
-/// What the locks of a closed service are, in order.
+/// The locks of a closed service, in order.
 #[derive(Drop)]
 pub struct Closed {
     pub locks: Vec<ClosedLock>,
 }
 
-/// A lock of a closed service: its cells, the worker that owns it, whether the cells are settled, which they are not
-/// where the owner's section is not finished, and its finished sections in the order of their places.
+/// A lock of a closed service: its cells, the worker that owns it, whether the cells are settled (they are not if the
+/// owner's section is unfinished), and its finished sections in the order of their places.
 #[derive(Drop)]
 pub struct ClosedLock {
     pub cells: Vec<u64>,
@@ -21,13 +21,13 @@ pub struct ClosedLock {
     pub entries: Vec<Entry>,
 }
 
-/// What the locks of a closed service come to, in order.
+/// The locks of a service that was closed with counts, in order.
 #[derive(Drop)]
-pub struct Counted {
+pub struct CountedService {
     pub locks: Vec<CountedLock>,
 }
 
-/// A lock of a closed service as `ClosedLock` has it, but of its finished sections only how many there are.
+/// A lock of a closed service as in `ClosedLock`, with only the number of its finished sections.
 #[derive(Drop)]
 pub struct CountedLock {
     pub cells: Vec<u64>,
@@ -36,8 +36,8 @@ pub struct CountedLock {
     pub entries: u64,
 }
 
-/// The service was not closed; it and all that was given come back unchanged. `why` is `NoWorker` where some
-/// worker's Down was not given, and else `NoMemory`.
+/// The service was not closed; it and all given Downs come back unchanged. `why` is `NoWorker` if some worker's Down
+/// was not given, otherwise `NoMemory`.
 #[derive(Drop)]
 pub struct Unclosed {
     pub why: Refusal,

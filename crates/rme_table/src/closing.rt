@@ -3,30 +3,30 @@
 ghost use Rattle.std.specs.Prelude.{◌≡◌, ℕ, ◌≤◌, ◌==◌, [], length, vec_capacity};
 ghost use Rattle.rme_table.specs.Downs.{has_down, all_given};
 
+use crate::close_room::{CloseRoom, room_for};
 use crate::closed::{Closed, Unclosed};
 use crate::down::Down;
 use crate::filling::fill_locks;
-use crate::room::{Room, room_for};
 use crate::service::Service;
 use rme_history::by_place;
-use rme_seats::WorkerSeat;
+use rme_service_steps::WorkerSeat;
 use rme_words::{Bank, Refusal, Shape};
 
 impl Service {
     ghost use Rattle.std.specs.Prelude.{◌≡◌, true, IfOk, IfErr};
-    ghost use Rattle.rme_seats.specs.Closing.{AreOf};
+    ghost use Rattle.rme_service_steps.specs.Closing.{SeatsAreOfService};
     ghost use Rattle.rme_table.specs.Downs.{all_given};
-    ghost use Rattle.rme_table.specs.Filling.{IsRoom};
-    ghost use Rattle.rme_table.specs.Closing.{IsClose, IsUnclosed};
+    ghost use Rattle.rme_table.specs.Filling.{IsCloseRoom};
+    ghost use Rattle.rme_table.specs.Closing.{IsClosedService, IsUnclosed};
 
-    /// Closes the service, given the Downs of its workers, in any order: the cells of each lock, its owner,
-    /// whether the cells are settled, and its finished sections in the order of their places.
+    /// Closes the service, given the Downs of its workers in any order: the cells of each lock, its owner, whether the
+    /// cells are settled, and its finished sections in the order of their places.
     ///
-    /// `NoWorker` where some worker's Down is not given. Takes memory for the words, the cells and the entries,
-    /// before anything is closed; `NoMemory` where it was refused. The service and the Downs come back then.
+    /// `NoWorker` if some worker's Down is not given. Takes memory for the words, the cells and the entries, before
+    /// anything is closed; `NoMemory` if that was refused. On an error the service and the Downs come back.
     pub fn close(self, downs: Vec<Down>) -> Result<Closed, Unclosed>
-        requires { AreOf self downs.items }
-        ensures closed { IfOk result (λ closed. IsClose self.shape downs.items closed.locks.items) }
+        requires { SeatsAreOfService self downs.items }
+        ensures closed { IfOk result (λ closed. IsClosedService self.shape downs.items closed.locks.items) }
         ensures unclosed { IfErr result (λ unclosed. IsUnclosed self downs.items unclosed) }
     {
         let shape = self.shape();
@@ -47,15 +47,15 @@ impl Service {
         Ok(self.close_into(room, downs))
     }
 
-    /// Closes the service, all room being taken.
-    fn close_into(self, room: Room, downs: Vec<Down>) -> Closed
-        requires ours { AreOf self downs.items }
+    /// Closes the service, with all room reserved.
+    fn close_into(self, room: CloseRoom, downs: Vec<Down>) -> Closed
+        requires ours { SeatsAreOfService self downs.items }
         requires given { all_given self.shape downs.items ≡ true }
-        requires room { IsRoom self.shape downs.items room }
-        ensures { IsClose self.shape downs.items result.locks.items }
+        requires room { IsCloseRoom self.shape downs.items room }
+        ensures { IsClosedService self.shape downs.items result.locks.items }
     {
         let shape = self.shape();
-        let Room {
+        let CloseRoom {
             words,
             history,
             seats,
@@ -86,7 +86,7 @@ pub(crate) fn all_seats(downs: Vec<Down>, mut seats: Vec<WorkerSeat>) -> Vec<Wor
     seats
 }
 
-/// Whether each worker is among those that were given.
+/// Whether each worker is among the given ones.
 pub(crate) fn all_given(shape: Shape, downs: &[Down]) -> bool
     ensures { result ≡ all_given shape downs.now }
 {
@@ -98,7 +98,7 @@ pub(crate) fn all_given(shape: Shape, downs: &[Down]) -> bool
     true
 }
 
-/// Whether a worker is among those that were given.
+/// Whether a worker is among the given ones.
 fn has_down(downs: &[Down], worker: u32) -> bool
     ensures { result ≡ has_down downs.now worker }
 {

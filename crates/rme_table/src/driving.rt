@@ -1,26 +1,27 @@
-//! A worker that goes on with its job: from waiting, or from inside, to readiness.
+//! Driving a worker with its job, from waiting or from inside, until it is ready.
 
 use crate::down::Down;
 use crate::kinds::{Climb, Held, Ready, Sweep};
 use crate::service::Service;
 use rme_program::Receipt;
-use rme_seats::Chance;
+use rme_service_steps::Chance;
 
-/// Who watches the sections of workers that go on. It may be asked by many threads at the same time.
+/// An observer of the sections of driven workers, which may stop a worker before its section. Many threads may call it
+/// at the same time.
 pub trait Gate {
     ghost use Rattle.std.specs.Prelude.{◌≡◌, ℕ, Bool, true, false, IsTrue, ⊤};
 
-    // Whether it is known to let every worker pass.
+    // Whether it is known to admit every worker.
     ghost lets_all: { Bool } = { false };
 
-    // What it keeps of its questions: it was asked of this worker and lock, and answered so; it was told that the
-    // worker has left the lock after the job of this number. A gate that keeps nothing knows nothing of either.
+    // The facts that it records: it was asked about this worker and lock and answered this; it was told that the worker
+    // has left the lock after the job of this number. A gate that records nothing states nothing.
     ghost answered: { Self → ℕ → ℕ → Bool → Type 0 } = { λ _ _ _ _. ⊤ };
 
     ghost told: { Self → ℕ → ℕ → ℕ → Type 0 } = { λ _ _ _ _. ⊤ };
 
-    /// The worker owns the lock, having entered or re-entered, and is to begin its section, which is not
-    /// finished. Where the answer is false it does not begin.
+    /// The worker owns the lock, having entered or re-entered, and is about to begin its section, which is unfinished.
+    /// On false it does not begin.
     fn inside(&self, worker: u32, lock: u32) -> bool
         ensures lets_all { lets_all ≡ true → IsTrue result }
         ensures answered { answered self.now worker lock result };
@@ -30,7 +31,7 @@ pub trait Gate {
         ensures { told self.now worker lock number };
 }
 
-/// Lets all pass.
+/// Admits all workers.
 #[derive(Clone, Copy, Drop)]
 pub struct Free;
 
@@ -46,7 +47,7 @@ impl Gate for Free {
     fn over(&self, _worker: u32, _lock: u32, _number: u32) {}
 }
 
-/// Lets none begin its section: who goes on stops once it is inside.
+/// Admits no worker to its section: a driven worker stops once it is inside.
 #[derive(Clone, Copy, Drop)]
 pub struct Shut;
 
@@ -64,53 +65,54 @@ impl Gate for Shut {
     fn over(&self, _worker: u32, _lock: u32, _number: u32) {}
 }
 
-/// The blocked sweeps on one job: how many were made, and the most that may be.
+/// The blocked sweeps for one job: the number made, and the greatest number allowed.
 #[derive(Clone, Copy)]
-pub struct Tries {
+pub struct SweepTries {
     pub blocked: u32,
     pub most: u32,
 }
 
-/// What became of a worker that went on with its job.
+/// The outcome of driving a worker with its job.
 pub enum Driven {
     /// The job is finished, with this receipt, and the worker is ready.
     Done(Ready, Receipt),
-    /// The job waits still: all the sweeps that may be were blocked.
+    /// The job still waits: all allowed sweeps were blocked.
     Waits(Climb),
-    /// The gate did not let the worker begin its section.
+    /// The gate stopped the worker before its section.
     Stopped(Held),
-    /// The worker fell.
+    /// The worker crashed.
     Fell(Down),
 }
 
 impl Climb {
     ghost use Rattle.std.specs.Prelude.{◌≡◌, true, false};
-    ghost use Rattle.rme_table.specs.Driving.{Counts, Drives, Exhausts, Passes, StopsInside, Watches, stand_after};
+    ghost use Rattle.rme_table.specs.Driving.{SweepsAreCounted, DriveOutcome, WaitsAfterAllSweeps, GateLetsPass, GateStopsInside, GateWatches, seat_after_drive};
 
-    /// Goes on to readiness: sweep after sweep as long as there are tries, with a pause after each blocked one, and
-    /// then as `Held::go_on`. A job that waits still had all the sweeps that might be.
-    pub fn go_in<C: Chance, G: Gate, P: Fn()>(
+    /// Drives the worker until it is ready: sweep after sweep as long as sweeps are left, with a pause after each
+    /// blocked one, and then as `Held::drive_owner`. If the job still waits, all allowed sweeps were made.
+    pub fn drive_waiting<C: Chance, G: Gate, P: Fn()>(
         self,
         service: &Service,
         chance: &mut C,
         gate: &G,
-        tries: &mut Tries,
+        tries: &mut SweepTries,
         pause: P,
     ) -> Driven
         requires ours { self.ident ≡ service.now }
         requires pause { P.IsAlwaysCallable pause }
-        ensures drives { Drives service.now.shape false self (C.tally chance.old) (C.tally chance.new) result }
-        ensures passes { G.lets_all ≡ true → Passes result }
-        ensures watches { Watches (G.answered gate.now) (G.told gate.now) service.now.shape false self.part.worker result }
-        ensures stops { StopsInside result }
-        ensures tries { Exhausts self tries.old tries.new result }
-        ensures counts { Counts self (stand_after result) tries.old tries.new }
+        ensures drives { DriveOutcome service.now.shape false self (C.tally chance.old) (C.tally chance.new) result }
+        ensures passes { G.lets_all ≡ true → GateLetsPass result }
+        ensures watches { GateWatches (G.answered gate.now) (G.told gate.now) service.now.shape false self.part.worker
+            result }
+        ensures stops { GateStopsInside result }
+        ensures tries { WaitsAfterAllSweeps self tries.old tries.new result }
+        ensures counts { SweepsAreCounted self (seat_after_drive result) tries.old tries.new }
         ensures most { tries.new.most ≡ tries.old.most }
     {
         let mut climb = self;
         for blocked in tries.blocked..tries.most {
             match climb.try_enter(service, chance) {
-                Sweep::Got(held) => return held.go_on(service, chance, gate),
+                Sweep::Got(held) => return held.drive_owner(service, chance, gate),
                 Sweep::Fell(down) => return Driven::Fell(down),
                 Sweep::Blocked(again) => climb = again,
             }
@@ -123,18 +125,25 @@ impl Climb {
 
 impl Held {
     ghost use Rattle.std.specs.Prelude.{◌≡◌, true};
-    ghost use Rattle.rme_table.specs.Calls.{is_over};
-    ghost use Rattle.rme_table.specs.Driving.{DoesNotWait, Drives, Passes, StopsAt, Watches};
+    ghost use Rattle.rme_table.specs.Calls.{is_section_over};
+    ghost use Rattle.rme_table.specs.Driving.{DriveDoesNotWait, DriveOutcome, GateLetsPass, GateStopsAtEntry, GateWatches};
 
-    /// Goes on to readiness: the section, where the gate lets the worker begin it, and the exit. A section that is
-    /// finished already is not begun, and the gate is told alone that it is over.
-    pub fn go_on<C: Chance, G: Gate>(self, service: &Service, chance: &mut C, gate: &G) -> Driven
+    /// Drives the worker until it is ready: the section, if the gate admits the worker, and the exit. A section that is
+    /// already finished is not begun, and the gate is only told that it is over.
+    pub fn drive_owner<C: Chance, G: Gate>(
+        self,
+        service: &Service,
+        chance: &mut C,
+        gate: &G,
+    ) -> Driven
         requires ours { self.ident ≡ service.now }
-        ensures drives { Drives service.now.shape (is_over self.part.private.stage) self (C.tally chance.old) (C.tally chance.new) result }
-        ensures passes { G.lets_all ≡ true → Passes result }
-        ensures watches { Watches (G.answered gate.now) (G.told gate.now) service.now.shape (is_over self.part.private.stage) self.part.worker result }
-        ensures owns { DoesNotWait result }
-        ensures stops { StopsAt self result }
+        ensures drives { DriveOutcome service.now.shape (is_section_over self.part.private.stage) self
+            (C.tally chance.old) (C.tally chance.new) result }
+        ensures passes { G.lets_all ≡ true → GateLetsPass result }
+        ensures watches { GateWatches (G.answered gate.now) (G.told gate.now) service.now.shape
+            (is_section_over self.part.private.stage) self.part.worker result }
+        ensures owns { DriveDoesNotWait result }
+        ensures stops { GateStopsAtEntry self result }
     {
         if !self.finished() && !gate.inside(self.worker(), self.lock()) {
             return Driven::Stopped(self);

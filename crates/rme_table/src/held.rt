@@ -1,29 +1,30 @@
 //! A worker that owns the lock of its job.
 
 use crate::down::Down;
+use crate::exit_form::ExitForm;
 use crate::job::read_job;
 use crate::kinds::{Held, Leave};
 use crate::service::Service;
-use crate::way::Way;
-use rme_phases::perform;
 use rme_program::Receipt;
 use rme_script::Job;
-use rme_seats::Chance;
+use rme_service_phases::perform;
+use rme_service_steps::Chance;
 
 impl Held {
     ghost use Rattle.std.specs.Prelude.{◌≡◌, ◌≢◌, ◌+◌, ◌*◌, ◌<◌, MatchResult};
     ghost use Rattle.rme_program.specs.declared.kinds.Phase.{Phase};
     ghost use Rattle.rme_program.specs.Phases.{phase_of};
-    ghost use Rattle.rme_seats.specs.Doing.{Falling};
+    ghost use Rattle.rme_service_steps.specs.CallSteps.{seat_call, CallFell};
+    ghost use Rattle.rme_service_steps.specs.SeatViews.{SeatView};
     ghost use Rattle.std.specs.Prelude.{Some, false, true, List, [], ◌∷◌, ◌++◌};
     ghost use Rattle.rme_program.specs.declared.note.Entry.{Entry};
-    ghost use Rattle.rme_seats.specs.Parts.{onward};
-    ghost use Rattle.rme_table.specs.Calls.{OwnsLock, Performed, IsTold, is_over, held_phase};
+    ghost use Rattle.rme_service_steps.specs.Parts.{unchanged_part};
+    ghost use Rattle.rme_table.specs.Calls.{PartOwnsLock, PerformContract, FinishedPerformContract, is_section_over, held_phase};
 
     /// The worker's number.
     pub fn worker(&self) -> u32
         ensures worker { result ≡ self.now.part.worker }
-        ensures phase { phase_of self.now.part.private.stage ≡ held_phase (is_over self.now.part.private.stage) }
+        ensures phase { phase_of self.now.part.private.stage ≡ held_phase (is_section_over self.now.part.private.stage) }
     {
         self.seat.worker()
     }
@@ -37,40 +38,44 @@ impl Held {
 
     /// The lock that it owns.
     pub fn lock(&self) -> u32
-        ensures { OwnsLock self.now.ident.shape self.now.part result }
+        ensures { PartOwnsLock self.now.ident.shape self.now.part result }
     {
         self.lock
     }
 
-    /// Whether its job is finished already.
+    /// Whether its job is already finished.
     pub fn finished(&self) -> bool
-        ensures { result ≡ is_over self.now.part.private.stage }
+        ensures { result ≡ is_section_over self.now.part.private.stage }
     {
         !self.pending
     }
 
-    /// The job that it is inside with, read from its slate; the job is not finished.
+    /// The job with which it is inside, read from its slate; the job is unfinished.
     pub fn job(&mut self, service: &Service) -> Job
         requires ours { self.old.ident ≡ service.now }
-        requires pending { is_over self.old.part.private.stage ≡ false }
+        requires pending { is_section_over self.old.part.private.stage ≡ false }
         ensures same { self.new ≡ self.old }
         ensures draft { self.old.part.draft ≡ Some result }
     {
         read_job(&mut self.seat, &service.words, self.lock)
     }
 
-    /// Runs the section, or redoes it where it was begun before a crash, so that it counts once, and answers the
-    /// job's receipt; one that is finished already answers its receipt without an own step.
+    /// Runs the section, or redoes it if it was begun before a crash, so that it counts once, and answers the job's
+    /// receipt; a finished job's receipt is answered without an own step.
     pub fn perform<C: Chance>(
         self,
         service: &Service,
         chance: &mut C,
     ) -> Result<(Leave, Receipt), Down>
         requires ours { self.ident ≡ service.now }
-        ensures { MatchResult result (λ done. Performed service.now.shape (is_over self.part.private.stage) self done.0 (C.tally chance.old) (C.tally chance.new) done.1) (λ down. Falling service.now.shape onward self down (C.tally chance.old) (C.tally chance.new) (35 + service.now.shape.cells * 4)) }
+        ensures { let call_to = λ (end : SeatView). seat_call service.now.shape unchanged_part self end
+            (C.tally chance.old) (C.tally chance.new) in
+            MatchResult result (λ done. PerformContract (is_section_over self.part.private.stage)
+            (call_to done.0) done.1)
+            (λ down. CallFell (call_to down) (35 + service.now.shape.cells * 4)) }
     {
         if !self.pending {
-            return Ok(self.told());
+            return Ok(self.last_receipt_again());
         }
         let Held {
             mut seat,
@@ -81,7 +86,7 @@ impl Held {
         let Ok(receipt) = perform(&mut seat, &service.words, chance, begun, lock) else {
             return Err(Down { seat });
         };
-        let way = Way::Whole;
+        let way = ExitForm::Whole;
         Ok((
             Leave {
                 seat,
@@ -94,10 +99,11 @@ impl Held {
     }
 
     /// The receipt of a job that is finished.
-    fn told(self) -> (Leave, Receipt)
-        requires over { is_over self.part.private.stage ≡ true }
+    fn last_receipt_again(self) -> (Leave, Receipt)
+        requires over { is_section_over self.part.private.stage ≡ true }
         ensures same { result.0 ≡ self }
-        ensures last { (before : List Entry) × (last : Entry) × (self.part.entries ≡ before ++ last ∷ []) × (last.receipt ≡ result.1) }
+        ensures last { (before : List Entry) × (last : Entry) × (self.part.entries ≡ before ++ last ∷ [])
+            × (last.receipt ≡ result.1) }
     {
         let Held {
             seat,
@@ -113,12 +119,12 @@ impl Held {
             seat,
             begun,
             lock,
-            way: Way::Whole,
+            way: ExitForm::Whole,
         };
         (leave, receipt)
     }
 
-    /// The worker falls.
+    /// Crashes the worker.
     pub fn crash(self) -> Down
         ensures { result ≡ self }
     {

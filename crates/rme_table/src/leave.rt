@@ -1,19 +1,20 @@
 //! A worker whose job is finished, and that has nodes to release.
 
 use crate::down::Down;
+use crate::exit_form::ExitForm;
 use crate::kinds::{Leave, Ready};
 use crate::service::Service;
-use crate::way::Way;
-use rme_phases::{clear, leave};
-use rme_seats::Chance;
+use rme_service_phases::{clear, leave};
+use rme_service_steps::Chance;
 
 impl Leave {
     ghost use Rattle.std.specs.Prelude.{◌≡◌, ◌≢◌, ◌+◌, ◌*◌, ◌<◌, MatchResult};
     ghost use Rattle.rme_program.specs.declared.kinds.Phase.{Phase};
     ghost use Rattle.rme_program.specs.Phases.{phase_of};
-    ghost use Rattle.rme_seats.specs.Doing.{Falling};
-    ghost use Rattle.rme_seats.specs.Parts.{onward};
-    ghost use Rattle.rme_table.specs.Calls.{KnowsNumber, Made};
+    ghost use Rattle.rme_service_steps.specs.CallSteps.{seat_call, CallFell};
+    ghost use Rattle.rme_service_steps.specs.SeatViews.{SeatView};
+    ghost use Rattle.rme_service_steps.specs.Parts.{unchanged_part};
+    ghost use Rattle.rme_table.specs.Calls.{PartKnowsNumber, CallIsDone};
 
     /// The worker's number.
     pub fn worker(&self) -> u32
@@ -23,12 +24,16 @@ impl Leave {
         self.seat.worker()
     }
 
-    /// Releases the worker's nodes, from the root downward, and leaves it ready.
+    /// Releases the worker's nodes, from the root downward; the worker is then ready.
     pub fn exit<C: Chance>(self, service: &Service, chance: &mut C) -> Result<Ready, Down>
         requires ours { self.ident ≡ service.now }
-        ensures made { MatchResult result (λ ready. Made service.now.shape onward self ready (C.tally chance.old) (C.tally chance.new) 1 (service.now.shape.height + 2)) (λ down. Falling service.now.shape onward self down (C.tally chance.old) (C.tally chance.new) (service.now.shape.height + 2)) }
-        ensures number { MatchResult result (λ ready. ready.part.private.begun ≡ self.part.private.begun) (λ _. Unit {0}) }
-        ensures knows { MatchResult result (λ ready. KnowsNumber service.now.shape ready.part) (λ _. Unit {0}) }
+        ensures made { let call_to = λ (end : SeatView). seat_call service.now.shape unchanged_part self end
+            (C.tally chance.old) (C.tally chance.new) in
+            MatchResult result (λ ready. CallIsDone (call_to ready) 1 (service.now.shape.height + 2))
+            (λ down. CallFell (call_to down) (service.now.shape.height + 2)) }
+        ensures number { MatchResult result (λ ready. ready.part.private.begun ≡ self.part.private.begun)
+            (λ _. Unit {0}) }
+        ensures knows { MatchResult result (λ ready. PartKnowsNumber service.now.shape ready.part) (λ _. Unit {0}) }
     {
         let Leave {
             mut seat,
@@ -37,8 +42,8 @@ impl Leave {
             way,
         } = self;
         let left = match way {
-            Way::Whole => leave(&mut seat, &service.words, chance, lock),
-            Way::Partial { level } => clear(&mut seat, &service.words, chance, lock, level),
+            ExitForm::Whole => leave(&mut seat, &service.words, chance, lock),
+            ExitForm::Partial { level } => clear(&mut seat, &service.words, chance, lock, level),
         };
         if left.is_err() {
             return Err(Down { seat });
@@ -46,7 +51,7 @@ impl Leave {
         Ok(Ready { seat, begun })
     }
 
-    /// The worker falls.
+    /// Crashes the worker.
     pub fn crash(self) -> Down
         ensures { result ≡ self }
     {

@@ -4,24 +4,24 @@ ghost use Rattle.std.specs.Prelude.{◌≡◌, ◌≤◌, [], length, IfOk, vec_
 
 use crate::down::Down;
 use crate::service::Service;
-use rme_seats::WorkerSeat;
+use rme_service_steps::WorkerSeat;
 use rme_words::{NoMemory, Shape};
 use std::alloc::Global;
 
 impl Service {
     ghost use Rattle.std.specs.Prelude.{IfOk};
-    ghost use Rattle.rme_seats.specs.Opening.{Opens};
+    ghost use Rattle.rme_service_steps.specs.Opening.{ServiceIsOpened};
 
-    /// A new service of this shape, all of its words 0, with one Down for each worker, in order: nothing is
-    /// posted and nothing is done.
+    /// A new service of this shape, all of its words 0, with one Down for each worker, in order: nothing is posted and
+    /// nothing is done.
     ///
-    /// Takes memory for the words, and for each worker's Down with room for as many entries as the shape has
-    /// jobs; `NoMemory` where it was refused.
+    /// Takes memory for the words, and for each worker's Down with room for as many entries as the shape has jobs;
+    /// `NoMemory` if that was refused.
     pub fn new(alloc: Global, shape: Shape) -> Result<(Service, Vec<Down>), NoMemory>
-        ensures { IfOk result (λ opened. Opens shape opened.0 opened.1.items) }
+        ensures { IfOk result (λ opened. ServiceIsOpened shape opened.0 opened.1.items) }
     {
         let downs = room_for_downs(alloc, shape)?;
-        let (words, seats) = rme_seats::Service::open(alloc, shape)?;
+        let (words, seats) = rme_service_steps::WordTable::open(alloc, shape)?;
         Ok((Service { words, alloc }, all_down(seats, downs)))
     }
 }

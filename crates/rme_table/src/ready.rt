@@ -8,35 +8,37 @@ use crate::down::Down;
 use crate::kinds::{Climb, Posted, Ready};
 use crate::service::Service;
 use rme_history::EntryList;
-use rme_phases::post;
 use rme_program::{Receipt, WITHDRAWN_PLACE};
 use rme_script::Job;
-use rme_seats::{Chance, Posting, layout};
+use rme_service_phases::post;
+use rme_service_steps::{Chance, JobTag, layout};
 use rme_words::Refusal;
 
 impl Ready {
     ghost use Rattle.std.specs.Prelude.{◌≡◌, ◌≢◌, ◌+◌, ◌*◌, ◌<◌, ◌≤◌, MatchResult};
     ghost use Rattle.rme_program.specs.declared.kinds.Phase.{Phase};
     ghost use Rattle.rme_program.specs.Phases.{phase_of};
-    ghost use Rattle.rme_seats.specs.Doing.{Falling};
+    ghost use Rattle.rme_service_steps.specs.CallSteps.{seat_call, CallFell};
+    ghost use Rattle.rme_service_steps.specs.SeatViews.{SeatView};
     ghost use Rattle.rme_script.specs.declared.job.Job.{Job};
     ghost use Rattle.rme_words.specs.declared.refusal.Refusal.{Refusal};
     ghost use Rattle.std.specs.Prelude.{OnOk, IfOk, IfErr, None, Some};
-    ghost use Rattle.rme_seats.specs.Running.{IsLed, submit_labels};
-    ghost use Rattle.rme_seats.specs.Parts.{submitted};
-    ghost use Rattle.rme_program.specs.Conditions.{IsJob};
-    ghost use Rattle.rme_table.specs.Calls.{HoldsNone, IsPosted, Made, Posts, IsLast, post_refusal};
+    ghost use Rattle.rme_service_steps.specs.Running.{ChangeIsServiceRun, submit_labels};
+    ghost use Rattle.rme_service_steps.specs.Parts.{submitted_part};
+    ghost use Rattle.rme_script.specs.Jobs.{IsJob};
+    ghost use Rattle.rme_table.specs.Calls.{PartHoldsNoNode, ClimbHasJob, CallIsDone, PostContract, LastReceiptContract};
+    ghost use Rattle.rme_script.specs.JobRefusals.{job_refusal};
 
     /// The worker's number.
     pub fn worker(&self) -> u32
         ensures worker { result ≡ self.now.part.worker }
         ensures phase { phase_of self.now.part.private.stage ≡ Phase.Ready }
-        ensures holds_none { HoldsNone self.now.ident.shape self.now.part }
+        ensures holds_none { PartHoldsNoNode self.now.ident.shape self.now.part }
     {
         self.seat.worker()
     }
 
-    /// The number of the job that was finished or withdrawn last, or 0.
+    /// The number of the last finished or withdrawn job, or 0.
     pub fn number(&self) -> u32
         ensures number { result ≡ self.now.part.private.begun }
         ensures few { result ≤ self.now.ident.shape.jobs }
@@ -44,15 +46,15 @@ impl Ready {
         self.begun
     }
 
-    /// Posts a job: it has its number then, and waits for its lock.
+    /// Posts a job: it gets its number, and the worker waits for its lock.
     ///
-    /// `NoLock` where there is no such lock, then `BadScript` where it has more than 8 operations, then `NoCell`
-    /// where it names a cell that is not there, then `TooManyJobs` where the worker has begun as many as the
-    /// shape has.
+    /// `NoLock` if there is no such lock, then `BadScript` if it has more than 8 operations, then `NoCell` if it names
+    /// a cell that does not exist, then `TooManyJobs` if the worker has begun as many as the shape allows.
     pub fn post<C: Chance>(self, service: &Service, job: Job, chance: &mut C) -> Posted
         requires ours { self.ident ≡ service.now }
-        ensures posts { Posts service.now.shape job self (C.tally chance.old) (C.tally chance.new) result }
-        ensures lead { post_refusal service.now.shape self.part.private.begun job ≡ None → IsLed service.now.shape self.part (submitted job) (submit_labels self.part job) }
+        ensures posts { PostContract service.now.shape job self (C.tally chance.old) (C.tally chance.new) result }
+        ensures lead { job_refusal service.now.shape self.part.private.begun job ≡ None
+            → ChangeIsServiceRun service.now.shape self.part (submitted_part job) (submit_labels self.part job) }
     {
         match self.admit(service, &job) {
             Ok(admitted) => match admitted.post(service, chance) {
@@ -63,15 +65,17 @@ impl Ready {
         }
     }
 
-    /// The worker with a job that it may post; or the worker, and why `post` would refuse the job. Nothing is done.
+    /// The worker with a job that it may post; or the worker, and the refusal of `post`. Nothing has changed.
     pub fn admit<'a>(
         self,
         service: &Service,
         job: &'a Job,
     ) -> Result<Admitted<'a>, (Ready, Refusal)>
         requires ours { self.ident ≡ service.now }
-        ensures admitted { IfOk result (λ admitted. (admitted ≡ record { ready = self; job = job.now }) × (post_refusal service.now.shape self.part.private.begun job.now ≡ None)) }
-        ensures refused { IfErr result (λ refused. (refused.0 ≡ self) × (post_refusal service.now.shape self.part.private.begun job.now ≡ Some refused.1)) }
+        ensures admitted { IfOk result (λ admitted. (admitted ≡ record { ready = self; job = job.now })
+            × (job_refusal service.now.shape self.part.private.begun job.now ≡ None)) }
+        ensures refused { IfErr result (λ refused. (refused.0 ≡ self)
+            × (job_refusal service.now.shape self.part.private.begun job.now ≡ Some refused.1)) }
     {
         match self.may_post(service, job) {
             Ok(()) => Ok(Admitted { ready: self, job }),
@@ -79,27 +83,22 @@ impl Ready {
         }
     }
 
-    /// Whether `post` would take the job, or why it would refuse it.
+    /// Whether `post` accepts the job, or its refusal.
     pub fn may_post(&self, service: &Service, job: &Job) -> Result<(), Refusal>
-        ensures may { OnOk result (IsJob service.now.shape job.now × (self.now.part.private.begun < service.now.shape.jobs)) }
-        ensures none { OnOk result (post_refusal service.now.shape self.now.part.private.begun job.now ≡ None) }
-        ensures refused { IfErr result (λ refusal. post_refusal service.now.shape self.now.part.private.begun job.now ≡ Some refusal) }
+        ensures may { OnOk result (IsJob service.now.shape job.now
+            × (self.now.part.private.begun < service.now.shape.jobs)) }
+        ensures none { OnOk result (job_refusal service.now.shape self.now.part.private.begun job.now ≡ None) }
+        ensures refused { IfErr result (λ refusal. job_refusal service.now.shape self.now.part.private.begun job.now ≡
+            Some refusal) }
     {
-        let shape = service.shape();
-        if job.lock >= shape.locks() {
-            return Err(Refusal::NoLock);
+        match job.refusal(service.shape(), self.begun) {
+            None => Ok(()),
+            Some(refusal) => Err(refusal),
         }
-        if let Err(refusal) = job.script.check(shape) {
-            return Err(refusal);
-        }
-        if self.begun >= shape.jobs() {
-            return Err(Refusal::TooManyJobs);
-        }
-        Ok(())
     }
 
     /// Posts a job that may be posted.
-    pub(crate) fn put<J: Posting, C: Chance>(
+    pub(crate) fn put<J: JobTag, C: Chance>(
         self,
         service: &Service,
         job: &Job,
@@ -109,11 +108,14 @@ impl Ready {
         requires named { job.now ≡ J.job }
         requires good { IsJob service.now.shape job.now }
         requires few { self.part.private.begun < service.now.shape.jobs }
-        ensures lead { IsLed service.now.shape self.part (submitted job.now) (submit_labels self.part job.now) }
-        ensures posted { MatchResult result (λ climb. IsPosted self climb job.now) (λ _. Unit {0}) }
-        ensures made { MatchResult result
-            (λ climb. Made service.now.shape (submitted job.now) self climb (C.tally chance.old) (C.tally chance.new) (3 + 3 * job.now.script.n) (3 + 3 * job.now.script.n))
-            (λ down. Falling service.now.shape (submitted job.now) self down (C.tally chance.old) (C.tally chance.new) (3 + 3 * job.now.script.n)) }
+        ensures lead { ChangeIsServiceRun service.now.shape self.part (submitted_part job.now)
+            (submit_labels self.part job.now) }
+        ensures posted { MatchResult result (λ climb. ClimbHasJob self climb job.now) (λ _. Unit {0}) }
+        ensures made { let call_to = λ (end : SeatView). seat_call service.now.shape (submitted_part job.now) self end
+            (C.tally chance.old) (C.tally chance.new) in
+            let count = 3 + 3 * job.now.script.n in
+            MatchResult result (λ climb. CallIsDone (call_to climb) count count)
+            (λ down. CallFell (call_to down) count) }
     {
         let Ready { mut seat, begun } = self;
         if post::<J, C>(&mut seat, &service.words, chance, begun, job).is_err() {
@@ -127,20 +129,20 @@ impl Ready {
         })
     }
 
-    /// The receipt of the worker's last job: `None` where it has none, and where the last number was withdrawn.
+    /// The receipt of the worker's last job: `None` if it has none, or the last number was withdrawn.
     pub fn last(&mut self, service: &Service) -> Option<Receipt>
         requires ours { self.old.ident ≡ service.now }
         ensures same { self.new ≡ self.old }
-        ensures last { IsLast service.now.shape self.old.part result }
+        ensures last { LastReceiptContract service.now.shape self.old.part result }
     {
         let at = layout::place_at(service.shape(), self.seat.worker());
-        if self.seat.look(&service.words, at) == WITHDRAWN_PLACE {
+        if self.seat.load_as_reader(&service.words, at) == WITHDRAWN_PLACE {
             return None;
         }
         last_receipt(self.seat.entries())
     }
 
-    /// The worker falls.
+    /// Crashes the worker.
     pub fn crash(self) -> Down
         ensures { result ≡ self }
     {

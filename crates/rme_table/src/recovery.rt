@@ -1,28 +1,35 @@
-//! A worker that comes up.
+//! Recovering a worker.
 
 use crate::down::Down;
+use crate::exit_form::ExitForm;
 use crate::kinds::{Climb, Held, Leave, Ready, Stance};
 use crate::service::Service;
-use crate::way::Way;
-use rme_phases::{Found, recover};
-use rme_seats::Chance;
+use rme_service_phases::{ResumePoint, recover};
+use rme_service_steps::Chance;
 
 impl Down {
     ghost use Rattle.std.specs.Prelude.{◌≡◌, ◌≢◌, ◌+◌, ◌*◌, ◌<◌, MatchResult};
-    ghost use Rattle.rme_seats.specs.Doing.{Falling};
-    ghost use Rattle.rme_seats.specs.Parts.{restarted};
-    ghost use Rattle.rme_seats.specs.Running.{IsLed, restart_labels};
-    ghost use Rattle.rme_table.specs.Calls.{Made, IsPhased, KnowsNumber, recover_steps, stand_of};
+    ghost use Rattle.rme_service_steps.specs.CallSteps.{seat_call, CallFell};
+    ghost use Rattle.rme_service_steps.specs.SeatViews.{SeatView};
+    ghost use Rattle.rme_service_steps.specs.Parts.{restarted_part};
+    ghost use Rattle.rme_service_steps.specs.Running.{ChangeIsServiceRun, restart_labels};
+    ghost use Rattle.rme_table.specs.Calls.{CallIsDone, StanceHasPhase, PartKnowsNumber, recover_steps, seat_of_stance};
 
-    /// Comes up after a crash, or for the first time: reads where the last life ended, and goes on from there.
-    /// `Err` where the worker fell again. To the abstract machine the worker crashed, and comes up, before its first step.
+    /// Restarts a worker after a crash, or for the first time: it finds where it was before its crash. `Err` if the
+    /// worker crashed again. For the abstract machine the worker crashes and restarts before its first step.
     pub fn recover<C: Chance>(self, service: &Service, chance: &mut C) -> Result<Stance, Down>
         requires ours { self.ident ≡ service.now }
-        ensures made { MatchResult result (λ stance. Made service.now.shape restarted self (stand_of stance) (C.tally chance.old) (C.tally chance.new) 2 (service.now.shape.height + 3)) (λ down. Falling service.now.shape restarted self down (C.tally chance.old) (C.tally chance.new) (service.now.shape.height + 3)) }
-        ensures steps { MatchResult result (λ stance. (stand_of stance).part.steps ≡ self.part.steps + recover_steps service.now.shape stance) (λ _. Unit {0}) }
-        ensures lead { IsLed service.now.shape self.part restarted (restart_labels self.part) }
-        ensures phase { MatchResult result (λ stance. IsPhased stance) (λ _. Unit {0}) }
-        ensures number { MatchResult result (λ stance. KnowsNumber service.now.shape (stand_of stance).part) (λ _. Unit {0}) }
+        ensures made { let call_to = λ (end : SeatView). seat_call service.now.shape restarted_part self end
+            (C.tally chance.old) (C.tally chance.new) in
+            MatchResult result
+            (λ stance. CallIsDone (call_to (seat_of_stance stance)) 2 (service.now.shape.height + 3))
+            (λ down. CallFell (call_to down) (service.now.shape.height + 3)) }
+        ensures steps { MatchResult result (λ stance. (seat_of_stance stance).part.steps ≡ self.part.steps +
+            recover_steps service.now.shape stance) (λ _. Unit {0}) }
+        ensures lead { ChangeIsServiceRun service.now.shape self.part restarted_part (restart_labels self.part) }
+        ensures phase { MatchResult result (λ stance. StanceHasPhase stance) (λ _. Unit {0}) }
+        ensures number { MatchResult result (λ stance. PartKnowsNumber service.now.shape (seat_of_stance stance).part)
+            (λ _. Unit {0}) }
     {
         let Down { mut seat } = self;
         let Ok(recovered) = recover(&mut seat, &service.words, chance) else {
@@ -30,24 +37,24 @@ impl Down {
         };
         let begun = recovered.begun;
         Ok(match recovered.found {
-            Found::Ready => Stance::Ready(Ready { seat, begun }),
-            Found::Climbing { lock, held } => Stance::Climb(Climb {
+            ResumePoint::Ready => Stance::Ready(Ready { seat, begun }),
+            ResumePoint::Climbing { lock, held } => Stance::Climb(Climb {
                 seat,
                 begun,
                 lock,
                 held,
             }),
-            Found::Inside { lock, pending } => Stance::Held(Held {
+            ResumePoint::Inside { lock, pending } => Stance::Held(Held {
                 seat,
                 begun,
                 lock,
                 pending,
             }),
-            Found::Leaving { lock, level } => Stance::Leave(Leave {
+            ResumePoint::Leaving { lock, level } => Stance::Leave(Leave {
                 seat,
                 begun,
                 lock,
-                way: Way::Partial { level },
+                way: ExitForm::Partial { level },
             }),
         })
     }

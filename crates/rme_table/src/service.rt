@@ -4,17 +4,17 @@ use rme_words::Shape;
 use std::alloc::Global;
 use std::marker::Model;
 
-/// A lock service that runs: the shared words of all locks and workers. Threads use it by a `&`.
+/// A running lock service: the shared words of all locks and workers. Threads share it by `&`.
 #[derive(Drop)]
 pub struct Service {
-    pub(crate) words: rme_seats::Service,
+    pub(crate) words: rme_service_steps::WordTable,
     pub(crate) alloc: Global,
 }
 
 impl Model for Service {
-    ghost use Rattle.rme_seats.specs.Stands.{Ident};
+    ghost use Rattle.rme_service_steps.specs.SeatViews.{ServiceId};
 
-    ghost Value = { Ident };
+    ghost Value = { ServiceId };
 
     ghost view = { λ service. service.words };
 }

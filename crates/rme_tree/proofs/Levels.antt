@@ -1,10 +1,10 @@
--- How the nodes and the sides of a path lie. All else is proved from these, with no quotient and no power.
+-- The nodes and sides of a path. Everything else is proved from these lemmas, without a quotient or a power.
 use Rattle.std.proofs.Common.{◌≡◌, ◌≢◌, ℕ, zero, suc, ◌+◌, ◌-◌, ◌*◌, ◌/◌, ◌%◌, ◌^◌, ◌<◌, ◌≤◌, sym, ap, subst, div-one, pow-suc, arith, inl, inr}
 use Rattle.std.proofs.Math.Nat.{div-div-eq-div-mul}
 use Rattle.std.proofs.Math.Pow.{pow_mono}
 use Rattle.std.proofs.lemmas.Bool.{cases_order}
 use Rattle.rme_tree.specs.Paths.{node, side}
-use Rattle.rme_tree.specs.Rooted.{child}
+use Rattle.rme_tree.specs.HeldTrees.{child_node}
 
 pub node-zero : (m w : ℕ) → node m w 0 ≡ m + w
 unfolding node
@@ -29,12 +29,12 @@ pub side_le : (m w j : ℕ) → side m w j ≤ 2
 unfolding side
 side_le m w j = omega arith
 
--- A path that comes to the child of a node by the side of that node's word comes to the node, by that side.
-pub comes : (m w k v x : ℕ) → x ≢ 0 → x ≤ 2 → node m w k ≡ child v x → (node m w (suc k) ≡ v) × (side m w (suc k) ≡ x)
+-- A path that passes the child of a node on the side of that node's word passes the node from that side.
+pub comes : (m w k v x : ℕ) → x ≢ 0 → x ≤ 2 → node m w k ≡ child_node v x → (node m w (suc k) ≡ v) × (side m w (suc k) ≡ x)
 comes m w k v x some few e =
     (omega (arith, some, few, e, node-suc m w k), omega (arith, some, few, e, side-suc m w k))
 
--- Nodes as high as i levels below the top level lie in one power of two.
+-- Nodes i levels below the top level are in the range of one power of two.
 pub node_range : (h w i j : ℕ) → w < 2 ^ h → i + j ≡ h → (2 ^ i ≤ node (2 ^ h) w j) × (node (2 ^ h) w j < 2 ^ suc i)
 node_range h w i zero few e =
     let same : i ≡ h = omega arith in

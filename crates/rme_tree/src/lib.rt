@@ -1,15 +1,15 @@
-//! The tree of a lock: the paths of the workers through its nodes, how much of its path each one holds, and
-//! which worker owns the lock.
+//! The tree of a lock: the paths of the workers through its nodes, the levels that each one holds, the holder of a
+//! node, the owner of the lock, and the worker that blocks another.
 //!
-//! This crate stands on `rme_words`. The contract that the crates above use is that the owner is the worker
-//! whose sides stand in all nodes of its path (`owner`), with the laws of one step on a tree (`laws`): a
-//! worker takes or releases the topmost of the nodes that it holds, and what every other worker holds stays.
-//! Everything above speaks of `held` alone, and never of single nodes. Begin with `specs/Paths.antt`.
+//! This crate stands on `rme_words`. The crates above use one contract: the owner is the worker whose sides are in all
+//! nodes of its path (`owner`), with the laws of one step on a tree (`laws`): a worker takes or releases the topmost of
+//! the nodes that it holds, and every other worker holds the same levels. The crates above speak only of `held`, never
+//! of single nodes. Begin with `specs/Paths.antt`.
 #![tactic(auto)]
 
 pub mod laws;
 mod owners;
 mod paths;
 
-pub use owners::{held, owner};
+pub use owners::{blocker, held, holder, owner};
 pub use paths::{node, side};

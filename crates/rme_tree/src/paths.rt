@@ -8,8 +8,8 @@ ghost use Rattle.rme_tree.specs.Paths.{node, side};
 
 use rme_words::Shape;
 
-/// The side by which worker `w` comes to its node at `level`: 1 from an even child, 2 from an odd one. It is
-/// the word by which that worker holds the node.
+/// The side from which worker `w` reaches its node at `level`: 1 from an even child, 2 from an odd one. It is the value
+/// of the node's word while that worker holds the node.
 ///
 /// `w` is below the shape's workers and `level` is 1 up to its height.
 pub fn side(shape: Shape, w: u32, level: u32) -> u64

@@ -1,10 +1,10 @@
--- In reading order, after those of the crates below that a line and its names are told by.
-pub use Rattle.rme_lines.specs.Pieces
-pub use Rattle.rme_lines.specs.Cuts
-pub use Rattle.rme_lines.specs.Puts
-pub use Rattle.rme_lines.specs.Readers
-pub use Rattle.rme_lines.specs.Runs
-pub use Rattle.rme_names.specs.Names
+-- In reading order, after the crates below that define a line and its names.
+pub use Rattle.rme_line_io.specs.Pieces
+pub use Rattle.rme_line_io.specs.Cuts
+pub use Rattle.rme_line_io.specs.BufferedWrites
+pub use Rattle.rme_line_io.specs.Readers
+pub use Rattle.rme_line_io.specs.LineRuns
+pub use Rattle.rme_line_io.specs.Names
 pub mod Values
 pub mod Operations
 pub mod Openings

@@ -8,50 +8,58 @@ use Rattle.rme_words.specs.declared.refusal.Refusal.TheVariants.{BadShape, NoMem
 use Rattle.rme_words.specs.declared.shape.Shape.{Shape}
 use Rattle.rme_words.specs.Shapes.{IsWithinLimits}
 use Rattle.rme_wire.specs.declared.opening.Opening.{Opening}
-use Rattle.rme_wire.specs.declared.opening.Sizes.{Sizes}
-use Rattle.rme_names.specs.Names.{is_name}
-use Rattle.rme_wire.specs.Values.{small}
+use Rattle.rme_wire.specs.declared.opening.OpeningSizes.{OpeningSizes}
+use Rattle.rme_line_io.specs.Names.{is_name}
+use Rattle.rme_wire.specs.Values.{whole_u32}
 
--- whether each text is a name that isn't among the earlier ones
+-- whether each text is a name that is not among the earlier ones
 unfoldable pub are_new_names : List (List ℕ) → List (List ℕ) → Bool
 are_new_names earlier [] = true
-are_new_names earlier (text ∷ texts) = is_name text && not (list_any (bytes_eq text) earlier) && are_new_names (earlier ++ text ∷ []) texts
+are_new_names earlier (text ∷ texts) =
+    is_name text && not (list_any (bytes_eq text) earlier) && are_new_names (earlier ++ text ∷ []) texts
 
 -- 1 to 16 names of locks, each once
-unfoldable pub are_names : List (List ℕ) → Bool
-are_names texts = nat_le 1 (length texts) && nat_le (length texts) 16 && are_new_names [] texts
+unfoldable pub are_lock_names : List (List ℕ) → Bool
+are_lock_names texts = nat_le 1 (length texts) && nat_le (length texts) 16 && are_new_names [] texts
 
--- the texts of a list, where each item is one
-unfoldable pub texts_of : Items → Option (List (List ℕ))
-texts_of no_items = Some []
-texts_of (item d ds) = option_and_then (λ text. option_map (λ texts. text ∷ texts) (texts_of ds)) (as_str d)
+-- the texts of a list whose items are all texts
+unfoldable pub texts_of_items : Items → Option (List (List ℕ))
+texts_of_items no_items = Some []
+texts_of_items (item d ds) = option_and_then (λ text. option_map (λ texts. text ∷ texts) (texts_of_items ds)) (as_str d)
 
 -- the numbers of an opening
-unfoldable pub sizes_of : Data → Option Sizes
-sizes_of d =
-    option_and_then (λ workers. option_and_then (λ cells. option_map (λ jobs. record { workers = workers; cells = cells; jobs = jobs }) (option_and_then small (get (codes "jobs") d)))
-    (option_and_then small (get (codes "cells") d))) (option_and_then small (get (codes "workers") d))
+unfoldable pub opening_sizes_of : Data → Option OpeningSizes
+opening_sizes_of d =
+    option_and_then (λ workers. option_and_then
+    (λ cells. option_map (λ jobs. record { workers = workers; cells = cells; jobs = jobs })
+    (option_and_then whole_u32 (get (codes "jobs") d)))
+    (option_and_then whole_u32 (get (codes "cells") d))) (option_and_then whole_u32 (get (codes "workers") d))
 
 -- the member `locks`, a list of texts
-unfoldable pub locks_of : Data → Option (List (List ℕ))
-locks_of d = option_and_then texts_of (option_and_then as_array (get (codes "locks") d))
+unfoldable pub locks_member : Data → Option (List (List ℕ))
+locks_member d = option_and_then texts_of_items (option_and_then as_array (get (codes "locks") d))
 
 -- `{"cells":..,"do":"open","jobs":..,"locks":[..],"workers":..}`
 unfoldable pub opening_of : ℕ → Data → Option Opening
 opening_of count d =
-    if count == 5 then option_and_then (λ sizes. option_map (λ locks. record { workers = sizes.workers; locks = locks; cells = sizes.cells; jobs = sizes.jobs }) (locks_of d)) (sizes_of d)
+    if count == 5 then option_and_then (λ sizes. option_map
+    (λ locks. record { workers = sizes.workers; locks = locks; cells = sizes.cells; jobs = sizes.jobs })
+    (locks_member d)) (opening_sizes_of d)
     else None
 
 -- names and numbers within the limits, as many locks as names
-abbrev pub IsGood : Opening → Type 0
-IsGood given = (are_names given.locks ≡ true) × IsWithinLimits given.workers (length given.locks) given.cells given.jobs
+abbrev pub IsGoodOpening : Opening → Type 0
+IsGoodOpening given =
+    (are_lock_names given.locks ≡ true) × IsWithinLimits given.workers (length given.locks) given.cells given.jobs
 
 -- the shape has the numbers of the line
-abbrev pub IsAsGiven : Opening → Shape → Type 0
-IsAsGiven given shape = (shape.workers ≡ given.workers) × (shape.locks ≡ length given.locks) × (shape.cells ≡ given.cells) × (shape.jobs ≡ given.jobs)
+abbrev pub ShapeIsAsGiven : Opening → Shape → Type 0
+ShapeIsAsGiven given shape =
+    (shape.workers ≡ given.workers) × (shape.locks ≡ length given.locks) × (shape.cells ≡ given.cells)
+    × (shape.jobs ≡ given.jobs)
 
--- what opening is refused with: the names and the numbers first, want of memory last
-abbrev pub MayRefuse : Opening → Refusal → Type 0
-MayRefuse given BadShape = IsGood given → ⊥
-MayRefuse given NoMemory = IsGood given
-MayRefuse given other = ⊥
+-- the refusal of an opening: first for the names and the numbers, last for refused memory
+abbrev pub MayRefuseOpening : Opening → Refusal → Type 0
+MayRefuseOpening given BadShape = IsGoodOpening given → ⊥
+MayRefuseOpening given NoMemory = IsGoodOpening given
+MayRefuseOpening given other = ⊥

@@ -1,16 +1,16 @@
 //! The commands of lines.
 
 ghost use Rattle.std.specs.Prelude.{◌≡◌, option_map, option_and_then};
-ghost use Rattle.rme_json.specs.View.{view};
+ghost use Rattle.rme_line_json.specs.View.{value_view};
 ghost use Rattle.rme_wire.specs.Commands as spec;
 
-use crate::operation::script_of;
-use crate::value::small;
-use rme_json::Value;
-use rme_names::Names;
+use crate::operation::script_of_value;
+use crate::value::whole_u32;
+use rme_line_io::Names;
+use rme_line_json::Value;
 use rme_script::Job;
 
-/// The most steps of a walk whose line doesn't say.
+/// The number of steps of a walk whose line gives none.
 const MOST_STEPS: u32 = 10_000;
 
 /// The kind of note that ends a walk.
@@ -25,7 +25,7 @@ pub enum Until {
     Withdrew,
 }
 
-/// Steps of one worker, up to the first that ends them.
+/// Own steps of one worker, up to the first that ends them.
 #[derive(Clone, Copy)]
 pub struct Walk {
     pub worker: u32,
@@ -36,7 +36,7 @@ pub struct Walk {
 
 /// A command of a line to an open world.
 ///
-/// Locks are numbers. The number of a lock whose name wasn't opened is the number of names, which is no lock.
+/// Locks are numbers. A lock name that the world does not have becomes the number of names, which is no lock.
 #[derive(Clone, Copy)]
 pub enum Command {
     Submit(u32, Job),
@@ -53,7 +53,7 @@ pub enum Command {
     Save,
 }
 
-/// The number of a lock's name, or the number of names where there is no such name.
+/// The number of a lock's name, or the number of names if it is no name.
 #[tactic(auto, unfolding(crate::specs::Commands::lock_number))]
 pub fn lock_number(names: &Names, text: &str) -> u32
     ensures { result ≡ spec.lock_number names.now text.now }
@@ -64,34 +64,34 @@ pub fn lock_number(names: &Names, text: &str) -> u32
     }
 }
 
-/// The number of the lock that the member `lock` names; of a lock of another name the number of names, which is no lock.
-/// `None` where there is no such member, or it is no text.
-#[tactic(auto, unfolding(crate::specs::Commands::lock_of))]
-pub fn lock_of(names: &Names, value: &Value<'_>) -> Option<u32>
-    ensures { result ≡ spec.lock_of names.now (view value.now) }
+/// The number of the lock that the member `lock` names; for another name it is the number of names, which is no lock.
+/// `None` if there is no such member, or it is no text.
+#[tactic(auto, unfolding(crate::specs::Commands::lock_member))]
+pub fn lock_member(names: &Names, value: &Value<'_>) -> Option<u32>
+    ensures { result ≡ spec.lock_member names.now (value_view value.now) }
 {
     let name = value.get("lock")?.as_str()?;
     Some(lock_number(names, name))
 }
 
-/// The member `worker`, a whole number below 2^32; `None` where there is none.
-#[tactic(auto, unfolding(crate::specs::Commands::worker_of))]
-pub fn worker_of(value: &Value<'_>) -> Option<u32>
-    ensures { result ≡ spec.worker_of (view value.now) }
+/// The member `worker`, a whole number below 2^32; `None` if there is none.
+#[tactic(auto, unfolding(crate::specs::Commands::worker_member))]
+pub fn worker_member(value: &Value<'_>) -> Option<u32>
+    ensures { result ≡ spec.worker_member (value_view value.now) }
 {
-    small(value.get("worker")?)
+    whole_u32(value.get("worker")?)
 }
 
 #[tactic(auto, unfolding(crate::specs::Commands::submit_of))]
 fn submit_of(names: &Names, count: usize, value: &Value<'_>) -> Option<Command>
-    ensures { result ≡ spec.submit_of names.now count (view value.now) }
+    ensures { result ≡ spec.submit_of names.now count (value_view value.now) }
 {
     if count != 4 {
         return None;
     }
-    let worker = worker_of(value)?;
-    let lock = lock_of(names, value)?;
-    let script = script_of(value.get("script")?)?;
+    let worker = worker_member(value)?;
+    let lock = lock_member(names, value)?;
+    let script = script_of_value(value.get("script")?)?;
     Some(Command::Submit(worker, Job { lock, script }))
 }
 
@@ -111,24 +111,24 @@ fn until_of(word: &str) -> Option<Until>
     }
 }
 
-/// How many steps a walk may take: 1 to 10,000.
+/// The greatest number of steps of a walk: 1 to 10,000.
 #[tactic(auto, unfolding(crate::specs::Commands::max_of))]
 fn max_of(value: &Value<'_>) -> Option<u32>
-    ensures { result ≡ spec.max_of (view value.now) }
+    ensures { result ≡ spec.max_of (value_view value.now) }
 {
-    let max = small(value)?;
+    let max = whole_u32(value)?;
     if max == 0 || max > MOST_STEPS {
         return None;
     }
     Some(max)
 }
 
-/// A walk whose two optional members are there or not as is said.
+/// A walk, with or without its two optional members.
 #[tactic(auto, unfolding(crate::specs::Commands::walk_of))]
 fn walk_of(count: usize, value: &Value<'_>) -> Option<Command>
-    ensures { result ≡ spec.walk_of count (view value.now) }
+    ensures { result ≡ spec.walk_of count (value_view value.now) }
 {
-    let worker = worker_of(value)?;
+    let worker = worker_member(value)?;
     let mut expected = 2;
     let mut until = None;
     let mut max = MOST_STEPS;
@@ -146,19 +146,19 @@ fn walk_of(count: usize, value: &Value<'_>) -> Option<Command>
     Some(Command::Walk(Walk { worker, until, max }))
 }
 
-/// A command that names a worker alone.
-#[tactic(auto, unfolding(crate::specs::Commands::of_worker))]
-fn of_worker(word: &str, count: usize, value: &Value<'_>) -> Option<Command>
-    ensures { result ≡ spec.of_worker word.now count (view value.now) }
+/// A command that only names a worker.
+#[tactic(auto, unfolding(crate::specs::Commands::command_of_worker))]
+fn command_of_worker(word: &str, count: usize, value: &Value<'_>) -> Option<Command>
+    ensures { result ≡ spec.command_of_worker word.now count (value_view value.now) }
 {
     if count != 2 {
         return None;
     }
-    let worker = worker_of(value)?;
+    let worker = worker_member(value)?;
     worker_command(word, worker)
 }
 
-/// The command that this word says of a worker.
+/// The command of this word for a worker.
 fn worker_command(word: &str, worker: u32) -> Option<Command>
     ensures { result ≡ spec.worker_command word.now worker }
 {
@@ -172,19 +172,19 @@ fn worker_command(word: &str, worker: u32) -> Option<Command>
     }
 }
 
-/// A look-up that names a lock alone.
-#[tactic(auto, unfolding(crate::specs::Commands::of_lock))]
-fn of_lock(names: &Names, word: &str, count: usize, value: &Value<'_>) -> Option<Command>
-    ensures { result ≡ spec.of_lock names.now word.now count (view value.now) }
+/// A look-up that only names a lock.
+#[tactic(auto, unfolding(crate::specs::Commands::command_of_lock))]
+fn command_of_lock(names: &Names, word: &str, count: usize, value: &Value<'_>) -> Option<Command>
+    ensures { result ≡ spec.command_of_lock names.now word.now count (value_view value.now) }
 {
     if count != 2 {
         return None;
     }
-    let lock = lock_of(names, value)?;
+    let lock = lock_member(names, value)?;
     lock_command(word, lock)
 }
 
-/// The command that this word says of a lock.
+/// The command of this word for a lock.
 fn lock_command(word: &str, lock: u32) -> Option<Command>
     ensures { result ≡ spec.lock_command word.now lock }
 {
@@ -196,9 +196,9 @@ fn lock_command(word: &str, lock: u32) -> Option<Command>
 }
 
 /// A look-up that names no worker and no lock.
-#[tactic(auto, unfolding(crate::specs::Commands::of_world))]
-fn of_world(word: &str, count: usize) -> Option<Command>
-    ensures { result ≡ spec.of_world word.now count }
+#[tactic(auto, unfolding(crate::specs::Commands::command_of_world))]
+fn command_of_world(word: &str, count: usize) -> Option<Command>
+    ensures { result ≡ spec.command_of_world word.now count }
 {
     if count != 1 {
         return None;
@@ -211,16 +211,16 @@ fn of_world(word: &str, count: usize) -> Option<Command>
     }
 }
 
-/// The command that a value is, where its member `do` is a word and it has so many members.
+/// The command of a value whose member `do` is this word and that has this number of members.
 #[tactic(auto, unfolding(crate::specs::Commands::command_named))]
 pub fn command_named(names: &Names, word: &str, count: usize, value: &Value<'_>) -> Option<Command>
-    ensures { result ≡ spec.command_named names.now word.now count (view value.now) }
+    ensures { result ≡ spec.command_named names.now word.now count (value_view value.now) }
 {
     match word {
         "submit" => submit_of(names, count, value),
         "walk" => walk_of(count, value),
-        "history" | "report" | "save" => of_world(word, count),
-        "owner" | "cells" => of_lock(names, word, count, value),
-        _ => of_worker(word, count, value),
+        "history" | "report" | "save" => command_of_world(word, count),
+        "owner" | "cells" => command_of_lock(names, word, count, value),
+        _ => command_of_worker(word, count, value),
     }
 }

@@ -2,17 +2,17 @@
 
 ghost use Rattle.std.specs.Prelude.{◌≡◌, ◌≤◌, ◌++◌, IfOk, map, length, option_and_then, string_bytes, bytes_eq, [], true};
 ghost use Rattle.std.specs.List.{list_any};
-ghost use Rattle.rme_json.specs.View.{items_view, view};
+ghost use Rattle.rme_line_json.specs.View.{items_view, value_view};
 ghost use Rattle.rme_wire.specs.Openings as spec;
 
-use crate::value::small;
-use rme_json::Value;
-use rme_names::{Names, is_name};
+use crate::value::whole_u32;
+use rme_line_io::{Names, is_name};
+use rme_line_json::Value;
 use rme_words::{MOST_LOCKS, NoMemory};
 use std::alloc::{AllocError, Global};
 use std::marker::Model;
 
-/// The names of locks as a line gives them: any texts at all, in order.
+/// The names of locks as a line gives them: any texts, in order.
 #[derive(Drop)]
 pub struct GivenNames {
     texts: Vec<String>,
@@ -26,7 +26,7 @@ impl Model for GivenNames {
     ghost view = { λ given. map string_bytes given.texts.items };
 }
 
-/// What a line asks of `open`.
+/// The request of `open`.
 #[derive(Drop)]
 pub struct Opening {
     pub workers: u32,
@@ -37,29 +37,29 @@ pub struct Opening {
 
 /// The numbers of an opening.
 #[derive(Clone, Copy)]
-struct Sizes {
+struct OpeningSizes {
     workers: u32,
     cells: u32,
     jobs: u32,
 }
 
-#[tactic(auto, unfolding(crate::specs::Openings::sizes_of))]
-fn sizes_of(value: &Value<'_>) -> Option<Sizes>
-    ensures { result ≡ spec.sizes_of (view value.now) }
+#[tactic(auto, unfolding(crate::specs::Openings::opening_sizes_of))]
+fn opening_sizes_of(value: &Value<'_>) -> Option<OpeningSizes>
+    ensures { result ≡ spec.opening_sizes_of (value_view value.now) }
 {
-    let workers = small(value.get("workers")?)?;
-    let cells = small(value.get("cells")?)?;
-    let jobs = small(value.get("jobs")?)?;
-    Some(Sizes {
+    let workers = whole_u32(value.get("workers")?)?;
+    let cells = whole_u32(value.get("cells")?)?;
+    let jobs = whole_u32(value.get("jobs")?)?;
+    Some(OpeningSizes {
         workers,
         cells,
         jobs,
     })
 }
 
-/// The texts of a list, or `None` where an item is no text.
-fn texts_of(alloc: Global, items: &[Value<'_>]) -> Result<Option<GivenNames>, AllocError>
-    ensures { IfOk result (λ given. given ≡ spec.texts_of (items_view items.now)) }
+/// The texts of a list, or `None` if an item is no text.
+fn texts_of_items(alloc: Global, items: &[Value<'_>]) -> Result<Option<GivenNames>, AllocError>
+    ensures { IfOk result (λ given. given ≡ spec.texts_of_items (items_view items.now)) }
 {
     let mut texts = Vec::new(alloc);
     for item in items {
@@ -72,9 +72,9 @@ fn texts_of(alloc: Global, items: &[Value<'_>]) -> Result<Option<GivenNames>, Al
 }
 
 /// The member `locks`, a list of texts.
-#[tactic(auto, unfolding(crate::specs::Openings::locks_of))]
-pub fn locks_of(alloc: Global, value: &Value<'_>) -> Result<Option<GivenNames>, AllocError>
-    ensures { IfOk result (λ given. given ≡ spec.locks_of (view value.now)) }
+#[tactic(auto, unfolding(crate::specs::Openings::locks_member))]
+pub fn locks_member(alloc: Global, value: &Value<'_>) -> Result<Option<GivenNames>, AllocError>
+    ensures { IfOk result (λ given. given ≡ spec.locks_member (value_view value.now)) }
 {
     let Some(list) = value.get("locks") else {
         return Ok(None);
@@ -82,25 +82,25 @@ pub fn locks_of(alloc: Global, value: &Value<'_>) -> Result<Option<GivenNames>, 
     let Some(items) = list.as_array() else {
         return Ok(None);
     };
-    texts_of(alloc, items)
+    texts_of_items(alloc, items)
 }
 
-/// The opening that a value is, where it has so many members.
+/// The opening of a value with this number of members.
 #[tactic(auto, unfolding(crate::specs::Openings::opening_of))]
 pub fn opening_of(
     alloc: Global,
     count: usize,
     value: &Value<'_>,
 ) -> Result<Option<Opening>, AllocError>
-    ensures { IfOk result (λ opening. opening ≡ spec.opening_of count (view value.now)) }
+    ensures { IfOk result (λ opening. opening ≡ spec.opening_of count (value_view value.now)) }
 {
     if count != 5 {
         return Ok(None);
     }
-    let Some(sizes) = sizes_of(value) else {
+    let Some(sizes) = opening_sizes_of(value) else {
         return Ok(None);
     };
-    let Some(locks) = locks_of(alloc, value)? else {
+    let Some(locks) = locks_member(alloc, value)? else {
         return Ok(None);
     };
     Ok(Some(Opening {
@@ -118,7 +118,7 @@ fn is_among(text: &str, texts: &[String]) -> bool
     texts.iter().any(|other| text == other.as_str())
 }
 
-/// Whether each text is a name, and none stands twice.
+/// Whether each text is a name, and no two are equal.
 fn are_new_names(texts: &[String]) -> bool
     ensures { result ≡ spec.are_new_names [] (map string_bytes texts.now) }
 {
@@ -133,9 +133,9 @@ fn are_new_names(texts: &[String]) -> bool
     true
 }
 
-/// Whether texts may name the locks of a world: 1 to 16 names, each once.
-fn are_names(texts: &[String]) -> bool
-    ensures { result ≡ spec.are_names (map string_bytes texts.now) }
+/// Whether these texts may name the locks of a world: 1 to 16 names, each once.
+fn are_lock_names(texts: &[String]) -> bool
+    ensures { result ≡ spec.are_lock_names (map string_bytes texts.now) }
 {
     if texts.is_empty() {
         return false;
@@ -148,7 +148,7 @@ fn are_names(texts: &[String]) -> bool
 
 /// Texts that are names, numbered in order.
 fn names_of(alloc: Global, texts: &[String]) -> Result<Names, NoMemory>
-    requires { spec.are_names (map string_bytes texts.now) ≡ true }
+    requires { spec.are_lock_names (map string_bytes texts.now) ≡ true }
     ensures { IfOk result (λ names. names ≡ map string_bytes texts.now) }
 {
     let mut names = Names::new(alloc)?;
@@ -171,13 +171,13 @@ impl GivenNames {
 
     /// Whether these may name the locks of a world: 1 to 16 names, each once.
     pub fn are_names(&self) -> bool
-        ensures result { result ≡ spec.are_names self.now }
+        ensures result { result ≡ spec.are_lock_names self.now }
         ensures few { result ≡ true → length self.now ≤ 16 }
     {
-        are_names(&self.texts)
+        are_lock_names(&self.texts)
     }
 
-    /// How many texts there are.
+    /// The number of texts.
     pub fn len(&self) -> usize
         ensures { result ≡ length self.now }
     {
@@ -186,7 +186,7 @@ impl GivenNames {
 
     /// These names, numbered in order.
     pub fn names(&self, alloc: Global) -> Result<Names, NoMemory>
-        requires { spec.are_names self.now ≡ true }
+        requires { spec.are_lock_names self.now ≡ true }
         ensures { IfOk result (λ names. names ≡ self.now) }
     {
         names_of(alloc, &self.texts)

@@ -1,30 +1,30 @@
 //! The operations of scripts in lines.
 
 ghost use Rattle.std.specs.Prelude.{◌≡◌};
-ghost use Rattle.rme_json.specs.View.{view};
+ghost use Rattle.rme_line_json.specs.View.{value_view};
 ghost use Rattle.rme_wire.specs.Operations as spec;
 
-use crate::value::small;
-use rme_json::Value;
+use crate::value::whole_u32;
+use rme_line_json::Value;
 use rme_script::{Op, Script};
 
-/// As many operations as a script tells apart: nine are too many, and so is any number above.
+/// The greatest number of operations that a script distinguishes: nine are too many, and so is any greater number.
 const TELLING: usize = 9;
 
 /// One operation: its name, and its cells or its cell and value.
-#[tactic(auto, unfolding(crate::specs::Operations::op_of))]
-fn op_of(value: &Value<'_>) -> Option<Op>
-    ensures { result ≡ spec.op_of (view value.now) }
+#[tactic(auto, unfolding(crate::specs::Operations::op_of_value))]
+fn op_of_value(value: &Value<'_>) -> Option<Op>
+    ensures { result ≡ spec.op_of_value (value_view value.now) }
 {
     let count = value.item_count()?;
     let word = value.at(0)?.as_str()?;
-    let first = small(value.at(1)?)?;
+    let first = whole_u32(value.at(1)?)?;
     op_named(count, word, first, value)
 }
 
-/// The operation of a list of so many items, whose first two are this word and this number.
+/// The operation of a list with this number of items, whose first two are this word and this number.
 fn op_named(count: usize, word: &str, first: u32, value: &Value<'_>) -> Option<Op>
-    ensures { result ≡ spec.op_named count word.now first (view value.now) }
+    ensures { result ≡ spec.op_named count word.now first (value_view value.now) }
 {
     if word == "get" {
         return if count == 2 {
@@ -39,28 +39,28 @@ fn op_named(count: usize, word: &str, first: u32, value: &Value<'_>) -> Option<O
     op_of_two(word, first, value.at(2)?)
 }
 
-/// The operation of this word on two numbers, the first of which is read.
+/// The operation of this word on two numbers, after the first.
 fn op_of_two(word: &str, first: u32, second: &Value<'_>) -> Option<Op>
-    ensures { result ≡ spec.op_of_two word.now first (view second.now) }
+    ensures { result ≡ spec.op_of_two word.now first (value_view second.now) }
 {
     match word {
         "set" => Some(Op::Set(first, second.as_u64()?)),
         "add" => Some(Op::Add(first, second.as_u64()?)),
-        "copy" => Some(Op::Copy(first, small(second)?)),
-        "swap" => Some(Op::Swap(first, small(second)?)),
+        "copy" => Some(Op::Copy(first, whole_u32(second)?)),
+        "swap" => Some(Op::Swap(first, whole_u32(second)?)),
         _ => None,
     }
 }
 
-/// The script that a list of operations is; `None` where the value is none.
-pub fn script_of(value: &Value<'_>) -> Option<Script>
-    ensures { result ≡ spec.script_of (view value.now) }
+/// The script of a list of operations; `None` if the value is no such list.
+pub fn script_of_value(value: &Value<'_>) -> Option<Script>
+    ensures { result ≡ spec.script_of_value (value_view value.now) }
 {
     let items = value.as_array()?;
     let mut ops = [Op::Get(0); TELLING];
     let mut count = 0;
     for item in items {
-        let op = op_of(item)?;
+        let op = op_of_value(item)?;
         if count < TELLING {
             ops[count] = op;
             count += 1;

@@ -1,33 +1,33 @@
-//! What a line asks of a world.
+//! The request of a line.
 
 ghost use Rattle.std.specs.Prelude.{◌≡◌, IfOk, option_map};
-ghost use Rattle.rme_json.specs.View.{view};
+ghost use Rattle.rme_line_json.specs.View.{value_view};
 ghost use Rattle.rme_wire.specs.Requests as spec;
 
 use crate::command::{Command, command_named};
 use crate::loading::{Loading, loading_of};
 use crate::opening::{Opening, opening_of};
-use crate::value::word_of;
-use rme_json::{Room, Value, ValueReader};
-use rme_names::Names;
+use crate::value::do_member;
+use rme_line_io::Names;
+use rme_line_json::{Value, ValueReader, ValueStorage};
 use rme_words::NoMemory;
 use std::alloc::{AllocError, Global};
 
-/// What a command line asks for.
+/// The request of a command line.
 #[derive(Drop)]
 pub enum Request {
-    /// To open a world.
+    /// Open a world.
     Open(Opening),
-    /// To load a saved world in the place of the one that is open, if one is.
+    /// Load a saved world, in place of an open one.
     Load(Loading),
-    /// To do something to the world that is open.
+    /// A command to the open world.
     World(Command),
 }
 
-/// The request of a command line, or `None` where the line is no command.
+/// The request of a command line, or `None` if the line is no command.
 ///
-/// The names are those of the open world, and none where no world is open. `NoMemory` says that there was no
-/// room for the line's value or for a copy of the names and the image in it.
+/// The names are those of the open world, and none if no world is open. `NoMemory` if memory for the line's value, or
+/// for a copy of its names and its image, was refused.
 pub fn request_of(
     alloc: Global,
     values: &mut ValueReader,
@@ -36,7 +36,7 @@ pub fn request_of(
 ) -> Result<Option<Request>, NoMemory>
     ensures { IfOk result (λ request. request ≡ spec.request_of_line names.now line.now) }
 {
-    let mut room = Room::new();
+    let mut room = ValueStorage::new();
     match values.read(&mut room, line)? {
         None => Ok(None),
         Some(value) => match request_of_value(alloc, names, &value) {
@@ -46,18 +46,18 @@ pub fn request_of(
     }
 }
 
-#[tactic(auto, unfolding(crate::specs::Requests::request_of))]
+#[tactic(auto, unfolding(crate::specs::Requests::request_of_value))]
 fn request_of_value(
     alloc: Global,
     names: &Names,
     value: &Value<'_>,
 ) -> Result<Option<Request>, AllocError>
-    ensures { IfOk result (λ request. request ≡ spec.request_of names.now (view value.now)) }
+    ensures { IfOk result (λ request. request ≡ spec.request_of_value names.now (value_view value.now)) }
 {
     let Some(count) = value.key_count() else {
         return Ok(None);
     };
-    let Some(word) = word_of(value) else {
+    let Some(word) = do_member(value) else {
         return Ok(None);
     };
     if word == "open" {
@@ -74,7 +74,7 @@ fn open_request(
     count: usize,
     value: &Value<'_>,
 ) -> Result<Option<Request>, AllocError>
-    ensures { IfOk result (λ request. request ≡ spec.open_request count (view value.now)) }
+    ensures { IfOk result (λ request. request ≡ spec.open_request count (value_view value.now)) }
 {
     let Some(opening) = opening_of(alloc, count, value)? else {
         return Ok(None);
@@ -87,7 +87,7 @@ fn load_request(
     count: usize,
     value: &Value<'_>,
 ) -> Result<Option<Request>, AllocError>
-    ensures { IfOk result (λ request. request ≡ spec.load_request count (view value.now)) }
+    ensures { IfOk result (λ request. request ≡ spec.load_request count (value_view value.now)) }
 {
     let Some(loading) = loading_of(alloc, count, value)? else {
         return Ok(None);
@@ -96,7 +96,7 @@ fn load_request(
 }
 
 fn world_request(names: &Names, word: &str, count: usize, value: &Value<'_>) -> Option<Request>
-    ensures { result ≡ spec.world_request names.now word.now count (view value.now) }
+    ensures { result ≡ spec.world_request names.now word.now count (value_view value.now) }
 {
     let command = command_named(names, word, count, value)?;
     Some(Request::World(command))

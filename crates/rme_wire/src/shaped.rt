@@ -1,18 +1,19 @@
 //! The names and the shape that an opening asks for.
 
 ghost use Rattle.std.specs.Prelude.{◌≡◌, IfOk, IfErr};
-ghost use Rattle.rme_wire.specs.Openings.{IsAsGiven, IsGood, MayRefuse};
+ghost use Rattle.rme_wire.specs.Openings.{ShapeIsAsGiven, IsGoodOpening, MayRefuseOpening};
 
 use crate::opening::Opening;
-use rme_names::Names;
+use rme_line_io::Names;
 use rme_words::{Refusal, Shape};
 use std::alloc::Global;
 
-/// The names and the shape of an opening. `BadShape` comes where the names or the numbers are outside the limits,
-/// and `NoMemory` last.
+/// The names and the shape of an opening. `BadShape` if the names or the numbers are outside the limits; `NoMemory`
+/// only otherwise.
 pub fn names_and_shape(alloc: Global, opening: &Opening) -> Result<(Names, Shape), Refusal>
-    ensures ok { IfOk result (λ given. IsGood opening.now × (given.0 ≡ opening.now.locks) × IsAsGiven opening.now given.1) }
-    ensures err { IfErr result (MayRefuse opening.now) }
+    ensures ok { IfOk result (λ given. IsGoodOpening opening.now × (given.0 ≡ opening.now.locks)
+        × ShapeIsAsGiven opening.now given.1) }
+    ensures err { IfErr result (MayRefuseOpening opening.now) }
 {
     if !opening.locks.are_names() {
         return Err(Refusal::BadShape);

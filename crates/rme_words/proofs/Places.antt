@@ -6,9 +6,9 @@ use Rattle.std.proofs.lemmas.Bool.{lt-ltb, le-ltb, eq-eqb, ne_eqb}
 use Rattle.rme_words.specs.declared.shape.Shape.{Shape}
 use Rattle.rme_words.specs.declared.address.Address.{Address}
 use Rattle.rme_words.specs.declared.address.Address.TheVariants.{Begun, Done, Reply, Place, At, SlateLock, SlateLen, SlateWord, Node, Turn, Cell, Shadow, ShadowReply, Mask}
-use Rattle.rme_words.specs.Words.{IsOfShape, word, word_count, lock_start, lock_block}
+use Rattle.rme_words.specs.Words.{IsShapeAddress, word_number, word_count, lock_start, lock_block}
 
--- Which block an address is in, and where in it.
+-- The block of an address, and its offset there.
 pub data Spot : Type 0 where
   of_worker : (worker offset : ℕ) → Spot
   of_lock : (lock offset : ℕ) → Spot
@@ -61,7 +61,7 @@ abbrev pub address_at : Shape → Spot → Address
 address_at s (of_worker w o) = own_at w o
 address_at s (of_lock l o) = lock_at s l o
 
-pub number-spot : (s : Shape) (a : Address) → number s (spot s a) ≡ word s a
+pub number-spot : (s : Shape) (a : Address) → number s (spot s a) ≡ word_number s a
 number-spot s (Begun w) = omega arith
 number-spot s (Done w) = refl
 number-spot s (Reply w) = refl
@@ -77,7 +77,7 @@ number-spot s (Shadow l c) = refl
 number-spot s (ShadowReply l) = refl
 number-spot s (Mask l) = refl
 
-pub spot-in_block : (s : Shape) (a : Address) → IsOfShape s a → IsInBlock s (spot s a)
+pub spot-in_block : (s : Shape) (a : Address) → IsShapeAddress s a → IsInBlock s (spot s a)
 spot-in_block s (Begun w) h = (h, omega arith)
 spot-in_block s (Done w) h = (h, omega arith)
 spot-in_block s (Reply w) h = (h, omega arith)
@@ -147,7 +147,7 @@ mask_at s l =
     let past_reply : (s.leaves + 1 + 2 * s.cells == s.leaves + 2 * s.cells) ≡ false = ne_eqb _ _ (omega arith) in
     rw (past_nodes, past_turn, past_cells, past_shadows, past_reply) refl
 
-pub address-spot : (s : Shape) (a : Address) → IsOfShape s a → address_at s (spot s a) ≡ a
+pub address-spot : (s : Shape) (a : Address) → IsShapeAddress s a → address_at s (spot s a) ≡ a
 address-spot s (Begun w) h = refl
 address-spot s (Done w) h = refl
 address-spot s (Reply w) h = refl
@@ -163,7 +163,7 @@ address-spot s (Shadow l c) h = shadow_at s l c h.1
 address-spot s (ShadowReply l) h = shadow_reply_at s l
 address-spot s (Mask l) h = mask_at s l
 
--- Two spots with one number are one spot.
+-- Spots with the same number are equal.
 pub same_spot : (s : Shape) (a b : Spot) → IsInBlock s a → IsInBlock s b → number s a ≡ number s b → a ≡ b
 same_spot s (of_worker w o) (of_worker u i) h k e =
     let same : (w ≡ u) × (o ≡ i) = same_from_place w o u i 31 h.1 k.1 (omega arith) in
@@ -175,7 +175,7 @@ same_spot s (of_lock l o) (of_lock m i) h k e =
     rw (same.0, same.1) refl
 
 -- Distinct addresses have distinct numbers.
-pub same_address : (s : Shape) (a b : Address) → IsOfShape s a → IsOfShape s b → word s a ≡ word s b → a ≡ b
+pub same_address : (s : Shape) (a b : Address) → IsShapeAddress s a → IsShapeAddress s b → word_number s a ≡ word_number s b → a ≡ b
 same_address s a b h k e =
     let numbers : number s (spot s a) ≡ number s (spot s b) = number-spot s a ∙ (e ∙ sym (number-spot s b)) in
     let spots : spot s a ≡ spot s b = same_spot s _ _ (spot-in_block s a h) (spot-in_block s b k) numbers in
@@ -186,5 +186,5 @@ number_below s (of_worker w o) h = omega arith
 number_below s (of_lock l o) h = omega (arith, mul-add-lt l (lock_block s) o s.locks h.0 h.1)
 
 -- Each number is below the number of words.
-pub word_below : (s : Shape) (a : Address) → IsOfShape s a → word s a < word_count s
+pub word_below : (s : Shape) (a : Address) → IsShapeAddress s a → word_number s a < word_count s
 word_below s a h = rw (← number-spot s a) (number_below s _ (spot-in_block s a h))

@@ -1,4 +1,4 @@
--- A shape is told by its workers, locks, cells and jobs: its tree follows from the workers.
+-- A shape is determined by its workers, locks, cells and jobs: its tree follows from the workers.
 use Rattle.std.proofs.Common.{◌≡◌, ℕ, suc, ◌^◌, ◌<◌, ◌≤◌, refl, sym, ap, subst, ◌∙◌, arith, inl, inr}
 use Rattle.std.proofs.lemmas.Bool.{cases_lt}
 use Rattle.std.proofs.Math.Nat.{pow-suc}

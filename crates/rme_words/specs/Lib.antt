@@ -1,4 +1,4 @@
--- In reading order: the shape and its limits, the addresses and their numbers, what a store does.
+-- In reading order: the shape and its limits, the addresses and their numbers, the effect of a store.
 pub mod Shapes
 pub mod Words
 pub mod Refusals

@@ -1,52 +1,60 @@
 -- The numbers and the names of the refusals.
 use Rattle.std.specs.Prelude.{ℕ, List, codes}
 use Rattle.rme_words.specs.declared.refusal.Refusal.{Refusal}
-use Rattle.rme_words.specs.declared.refusal.Refusal.TheVariants.{BadLine, LineTooLong, NotOpen, AlreadyOpen, BadShape, NoWorker, Down, Up, Busy, Idle, NoLock, BadScript, NoCell, TooManyJobs, BadImage, WrongNumber, Differs, Taken, NotAttached, NoMemory, NotWaiting, NotInside}
+use Rattle.rme_words.specs.declared.refusal.Refusal.TheVariants.{BadLine, LineTooLong, NotOpen, AlreadyOpen, BadShape, NoWorker, Down, Up, Busy, Idle, NoLock, BadScript, NoCell, TooManyJobs, BadImage, WrongNumber, Differs, Taken, NotAttached, NoMemory, NotWaiting, NotInside, NoSpace, SpaceDiffers, NotAllowed, Overtaken}
 
-abbrev pub code_of : Refusal → ℕ
-code_of BadLine = 1
-code_of LineTooLong = 2
-code_of NotOpen = 3
-code_of AlreadyOpen = 4
-code_of BadShape = 5
-code_of NoWorker = 6
-code_of Down = 7
-code_of Up = 8
-code_of Busy = 9
-code_of Idle = 10
-code_of NoLock = 11
-code_of BadScript = 12
-code_of NoCell = 13
-code_of TooManyJobs = 14
-code_of BadImage = 15
-code_of (WrongNumber expected) = 16
-code_of Differs = 17
-code_of Taken = 18
-code_of NotAttached = 19
-code_of NoMemory = 20
-code_of NotWaiting = 21
-code_of NotInside = 22
+abbrev pub refusal_code : Refusal → ℕ
+refusal_code BadLine = 1
+refusal_code LineTooLong = 2
+refusal_code NotOpen = 3
+refusal_code AlreadyOpen = 4
+refusal_code BadShape = 5
+refusal_code NoWorker = 6
+refusal_code Down = 7
+refusal_code Up = 8
+refusal_code Busy = 9
+refusal_code Idle = 10
+refusal_code NoLock = 11
+refusal_code BadScript = 12
+refusal_code NoCell = 13
+refusal_code TooManyJobs = 14
+refusal_code BadImage = 15
+refusal_code (WrongNumber expected) = 16
+refusal_code Differs = 17
+refusal_code Taken = 18
+refusal_code NotAttached = 19
+refusal_code NoMemory = 20
+refusal_code NotWaiting = 21
+refusal_code NotInside = 22
+refusal_code NoSpace = 23
+refusal_code SpaceDiffers = 24
+refusal_code NotAllowed = 25
+refusal_code Overtaken = 26
 
-abbrev pub name_of : Refusal → List ℕ
-name_of BadLine = codes "BadLine"
-name_of LineTooLong = codes "LineTooLong"
-name_of NotOpen = codes "NotOpen"
-name_of AlreadyOpen = codes "AlreadyOpen"
-name_of BadShape = codes "BadShape"
-name_of NoWorker = codes "NoWorker"
-name_of Down = codes "Down"
-name_of Up = codes "Up"
-name_of Busy = codes "Busy"
-name_of Idle = codes "Idle"
-name_of NoLock = codes "NoLock"
-name_of BadScript = codes "BadScript"
-name_of NoCell = codes "NoCell"
-name_of TooManyJobs = codes "TooManyJobs"
-name_of BadImage = codes "BadImage"
-name_of (WrongNumber expected) = codes "WrongNumber"
-name_of Differs = codes "Differs"
-name_of Taken = codes "Taken"
-name_of NotAttached = codes "NotAttached"
-name_of NoMemory = codes "NoMemory"
-name_of NotWaiting = codes "NotWaiting"
-name_of NotInside = codes "NotInside"
+abbrev pub refusal_name : Refusal → List ℕ
+refusal_name BadLine = codes "BadLine"
+refusal_name LineTooLong = codes "LineTooLong"
+refusal_name NotOpen = codes "NotOpen"
+refusal_name AlreadyOpen = codes "AlreadyOpen"
+refusal_name BadShape = codes "BadShape"
+refusal_name NoWorker = codes "NoWorker"
+refusal_name Down = codes "Down"
+refusal_name Up = codes "Up"
+refusal_name Busy = codes "Busy"
+refusal_name Idle = codes "Idle"
+refusal_name NoLock = codes "NoLock"
+refusal_name BadScript = codes "BadScript"
+refusal_name NoCell = codes "NoCell"
+refusal_name TooManyJobs = codes "TooManyJobs"
+refusal_name BadImage = codes "BadImage"
+refusal_name (WrongNumber expected) = codes "WrongNumber"
+refusal_name Differs = codes "Differs"
+refusal_name Taken = codes "Taken"
+refusal_name NotAttached = codes "NotAttached"
+refusal_name NoMemory = codes "NoMemory"
+refusal_name NotWaiting = codes "NotWaiting"
+refusal_name NotInside = codes "NotInside"
+refusal_name NoSpace = codes "NoSpace"
+refusal_name SpaceDiffers = codes "SpaceDiffers"
+refusal_name NotAllowed = codes "NotAllowed"
+refusal_name Overtaken = codes "Overtaken"

@@ -1,7 +1,7 @@
 -- `shape`: the sizes of a lock service, and the sizes of its trees.
 use Rattle.std.specs.Prelude.{◌≡◌, ℕ, ◌*◌, ◌^◌, ◌<◌, ◌≤◌}
 
--- The numbers that a caller may ask for.
+-- The limits of the numbers that a caller may ask for.
 pub record IsWithinLimits (workers locks cells jobs : ℕ) : Type 0 where
   pub some_worker : 1 ≤ workers
   pub few_workers : workers ≤ 256

@@ -1,7 +1,7 @@
 //! The words of a shape, in one list.
 
 ghost use Rattle.std.specs.Prelude.{◌≡◌, ◌≢◌, ◌+◌, ◌*◌, ◌<◌, IfOk, length, replicate};
-ghost use Rattle.rme_words.specs.Words.{IsOfShape, Wrote, memory_of, read, word, word_count};
+ghost use Rattle.rme_words.specs.Words.{IsShapeAddress, StoreEffect, memory_of, read_word_at, word_number, word_count};
 
 use crate::address::Address;
 use crate::refusal::NoMemory;
@@ -38,7 +38,7 @@ fn zeros(alloc: Global, count: usize) -> Result<Vec<u64>, NoMemory>
 }
 
 impl Bank {
-    /// The words of a shape, all 0. Takes memory for them all; `NoMemory` where it was refused.
+    /// The words of a shape, all 0. Takes memory for them all; `NoMemory` if that was refused.
     pub fn new(alloc: Global, shape: Shape) -> Result<Bank, NoMemory>
         ensures { IfOk result (λ bank. bank ≡ record { shape = shape; words = replicate (word_count shape) 0 }) }
     {
@@ -54,7 +54,7 @@ impl Bank {
         Bank { shape, words }
     }
 
-    /// The words, each at the number that the shape gives its address.
+    /// The words, each at the number of its address in the shape.
     pub fn words(&self) -> &[u64]
         ensures words { result.now ≡ self.now.words }
         ensures whole { length result.now ≡ word_count self.now.shape }
@@ -62,7 +62,7 @@ impl Bank {
         &self.words
     }
 
-    /// The shape that the words are of.
+    /// The shape of the words.
     pub fn shape(&self) -> Shape
         ensures { result ≡ self.now.shape }
     {
@@ -71,28 +71,28 @@ impl Bank {
 
     /// The value of one word.
     pub fn load(&self, address: Address) -> u64
-        requires { IsOfShape self.now.shape address }
+        requires { IsShapeAddress self.now.shape address }
         ensures { result ≡ memory_of self.now address }
     {
         self.words[self.shape.word(address)]
     }
 
-    /// Puts a value into one word.
+    /// Stores a value into one word.
     pub fn store(&mut self, address: Address, value: u64)
-        requires { IsOfShape self.old.shape address }
+        requires { IsShapeAddress self.old.shape address }
         ensures shape { self.new.shape ≡ self.old.shape }
-        ensures stored { Wrote (memory_of self.old) (memory_of self.new) address value }
+        ensures stored { StoreEffect (memory_of self.old) (memory_of self.new) address value }
     {
         let at = self.shape.word(address);
         self.words[at] = value;
     }
 
-    /// Puts `new` into one word exactly where its value is `old`, and answers the value that it had.
+    /// Compare-and-swap: stores `new` into one word if its value is `old`, and answers the value that it had.
     pub fn compare_exchange(&mut self, address: Address, old: u64, new: u64) -> u64
-        requires { IsOfShape self.old.shape address }
+        requires { IsShapeAddress self.old.shape address }
         ensures shape { self.new.shape ≡ self.old.shape }
         ensures found { result ≡ memory_of self.old address }
-        ensures stored { result ≡ old → Wrote (memory_of self.old) (memory_of self.new) address new }
+        ensures stored { result ≡ old → StoreEffect (memory_of self.old) (memory_of self.new) address new }
         ensures kept { result ≢ old → self.new ≡ self.old }
     {
         let found = self.load(address);

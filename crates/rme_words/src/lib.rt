@@ -1,9 +1,9 @@
 //! The words of a lock service: its shape, its addresses, and a bank of 64-bit words that survive a crash.
 //!
-//! This crate stands on `std` alone, and every other crate stands on it. It knows where each word lies and
-//! that a store changes one address; it does not know what a word means. The one contract that the crates
-//! above use is `Wrote` of `specs/Words.antt`: after a store one address has the value, and every other
-//! address has what it had. Begin with `address.rt`, which says what each word is for.
+//! This crate stands only on `std`, and every other crate stands on it. It defines the number of each word and the
+//! effect of a store, and nothing about the meaning of words. The crates above use one contract, `StoreEffect` of
+//! `specs/Words.antt`: after a store one address has the value, and every other address keeps its value. Begin with
+//! `address.rt`, which gives the purpose of each word.
 #![tactic(auto)]
 
 mod address;

@@ -7,37 +7,38 @@ use crate::shape::Shape;
 
 impl Shape {
     ghost use Rattle.std.specs.Prelude.{◌≡◌, ◌<◌, ◌≤◌, ◌+◌, ◌*◌};
-    ghost use Rattle.rme_words.specs.Words.{IsOfShape, lock_start, word, word_count};
+    ghost use Rattle.rme_words.specs.Words.{IsShapeAddress, lock_start, word_number, word_count};
     ghost use Rattle.rme_words.specs.declared.address.Address.{Address};
 
-    /// How many words the shape has: 31 for each worker, and for each lock its leaves, 2, and twice its cells.
+    /// The number of words of the shape: 31 for each worker, and for each lock its leaves, 2, and twice its cells.
     pub fn words(&self) -> usize
         ensures { result ≡ word_count self.now }
     {
         31 * self.workers as usize + self.locks as usize * self.lock_block()
     }
 
-    /// How many words each lock has.
+    /// The number of words of each lock.
     fn lock_block(&self) -> usize
         ensures { result ≡ self.now.leaves + 2 + 2 * self.now.cells }
     {
         self.leaves as usize + 2 + 2 * self.cells as usize
     }
 
-    /// The number of an address: distinct addresses have distinct numbers, all below `words`. Where the kind of
-    /// the address is known, the function of that kind is faster: `begun_at` to `mask_at`.
+    /// The number of an address: distinct addresses have distinct numbers, all below `words`. If the kind of the
+    /// address is known, the function of that kind is faster: `begun_at` to `mask_at`.
     pub fn word(&self, address: Address) -> usize
-        requires { IsOfShape self.now address }
-        ensures number { result ≡ word self.now address }
+        requires { IsShapeAddress self.now address }
+        ensures number { result ≡ word_number self.now address }
         ensures below { result < word_count self.now }
-        ensures distinct { (other : Address) → IsOfShape self.now other → word self.now other ≡ result → other ≡ address }
+        ensures distinct { (other : Address) → IsShapeAddress self.now other → word_number self.now other ≡ result
+            → other ≡ address }
     {
         self.number(address)
     }
 
     fn number(&self, address: Address) -> usize
-        requires { IsOfShape self.now address }
-        ensures { result ≡ word self.now address }
+        requires { IsShapeAddress self.now address }
+        ensures { result ≡ word_number self.now address }
     {
         match address {
             Address::Begun(worker) => self.begun_at(worker),
@@ -60,7 +61,7 @@ impl Shape {
     /// The number of `Begun(worker)`.
     pub fn begun_at(&self, worker: u32) -> usize
         requires { worker < self.now.workers }
-        ensures { result ≡ word self.now (Address.Begun worker) }
+        ensures { result ≡ word_number self.now (Address.Begun worker) }
     {
         own(worker, 0)
     }
@@ -68,7 +69,7 @@ impl Shape {
     /// The number of `Done(worker)`.
     pub fn done_at(&self, worker: u32) -> usize
         requires { worker < self.now.workers }
-        ensures { result ≡ word self.now (Address.Done worker) }
+        ensures { result ≡ word_number self.now (Address.Done worker) }
     {
         own(worker, 1)
     }
@@ -76,7 +77,7 @@ impl Shape {
     /// The number of `Reply(worker)`.
     pub fn reply_at(&self, worker: u32) -> usize
         requires { worker < self.now.workers }
-        ensures { result ≡ word self.now (Address.Reply worker) }
+        ensures { result ≡ word_number self.now (Address.Reply worker) }
     {
         own(worker, 2)
     }
@@ -84,7 +85,7 @@ impl Shape {
     /// The number of `Place(worker)`.
     pub fn place_at(&self, worker: u32) -> usize
         requires { worker < self.now.workers }
-        ensures { result ≡ word self.now (Address.Place worker) }
+        ensures { result ≡ word_number self.now (Address.Place worker) }
     {
         own(worker, 3)
     }
@@ -92,7 +93,7 @@ impl Shape {
     /// The number of `At(worker)`.
     pub fn receipt_lock_at(&self, worker: u32) -> usize
         requires { worker < self.now.workers }
-        ensures { result ≡ word self.now (Address.At worker) }
+        ensures { result ≡ word_number self.now (Address.At worker) }
     {
         own(worker, 4)
     }
@@ -100,7 +101,7 @@ impl Shape {
     /// The number of `SlateLock(worker)`.
     pub fn slate_lock_at(&self, worker: u32) -> usize
         requires { worker < self.now.workers }
-        ensures { result ≡ word self.now (Address.SlateLock worker) }
+        ensures { result ≡ word_number self.now (Address.SlateLock worker) }
     {
         own(worker, 5)
     }
@@ -108,7 +109,7 @@ impl Shape {
     /// The number of `SlateLen(worker)`.
     pub fn slate_len_at(&self, worker: u32) -> usize
         requires { worker < self.now.workers }
-        ensures { result ≡ word self.now (Address.SlateLen worker) }
+        ensures { result ≡ word_number self.now (Address.SlateLen worker) }
     {
         own(worker, 6)
     }
@@ -118,7 +119,7 @@ impl Shape {
         requires worker { worker < self.now.workers }
         requires operation { operation < 8 }
         requires part { part < 3 }
-        ensures { result ≡ word self.now (Address.SlateWord worker operation part) }
+        ensures { result ≡ word_number self.now (Address.SlateWord worker operation part) }
     {
         own(worker, 7 + 3 * operation + part)
     }
@@ -128,7 +129,7 @@ impl Shape {
         requires lock { lock < self.now.locks }
         requires node { 1 ≤ node }
         requires below { node < self.now.leaves }
-        ensures { result ≡ word self.now (Address.Node lock node) }
+        ensures { result ≡ word_number self.now (Address.Node lock node) }
     {
         self.of_lock(lock, node - 1)
     }
@@ -136,7 +137,7 @@ impl Shape {
     /// The number of `Turn(lock)`.
     pub fn turn_at(&self, lock: u32) -> usize
         requires { lock < self.now.locks }
-        ensures { result ≡ word self.now (Address.Turn lock) }
+        ensures { result ≡ word_number self.now (Address.Turn lock) }
     {
         self.of_lock(lock, self.leaves - 1)
     }
@@ -145,7 +146,7 @@ impl Shape {
     pub fn cell_at(&self, lock: u32, cell: u32) -> usize
         requires lock { lock < self.now.locks }
         requires cell { cell < self.now.cells }
-        ensures { result ≡ word self.now (Address.Cell lock cell) }
+        ensures { result ≡ word_number self.now (Address.Cell lock cell) }
     {
         self.of_lock(lock, self.leaves + cell)
     }
@@ -154,7 +155,7 @@ impl Shape {
     pub fn shadow_at(&self, lock: u32, cell: u32) -> usize
         requires lock { lock < self.now.locks }
         requires cell { cell < self.now.cells }
-        ensures { result ≡ word self.now (Address.Shadow lock cell) }
+        ensures { result ≡ word_number self.now (Address.Shadow lock cell) }
     {
         self.of_lock(lock, self.leaves + self.cells + cell)
     }
@@ -162,7 +163,7 @@ impl Shape {
     /// The number of `ShadowReply(lock)`.
     pub fn shadow_reply_at(&self, lock: u32) -> usize
         requires { lock < self.now.locks }
-        ensures { result ≡ word self.now (Address.ShadowReply lock) }
+        ensures { result ≡ word_number self.now (Address.ShadowReply lock) }
     {
         self.of_lock(lock, self.leaves + 2 * self.cells)
     }
@@ -170,7 +171,7 @@ impl Shape {
     /// The number of `Mask(lock)`.
     pub fn mask_at(&self, lock: u32) -> usize
         requires { lock < self.now.locks }
-        ensures { result ≡ word self.now (Address.Mask lock) }
+        ensures { result ≡ word_number self.now (Address.Mask lock) }
     {
         self.of_lock(lock, self.leaves + 1 + 2 * self.cells)
     }

@@ -1,9 +1,11 @@
-//! Why a call was refused.
+//! The reason of a refused call.
 
 ghost use Rattle.std.specs.Prelude.{◌≡◌};
-ghost use Rattle.rme_words.specs.Refusals.{code_of, name_of};
+ghost use Rattle.rme_words.specs.Refusals.{refusal_code, refusal_name};
 
-/// Why a call was refused. A refused call changes nothing.
+use std::alloc::AllocError;
+
+/// The reason of a refused call. A refused call changes nothing.
 #[derive(Clone, Copy, Debug, PartialEq, Eq)]
 pub enum Refusal {
     /// The line is no command.
@@ -34,27 +36,45 @@ pub enum Refusal {
     NoCell,
     /// The worker has begun all the jobs that the shape allows.
     TooManyJobs,
-    /// The image is no good image.
+    /// The image is not valid.
     BadImage,
-    /// A session's number is neither the last nor the next; the next one is given.
+    /// A session's number is neither the last nor the next; the next one is in the answer.
     WrongNumber(u64),
     /// Another lock or script came under a pending number.
     Differs,
-    /// The worker's slot is empty.
+    /// Another session has the worker: its slot is empty.
     Taken,
     /// The session has no worker.
     NotAttached,
-    /// A growth of memory was refused.
+    /// Memory was refused.
     NoMemory,
     /// The worker is not waiting for a lock.
     NotWaiting,
     /// The session's worker has a job and is not inside its lock.
     NotInside,
+    /// There is no such space.
+    NoSpace,
+    /// A space of that name has other workers, cells or locks.
+    SpaceDiffers,
+    /// The session has no key for this call.
+    NotAllowed,
+    /// The worker was restarted since the life that the caller named.
+    Overtaken,
 }
 
-/// A growth of memory was refused, and nothing changed.
+/// Memory was refused, and nothing changed.
 #[derive(Clone, Copy, Debug, PartialEq, Eq)]
 pub struct NoMemory;
+
+impl From<AllocError> for NoMemory {
+    ghost use Rattle.std.specs.Prelude.{◌≡◌};
+
+    ghost from_gives = { λ _ r. r ≡ record {} };
+
+    fn from(_value: AllocError) -> NoMemory {
+        NoMemory
+    }
+}
 
 impl From<NoMemory> for Refusal {
     ghost use Rattle.std.specs.Prelude.{◌≡◌};
@@ -68,9 +88,9 @@ impl From<NoMemory> for Refusal {
 }
 
 impl Refusal {
-    /// The number of the refusal, 1 to 22, as it stands in answers.
+    /// The number of the refusal in answers, 1 to 26.
     pub fn code(&self) -> u32
-        ensures { result ≡ code_of self.now }
+        ensures { result ≡ refusal_code self.now }
     {
         match self {
             Refusal::BadLine => 1,
@@ -95,12 +115,16 @@ impl Refusal {
             Refusal::NoMemory => 20,
             Refusal::NotWaiting => 21,
             Refusal::NotInside => 22,
+            Refusal::NoSpace => 23,
+            Refusal::SpaceDiffers => 24,
+            Refusal::NotAllowed => 25,
+            Refusal::Overtaken => 26,
         }
     }
 
-    /// The name of the refusal, as it stands in answers.
+    /// The name of the refusal in answers.
     pub fn name(&self) -> &'static str
-        ensures { result.now ≡ name_of self.now }
+        ensures { result.now ≡ refusal_name self.now }
     {
         match self {
             Refusal::BadLine => "BadLine",
@@ -125,6 +149,10 @@ impl Refusal {
             Refusal::NoMemory => "NoMemory",
             Refusal::NotWaiting => "NotWaiting",
             Refusal::NotInside => "NotInside",
+            Refusal::NoSpace => "NoSpace",
+            Refusal::SpaceDiffers => "SpaceDiffers",
+            Refusal::NotAllowed => "NotAllowed",
+            Refusal::Overtaken => "Overtaken",
         }
     }
 }

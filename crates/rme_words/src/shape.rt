@@ -42,11 +42,12 @@ fn tree_over(workers: u32) -> (u32, u32)
 impl Shape {
     /// The shape of these numbers.
     ///
-    /// `workers` is 1 to 256, `locks` and `cells` (of each lock) are 1 to 16, and `jobs` (of each worker) is
-    /// 1 to 1,000,000; otherwise the answer is `BadShape`.
+    /// `workers` is 1 to 256, `locks` and `cells` (of each lock) are 1 to 16, and `jobs` (of each worker) is 1 to
+    /// 1,000,000; otherwise the answer is `BadShape`.
     pub fn new(workers: u32, locks: u32, cells: u32, jobs: u32) -> Result<Shape, Refusal>
         ensures accepted { IsOk result ↔ IsWithinLimits workers locks cells jobs }
-        ensures numbers { IfOk result (λ s. (s.workers ≡ workers) × (s.locks ≡ locks) × (s.cells ≡ cells) × (s.jobs ≡ jobs)) }
+        ensures numbers { IfOk result (λ s. (s.workers ≡ workers) × (s.locks ≡ locks) × (s.cells ≡ cells)
+            × (s.jobs ≡ jobs)) }
         ensures refused { IfErr result (λ e. e ≡ Refusal.BadShape) }
     {
         if !is_within(workers, MOST_WORKERS) {
@@ -69,43 +70,43 @@ impl Shape {
         })
     }
 
-    /// How many workers there are, numbered from 0.
+    /// The number of workers, which are numbered from 0.
     pub fn workers(&self) -> u32
         ensures { result ≡ self.now.workers }
     {
         self.workers
     }
 
-    /// How many locks there are, numbered from 0.
+    /// The number of locks, which are numbered from 0.
     pub fn locks(&self) -> u32
         ensures { result ≡ self.now.locks }
     {
         self.locks
     }
 
-    /// How many cells each lock has, numbered from 0.
+    /// The number of cells of each lock, which are numbered from 0.
     pub fn cells(&self) -> u32
         ensures { result ≡ self.now.cells }
     {
         self.cells
     }
 
-    /// How many jobs each worker may begin.
+    /// The number of jobs that each worker may begin.
     pub fn jobs(&self) -> u32
         ensures { result ≡ self.now.jobs }
     {
         self.jobs
     }
 
-    /// How many leaves each lock's tree has: the least power of two that is at least 2 and at least the
-    /// number of workers.
+    /// The number of leaves of each lock's tree: the least power of two that is at least 2 and at least the number of
+    /// workers.
     pub fn leaves(&self) -> u32
         ensures { result ≡ self.now.leaves }
     {
         self.leaves
     }
 
-    /// How many levels of nodes each lock's tree has: the logarithm of the leaves, 1 to 8.
+    /// The number of levels of nodes of each lock's tree: the logarithm of the leaves, 1 to 8.
     pub fn height(&self) -> u32
         ensures { result ≡ self.now.height }
     {

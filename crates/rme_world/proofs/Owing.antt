@@ -1,4 +1,4 @@
--- The entries that are due, and how a step of the machine changes them.
+-- The entries that are due, and how a step of the abstract machine changes their number.
 use Rattle.std.proofs.Common.{◌≡◌, ℕ, zero, suc, ◌+◌, ◌≤◌, List, [], ◌∷◌, length, refl, ◌∙◌, ap, arith, length-append}
 use Rattle.std.specs.Prelude.{Some, slice_get, slice_set}
 use Rattle.std.proofs.lemmas.Option.{none-some, same_Some}
@@ -7,35 +7,35 @@ use Rattle.rme_words.specs.declared.address.Address.{Address}
 use Rattle.rme_program.specs.declared.note.Entry.{Entry}
 use Rattle.rme_program.specs.declared.note.Note.{Note}
 use Rattle.rme_program.specs.declared.note.Note.TheVariants.{Quiet, Asked, Blocked, Entered, Reentered, Finished, Left, Ready, Withdrew}
-use Rattle.rme_machine.specs.declared.stance.Stance.{Stance}
-use Rattle.rme_machine.specs.declared.stance.Stance.TheVariants as stance
+use Rattle.rme_machine.specs.declared.stance.JobStance.{JobStance}
+use Rattle.rme_machine.specs.declared.stance.JobStance.TheVariants as stance
 use Rattle.rme_machine.specs.declared.label.Act.{Act}
 use Rattle.rme_machine.specs.declared.label.Act.TheVariants.{Hand, Ask, Take, Finish, Leave, Withdraw, Crash, Restart, Reenter, Still, Wait}
-use Rattle.rme_machine.specs.Machine.{State, WorkerState, StepOf, Does, fallen}
-use Rattle.rme_machine.specs.Shown.{act_of}
+use Rattle.rme_machine.specs.Machine.{MachineState, WorkerState, ActEffect, MachineStep, stance_after_crash}
+use Rattle.rme_machine.specs.AbstractState.{act_of_note}
 use Rattle.rme_machine.specs.Changes.{history_after}
-use Rattle.rme_world.specs.Seen.{due_of, owed}
+use Rattle.rme_world.specs.WorldInvariants.{entries_due, total_entries_due}
 
-due_small : (s : Stance) → due_of s ≤ 1
+due_small : (s : JobStance) → entries_due s ≤ 1
 due_small stance.Idle = omega arith
 due_small (stance.Handed job) = omega arith
 due_small (stance.Waiting k job) = omega arith
 due_small (stance.Inside k job) = omega arith
 due_small (stance.Finished k job) = omega arith
 
-pub owed_few : (workers : List WorkerState) → owed workers ≤ length workers
+pub owed_few : (workers : List WorkerState) → total_entries_due workers ≤ length workers
 owed_few [] = omega arith
 owed_few (w ∷ ws) = omega (arith, due_small w.stance, owed_few ws)
 
 owed_set : (workers : List WorkerState) (i : ℕ) (old new : WorkerState) → slice_get workers i ≡ Some old
-    → owed (slice_set workers i new) + due_of old.stance ≡ owed workers + due_of new.stance
+    → total_entries_due (slice_set workers i new) + entries_due old.stance ≡ total_entries_due workers + entries_due new.stance
 owed_set [] i old new at = absurd (none-some old at)
 owed_set (w ∷ ws) zero old new at =
-    let same : due_of w.stance ≡ due_of old.stance = ap (λ (x : WorkerState). due_of x.stance) (same_Some w old at) in
+    let same : entries_due w.stance ≡ entries_due old.stance = ap (λ (x : WorkerState). entries_due x.stance) (same_Some w old at) in
     omega (arith, same)
 owed_set (w ∷ ws) (suc i) old new at = omega (arith, owed_set ws i old new at)
 
--- The entries that a step of the machine makes, and those that are due after it and were not before.
+-- The number of entries that a machine step appends, and the number that become due by it.
 abbrev pub finished_by : Act → ℕ
 finished_by (Hand k job) = 0
 finished_by (Ask k) = 0
@@ -62,51 +62,51 @@ handed_by (Reenter lock) = 0
 handed_by Still = 0
 handed_by Wait = 0
 
-due_fallen : (s : Stance) → due_of (fallen s) ≤ due_of s
+due_fallen : (s : JobStance) → entries_due (stance_after_crash s) ≤ entries_due s
 due_fallen stance.Idle = omega arith
 due_fallen (stance.Handed job) = omega arith
 due_fallen (stance.Waiting k job) = omega arith
 due_fallen (stance.Inside k job) = omega arith
 due_fallen (stance.Finished k job) = omega arith
 
--- One worker's state is another.
-owed_with : (old new : State) (w : ℕ) (me next : WorkerState) → slice_get old.workers w ≡ Some me → new.workers ≡ slice_set old.workers w next
-    → owed new.workers + due_of me.stance ≡ owed old.workers + due_of next.stance
-owed_with old new w me next at e = ap (λ (ws : List WorkerState). owed ws + due_of me.stance) e ∙ owed_set old.workers w me next at
+-- One worker's state is replaced.
+owed_with : (old new : MachineState) (w : ℕ) (me next : WorkerState) → slice_get old.workers w ≡ Some me → new.workers ≡ slice_set old.workers w next
+    → total_entries_due new.workers + entries_due me.stance ≡ total_entries_due old.workers + entries_due next.stance
+owed_with old new w me next at e = ap (λ (ws : List WorkerState). total_entries_due ws + entries_due me.stance) e ∙ owed_set old.workers w me next at
 
-is_due : (me : WorkerState) (s : Stance) → me.stance ≡ s → due_of me.stance ≡ due_of s
-is_due me s e = ap due_of e
+is_due : (me : WorkerState) (s : JobStance) → me.stance ≡ s → entries_due me.stance ≡ entries_due s
+is_due me s e = ap entries_due e
 
-step_owed : (shape : Shape) (act : Act) (old : State) (w : ℕ) (me : WorkerState) (new : State) → slice_get old.workers w ≡ Some me → StepOf shape act old w me new
-    → owed new.workers + finished_by act ≤ owed old.workers + handed_by act
+step_owed : (shape : Shape) (act : Act) (old : MachineState) (w : ℕ) (me : WorkerState) (new : MachineState) → slice_get old.workers w ≡ Some me → ActEffect shape act old w me new
+    → total_entries_due new.workers + finished_by act ≤ total_entries_due old.workers + handed_by act
 step_owed shape (Hand k job) old w me new at (up, idle, is, e, few, then_) =
-    omega (arith, owed_with old new w me _ at (ap (λ (s : State). s.workers) then_), is_due me _ idle)
+    omega (arith, owed_with old new w me _ at (ap (λ (s : MachineState). s.workers) then_), is_due me _ idle)
 step_owed shape (Ask k) old w me new at (job, up, handed, e, then_) =
-    omega (arith, owed_with old new w me _ at (ap (λ (s : State). s.workers) then_), is_due me _ handed)
+    omega (arith, owed_with old new w me _ at (ap (λ (s : MachineState). s.workers) then_), is_due me _ handed)
 step_owed shape (Take lock) old w me new at (k, job, up, waits, there, free, then_) =
-    omega (arith, owed_with old new w me _ at (ap (λ (s : State). s.workers) then_), is_due me _ waits)
+    omega (arith, owed_with old new w me _ at (ap (λ (s : MachineState). s.workers) then_), is_due me _ waits)
 step_owed shape (Finish receipt) old w me new at (k, job, up, entered, inside, is, then_) =
-    omega (arith, owed_with old new w me _ at (ap (λ (s : State). s.workers) then_), is_due me _ inside)
+    omega (arith, owed_with old new w me _ at (ap (λ (s : MachineState). s.workers) then_), is_due me _ inside)
 step_owed shape (Leave lock) old w me new at (k, job, up, entered, done, there, then_) =
-    omega (arith, owed_with old new w me _ at (ap (λ (s : State). s.workers) then_), is_due me _ done)
+    omega (arith, owed_with old new w me _ at (ap (λ (s : MachineState). s.workers) then_), is_due me _ done)
 step_owed shape (Withdraw k) old w me new at (job, up, waits, then_) =
-    omega (arith, owed_with old new w me _ at (ap (λ (s : State). s.workers) then_), is_due me _ waits)
+    omega (arith, owed_with old new w me _ at (ap (λ (s : MachineState). s.workers) then_), is_due me _ waits)
 step_owed shape Crash old w me new at (up, then_) =
-    omega (arith, owed_with old new w me _ at (ap (λ (s : State). s.workers) then_), due_fallen me.stance)
+    omega (arith, owed_with old new w me _ at (ap (λ (s : MachineState). s.workers) then_), due_fallen me.stance)
 step_owed shape Restart old w me new at (down, then_) =
-    omega (arith, owed_with old new w me _ at (ap (λ (s : State). s.workers) then_))
+    omega (arith, owed_with old new w me _ at (ap (λ (s : MachineState). s.workers) then_))
 step_owed shape (Reenter lock) old w me new at (up, out, stays, then_) =
-    omega (arith, owed_with old new w me _ at (ap (λ (s : State). s.workers) then_))
-step_owed shape Still old w me new at (up, then_) = omega (arith, ap (λ (s : State). owed s.workers) then_)
-step_owed shape Wait old w me new at (k, job, up, waits, then_) = omega (arith, ap (λ (s : State). owed s.workers) then_)
+    omega (arith, owed_with old new w me _ at (ap (λ (s : MachineState). s.workers) then_))
+step_owed shape Still old w me new at (up, then_) = omega (arith, ap (λ (s : MachineState). total_entries_due s.workers) then_)
+step_owed shape Wait old w me new at (k, job, up, waits, then_) = omega (arith, ap (λ (s : MachineState). total_entries_due s.workers) then_)
 
--- An entry that was due is made by its finish, and a job that is handed over makes one due.
-pub owed_step : (shape : Shape) (act : Act) (old : State) (w : ℕ) (new : State) → Does shape act old w new
-    → owed new.workers + finished_by act ≤ owed old.workers + handed_by act
+-- A finish appends an entry that was due; a submitted job makes one entry due.
+pub owed_step : (shape : Shape) (act : Act) (old : MachineState) (w : ℕ) (new : MachineState) → MachineStep shape act old w new
+    → total_entries_due new.workers + finished_by act ≤ total_entries_due old.workers + handed_by act
 owed_step shape act old w new does = step_owed shape act old w does.me new does.is_me does.goes
 
--- A note tells of no hand-over, and the history grows by what its step finishes.
-pub none_handed : (note : Note) → handed_by (act_of note) ≡ 0
+-- No note stands for a submission, and the history grows by the entries that the step finishes.
+pub none_handed : (note : Note) → handed_by (act_of_note note) ≡ 0
 none_handed Quiet = refl
 none_handed (Asked k) = refl
 none_handed Blocked = refl
@@ -117,7 +117,7 @@ none_handed (Left lock) = refl
 none_handed Ready = refl
 none_handed (Withdrew k) = refl
 
-pub history_longer : (history : List Entry) (memory : Address → ℕ) (w : ℕ) (note : Note) → length (history_after history memory w note) ≡ length history + finished_by (act_of note)
+pub history_longer : (history : List Entry) (memory : Address → ℕ) (w : ℕ) (note : Note) → length (history_after history memory w note) ≡ length history + finished_by (act_of_note note)
 history_longer history memory w Quiet = omega arith
 history_longer history memory w (Asked k) = omega arith
 history_longer history memory w Blocked = omega arith

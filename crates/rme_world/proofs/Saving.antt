@@ -1,5 +1,5 @@
--- Saved worlds: their entries fit the bytes of an image, the world of an image is kept, and it shows the saved one after a
--- crash of every worker.
+-- Saved worlds: their entries fit the bytes of an image, the world of an image satisfies the invariant, and its
+-- abstract state is that of the saved world after a crash of every worker.
 use Rattle.std.proofs.Common.{◌≡◌, ℕ, zero, suc, ◌+◌, ◌*◌, ◌^◌, ◌<◌, ◌≤◌, Bool, true, false, List, [], ◌∷◌, ◌++◌, length, refl, sym, ◌∙◌, ap, subst, mul-le-mul, inl, arith}
 use Rattle.std.specs.Prelude.{Option, Some, None, Result, Ok, Err, IfOk, map, slice_get}
 use Rattle.std.specs.List.{All, range_with_len}
@@ -11,97 +11,98 @@ use Rattle.rme_words.specs.declared.refusal.Refusal.{Refusal}
 use Rattle.rme_words.specs.declared.refusal.Refusal.TheVariants.{BadImage}
 use Rattle.rme_words.specs.declared.shape.Shape.{Shape}
 use Rattle.rme_words.specs.declared.address.Address.{Address}
-use Rattle.rme_words.specs.Words.{read}
+use Rattle.rme_words.specs.Words.{read_word_at}
 use Rattle.rme_script.specs.declared.job.Job.{Job}
 use Rattle.rme_script.specs.declared.op.Op.{Op}
 use Rattle.rme_script.specs.declared.op.Op.TheVariants.{Get, Set, Add, Copy, Swap}
-use Rattle.rme_script.specs.Scripts.{IsWithin}
+use Rattle.rme_script.specs.Scripts.{OpIsWithin}
 use Rattle.rme_program.specs.declared.note.Entry.{Entry}
 use Rattle.rme_program.specs.declared.private.Private.{Private}
 use Rattle.rme_program.specs.declared.stage.Stage.{Stage}
 use Rattle.rme_program.specs.declared.stage.Stage.TheVariants.{Resting, Recovering, Posting, Climbing, Logging, Copying, Leaving}
-use Rattle.rme_image.specs.Images.{IsVersion, IsWithinBytes, Spells}
-use Rattle.rme_machine.specs.Clauses.{IsGood}
-use Rattle.rme_machine.specs.Histories.{IsDue, IsLegalAfter, last_by, withdrawn_of}
-use Rattle.rme_machine.specs.Machine.{WorkerState, fallen}
-use Rattle.rme_machine.specs.Shown.{Privates, job_of, lock_owned, shown_worker, stance_outside, worker_by}
+use Rattle.rme_core_image.specs.Images.{IsImageVersion, EntryFitsItsBytes, BytesEncodeImage}
+use Rattle.rme_machine.specs.Clauses.{IsValidMemory}
+use Rattle.rme_machine.specs.Histories.{IsLegalNextEntry, HistoryIsLegalAfter, last_entry_of_worker, withdrawn_numbers}
+use Rattle.rme_machine.specs.Machine.{WorkerState, stance_after_crash}
+use Rattle.rme_machine.specs.AbstractState.{Privates, last_entry_job, lock_owned_by_worker, abstract_worker, stance_outside, abstract_worker_by}
 use Rattle.rme_machine.specs.Views.{WorkerWords, is_pending, worker_words}
 use Rattle.rme_machine.proofs.Clauses.{fact_good, good_fact}
 use Rattle.rme_machine.proofs.Historical.{entries_few}
 use Rattle.rme_world.specs.declared.counts.Counts.{Counts}
-use Rattle.rme_world.specs.Counting.{count_of, most_steps, no_counts}
-use Rattle.rme_world.specs.Images.{IsGoodImage, Loaded, Saved, all_crashed, crashed_worker, restored_world}
-use Rattle.rme_world.specs.Seen.{Seen, IsKept, if_up, memory_seen, privates_seen, shown_by}
+use Rattle.rme_world.specs.Counting.{phase_count, max_phase_steps, no_counts}
+use Rattle.rme_world.specs.Images.{IsValidImage, LoadContract, SaveContract, all_crashed, crashed_worker, restored_world}
+use Rattle.rme_world.specs.WorldViews.{WorldView, private_if_up, world_memory, world_privates, world_abstract_state}
+use Rattle.rme_world.specs.WorldInvariants.{WorldInvariant}
 use Rattle.rme_world.proofs.Happening.{none_short, shown_long}
 use Rattle.rme_world.proofs.Opened.{counts_at}
 use Rattle.rme_world.proofs.Owing.{owed_few}
 
 -- ---- the entries of a world fit their bytes
 
-op_wider : (cells : ℕ) → cells ≤ 16 → (op : Op) → IsWithin cells op → IsWithin 256 op
+op_wider : (cells : ℕ) → cells ≤ 16 → (op : Op) → OpIsWithin cells op → OpIsWithin 256 op
 op_wider cells few (Get c) within = omega (arith, few, within)
 op_wider cells few (Set c v) within = omega (arith, few, within)
 op_wider cells few (Add c v) within = omega (arith, few, within)
 op_wider cells few (Copy a b) within = (omega (arith, few, within.0), omega (arith, few, within.1))
 op_wider cells few (Swap a b) within = (omega (arith, few, within.0), omega (arith, few, within.1))
 
-due_within : (shape : Shape) (earlier : List Entry) (e : Entry) → IsDue shape earlier e → IsWithinBytes e
+due_within : (shape : Shape) (earlier : List Entry) (e : Entry) → IsLegalNextEntry shape earlier e → EntryFitsItsBytes e
 due_within shape earlier e due = record {
   worker = omega (arith, due.worker, shape.counted.limits.few_workers);
   lock = omega (arith, due.follows.job.lock, shape.counted.limits.few_locks);
   script = (let script = due.follows.job.script in record {
     few = script.few;
     counted = script.counted;
-    within = All-weaker (IsWithin shape.cells) (IsWithin 256) (op_wider shape.cells (omega (arith, shape.counted.limits.few_cells))) e.script.ops script.within;
+    within = All-weaker (OpIsWithin shape.cells) (OpIsWithin 256) (op_wider shape.cells (omega (arith, shape.counted.limits.few_cells))) e.script.ops script.within;
   });
 }
 
-legal_within : (shape : Shape) (earlier es : List Entry) → IsLegalAfter shape earlier es → All IsWithinBytes es
-legal_within shape earlier [] legal = All-nil IsWithinBytes
-legal_within shape earlier (e ∷ es) legal = All-cons IsWithinBytes e es (due_within shape earlier e legal.0) (legal_within shape (earlier ++ e ∷ []) es legal.1)
+legal_within : (shape : Shape) (earlier es : List Entry) → HistoryIsLegalAfter shape earlier es → All EntryFitsItsBytes es
+legal_within shape earlier [] legal = All-nil EntryFitsItsBytes
+legal_within shape earlier (e ∷ es) legal = All-cons EntryFitsItsBytes e es (due_within shape earlier e legal.0) (legal_within shape (earlier ++ e ∷ []) es legal.1)
 
-pub history_within : (seen : Seen) → IsKept seen → All IsWithinBytes seen.history
+pub history_within : (seen : WorldView) → WorldInvariant seen → All EntryFitsItsBytes seen.history
 history_within seen kept = legal_within seen.shape [] seen.history kept.fact.legal
 
-pub history_few : (seen : Seen) → IsKept seen → length seen.history < 2 ^ 32
+pub history_few : (seen : WorldView) → WorldInvariant seen → length seen.history < 2 ^ 32
 history_few seen kept =
     let most : seen.shape.workers * seen.shape.jobs ≤ 256 * 1000000 = mul-le-mul seen.shape.counted.limits.few_workers seen.shape.counted.limits.few_jobs in
-    omega (arith, most, entries_few seen.shape (memory_seen seen) (privates_seen seen) seen.history kept.fact)
+    omega (arith, most, entries_few seen.shape (world_memory seen) (world_privates seen) seen.history kept.fact)
 
 -- ---- the world of an image
 
-down_from : (low n worker : ℕ) → if_up (slice_get (map (λ (u : ℕ). None) (range_with_len low n)) worker) ≡ None
+down_from : (low n worker : ℕ) → private_if_up (slice_get (map (λ (u : ℕ). None) (range_with_len low n)) worker) ≡ None
 down_from low zero worker = refl
 down_from low (suc n) zero = refl
 down_from low (suc n) (suc worker) = down_from (low + 1) n worker
 
 module _ (shape : Shape) (words : List ℕ) (history : List Entry) (room : ℕ) where
-  abbrev pub restored : Seen
+  abbrev pub restored : WorldView
   restored = restored_world shape words history room
 
-  pub down : (worker : ℕ) → privates_seen restored worker ≡ None
+  pub down : (worker : ℕ) → world_privates restored worker ≡ None
   down worker = down_from 0 shape.workers worker
 
-  pub restored_kept : IsGood shape (read shape words) history → shape.workers ≤ room → IsKept restored
+  pub restored_kept : IsValidMemory shape (read_word_at shape words) history → shape.workers ≤ room → WorldInvariant restored
   restored_kept good roomy = record {
     all_privates = length-map-range_with_len (λ (worker : ℕ). None) 0 shape.workers;
     all_counts = length-replicate shape.workers no_counts;
-    fact = good_fact shape (read shape words) (privates_seen restored) history good (λ worker _. down worker);
-    room = omega (arith, roomy, owed_few (shown_by restored).workers, shown_long restored);
+    fact = good_fact shape (read_word_at shape words) (world_privates restored) history good (λ worker _. down worker);
+    room = omega (arith, roomy, owed_few (world_abstract_state restored).workers, shown_long restored);
     stays = λ worker private within at. absurd (none-some private (sym (down worker) ∙ at));
-    short = λ worker phase within. subst (λ (c : Counts). count_of c phase ≤ most_steps shape phase) (sym (counts_at shape.workers worker)) (none_short shape phase);
+    short = λ worker phase within. subst (λ (c : Counts). phase_count c phase ≤ max_phase_steps shape phase) (sym (counts_at shape.workers worker)) (none_short shape phase);
   }
 
--- ---- what `load` answers
+-- ---- the result of `load`
 
--- The bytes spell nothing else.
+-- The bytes encode nothing else.
 abbrev pub SpellOnly : List ℕ → Shape → List ℕ → List Entry → Type 0
 SpellOnly bytes shape words entries =
-    (version : ℕ) (other : Shape) (others : List ℕ) (more : List Entry) → IsVersion version other → Spells version bytes other others more
+    (version : ℕ) (other : Shape) (others : List ℕ) (more : List Entry) → IsImageVersion version other → BytesEncodeImage version bytes other others more
     → (shape ≡ other) × (words ≡ others) × (entries ≡ more)
 
-pub bad_image : (bytes : List ℕ) (shape : Shape) (words : List ℕ) (entries : List Entry) → SpellOnly bytes shape words entries → (IsGood shape (read shape words) entries → ⊥)
-    → Loaded bytes (Err BadImage)
+pub bad_image : (bytes : List ℕ) (shape : Shape) (words : List ℕ) (entries : List Entry) → SpellOnly bytes shape words entries → (IsValidMemory shape (read_word_at shape words) entries → ⊥)
+    → LoadContract bytes (Err BadImage)
 bad_image bytes shape words entries spell bad = record {
   found = tt;
   restored = tt;
@@ -112,8 +113,8 @@ bad_image bytes shape words entries spell bad = record {
   refused = inl refl;
 }
 
-pub good_image : (bytes : List ℕ) (version : ℕ) (shape : Shape) (words : List ℕ) (entries : List Entry) (room : ℕ) → IsVersion version shape → Spells version bytes shape words entries
-    → SpellOnly bytes shape words entries → IsGood shape (read shape words) entries → shape.workers ≤ room → Loaded bytes (Ok (restored_world shape words entries room))
+pub good_image : (bytes : List ℕ) (version : ℕ) (shape : Shape) (words : List ℕ) (entries : List Entry) (room : ℕ) → IsImageVersion version shape → BytesEncodeImage version bytes shape words entries
+    → SpellOnly bytes shape words entries → IsValidMemory shape (read_word_at shape words) entries → shape.workers ≤ room → LoadContract bytes (Ok (restored_world shape words entries room))
 good_image bytes version shape words entries room is spells spell good roomy = record {
   found = (version, is, spells, good);
   restored = refl;
@@ -125,7 +126,7 @@ good_image bytes version shape words entries room is spells spell good roomy = r
 
 -- ---- the round trip
 
-outside_fallen : (stage : Stage) (private : Private) → private.stage ≡ stage → stance_outside None ≡ fallen (stance_outside (Some private))
+outside_fallen : (stage : Stage) (private : Private) → private.stage ≡ stage → stance_outside None ≡ stance_after_crash (stance_outside (Some private))
 outside_fallen Resting private e = rw e refl
 outside_fallen (Recovering recovery) private e = rw e refl
 outside_fallen (Posting slate) private e = rw e refl
@@ -135,7 +136,7 @@ outside_fallen (Copying redo) private e = rw e refl
 outside_fallen (Leaving departure) private e = rw e refl
 
 worker_crashed : (owned : Option ℕ) (pending : Bool) (own : WorkerWords) (private : Option Private) (last : Job) (withdrawn : List ℕ) → is_pending own ≡ pending
-    → worker_by owned own None last withdrawn ≡ crashed_worker (worker_by owned own private last withdrawn)
+    → abstract_worker_by owned own None last withdrawn ≡ crashed_worker (abstract_worker_by owned own private last withdrawn)
 worker_crashed owned pending own None last withdrawn e = refl
 worker_crashed (Some lock) true own (Some private) last withdrawn e = rw e refl
 worker_crashed (Some lock) false own (Some private) last withdrawn e = rw e refl
@@ -143,34 +144,34 @@ worker_crashed None true own (Some private) last withdrawn e = rw e refl
 worker_crashed None false own (Some private) last withdrawn e = rw (e, outside_fallen private.stage private refl) refl
 
 shown_crashed : (shape : Shape) (memory : Address → ℕ) (privates : Privates) (history : List Entry) (down : Privates) (worker : ℕ) → down worker ≡ None
-    → shown_worker shape memory down history worker ≡ crashed_worker (shown_worker shape memory privates history worker)
+    → abstract_worker shape memory down history worker ≡ crashed_worker (abstract_worker shape memory privates history worker)
 shown_crashed shape memory privates history down worker none =
     rw none
-    (worker_crashed (lock_owned shape memory worker) (is_pending (worker_words memory worker)) (worker_words memory worker) (privates worker) (job_of (last_by history worker))
-    (withdrawn_of history worker (worker_words memory worker).done) refl)
+    (worker_crashed (lock_owned_by_worker shape memory worker) (is_pending (worker_words memory worker)) (worker_words memory worker) (privates worker) (last_entry_job (last_entry_of_worker history worker))
+    (withdrawn_numbers history worker (worker_words memory worker).done) refl)
 
 map_twice : {A B C : Type 0} (f : A → C) (g : A → B) (h : B → C) → ((x : A) → f x ≡ h (g x)) → (xs : List A) → map f xs ≡ map h (map g xs)
 map_twice f g h same [] = refl
 map_twice f g h same (x ∷ xs) = rw (same x, map_twice f g h same xs) refl
 
-pub restored_shows : (seen : Seen) (room : ℕ) → shown_by (restored_world seen.shape seen.words seen.history room) ≡ all_crashed (shown_by seen)
+pub restored_shows : (seen : WorldView) (room : ℕ) → world_abstract_state (restored_world seen.shape seen.words seen.history room) ≡ all_crashed (world_abstract_state seen)
 restored_shows seen room =
-    ap (λ (workers : List WorkerState). record (shown_by seen) { workers = workers })
-    (map_twice (shown_worker seen.shape (memory_seen seen) (privates_seen (restored_world seen.shape seen.words seen.history room)) seen.history)
-    (shown_worker seen.shape (memory_seen seen) (privates_seen seen) seen.history) crashed_worker
-    (λ worker. shown_crashed seen.shape (memory_seen seen) (privates_seen seen) seen.history (privates_seen (restored_world seen.shape seen.words seen.history room)) worker
+    ap (λ (workers : List WorkerState). record (world_abstract_state seen) { workers = workers })
+    (map_twice (abstract_worker seen.shape (world_memory seen) (world_privates (restored_world seen.shape seen.words seen.history room)) seen.history)
+    (abstract_worker seen.shape (world_memory seen) (world_privates seen) seen.history) crashed_worker
+    (λ worker. shown_crashed seen.shape (world_memory seen) (world_privates seen) seen.history (world_privates (restored_world seen.shape seen.words seen.history room)) worker
     (down seen.shape seen.words seen.history room worker)) (range_with_len 0 seen.shape.workers))
 
--- ---- what `save` answers
+-- ---- the result of `save`
 
-returns_by : (seen : Seen) (bytes : List ℕ) → IsGoodImage bytes seen.shape seen.words seen.history → (result : Result Seen Refusal) → Loaded bytes result
-    → IfOk result (λ world. shown_by world ≡ all_crashed (shown_by seen))
-returns_by seen bytes good (Ok world) loaded = ap shown_by (loaded.only seen.shape seen.words seen.history good) ∙ restored_shows seen world.room
+returns_by : (seen : WorldView) (bytes : List ℕ) → IsValidImage bytes seen.shape seen.words seen.history → (result : Result WorldView Refusal) → LoadContract bytes result
+    → IfOk result (λ world. world_abstract_state world ≡ all_crashed (world_abstract_state seen))
+returns_by seen bytes good (Ok world) loaded = ap world_abstract_state (loaded.only seen.shape seen.words seen.history good) ∙ restored_shows seen world.room
 returns_by seen bytes good (Err refusal) loaded = tt
 
-pub saves : (seen : Seen) (bytes : List ℕ) → IsKept seen → Spells 2 bytes seen.shape seen.words seen.history → Saved seen bytes
+pub saves : (seen : WorldView) (bytes : List ℕ) → WorldInvariant seen → BytesEncodeImage 2 bytes seen.shape seen.words seen.history → SaveContract seen bytes
 saves seen bytes kept spells =
-    let good : IsGoodImage bytes seen.shape seen.words seen.history = (2, inl refl, spells, fact_good seen.shape (memory_seen seen) (privates_seen seen) seen.history kept.fact) in
+    let good : IsValidImage bytes seen.shape seen.words seen.history = (2, inl refl, spells, fact_good seen.shape (world_memory seen) (world_privates seen) seen.history kept.fact) in
     record {
       image = spells.spelled;
       good = good;
@@ -178,7 +179,7 @@ saves seen bytes kept spells =
       accepted = λ result loaded. loaded.accepted seen.shape seen.words seen.history good;
     }
 
--- What holds of a value that is there can be weakened.
+-- A property of an `Ok` value can be weakened.
 pub if_ok : {A E : Type 0} {P Q : A → Type 0} (result : Result A E) → ((x : A) → P x → Q x) → IfOk result P → IfOk result Q
 if_ok (Ok x) weaker is = weaker x is
 if_ok (Err e) weaker is = tt

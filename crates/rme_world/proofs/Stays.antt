@@ -1,4 +1,4 @@
--- How the counts of a stay go on.
+-- How the counts of a stay evolve.
 use Rattle.std.proofs.Common.{◌≡◌, ◌≢◌, ℕ, ◌+◌, ◌<◌, ◌≤◌, refl, sym, ◌∙◌, ap, subst, inl, inr, arith}
 use Rattle.rme_words.specs.declared.shape.Shape.{Shape}
 use Rattle.rme_program.specs.declared.kinds.Phase.{Phase}
@@ -12,21 +12,21 @@ use Rattle.rme_program.specs.declared.stage.Stage.TheVariants.{Resting, Recoveri
 use Rattle.rme_program.specs.declared.stage.Recovery.TheVariants.{LoadBegun, LoadDone, LoadLock, LoadPath}
 use Rattle.rme_program.specs.declared.stage.Log.TheVariants.{LoadTurn, LoadLen, LoadSlate, LoadCells, StoreShadows, StoreShadowReply, StoreMask, StoreTurn}
 use Rattle.rme_program.specs.declared.stage.Departure.TheVariants.{LoadExitTurn, StoreExitTurn, Clear, WithdrawPlace, WithdrawAt, WithdrawReply, WithdrawDone}
-use Rattle.rme_program.specs.Conditions.{IsPrivate, IsStage, Takes}
-use Rattle.rme_program.specs.Phases.{phase_of, left_of}
-use Rattle.rme_program.specs.Progress.{IsOnTrack, Taken, rank}
-use Rattle.rme_program.specs.Steps.{private_after, note_after, after_at}
+use Rattle.rme_program.specs.Conditions.{IsPrivate, IsStage, IsValidLoad}
+use Rattle.rme_program.specs.Phases.{phase_of, steps_left}
+use Rattle.rme_program.specs.Progress.{IsOnTrack, StepsTaken, phase_rank}
+use Rattle.rme_program.specs.Steps.{private_after, note_after, outcome_at}
 use Rattle.rme_program.proofs.Columns.{within_most}
 use Rattle.rme_program.proofs.Falls.{Steps, steps_on}
 use Rattle.rme_world.specs.declared.counts.Counts.{Counts}
-use Rattle.rme_world.specs.Counting.{IsStay, CountsAfter, count_of, with_count, counted, begun_stay, most_steps}
-use Rattle.rme_program.specs.NoteLaws.{Tells}
+use Rattle.rme_world.specs.Counting.{IsStayCount, CountsAfterStep, phase_count, with_phase_count, with_step_counted, with_stay_begun, max_phase_steps}
+use Rattle.rme_program.specs.NoteLaws.{NoteMeaning}
 use Rattle.rme_program.proofs.NoteLaws.{cases_phase, note_law, some_left}
 
 -- ---- the counts of all phases
 
--- The number that was put in a phase.
-pub count_here : (counts : Counts) (phase : Phase) (n : ℕ) → phase ≢ Ready → count_of (with_count counts phase n) phase ≡ n
+-- The count that was set for a phase.
+pub count_here : (counts : Counts) (phase : Phase) (n : ℕ) → phase ≢ Ready → phase_count (with_phase_count counts phase n) phase ≡ n
 count_here counts Recover n some = refl
 count_here counts Post n some = refl
 count_here counts Enter n some = refl
@@ -34,7 +34,7 @@ count_here counts Section n some = refl
 count_here counts Exit n some = refl
 count_here counts Ready n some = absurd (some refl)
 
-pub begun_here : (counts : Counts) (phase : Phase) → count_of (begun_stay counts phase) phase ≡ 0
+pub begun_here : (counts : Counts) (phase : Phase) → phase_count (with_stay_begun counts phase) phase ≡ 0
 begun_here counts Recover = refl
 begun_here counts Post = refl
 begun_here counts Enter = refl
@@ -42,8 +42,8 @@ begun_here counts Section = refl
 begun_here counts Exit = refl
 begun_here counts Ready = refl
 
--- The number of another phase stays.
-pub count_there : (counts : Counts) (phase other : Phase) (n : ℕ) → other ≢ phase → count_of (with_count counts phase n) other ≡ count_of counts other
+-- The counts of other phases are unchanged.
+pub count_there : (counts : Counts) (phase other : Phase) (n : ℕ) → other ≢ phase → phase_count (with_phase_count counts phase n) other ≡ phase_count counts other
 count_there counts Recover Recover n apart = absurd (apart refl)
 count_there counts Recover Post n apart = refl
 count_there counts Recover Enter n apart = refl
@@ -76,9 +76,9 @@ count_there counts Exit Exit n apart = absurd (apart refl)
 count_there counts Exit Ready n apart = refl
 count_there counts Ready other n apart = refl
 
--- Counts that were within limits are so with another number that is.
-pub within_limits : (counts : Counts) (limit : Phase → ℕ) (n : ℕ) (phase other : Phase) → n ≤ limit phase → ((p : Phase) → count_of counts p ≤ limit p)
-    → count_of (with_count counts phase n) other ≤ limit other
+-- Counts within their limits stay so when one count is replaced by another within its limit.
+pub within_limits : (counts : Counts) (limit : Phase → ℕ) (n : ℕ) (phase other : Phase) → n ≤ limit phase → ((p : Phase) → phase_count counts p ≤ limit p)
+    → phase_count (with_phase_count counts phase n) other ≤ limit other
 within_limits counts limit n Recover Recover less all = less
 within_limits counts limit n Recover Post less all = all Post
 within_limits counts limit n Recover Enter less all = all Enter
@@ -111,10 +111,10 @@ within_limits counts limit n Exit Exit less all = less
 within_limits counts limit n Exit Ready less all = all Ready
 within_limits counts limit n Ready other less all = all other
 
--- ---- what is left of a stay
+-- ---- the steps left of a stay
 
--- A stay that begins has at most the steps of its phase.
-first_left : (shape : Shape) (b : ℕ) (stage : Stage) → IsStage shape b stage → Taken shape stage stage 0 → left_of shape stage ≤ most_steps shape (phase_of stage)
+-- A new stay has at most the steps of its phase.
+first_left : (shape : Shape) (b : ℕ) (stage : Stage) → IsStage shape b stage → StepsTaken shape stage stage 0 → steps_left shape stage ≤ max_phase_steps shape (phase_of stage)
 first_left shape b Resting is taken = omega arith
 first_left shape b (Recovering LoadBegun) is taken = omega arith
 first_left shape b (Recovering LoadDone) is taken = absurd taken.0
@@ -140,7 +140,7 @@ first_left shape b (Leaving (WithdrawReply lock held)) is taken = absurd taken
 first_left shape b (Leaving (WithdrawDone lock held)) is taken = absurd taken
 
 -- A stay begins.
-pub stay_begins : (shape : Shape) (private : Private) → IsPrivate shape private → IsOnTrack private.stage → Taken shape private.stage private.stage 0 → IsStay shape private.stage 0
+pub stay_begins : (shape : Shape) (private : Private) → IsPrivate shape private → IsOnTrack private.stage → StepsTaken shape private.stage private.stage 0 → IsStayCount shape private.stage 0
 stay_begins shape private is on taken = record {
   first = private.stage;
   taken = taken;
@@ -157,74 +157,74 @@ busy_phase (Logging log) busy e = cc
 busy_phase (Copying redo) busy e = cc
 busy_phase (Leaving departure) busy e = cc
 
--- The counts after a step of a worker: its stay goes on or the next one begins, and all counts stay within the steps
--- of their phases.
+-- The counts after a step of a worker: its stay continues or the next one begins, and every count stays within the
+-- limit of its phase.
 pub record GoOn (shape : Shape) (stage : Stage) (counts : Counts) : Type 0 where
-  pub stays : IsStay shape stage (count_of counts (phase_of stage))
-  pub short : (phase : Phase) → count_of counts phase ≤ most_steps shape phase
+  pub stays : IsStayCount shape stage (phase_count counts (phase_of stage))
+  pub short : (phase : Phase) → phase_count counts phase ≤ max_phase_steps shape phase
 
 module _ (shape : Shape) (private : Private) (value : ℕ) (old new : Counts) (is : IsPrivate shape private) (on : IsOnTrack private.stage) (busy : private.stage ≢ Resting)
-    (takes : Takes shape private.stage value) (next : IsPrivate shape (private_after shape private value))
-    (stay : IsStay shape private.stage (count_of old (phase_of private.stage))) (short : (phase : Phase) → count_of old phase ≤ most_steps shape phase) where
-  steps : Steps shape private.stage (after_at shape private.worker private.begun private.stage value)
+    (takes : IsValidLoad shape private.stage value) (next : IsPrivate shape (private_after shape private value))
+    (stay : IsStayCount shape private.stage (phase_count old (phase_of private.stage))) (short : (phase : Phase) → phase_count old phase ≤ max_phase_steps shape phase) where
+  steps : Steps shape private.stage (outcome_at shape private.worker private.begun private.stage value)
   steps = steps_on shape private.worker private.begun private.stage value busy is.stage takes on
 
-  -- The count of this step is not beyond the steps of its phase.
-  more : count_of old (phase_of private.stage) + 1 ≤ most_steps shape (phase_of private.stage)
+  -- The count with this step is within the limit of its phase.
+  more : phase_count old (phase_of private.stage) + 1 ≤ max_phase_steps shape (phase_of private.stage)
   more = omega (arith, stay.short, some_left shape private.begun private.stage busy is.stage)
 
-  on_short : (phase : Phase) → count_of (counted old (phase_of private.stage)) phase ≤ most_steps shape phase
-  on_short phase = within_limits old (most_steps shape) (count_of old (phase_of private.stage) + 1) (phase_of private.stage) phase more short
+  on_short : (phase : Phase) → phase_count (with_step_counted old (phase_of private.stage)) phase ≤ max_phase_steps shape phase
+  on_short phase = within_limits old (max_phase_steps shape) (phase_count old (phase_of private.stage) + 1) (phase_of private.stage) phase more short
 
   same_phase : note_after shape private value ≢ Blocked → phase_of (private_after shape private value).stage ≡ phase_of private.stage
-      → new ≡ counted old (phase_of private.stage) → GoOn shape (private_after shape private value).stage new
+      → new ≡ with_step_counted old (phase_of private.stage) → GoOn shape (private_after shape private value).stage new
   same_phase open_way same e =
       let P : Counts → Type 0 = λ (c : Counts). GoOn shape (private_after shape private value).stage c in
       subst P (sym e) record { stays = on_stay; short = on_short }
     where
-      here : count_of (counted old (phase_of private.stage)) (phase_of (private_after shape private value).stage) ≡ count_of old (phase_of private.stage) + 1
-      here = ap (count_of (counted old (phase_of private.stage))) same ∙ count_here old (phase_of private.stage) _ (busy_phase private.stage busy)
+      here : phase_count (with_step_counted old (phase_of private.stage)) (phase_of (private_after shape private value).stage) ≡ phase_count old (phase_of private.stage) + 1
+      here = ap (phase_count (with_step_counted old (phase_of private.stage))) same ∙ count_here old (phase_of private.stage) _ (busy_phase private.stage busy)
 
-      taken : Taken shape stay.first (private_after shape private value).stage (count_of old (phase_of private.stage) + 1)
-      taken = steps.counts.more stay.first (count_of old (phase_of private.stage)) stay.taken same open_way
+      taken : StepsTaken shape stay.first (private_after shape private value).stage (phase_count old (phase_of private.stage) + 1)
+      taken = steps.counts.more stay.first (phase_count old (phase_of private.stage)) stay.taken same open_way
 
-      less : left_of shape (private_after shape private value).stage < left_of shape private.stage
+      less : steps_left shape (private_after shape private value).stage < steps_left shape private.stage
       less = elim (steps.falls open_way) [
         | inl falls ↦ falls.1
-        | inr later ↦ (let none : rank (phase_of (private_after shape private value).stage) ≡ rank (phase_of private.stage) = ap rank same in absurd (omega (arith, later, none)))
+        | inr later ↦ (let none : phase_rank (phase_of (private_after shape private value).stage) ≡ phase_rank (phase_of private.stage) = ap phase_rank same in absurd (omega (arith, later, none)))
       ]
 
-      on_stay : IsStay shape (private_after shape private value).stage (count_of (counted old (phase_of private.stage)) (phase_of (private_after shape private value).stage))
-      on_stay = let S : ℕ → Type 0 = λ (n : ℕ). IsStay shape (private_after shape private value).stage n in
+      on_stay : IsStayCount shape (private_after shape private value).stage (phase_count (with_step_counted old (phase_of private.stage)) (phase_of (private_after shape private value).stage))
+      on_stay = let S : ℕ → Type 0 = λ (n : ℕ). IsStayCount shape (private_after shape private value).stage n in
           subst S (sym here) record {
             first = stay.first;
             taken = taken;
             within = within_most shape (private_after shape private value) next steps.track stay.first _ taken;
-            short = (let limit : most_steps shape (phase_of (private_after shape private value).stage) ≡ most_steps shape (phase_of private.stage) = ap (most_steps shape) same in
+            short = (let limit : max_phase_steps shape (phase_of (private_after shape private value).stage) ≡ max_phase_steps shape (phase_of private.stage) = ap (max_phase_steps shape) same in
                 omega (arith, stay.short, less, limit));
           }
 
   next_phase : phase_of (private_after shape private value).stage ≢ phase_of private.stage
-      → new ≡ begun_stay (counted old (phase_of private.stage)) (phase_of (private_after shape private value).stage) → GoOn shape (private_after shape private value).stage new
+      → new ≡ with_stay_begun (with_step_counted old (phase_of private.stage)) (phase_of (private_after shape private value).stage) → GoOn shape (private_after shape private value).stage new
   next_phase apart e =
       let P : Counts → Type 0 = λ (c : Counts). GoOn shape (private_after shape private value).stage c in
-      let S : ℕ → Type 0 = λ (n : ℕ). IsStay shape (private_after shape private value).stage n in
+      let S : ℕ → Type 0 = λ (n : ℕ). IsStayCount shape (private_after shape private value).stage n in
       subst P (sym e) record {
-        stays = subst S (sym (begun_here (counted old (phase_of private.stage)) (phase_of (private_after shape private value).stage)))
+        stays = subst S (sym (begun_here (with_step_counted old (phase_of private.stage)) (phase_of (private_after shape private value).stage)))
             (stay_begins shape (private_after shape private value) next steps.track (steps.counts.begins apart));
-        short = λ phase. within_limits (counted old (phase_of private.stage)) (most_steps shape) 0 _ phase (omega arith) on_short;
+        short = λ phase. within_limits (with_step_counted old (phase_of private.stage)) (max_phase_steps shape) 0 _ phase (omega arith) on_short;
       }
 
   blocked : note_after shape private value ≡ Blocked → new ≡ old → GoOn shape (private_after shape private value).stage new
   blocked stuck e =
-      let T : Note → Type 0 = λ (n : Note). Tells shape private.worker private.begun private.stage value (private_after shape private value).stage n in
-      let tells : Tells shape private.worker private.begun private.stage value (private_after shape private value).stage Blocked = subst T stuck (note_law shape private.worker private.begun private.stage value) in
+      let T : Note → Type 0 = λ (n : Note). NoteMeaning shape private.worker private.begun private.stage value (private_after shape private value).stage n in
+      let tells : NoteMeaning shape private.worker private.begun private.stage value (private_after shape private value).stage Blocked = subst T stuck (note_law shape private.worker private.begun private.stage value) in
       let same : (private_after shape private value).stage ≡ private.stage = tells.3 in
       let P : Counts → Type 0 = λ (c : Counts). GoOn shape (private_after shape private value).stage c in
       let Q : Stage → Type 0 = λ (s : Stage). GoOn shape s old in
       subst P (sym e) (subst Q (sym same) record { stays = stay; short = short })
 
-  pub go_on : CountsAfter old (phase_of private.stage) (phase_of (private_after shape private value).stage) (note_after shape private value) new
+  pub go_on : CountsAfterStep old (phase_of private.stage) (phase_of (private_after shape private value).stage) (note_after shape private value) new
       → GoOn shape (private_after shape private value).stage new
   go_on after = by_note (note_after shape private value) refl
     where

@@ -1,62 +1,67 @@
--- What each event changes.
+-- The effect of each event.
 use Rattle.std.specs.Prelude.{◌≡◌, ℕ, ◌+◌, ◌≤◌, Option, Some, None, length, slice_get, slice_set}
 use Rattle.rme_script.specs.declared.job.Job.{Job}
 use Rattle.rme_program.specs.declared.private.Private.{Private}
 use Rattle.rme_program.specs.declared.note.Note.{Note}
 use Rattle.rme_program.specs.declared.kinds.Phase.TheVariants.{Post, Exit}
-use Rattle.rme_program.specs.Conditions.{IsJob}
-use Rattle.rme_program.specs.Did.{Did}
+use Rattle.rme_script.specs.Jobs.{IsJob}
+use Rattle.rme_program.specs.ActionEffects.{ActionEffect}
 use Rattle.rme_program.specs.Phases.{phase_of}
-use Rattle.rme_program.specs.Steps.{action_of, private_after, note_after, restarted_private, submitted_private, withdrawing_private}
+use Rattle.rme_program.specs.Steps.{private_action, private_after, note_after, restarted_private, submitted_private, withdrawing_private}
 use Rattle.rme_machine.specs.Changes.{history_after}
 use Rattle.rme_world.specs.declared.counts.Counts.{Counts}
-use Rattle.rme_world.specs.Counting.{CountsAfter, begun_stay, no_counts}
-use Rattle.rme_world.specs.Seen.{Seen, counts_of, memory_seen}
-use Rattle.rme_world.specs.Refused.{step_refusal, submit_refusal, crash_refusal, restart_refusal, withdraw_refusal}
+use Rattle.rme_world.specs.Counting.{CountsAfterStep, with_stay_begun, no_counts}
+use Rattle.rme_world.specs.WorldViews.{WorldView, worker_counts, world_memory}
+use Rattle.rme_world.specs.Refusals.{step_refusal, submit_refusal, crash_refusal, restart_refusal, withdraw_refusal}
 
--- The same words and history, with one worker's private state and counts changed.
-abbrev pub with_private : Seen → ℕ → Option Private → Counts → Seen
-with_private seen worker private counts = record seen { privates = slice_set seen.privates worker private; counts = slice_set seen.counts worker counts }
+-- The same words and history, with one worker's private state and counts replaced.
+abbrev pub world_with_private : WorldView → ℕ → Option Private → Counts → WorldView
+world_with_private seen worker private counts =
+    record seen { privates = slice_set seen.privates worker private; counts = slice_set seen.counts worker counts }
 
--- `submit`: the worker knows its job, which will have the next number, and its stay in Post begins. There may be more
--- room than before, and never less.
-pub record Submits (old : Seen) (worker : ℕ) (job : Job) (number : ℕ) (new : Seen) : Type 0 where
+-- `submit`: the worker knows its job, which will get the next number, and its stay in Post begins. The room may grow,
+-- and never shrinks.
+pub record SubmitChange (old : WorldView) (worker : ℕ) (job : Job) (number : ℕ) (new : WorldView) : Type 0 where
   pub may : submit_refusal old worker job ≡ None
   pub is_job : IsJob old.shape job
   pub private : Private
   pub found : slice_get old.privates worker ≡ Some (Some private)
   pub next_number : number ≡ private.begun + 1
-  pub hands : new ≡ record (with_private old worker (Some (submitted_private private job)) (begun_stay (counts_of old worker) Post)) { room = new.room }
+  pub hands : new ≡ record (world_with_private old worker (Some (submitted_private private job))
+      (with_stay_begun (worker_counts old worker) Post)) { room = new.room }
   pub room : old.room ≤ new.room
 
--- `step`: the action that the worker's private state has next is done on one word. The new private state and the
--- note are what follows from it and from the value found. The history grows by the entry of a finished section alone,
--- which takes its place in the room that there was: no step makes room.
-pub record Steps (old : Seen) (worker : ℕ) (note : Note) (new : Seen) : Type 0 where
+-- `step`: the next action of the worker's private state is executed on one word. The new private state and the note
+-- follow from that private state and the value found. The history grows only by the entry of a finished section, which
+-- uses one of the reserved entries: no step adds room.
+pub record StepChange (old : WorldView) (worker : ℕ) (note : Note) (new : WorldView) : Type 0 where
   pub may : step_refusal old worker ≡ None
   pub private : Private
   pub found : slice_get old.privates worker ≡ Some (Some private)
   pub value : ℕ
-  pub did : Did (memory_seen old) (memory_seen new) (action_of old.shape private) value
+  pub did : ActionEffect (world_memory old) (world_memory new) (private_action old.shape private) value
   pub says : note ≡ note_after old.shape private value
   pub counts : Counts
-  pub counted : CountsAfter (counts_of old worker) (phase_of private.stage) (phase_of (private_after old.shape private value).stage) note counts
-  pub goes : new ≡ record (with_private old worker (Some (private_after old.shape private value)) counts) { words = new.words; history = history_after old.history (memory_seen old) worker note; room = new.room }
+  pub counted : CountsAfterStep (worker_counts old worker) (phase_of private.stage)
+      (phase_of (private_after old.shape private value).stage) note counts
+  pub goes : new ≡ record (world_with_private old worker (Some (private_after old.shape private value)) counts)
+      { words = new.words; history = history_after old.history (world_memory old) worker note; room = new.room }
   pub room : length new.history + new.room ≡ length old.history + old.room
 
--- `crash`: the worker's private state is gone, and its counts stay.
-pub record Crashes (old : Seen) (worker : ℕ) (new : Seen) : Type 0 where
+-- `crash`: the worker's private state is lost, and its counts stay.
+pub record CrashChange (old : WorldView) (worker : ℕ) (new : WorldView) : Type 0 where
   pub may : crash_refusal old worker ≡ None
-  pub falls : new ≡ with_private old worker None (counts_of old worker)
+  pub falls : new ≡ world_with_private old worker None (worker_counts old worker)
 
--- `restart`: the worker comes up and knows its own number alone, and nothing is counted yet.
-pub record Restarts (old : Seen) (worker : ℕ) (new : Seen) : Type 0 where
+-- `restart`: the worker comes up, knows only its own number, and all its counts are 0.
+pub record RestartChange (old : WorldView) (worker : ℕ) (new : WorldView) : Type 0 where
   pub may : restart_refusal old worker ≡ None
-  pub rises : new ≡ with_private old worker (Some (restarted_private worker)) no_counts
+  pub rises : new ≡ world_with_private old worker (Some (restarted_private worker)) no_counts
 
--- `withdraw`: the worker begins to give its job up, and its stay in Exit begins.
-pub record Withdraws (old : Seen) (worker : ℕ) (new : Seen) : Type 0 where
+-- `withdraw`: the worker begins to withdraw its job, and its stay in Exit begins.
+pub record WithdrawChange (old : WorldView) (worker : ℕ) (new : WorldView) : Type 0 where
   pub may : withdraw_refusal old worker ≡ None
   pub private : Private
   pub found : slice_get old.privates worker ≡ Some (Some private)
-  pub turns : new ≡ with_private old worker (Some (withdrawing_private private)) (begun_stay (counts_of old worker) Exit)
+  pub turns : new ≡ world_with_private old worker (Some (withdrawing_private private))
+      (with_stay_begun (worker_counts old worker) Exit)

@@ -1,14 +1,15 @@
--- In reading order: the counts of steps, what contracts see of a world, the world at opening, when each event is
--- refused, what each changes, what steps and look-ups show, the headline, what each call promises, a list of events, saved
--- worlds, and what a step tells.
+-- In reading order: the counts of steps, the view of a world in contracts, the initial world, the refusals of each
+-- event, the effect of each event, what steps and look-ups report, the refinement theorem, the contract of each call,
+-- lists of events, saved worlds, and the report of a step.
 pub mod Counting
-pub mod Seen
+pub mod WorldViews
+pub mod WorldInvariants
 pub mod Opening
-pub mod Refused
+pub mod Refusals
 pub mod Events
-pub mod Looks
-pub mod Running
+pub mod Queries
+pub mod Refinement
 pub mod Calls
 pub mod EventLists
 pub mod Images
-pub mod Strides
+pub mod StepReports

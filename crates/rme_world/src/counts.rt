@@ -1,13 +1,13 @@
-//! How many own steps each worker made.
+//! The number of own steps of each worker.
 
 ghost use Rattle.std.specs.Prelude.{◌≡◌};
 ghost use Rattle.std.specs.Prelude.{◌<◌, ◌↔◌, IsTrue};
 ghost use Rattle.rme_program.specs.declared.note.Note.{Note};
-ghost use Rattle.rme_world.specs.Counting.{CountsAfter, count_of, counted, begun_stay};
+ghost use Rattle.rme_world.specs.Counting.{CountsAfterStep, phase_count, with_step_counted, with_stay_begun};
 
 use rme_program::{Note, Phase};
 
-/// One worker's own steps of its latest stay in each phase, blocked ones aside.
+/// The own steps of one worker's latest stay in each phase, without the blocked ones.
 #[derive(Clone, Copy)]
 pub struct Counts {
     pub recover: u32,
@@ -18,7 +18,7 @@ pub struct Counts {
 }
 
 impl Counts {
-    /// No steps at all.
+    /// No steps.
     pub const ZERO: Counts = Counts {
         recover: 0,
         post: 0,
@@ -27,9 +27,9 @@ impl Counts {
         exit: 0,
     };
 
-    /// The steps of one phase; 0 for phase Ready, which has no steps.
+    /// The count of one phase; 0 for phase Ready, which has no steps.
     pub(crate) fn of(&self, phase: Phase) -> u32
-        ensures { result ≡ count_of self.now phase }
+        ensures { result ≡ phase_count self.now phase }
     {
         match phase {
             Phase::Recover => self.recover,
@@ -41,10 +41,10 @@ impl Counts {
         }
     }
 
-    /// One more step in a phase.
+    /// Counts one more step in a phase.
     fn count(&mut self, phase: Phase)
-        requires { count_of self.old phase < 4294967295 }
-        ensures { self.new ≡ counted self.old phase }
+        requires { phase_count self.old phase < 4294967295 }
+        ensures { self.new ≡ with_step_counted self.old phase }
     {
         match phase {
             Phase::Recover => self.recover += 1,
@@ -56,9 +56,9 @@ impl Counts {
         }
     }
 
-    /// A stay in a phase begins.
+    /// The counts when a stay in a phase begins.
     pub(crate) fn begin(self, phase: Phase) -> Counts
-        ensures { result ≡ begun_stay self phase }
+        ensures { result ≡ with_stay_begun self phase }
     {
         match phase {
             Phase::Recover => Counts { recover: 0, ..self },
@@ -72,8 +72,8 @@ impl Counts {
 
     /// Counts a step that was made in phase `before` and left the worker in phase `after`.
     pub(crate) fn after_step(&mut self, before: Phase, after: Phase, note: Note)
-        requires { count_of self.old before < 4294967295 }
-        ensures { CountsAfter self.old before after note self.new }
+        requires { phase_count self.old before < 4294967295 }
+        ensures { CountsAfterStep self.old before after note self.new }
     {
         if is_blocked(note) {
             return;
@@ -86,7 +86,7 @@ impl Counts {
     }
 }
 
-/// The step did not take its node.
+/// Whether the step was blocked at its node.
 fn is_blocked(note: Note) -> bool
     ensures { IsTrue result ↔ (note ≡ Note.Blocked) }
 {

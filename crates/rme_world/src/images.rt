@@ -5,40 +5,39 @@ ghost use Rattle.std.specs.List.{range_with_len};
 ghost use Rattle.rme_program.specs.declared.private.Private.{Private};
 
 use crate::world::{World, no_counts};
-use rme_good::is_good;
-use rme_image::{encode, parse};
+use rme_core_image::{encode, parse};
+use rme_core_image_check::is_valid_memory;
 use rme_program::Private;
 use rme_words::{Bank, NoMemory, Refusal};
 use std::alloc::Global;
 
 impl World {
-    ghost use Rattle.rme_world.specs.Images.{Loaded, Saved};
+    ghost use Rattle.rme_world.specs.Images.{LoadContract, SaveContract};
 
-    /// The image of the world, in version 2: its sizes, its words and its history. Private states and counts are not in
-    /// it, so that the world that `load` makes of it is this one after a crash of every worker that is up.
+    /// The image of the world, in version 2: its sizes, its words and its history. It holds no private states and no
+    /// counts: the world that `load` makes of it is this world after a crash of every worker that is up.
     ///
-    /// Takes memory for the image; `NoMemory` where it was refused.
+    /// Takes memory for the image; `NoMemory` if that was refused.
     pub fn save(&self) -> Result<Vec<u8>, NoMemory>
-        ensures { IfOk result (λ bytes. Saved self.now bytes.items) }
+        ensures { IfOk result (λ bytes. SaveContract self.now bytes.items) }
     {
         let alloc = *self.counts.allocator();
         encode(alloc, self.shape(), self.bank.words(), &self.history)
     }
 
-    /// The world of an image, of version 2 or of the older version 1. All its workers are down, and no steps are
-    /// counted.
+    /// The world of an image, of version 2 or of the older version 1. All its workers are down, and all its counts are
+    /// 0.
     ///
-    /// Refused by `BadImage` where the bytes are no image, or one that breaks a clause of good images, and by
-    /// `NoMemory`. Memory is taken as the bytes are read, never by a number that they only tell of, and time is linear in
-    /// the bytes.
+    /// Refused by `BadImage` if the bytes are no image, or violate a clause of valid images, and by `NoMemory`. Memory
+    /// is taken as the bytes are read, never by a length field alone. The time is linear in the number of bytes.
     pub fn load(alloc: Global, image: &[u8]) -> Result<World, Refusal>
-        ensures { Loaded image.now result }
+        ensures { LoadContract image.now result }
     {
         let parsed = parse(alloc, image)?;
         let shape = parsed.shape;
         let bank = Bank::of(shape, parsed.words);
         let mut history = parsed.entries;
-        match is_good(alloc, &bank, &history) {
+        match is_valid_memory(alloc, &bank, &history) {
             Ok(true) => {}
             Ok(false) => return Err(Refusal::BadImage),
             Err(_) => return Err(Refusal::NoMemory),

@@ -1,7 +1,7 @@
-//! What a worker that is up knows, what it is asked to do, and whether another worker stops it.
+//! The private state of a worker that is up, its pending job, and whether another worker blocks it.
 
 use crate::world::World;
-use rme_good::{is_pending, slate};
+use rme_core_image_check::{is_pending, slate};
 use rme_program::{Action, Private, Stage, next};
 use rme_script::Job;
 use rme_words::Address;
@@ -9,13 +9,14 @@ use rme_words::Address;
 impl World {
     ghost use Rattle.std.specs.Prelude.{◌≡◌, ◌<◌, ◌↔◌, IsSome, IfSome, IsTrue, IsFalse, true};
     ghost use Rattle.rme_machine.specs.Views.{is_pending, slate_job};
-    ghost use Rattle.rme_world.specs.Looks.{IsStopped, words_seen};
-    ghost use Rattle.rme_world.specs.Seen.{IsKept, privates_seen};
+    ghost use Rattle.rme_world.specs.Queries.{WorkerIsBlocked, world_worker_words};
+    ghost use Rattle.rme_world.specs.WorldViews.{world_privates};
+    ghost use Rattle.rme_world.specs.WorldInvariants.{WorldInvariant};
 
-    /// What a worker knows: nothing while it is down, and where there is no such worker.
+    /// The private state of a worker; `None` if it is down or there is no such worker.
     pub fn known(&self, worker: u32) -> Option<Private>
-        ensures kept { IsKept self.now }
-        ensures known { result ≡ privates_seen self.now worker }
+        ensures kept { WorldInvariant self.now }
+        ensures known { result ≡ world_privates self.now worker }
     {
         match self.privates.get(worker as usize) {
             Some(Some(private)) => Some(*private),
@@ -26,8 +27,8 @@ impl World {
     /// The job that a worker has asked for, until it is finished or withdrawn, whether the worker is up or down.
     pub fn pending(&self, worker: u32) -> Option<Job>
         requires { worker < self.now.shape.workers }
-        ensures pending { IsSome result ↔ (is_pending (words_seen self.now worker) ≡ true) }
-        ensures job { IfSome result (λ job. job ≡ slate_job (words_seen self.now worker)) }
+        ensures pending { IsSome result ↔ (is_pending (world_worker_words self.now worker) ≡ true) }
+        ensures job { IfSome result (λ job. job ≡ slate_job (world_worker_words self.now worker)) }
     {
         if !is_pending(&self.bank, worker) {
             return None;
@@ -38,10 +39,10 @@ impl World {
         })
     }
 
-    /// The number of the last job that a worker was handed, whether the worker is up or down; 0 where it was handed none.
+    /// The number of the last job submitted to a worker, whether the worker is up or down; 0 if there was none.
     pub fn number(&self, worker: u32) -> u64
         requires { worker < self.now.shape.workers }
-        ensures { result ≡ (words_seen self.now worker).begun }
+        ensures { result ≡ (world_worker_words self.now worker).begun }
     {
         self.bank.load(Address::Begun(worker))
     }
@@ -49,19 +50,19 @@ impl World {
     /// The lock of a pending job.
     fn slate_lock(&self, worker: u32) -> u32
         requires within { worker < self.now.shape.workers }
-        requires pending { is_pending (words_seen self.now worker) ≡ true }
-        ensures { result ≡ (words_seen self.now worker).slate_lock }
+        requires pending { is_pending (world_worker_words self.now worker) ≡ true }
+        ensures { result ≡ (world_worker_words self.now worker).slate_lock }
     {
         self.bank.load(Address::SlateLock(worker)) as u32
     }
 
-    /// Whether a worker's next own step would be blocked: it climbs, and another worker holds the next node of its path, from
-    /// the other side. Such a step changes nothing.
-    pub fn stopped(&self, worker: u32) -> bool
-        ensures stopped { IsTrue result → IsStopped self.now worker }
-        ensures free { IsFalse result → IsStopped self.now worker → ⊥ }
+    /// Whether a worker's next own step would be blocked: it climbs, and another worker holds the next node of its path
+    /// from the other side. A blocked step changes nothing.
+    pub fn would_block(&self, worker: u32) -> bool
+        ensures stopped { IsTrue result → WorkerIsBlocked self.now worker }
+        ensures free { IsFalse result → WorkerIsBlocked self.now worker → ⊥ }
     {
-        if !self.climbs(worker) {
+        if !self.is_in_enter(worker) {
             return false;
         }
         let Some(private) = self.known(worker) else {
@@ -76,9 +77,9 @@ impl World {
         }
     }
 
-    /// Whether a worker takes the nodes of its path. What it knows is wide, and is not copied to see that.
-    fn climbs(&self, worker: u32) -> bool
-        ensures { IsFalse result → IsStopped self.now worker → ⊥ }
+    /// Whether a worker is in phase Enter. Its private state is wide, and is not copied for this test.
+    fn is_in_enter(&self, worker: u32) -> bool
+        ensures { IsFalse result → WorkerIsBlocked self.now worker → ⊥ }
     {
         match self.privates.get(worker as usize) {
             Some(Some(private)) => matches!(private.stage, Stage::Climbing(_)),

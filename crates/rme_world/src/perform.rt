@@ -1,17 +1,17 @@
 //! One operation on one word.
 
 ghost use Rattle.std.specs.Prelude.{◌≡◌};
-ghost use Rattle.rme_words.specs.Words.{IsOfShape, memory_of};
-ghost use Rattle.rme_program.specs.Did.{Did, address_of};
+ghost use Rattle.rme_words.specs.Words.{IsShapeAddress, memory_of};
+ghost use Rattle.rme_program.specs.ActionEffects.{ActionEffect, action_address};
 
 use rme_program::Action;
 use rme_words::Bank;
 
-/// Does an action, and answers the value that was loaded or found, or stored.
+/// Executes an action, and answers the value that was loaded, found or stored.
 pub fn perform(bank: &mut Bank, action: Action) -> u64
-    requires { IsOfShape bank.old.shape (address_of action) }
+    requires { IsShapeAddress bank.old.shape (action_address action) }
     ensures shape { bank.new.shape ≡ bank.old.shape }
-    ensures did { Did (memory_of bank.old) (memory_of bank.new) action result }
+    ensures did { ActionEffect (memory_of bank.old) (memory_of bank.new) action result }
 {
     match action {
         Action::Load(address) => bank.load(address),

@@ -8,18 +8,17 @@ use rme_words::{NoMemory, Refusal};
 impl World {
     ghost use Rattle.std.specs.Prelude.{◌≡◌, ◌≢◌, ◌≤◌, ◌+◌, ℕ, IfOk, IfErr, OnErr, length};
     ghost use Rattle.rme_words.specs.declared.refusal.Refusal.{Refusal};
-    ghost use Rattle.rme_world.specs.Calls.{Submitted};
-    ghost use Rattle.rme_world.specs.Running.{IsRun};
-    ghost use Rattle.rme_world.specs.EventLists.{Happens, AllHappen};
+    ghost use Rattle.rme_world.specs.Calls.{SubmitContract};
+    ghost use Rattle.rme_world.specs.Refinement.{IsRefinement};
+    ghost use Rattle.rme_world.specs.EventLists.{ListedEventContract, EventListContract};
 
-    /// Does the events of a list, one after the other, and gives one answer for each: what the single calls
-    /// would answer.
+    /// Executes the events of a list in order, and answers each as its single call would.
     ///
-    /// It takes all memory first; after `NoMemory` nothing changed, and no answer is a refusal for want of
-    /// memory.
+    /// All memory is taken first: after `NoMemory` nothing has changed, and no answer is the refusal `NoMemory`.
     pub fn run(&mut self, events: &[Event]) -> Result<Vec<Answer>, NoMemory>
-        ensures headline { IfOk result (λ answers. IsRun self.old events.now answers.items self.new) }
-        ensures each { IfOk result (λ answers. (room : ℕ) × AllHappen record self.old { room = room } events.now answers.items self.new) }
+        ensures headline { IfOk result (λ answers. IsRefinement self.old events.now answers.items self.new) }
+        ensures each { IfOk result (λ answers. (room : ℕ)
+            × EventListContract record self.old { room = room } events.now answers.items self.new) }
         ensures answers { IfOk result (λ answers. length answers.items ≡ length events.now) }
         ensures unchanged { OnErr result (self.new ≡ self.old) }
     {
@@ -40,15 +39,15 @@ impl World {
         Ok(answers)
     }
 
-    /// Does one event, with room in the history made before.
+    /// Executes one event, after room in the history was reserved.
     fn answer(&mut self, event: &Event) -> Answer
         requires { self.old.shape.workers ≤ self.old.room }
-        ensures happens { Happens self.old event.now result self.new }
+        ensures happens { ListedEventContract self.old event.now result self.new }
         ensures shape { self.new.shape ≡ self.old.shape }
         ensures room { self.old.room ≤ self.new.room + 1 }
     {
         match *event {
-            Event::Submit(worker, job) => match self.hand_over(worker, job) {
+            Event::Submit(worker, job) => match self.submit_with_room(worker, job) {
                 Ok(number) => Answer::Handed(number),
                 Err(refusal) => Answer::Refused(refusal),
             },
@@ -71,15 +70,15 @@ impl World {
         }
     }
 
-    /// Hands a job over, with room in the history made before.
-    fn hand_over(&mut self, worker: u32, job: Job) -> Result<u32, Refusal>
+    /// Submits a job, after room in the history was reserved.
+    fn submit_with_room(&mut self, worker: u32, job: Job) -> Result<u32, Refusal>
         requires { self.old.shape.workers ≤ self.old.room }
-        ensures call { Submitted self.old worker job result self.new }
+        ensures call { SubmitContract self.old worker job result self.new }
         ensures room { self.new.room ≡ self.old.room }
         ensures memory { IfErr result (λ refusal. refusal ≢ Refusal.NoMemory) }
     {
         match self.may_submit(worker, &job) {
-            Ok(private) => Ok(self.hand(worker, private, job)),
+            Ok(private) => Ok(self.submit_checked(worker, private, job)),
             Err(refusal) => Err(refusal),
         }
     }

@@ -8,65 +8,66 @@ ghost use Rattle.rme_words.specs.Words.{memory_of};
 
 use crate::perform::perform;
 use crate::world::World;
-use rme_good::slate;
+use rme_core_image_check::slate;
 use rme_history::EntryList;
 use rme_program::{Note, Phase, Stage, after, next, phase};
 use rme_words::{Bank, Refusal};
 
-/// An own step that was made.
+/// The report of an own step.
 #[derive(Clone, Copy)]
-pub struct Stride {
-    /// What it brought about.
+pub struct StepReport {
+    /// The observable effect.
     pub note: Note,
-    /// The phase in which it was made.
+    /// The phase in which the step was made.
     pub phase: Phase,
-    /// How many own steps the worker has then made in its latest stay in that phase, blocked ones aside.
+    /// The number of own steps that the worker has then made in its latest stay in that phase, without blocked steps.
     pub steps: u32,
 }
 
 impl World {
     ghost use Rattle.std.specs.Prelude.{◌≡◌, Some, OnOk, IfOk, IfErr};
     ghost use Rattle.rme_program.specs.declared.stage.Stage.{Stage};
-    ghost use Rattle.rme_world.specs.Counting.{count_of};
-    ghost use Rattle.rme_world.specs.Seen.{IsKept, counts_of};
-    ghost use Rattle.rme_world.specs.Strides.{note_of};
-    ghost use Rattle.rme_world.specs.Refused.{step_refusal};
-    ghost use Rattle.rme_world.specs.Events.{Steps};
-    ghost use Rattle.rme_world.specs.Looks.{IsBusy, phase_seen};
-    ghost use Rattle.rme_world.specs.Calls.{Stepped};
+    ghost use Rattle.rme_world.specs.Counting.{phase_count};
+    ghost use Rattle.rme_world.specs.WorldViews.{worker_counts};
+    ghost use Rattle.rme_world.specs.WorldInvariants.{WorldInvariant};
+    ghost use Rattle.rme_world.specs.StepReports.{note_of_report};
+    ghost use Rattle.rme_world.specs.Refusals.{step_refusal};
+    ghost use Rattle.rme_world.specs.Events.{StepChange};
+    ghost use Rattle.rme_world.specs.Queries.{WorkerIsBusy, world_phase};
+    ghost use Rattle.rme_world.specs.Calls.{StepContract};
 
-    /// Lets a worker make its next own step, one operation on one word, and answers what it brought about.
+    /// Executes the next own step of a worker, an operation on one word, and answers its note.
     ///
-    /// Refused by `NoWorker`, then by `Down`, then by `Idle` (the worker is ready and has no job); a refusal
-    /// changes nothing.
+    /// Refused by `NoWorker`, then by `Down`, then by `Idle` (the worker is ready and has no job); a refusal changes
+    /// nothing.
     pub fn step(&mut self, worker: u32) -> Result<Note, Refusal>
-        ensures { Stepped self.old worker result self.new }
+        ensures { StepContract self.old worker result self.new }
     {
-        match self.stride(worker) {
+        match self.step_with_report(worker) {
             Ok(stride) => Ok(stride.note),
             Err(refusal) => Err(refusal),
         }
     }
 
-    /// Lets a worker make its next own step, as `step` does, and answers also the phase in which it was made, and
-    /// what `steps` answers for that phase then.
-    pub fn stride(&mut self, worker: u32) -> Result<Stride, Refusal>
-        ensures stepped { Stepped self.old worker (note_of result) self.new }
-        ensures phase { IfOk result (λ stride. phase_seen self.old worker ≡ Some stride.phase) }
-        ensures steps { IfOk result (λ stride. stride.steps ≡ count_of (counts_of self.new worker) stride.phase) }
+    /// Executes the next own step of a worker, as `step` does. The report also has the phase in which it was made, and
+    /// what `steps` answers for that phase afterwards.
+    pub fn step_with_report(&mut self, worker: u32) -> Result<StepReport, Refusal>
+        ensures stepped { StepContract self.old worker (note_of_report result) self.new }
+        ensures phase { IfOk result (λ stride. world_phase self.old worker ≡ Some stride.phase) }
+        ensures steps { IfOk result (λ stride. stride.steps ≡ phase_count (worker_counts self.new worker) stride.phase) }
     {
         if let Err(refusal) = self.may_step(worker) {
             return Err(refusal);
         }
-        let (note, phase) = self.go(worker);
+        let (note, phase) = self.execute_step(worker);
         let steps = self.counts_at(worker).of(phase);
-        Ok(Stride { note, phase, steps })
+        Ok(StepReport { note, phase, steps })
     }
 
-    /// Whether a worker is up and not ready, or why it may not step.
+    /// Accepts a worker that is up and not ready, or answers the refusal.
     fn may_step(&self, worker: u32) -> Result<(), Refusal>
-        ensures kept { IsKept self.now }
-        ensures busy { OnOk result (IsBusy self.now worker) }
+        ensures kept { WorldInvariant self.now }
+        ensures busy { OnOk result (WorkerIsBusy self.now worker) }
         ensures refused { IfErr result (λ refusal. step_refusal self.now worker ≡ Some refusal) }
     {
         match self.privates.get(worker as usize) {
@@ -81,11 +82,11 @@ impl World {
         }
     }
 
-    /// The step of a worker that is up and not ready, and the phase in which it is made.
-    fn go(&mut self, worker: u32) -> (Note, Phase)
-        requires busy { IsBusy self.old worker }
-        ensures steps { Steps self.old worker result.0 self.new }
-        ensures phase { phase_seen self.old worker ≡ Some result.1 }
+    /// Executes the step of a worker that is up and not ready; answers its note and the phase in which it was made.
+    fn execute_step(&mut self, worker: u32) -> (Note, Phase)
+        requires busy { WorkerIsBusy self.old worker }
+        ensures steps { StepChange self.old worker result.0 self.new }
+        ensures phase { world_phase self.old worker ≡ Some result.1 }
     {
         let shape = self.bank.shape();
         let Some(private) = &mut self.privates[worker as usize] else {
@@ -102,12 +103,13 @@ impl World {
     }
 }
 
-/// Puts a finished section into the history, where there is room for it, which is less by one then.
+/// Appends a finished section to the history, which has room for it; the room shrinks by one.
 fn record(history: &mut EntryList, bank: &Bank, worker: u32, note: Note)
     requires worker { worker < bank.now.shape.workers }
     requires room { (receipt : Receipt) → note ≡ Note.Finished receipt → length history.old.entries < history.old.room }
     ensures entries { history.new.entries ≡ history_after history.old.entries (memory_of bank.now) worker note }
-    ensures room { length history.new.entries + (history.new.room - length history.new.entries) ≡ length history.old.entries + (history.old.room - length history.old.entries) }
+    ensures room { length history.new.entries + (history.new.room - length history.new.entries) ≡ length
+        history.old.entries + (history.old.room - length history.old.entries) }
 {
     let Note::Finished(receipt) = note else {
         return;

@@ -1,10 +1,10 @@
-//! Phase Exit: a worker releases its nodes, from the root downward, after a section or to give up waiting.
+//! Phase Exit: a worker releases its nodes, from the root downward, after a section or to withdraw.
 
 ghost use Rattle.std.specs.Prelude.{◌≡◌, ◌<◌, ◌≤◌, ◌+◌, ◌-◌, ℕ};
-ghost use Rattle.rme_words.specs.Words.{IsOfShape};
-ghost use Rattle.rme_program.specs.Steps.{quietly, departure_action, after_departure, clear_stage, cleared_note, exit_stage};
-ghost use Rattle.rme_program.specs.Conditions.{IsDeparture, IsStage, Takes};
-ghost use Rattle.rme_program.specs.Did.{address_of};
+ghost use Rattle.rme_words.specs.Words.{IsShapeAddress};
+ghost use Rattle.rme_program.specs.Steps.{with_quiet_note, departure_action, after_departure, clear_stage, cleared_note, exit_stage};
+ghost use Rattle.rme_program.specs.Conditions.{IsDepartureStage, IsStage, IsValidLoad};
+ghost use Rattle.rme_program.specs.ActionEffects.{action_address};
 
 use crate::action::Action;
 use crate::note::{Note, WITHDRAWN_PLACE};
@@ -14,9 +14,9 @@ use rme_words::{Address, Shape};
 
 pub fn action(shape: Shape, worker: u32, begun: u32, departure: &Departure) -> Action
     requires worker { worker < shape.workers }
-    requires stage { IsDeparture shape departure.now }
+    requires stage { IsDepartureStage shape departure.now }
     ensures action { result ≡ departure_action shape worker begun departure.now }
-    ensures within { IsOfShape shape (address_of result) }
+    ensures within { IsShapeAddress shape (action_address result) }
 {
     match departure {
         Departure::LoadExitTurn { lock } => Action::Load(Address::Turn(*lock)),
@@ -36,8 +36,8 @@ pub fn action(shape: Shape, worker: u32, begun: u32, departure: &Departure) -> A
 }
 
 pub fn after(shape: Shape, begun: u32, departure: Departure, stage: &mut Stage, value: u64) -> Note
-    requires stage { IsDeparture shape departure }
-    requires value { Takes shape (Stage.Leaving departure) value }
+    requires stage { IsDepartureStage shape departure }
+    requires value { IsValidLoad shape (Stage.Leaving departure) value }
     ensures after { (stage.new, result) ≡ after_departure shape begun departure value }
     ensures stage { IsStage shape begun stage.new }
 {
@@ -45,20 +45,20 @@ pub fn after(shape: Shape, begun: u32, departure: Departure, stage: &mut Stage, 
         Departure::LoadExitTurn { lock } => after_turn(shape, lock, value as u32, stage),
         Departure::StoreExitTurn { lock, .. } => {
             let level = shape.height;
-            go_on(stage, Departure::Clear { lock, level })
+            continue_exit(stage, Departure::Clear { lock, level })
         }
         Departure::Clear { lock, level } => {
             clear_from(lock, level - 1, stage);
             cleared_note(shape, lock, level)
         }
         Departure::WithdrawPlace { lock, held } => {
-            go_on(stage, Departure::WithdrawAt { lock, held })
+            continue_exit(stage, Departure::WithdrawAt { lock, held })
         }
         Departure::WithdrawAt { lock, held } => {
-            go_on(stage, Departure::WithdrawReply { lock, held })
+            continue_exit(stage, Departure::WithdrawReply { lock, held })
         }
         Departure::WithdrawReply { lock, held } => {
-            go_on(stage, Departure::WithdrawDone { lock, held })
+            continue_exit(stage, Departure::WithdrawDone { lock, held })
         }
         Departure::WithdrawDone { lock, held } => {
             clear_from(lock, held, stage);
@@ -67,10 +67,10 @@ pub fn after(shape: Shape, begun: u32, departure: Departure, stage: &mut Stage, 
     }
 }
 
-/// The exit goes on at this place, and the step brought nothing else about. A stage is wide, so
-/// within its phase its own part alone is written.
-fn go_on(stage: &mut Stage, departure: Departure) -> Note
-    ensures { (stage.new, result) ≡ quietly (Stage.Leaving departure) }
+/// The exit continues at this stage, and the note is quiet. A stage is wide, so within its phase only its own part is
+/// written.
+fn continue_exit(stage: &mut Stage, departure: Departure) -> Note
+    ensures { (stage.new, result) ≡ with_quiet_note (Stage.Leaving departure) }
 {
     match stage {
         Stage::Leaving(now) => *now = departure,
@@ -79,7 +79,7 @@ fn go_on(stage: &mut Stage, departure: Departure) -> Note
     Note::Quiet
 }
 
-/// So many levels are still to be cleared.
+/// The levels up to this one are still to be cleared.
 fn clear_from(lock: u32, level: u32, stage: &mut Stage)
     ensures { stage.new ≡ clear_stage lock level }
 {
@@ -87,10 +87,10 @@ fn clear_from(lock: u32, level: u32, stage: &mut Stage)
         *stage = Stage::Resting;
         return;
     }
-    let _ = go_on(stage, Departure::Clear { lock, level });
+    let _ = continue_exit(stage, Departure::Clear { lock, level });
 }
 
-/// The node of a level was cleared: the root's frees the lock, and the lowest makes the worker ready.
+/// The node of a level was cleared: the root's clearing frees the lock, and the lowest one's makes the worker ready.
 fn cleared_note(shape: Shape, lock: u32, level: u32) -> Note
     ensures { result ≡ cleared_note shape lock level }
 {
@@ -105,11 +105,11 @@ fn cleared_note(shape: Shape, lock: u32, level: u32) -> Note
 
 /// The turn of a finished section is known: an odd one is counted up first.
 fn after_turn(shape: Shape, lock: u32, turn: u32, stage: &mut Stage) -> Note
-    ensures { (stage.new, result) ≡ quietly (exit_stage shape lock turn) }
+    ensures { (stage.new, result) ≡ with_quiet_note (exit_stage shape lock turn) }
 {
     if turn % 2 == 0 {
         let level = shape.height;
-        return go_on(stage, Departure::Clear { lock, level });
+        return continue_exit(stage, Departure::Clear { lock, level });
     }
-    go_on(stage, Departure::StoreExitTurn { lock, turn })
+    continue_exit(stage, Departure::StoreExitTurn { lock, turn })
 }

@@ -1,16 +1,18 @@
-//! Phase Section until the turn is odd: the worker runs its script and writes down what it leaves.
+//! Phase Section until the turn is odd: the worker runs its script and logs the result.
 
 ghost use Rattle.std.specs.Prelude.{◌≡◌, ◌<◌, ◌≤◌, ◌+◌, ◌*◌, ◌^◌, ℕ, List, Some, length, replicate};
-ghost use Rattle.rme_words.specs.Words.{IsOfShape};
+ghost use Rattle.rme_words.specs.Words.{IsShapeAddress};
 ghost use Rattle.rme_script.specs.Programs.{Program};
 ghost use Rattle.rme_script.specs.Scripts.{IsScript};
-ghost use Rattle.rme_script.specs.Slates.{script_of};
+ghost use Rattle.rme_script.specs.Slates.{script_from_words};
 ghost use Rattle.rme_program.specs.declared.stage.Stage.{Stage};
 ghost use Rattle.rme_program.specs.declared.stage.Log.{Log};
 ghost use Rattle.rme_program.specs.declared.stage.Visit.{Visit};
-ghost use Rattle.rme_program.specs.Steps.{log_action, after_log, logged, turn_stage, slate_stage, script_stage, run_stage};
-ghost use Rattle.rme_program.specs.Conditions.{IsLog, IsStage, Takes};
-ghost use Rattle.rme_program.specs.Did.{address_of};
+ghost use Rattle.rme_program.specs.Steps.{log_action, after_log, log_or_copy_stage, turn_stage, slate_stage, script_stage, shadow_stage_from, even_visit, run_stage};
+ghost use Rattle.rme_program.specs.Masks.{first_cell};
+ghost use Rattle.rme_script.specs.Eval.{eval_of};
+ghost use Rattle.rme_program.specs.Conditions.{IsLogStage, IsStage, IsValidLoad};
+ghost use Rattle.rme_program.specs.ActionEffects.{action_address};
 
 use crate::action::Action;
 use crate::masks::{first_cell, mask_of};
@@ -20,9 +22,9 @@ use rme_words::{Address, Shape};
 
 pub fn action(shape: Shape, worker: u32, log: &Log) -> Action
     requires worker { worker < shape.workers }
-    requires stage { IsLog shape log.now }
+    requires stage { IsLogStage shape log.now }
     ensures action { result ≡ log_action worker log.now }
-    ensures within { IsOfShape shape (address_of result) }
+    ensures within { IsShapeAddress shape (action_address result) }
 {
     match log {
         Log::LoadTurn { lock } => Action::Load(Address::Turn(*lock)),
@@ -49,12 +51,12 @@ pub fn action(shape: Shape, worker: u32, log: &Log) -> Action
     }
 }
 
-/// Goes on, and answers the visit where all is written down, so that the copying comes next.
+/// Updates the stage; answers the visit once everything is logged, so that the copying comes next.
 pub fn after(shape: Shape, log: &mut Log, value: u64) -> Option<Visit>
-    requires stage { IsLog shape log.old }
-    requires value { Takes shape (Stage.Logging log.old) value }
-    ensures after { logged log.new result ≡ after_log shape log.old value }
-    ensures stage { (begun : ℕ) → IsStage shape begun (logged log.new result) }
+    requires stage { IsLogStage shape log.old }
+    requires value { IsValidLoad shape (Stage.Logging log.old) value }
+    ensures after { log_or_copy_stage log.new result ≡ after_log shape log.old value }
+    ensures stage { (begun : ℕ) → IsStage shape begun (log_or_copy_stage log.new result) }
 {
     match *log {
         Log::LoadTurn { lock } => return after_turn(lock, value as u32, log),
@@ -69,9 +71,9 @@ pub fn after(shape: Shape, log: &mut Log, value: u64) -> Option<Visit>
     None
 }
 
-/// The turn is known: at an odd one all is written down already.
+/// The turn is known: if it is odd, everything is logged already.
 fn after_turn(lock: u32, turn: u32, log: &mut Log) -> Option<Visit>
-    ensures { logged log.new result ≡ turn_stage lock turn }
+    ensures { log_or_copy_stage log.new result ≡ turn_stage lock turn }
 {
     if turn % 2 == 0 {
         *log = Log::LoadLen { lock, turn };
@@ -84,12 +86,12 @@ fn after_turn(lock: u32, turn: u32, log: &mut Log) -> Option<Visit>
     })
 }
 
-/// The number of operations is known, and no word of them.
+/// The number of operations is known, and none of their words.
 fn after_len(shape: Shape, lock: u32, turn: u32, operations: u32, log: &mut Log)
     requires lock { lock < shape.locks }
     requires few { operations ≤ 8 }
     ensures after { Stage.Logging log.new ≡ slate_stage shape lock turn operations (replicate 24 0) 0 }
-    ensures stage { IsLog shape log.new }
+    ensures stage { IsLogStage shape log.new }
 {
     if operations == 0 {
         *log = script_log(shape, lock, turn, Script::of(&[]));
@@ -106,11 +108,12 @@ fn after_len(shape: Shape, lock: u32, turn: u32, operations: u32, log: &mut Log)
 
 /// One more word of the slate is known.
 fn after_word(shape: Shape, log: &mut Log, value: u64)
-    requires here { (lock : ℕ) × (turn : ℕ) × (operations : ℕ) × (words : List ℕ) × (loaded : ℕ) × (log.old ≡ Log.LoadSlate lock turn operations words loaded) }
-    requires stage { IsLog shape log.old }
-    requires value { Takes shape (Stage.Logging log.old) value }
+    requires here { (lock : ℕ) × (turn : ℕ) × (operations : ℕ) × (words : List ℕ) × (loaded : ℕ)
+        × (log.old ≡ Log.LoadSlate lock turn operations words loaded) }
+    requires stage { IsLogStage shape log.old }
+    requires value { IsValidLoad shape (Stage.Logging log.old) value }
     ensures after { Stage.Logging log.new ≡ after_log shape log.old value }
-    ensures stage { IsLog shape log.new }
+    ensures stage { IsLogStage shape log.new }
 {
     let Log::LoadSlate {
         lock,
@@ -140,9 +143,10 @@ fn after_word(shape: Shape, log: &mut Log, value: u64)
 fn slate_log(shape: Shape, lock: u32, turn: u32, operations: u32, words: &[u64; 24]) -> Log
     requires lock { lock < shape.locks }
     requires few { operations ≤ 8 }
-    requires script { (script : Program) × (script_of operations words.now ≡ Some script) × IsScript shape.cells script }
-    ensures after { Stage.Logging result ≡ script_stage shape lock turn (script_of operations words.now) }
-    ensures stage { IsLog shape result }
+    requires script { (script : Program) × (script_from_words operations words.now ≡ Some script)
+        × IsScript shape.cells script }
+    ensures after { Stage.Logging result ≡ script_stage shape lock turn (script_from_words operations words.now) }
+    ensures stage { IsLogStage shape result }
 {
     let Some(script) = from_slate(u64::from(operations), words) else {
         unreachable!();
@@ -155,7 +159,7 @@ fn script_log(shape: Shape, lock: u32, turn: u32, script: Script) -> Log
     requires lock { lock < shape.locks }
     requires script { IsScript shape.cells script }
     ensures after { Stage.Logging result ≡ script_stage shape lock turn (Some script) }
-    ensures stage { IsLog shape result }
+    ensures stage { IsLogStage shape result }
 {
     let named = mask_of(&script);
     let row = Row::zeros(shape);
@@ -168,16 +172,23 @@ fn script_log(shape: Shape, lock: u32, turn: u32, script: Script) -> Log
             row,
             cell,
         },
-        None => run_log(shape, lock, turn, &script, named, row),
+        None => run_log(
+            shape,
+            even_visit(lock, turn, &script, named),
+            &script,
+            named,
+            row,
+        ),
     }
 }
 
-/// One more cell is known; where no further one is named, the script is run.
+/// One more cell is known; after the last named cell the script is run.
 fn after_cell(shape: Shape, log: &mut Log, value: u64)
-    requires here { (lock : ℕ) × (turn : ℕ) × (script : Program) × (named : ℕ) × (row : List ℕ) × (cell : ℕ) × (log.old ≡ Log.LoadCells lock turn script named row cell) }
-    requires stage { IsLog shape log.old }
+    requires here { (lock : ℕ) × (turn : ℕ) × (script : Program) × (named : ℕ) × (row : List ℕ) × (cell : ℕ)
+        × (log.old ≡ Log.LoadCells lock turn script named row cell) }
+    requires stage { IsLogStage shape log.old }
     ensures after { Stage.Logging log.new ≡ after_log shape log.old value }
-    ensures stage { IsLog shape log.new }
+    ensures stage { IsLogStage shape log.new }
 {
     let Log::LoadCells { named, cell, .. } = *log else {
         unreachable!();
@@ -199,10 +210,13 @@ fn after_cell(shape: Shape, log: &mut Log, value: u64)
 
 /// All named cells are known.
 fn run_script(shape: Shape, log: &Log) -> Log
-    requires here { (lock : ℕ) × (turn : ℕ) × (script : Program) × (named : ℕ) × (row : List ℕ) × (cell : ℕ) × (log.now ≡ Log.LoadCells lock turn script named row cell) }
-    requires stage { IsLog shape log.now }
-    ensures after { (lock : ℕ) (turn : ℕ) (script : Program) (named : ℕ) (row : List ℕ) (cell : ℕ) → log.now ≡ Log.LoadCells lock turn script named row cell → Stage.Logging result ≡ run_stage shape lock turn script named row }
-    ensures stage { IsLog shape result }
+    requires here { (lock : ℕ) × (turn : ℕ) × (script : Program) × (named : ℕ) × (row : List ℕ) × (cell : ℕ)
+        × (log.now ≡ Log.LoadCells lock turn script named row cell) }
+    requires stage { IsLogStage shape log.now }
+    ensures after { (lock : ℕ) (turn : ℕ) (script : Program) (named : ℕ) (row : List ℕ) (cell : ℕ)
+        → log.now ≡ Log.LoadCells lock turn script named row cell
+        → Stage.Logging result ≡ run_stage shape lock turn script named row }
+    ensures stage { IsLogStage shape result }
 {
     match log {
         Log::LoadCells {
@@ -212,25 +226,38 @@ fn run_script(shape: Shape, log: &Log) -> Log
             named,
             row,
             ..
-        } => run_log(shape, *lock, *turn, script, *named, *row),
+        } => run_log(
+            shape,
+            even_visit(*lock, *turn, script, *named),
+            script,
+            *named,
+            *row,
+        ),
         _ => unreachable!(),
     }
 }
 
-/// The script is run on the named cells.
-fn run_log(shape: Shape, lock: u32, turn: u32, script: &Script, named: u64, mut row: Row) -> Log
-    requires lock { lock < shape.locks }
-    requires script { IsScript shape.cells script.now }
-    requires row { length row ≡ shape.cells }
-    ensures after { Stage.Logging result ≡ run_stage shape lock turn script.now named row }
-    ensures stage { IsLog shape result }
+/// The section at this even turn, of a script that names these cells.
+fn even_visit(lock: u32, turn: u32, script: &Script, named: u64) -> Visit
+    ensures { result ≡ even_visit lock turn script.now named }
 {
-    let reply = eval(script, &mut row);
     let parity = Parity::Even {
         operations: script.n(),
         cells: named,
     };
-    let visit = Visit { lock, turn, parity };
+    Visit { lock, turn, parity }
+}
+
+/// The script is run on the named cells.
+fn run_log(shape: Shape, visit: Visit, script: &Script, named: u64, mut row: Row) -> Log
+    requires lock { visit.lock < shape.locks }
+    requires script { IsScript shape.cells script.now }
+    requires row { length row ≡ shape.cells }
+    ensures after { Stage.Logging result ≡ shadow_stage_from visit named (eval_of script.now.ops row).row
+        (eval_of script.now.ops row).reply (first_cell named 0 shape.cells) }
+    ensures stage { IsLogStage shape result }
+{
+    let reply = eval(script, &mut row);
     match first_cell(named, 0, shape.cells) {
         Some(cell) => Log::StoreShadows {
             visit,
@@ -249,10 +276,11 @@ fn run_log(shape: Shape, lock: u32, turn: u32, script: &Script, named: u64, mut 
 
 /// One more shadow word is stored.
 fn after_shadow(shape: Shape, log: &mut Log)
-    requires here { (visit : Visit) × (named : ℕ) × (row : List ℕ) × (reply : ℕ) × (cell : ℕ) × (log.old ≡ Log.StoreShadows visit named row reply cell) }
-    requires stage { IsLog shape log.old }
+    requires here { (visit : Visit) × (named : ℕ) × (row : List ℕ) × (reply : ℕ) × (cell : ℕ)
+        × (log.old ≡ Log.StoreShadows visit named row reply cell) }
+    requires stage { IsLogStage shape log.old }
     ensures after { (value : ℕ) → Stage.Logging log.new ≡ after_log shape log.old value }
-    ensures stage { IsLog shape log.new }
+    ensures stage { IsLogStage shape log.new }
 {
     let Log::StoreShadows {
         visit,

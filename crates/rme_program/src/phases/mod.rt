@@ -1,4 +1,4 @@
-//! The steps of each phase: the word that the next step touches, and what follows from its value.
+//! The steps of each phase: the operation of the next step, and its outcome for the value found.
 
 pub mod climbing;
 pub mod copying;

@@ -1,11 +1,11 @@
-//! Phase Post: a worker writes its job down, and then counts it as begun.
+//! Phase Post: a worker writes its job to the slate, and then counts it as begun.
 
 ghost use Rattle.std.specs.Prelude.{◌≡◌, ◌<◌, ◌≤◌, ◌+◌, ◌*◌, ◌==◌, if◌then◌else◌};
-ghost use Rattle.rme_words.specs.Words.{IsOfShape};
+ghost use Rattle.rme_words.specs.Words.{IsShapeAddress};
 ghost use Rattle.rme_program.specs.Steps.{slate_action};
 ghost use Rattle.rme_program.specs.declared.stage.Stage.{Stage};
 ghost use Rattle.rme_program.specs.Conditions.{IsStage};
-ghost use Rattle.rme_program.specs.Did.{address_of};
+ghost use Rattle.rme_program.specs.ActionEffects.{action_address};
 
 use crate::action::Action;
 use crate::stage::Slate;
@@ -16,7 +16,7 @@ pub fn action(shape: Shape, worker: u32, begun: u32, slate: &Slate) -> Action
     requires worker { worker < shape.workers }
     requires stage { IsStage shape begun (Stage.Posting slate.now) }
     ensures action { result ≡ slate_action worker begun slate.now }
-    ensures within { IsOfShape shape (address_of result) }
+    ensures within { IsShapeAddress shape (action_address result) }
 {
     let n = slate.job.script.n();
     if slate.stored == 0 {

@@ -1,22 +1,23 @@
-//! Phase Recover: a worker finds out where its last life ended.
+//! Phase Recover: a worker finds where it was before its crash.
 
 ghost use Rattle.std.specs.Prelude.{◌≡◌, ◌<◌, ◌≤◌, ◌+◌, ℕ};
-ghost use Rattle.rme_words.specs.Words.{IsOfShape};
-ghost use Rattle.rme_program.specs.Steps.{quietly, recovery_action, after_recovery, after_own, after_other, re_entry};
-ghost use Rattle.rme_program.specs.Conditions.{IsRecovery, IsStage, Takes};
-ghost use Rattle.rme_program.specs.Did.{address_of};
+ghost use Rattle.rme_words.specs.Words.{IsShapeAddress};
+ghost use Rattle.rme_program.specs.Steps.{with_quiet_note, recovery_action, after_recovery, after_own_node, after_other_node, reentry_stage};
+ghost use Rattle.rme_program.specs.Conditions.{IsRecoveryStage, IsStage, IsValidLoad};
+ghost use Rattle.rme_program.specs.ActionEffects.{action_address};
 
 use crate::action::Action;
 use crate::note::Note;
+use crate::private::StepNumbers;
 use crate::stage::{Ascent, Departure, Log, Recovery, Stage};
 use rme_tree::{node, side};
 use rme_words::{Address, Shape};
 
 pub fn action(shape: Shape, worker: u32, recovery: &Recovery) -> Action
     requires worker { worker < shape.workers }
-    requires stage { IsRecovery shape recovery.now }
+    requires stage { IsRecoveryStage shape recovery.now }
     ensures action { result ≡ recovery_action shape worker recovery.now }
-    ensures within { IsOfShape shape (address_of result) }
+    ensures within { IsShapeAddress shape (action_address result) }
 {
     match recovery {
         Recovery::LoadBegun => Action::Load(Address::Begun(worker)),
@@ -31,27 +32,26 @@ pub fn action(shape: Shape, worker: u32, recovery: &Recovery) -> Action
 
 pub fn after(
     shape: Shape,
-    worker: u32,
-    begun: u32,
+    numbers: StepNumbers,
     recovery: Recovery,
     stage: &mut Stage,
     value: u64,
 ) -> Note
-    requires worker { worker < shape.workers }
-    requires stage { IsRecovery shape recovery }
-    requires value { Takes shape (Stage.Recovering recovery) value }
-    ensures after { (stage.new, result) ≡ after_recovery shape worker begun recovery value }
-    ensures stage { IsStage shape begun stage.new }
+    requires worker { numbers.worker < shape.workers }
+    requires stage { IsRecoveryStage shape recovery }
+    requires value { IsValidLoad shape (Stage.Recovering recovery) value }
+    ensures after { (stage.new, result) ≡ after_recovery shape numbers.worker numbers.begun recovery value }
+    ensures stage { IsStage shape numbers.begun stage.new }
 {
     match recovery {
-        Recovery::LoadBegun => go_on(stage, Recovery::LoadDone),
+        Recovery::LoadBegun => continue_recovery(stage, Recovery::LoadDone),
         Recovery::LoadDone => {
-            if begun == 0 {
+            if numbers.begun == 0 {
                 *stage = Stage::Resting;
                 return Note::Ready;
             }
-            let pending = value < u64::from(begun);
-            go_on(stage, Recovery::LoadLock { pending })
+            let pending = value < u64::from(numbers.begun);
+            continue_recovery(stage, Recovery::LoadLock { pending })
         }
         Recovery::LoadLock { pending } => {
             let path = Recovery::LoadPath {
@@ -59,25 +59,25 @@ pub fn after(
                 lock: value as u32,
                 held: 0,
             };
-            go_on(stage, path)
+            continue_recovery(stage, path)
         }
         Recovery::LoadPath {
             pending,
             lock,
             held,
         } => {
-            if value == side(shape, worker, held + 1) {
-                return after_own(shape, pending, lock, held + 1, stage);
+            if value == side(shape, numbers.worker, held + 1) {
+                return after_own_node(shape, pending, lock, held + 1, stage);
             }
-            after_other(pending, lock, held, stage)
+            after_other_node(pending, lock, held, stage)
         }
     }
 }
 
-/// The recovery goes on at this place, and the step brought nothing else about. A stage is wide, so
-/// within its phase its own part alone is written.
-fn go_on(stage: &mut Stage, recovery: Recovery) -> Note
-    ensures { (stage.new, result) ≡ quietly (Stage.Recovering recovery) }
+/// The recovery continues at this stage, and the note is quiet. A stage is wide, so within its phase only its own part
+/// is written.
+fn continue_recovery(stage: &mut Stage, recovery: Recovery) -> Note
+    ensures { (stage.new, result) ≡ with_quiet_note (Stage.Recovering recovery) }
 {
     match stage {
         Stage::Recovering(now) => *now = recovery,
@@ -86,15 +86,15 @@ fn go_on(stage: &mut Stage, recovery: Recovery) -> Note
     Note::Quiet
 }
 
-/// So many nodes of the path are the worker's, the last of them just found.
-fn after_own(shape: Shape, pending: bool, lock: u32, held: u32, stage: &mut Stage) -> Note
+/// The first `held` nodes of the path are the worker's, the last of them just found.
+fn after_own_node(shape: Shape, pending: bool, lock: u32, held: u32, stage: &mut Stage) -> Note
     requires lock { lock < shape.locks }
     requires held { held ≤ shape.height }
-    ensures after { (stage.new, result) ≡ after_own shape pending lock held }
+    ensures after { (stage.new, result) ≡ after_own_node shape pending lock held }
     ensures stage { (begun : ℕ) → IsStage shape begun stage.new }
 {
     if held == shape.height {
-        re_enter(pending, lock, stage);
+        reentry_stage(pending, lock, stage);
         return Note::Reentered(lock);
     }
     let path = Recovery::LoadPath {
@@ -102,12 +102,12 @@ fn after_own(shape: Shape, pending: bool, lock: u32, held: u32, stage: &mut Stag
         lock,
         held,
     };
-    go_on(stage, path)
+    continue_recovery(stage, path)
 }
 
-/// The whole path is the worker's: its section goes on, or its exit does.
-fn re_enter(pending: bool, lock: u32, stage: &mut Stage)
-    ensures { stage.new ≡ re_entry pending lock }
+/// The whole path is the worker's: its section continues, or its exit does.
+fn reentry_stage(pending: bool, lock: u32, stage: &mut Stage)
+    ensures { stage.new ≡ reentry_stage pending lock }
 {
     if pending {
         *stage = Stage::Logging(Log::LoadTurn { lock });
@@ -116,9 +116,9 @@ fn re_enter(pending: bool, lock: u32, stage: &mut Stage)
     *stage = Stage::Leaving(Departure::LoadExitTurn { lock });
 }
 
-/// The next node is not the worker's: it waits again, or it releases what it still holds.
-fn after_other(pending: bool, lock: u32, held: u32, stage: &mut Stage) -> Note
-    ensures { (stage.new, result) ≡ after_other pending lock held }
+/// The next node is not the worker's: it waits again, or it releases the nodes that it still holds.
+fn after_other_node(pending: bool, lock: u32, held: u32, stage: &mut Stage) -> Note
+    ensures { (stage.new, result) ≡ after_other_node pending lock held }
 {
     if pending {
         *stage = Stage::Climbing(Ascent { lock, held });

@@ -6,9 +6,9 @@ pub loop-i-preserved : goal.loop-i-preserved
 loop-i-preserved c =
     rw c.put.ensures (
       c.loop-i.invariant.0,
-      reading_next c.args.n c.args.words.now c.loop-i.i c.loop-i.script.ops c.if-n.false c.told-words c.loop-i-test.true c.loop-i.invariant.1 c.in-Some.op (sym c.op_of.ensures ∙ c.in-Some.is),
+      reading_next c.args.n c.args.words.now c.loop-i.i c.loop-i.script.ops c.if-n.false c.told-words c.loop-i-test.true c.loop-i.invariant.1 c.in-Some.op (sym c.op_from_words.ensures ∙ c.in-Some.is),
     )
 
 pub returns-in_default-clause-none : goal.returns-in_default-clause-none
 returns-in_default-clause-none c = λ no.
-    reading_none c.args.n c.args.words.now c.loop-i.i c.loop-i.script.ops c.if-n.false c.told-words c.loop-i-test.true c.loop-i.invariant.1 (sym c.op_of.ensures ∙ c.in_default.is)
+    reading_none c.args.n c.args.words.now c.loop-i.i c.loop-i.script.ops c.if-n.false c.told-words c.loop-i-test.true c.loop-i.invariant.1 (sym c.op_from_words.ensures ∙ c.in_default.is)

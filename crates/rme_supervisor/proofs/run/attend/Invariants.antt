@@ -1,8 +1,8 @@
-use Rattle.rme_supervisor.specs.Stops.{IsTurnedAway}
+use Rattle.rme_supervisor.specs.Stops.{gate_view, run_at_gate}
 use Rattle.rme_supervisor.proofs.run.attend.Given as goal
 
-abbrev pub ghosts-run-K-Course : goal.ghosts-run-K-Course
-ghosts-run-K-Course g a = record { plans = a.schedule.now.plans.now; rounds = a.schedule.now.rounds; given = a.downs.items; turned = IsTurnedAway (g.G.Gate.answered a.gate.now) g.G.Gate.lets_all a.service.now.shape }
+abbrev pub ghosts-run-K-RunTag : goal.ghosts-run-K-RunTag
+ghosts-run-K-RunTag g a = record { run = run_at_gate a.schedule.now.rounds a.schedule.now.plans.now a.downs.items (gate_view (g.G.Gate.answered a.gate.now) g.G.Gate.lets_all a.service.now.shape) }
 
 abbrev pub ghosts-run-K-Tag : goal.ghosts-run-K-Tag
 ghosts-run-K-Tag g a = record { ident = a.service.now }

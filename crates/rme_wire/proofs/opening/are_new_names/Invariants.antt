@@ -1,4 +1,4 @@
--- The answer for the texts that are left, after those that were seen, is the answer for all.
+-- The answer for the remaining texts, after those that were read, is the answer for all.
 use Rattle.std.proofs.Common.{◌≡◌, [], map, string_bytes, take, drop}
 use Rattle.rme_wire.specs.Openings.{are_new_names}
 use Rattle.rme_wire.proofs.opening.are_new_names.Given as goal

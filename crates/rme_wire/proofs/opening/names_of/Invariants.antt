@@ -1,4 +1,4 @@
--- The names are the texts before the place, and those that are left are new.
+-- The names are the texts before the index, and the remaining ones are new.
 use Rattle.std.proofs.Common.{◌≡◌, map, string_bytes, take, drop, true}
 use Rattle.rme_wire.specs.Openings.{are_new_names}
 use Rattle.rme_wire.proofs.opening.names_of.Given as goal

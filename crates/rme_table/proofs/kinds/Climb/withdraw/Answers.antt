@@ -1,7 +1,7 @@
 use Rattle.std.proofs.Common.{arith, subst}
-use Rattle.rme_seats.proofs.Leading.{led_withdraw}
-use Rattle.rme_seats.specs.Stands.{Ident}
-use Rattle.rme_table.specs.Calls.{HoldsNone}
+use Rattle.rme_service_steps.proofs.Leading.{led_withdraw}
+use Rattle.rme_service_steps.specs.SeatViews.{ServiceId}
+use Rattle.rme_table.specs.Calls.{PartHoldsNoNode}
 use Rattle.rme_table.proofs.Holding.{climbs_at, holds_none, seen_made, seen_fell, climbs_below, same_height}
 use Rattle.rme_table.proofs.kinds.Climb.withdraw.Goals as goal
 
@@ -20,7 +20,7 @@ returns-clause-made g c =
 pub returns-clause-holds_none : goal.returns-clause-holds_none
 returns-clause-holds_none g c =
     let doing = c.in-Ok.ensures in
-    subst (λ (x : Ident). HoldsNone x.shape c.withdraw.new.seat.part) c.service.view_is (holds_none _ _ _ doing.at)
+    subst (λ (x : ServiceId). PartHoldsNoNode x.shape c.withdraw.new.seat.part) c.service.view_is (holds_none _ _ _ doing.at)
 
 pub returns-in_default-clause-lead : goal.returns-in_default-clause-lead
 returns-in_default-clause-lead g c = led_withdraw c.args.service.now.shape c.args.self.part _ (climbs_at _ _ _ c.self.view_is c.self.invariant)

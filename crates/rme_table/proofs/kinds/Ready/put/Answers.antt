@@ -1,4 +1,4 @@
-use Rattle.rme_seats.proofs.Leading.{led_submit}
+use Rattle.rme_service_steps.proofs.Leading.{led_submit}
 use Rattle.rme_table.proofs.Holding.{rests_at}
 use Rattle.rme_table.proofs.kinds.Ready.put.Goals as goal
 

@@ -2,8 +2,8 @@ use Rattle.std.proofs.Common.{◌≡◌, List, length, refl, sym, ◌∙◌, ap,
 use Rattle.rme_words.specs.declared.shape.Shape.{Shape}
 use Rattle.rme_words.specs.Words.{Memory, word_count}
 use Rattle.rme_program.specs.declared.note.Entry.{Entry}
-use Rattle.rme_seats.specs.Stands.{Ident, Stand}
-use Rattle.rme_seats.specs.Closing.{Gathers}
+use Rattle.rme_service_steps.specs.SeatViews.{ServiceId, SeatView}
+use Rattle.rme_service_steps.specs.Closing.{ServiceIsGathered}
 use Rattle.rme_table.proofs.Mixed.{some_given}
 use Rattle.rme_table.proofs.Closes.{gathered_long, still_room, still_only, closes}
 use Rattle.rme_table.proofs.service.Service.close_into.Goals as goal
@@ -11,14 +11,14 @@ use Rattle.rme_table.proofs.service.Service.close_into.Goals as goal
 pub gather-words-requires-clause-some_seat : goal.gather-words-requires-clause-some_seat
 gather-words-requires-clause-some_seat c =
     let some = some_given c.args.self.shape c.args.downs.items c.requires.given in
-    let same = ap (λ (xs : List Stand). length xs) c.all_seats.ensures in
+    let same = ap (λ (xs : List SeatView). length xs) c.all_seats.ensures in
     omega (arith, some, same)
 
--- What was gathered, by the service and the workers that were given.
-gathered : (one two : Ident) (seats downs : List Stand) (before after : List ℕ) (old new : List Entry) → one ≡ two → seats ≡ downs
-    → Gathers one.shape seats before old after new → Gathers two.shape downs before old after new
+-- The gathered parts, by the service and the given workers.
+gathered : (one two : ServiceId) (seats downs : List SeatView) (before after : List ℕ) (old new : List Entry) → one ≡ two → seats ≡ downs
+    → ServiceIsGathered one.shape seats before old after new → ServiceIsGathered two.shape downs before old after new
 gathered one two seats downs before after old new idents same g =
-    subst (λ (x : Ident). Gathers x.shape downs before old after new) idents (subst (λ (xs : List Stand). Gathers one.shape xs before old after new) same g)
+    subst (λ (x : ServiceId). ServiceIsGathered x.shape downs before old after new) idents (subst (λ (xs : List SeatView). ServiceIsGathered one.shape xs before old after new) same g)
 
 pub of-requires : goal.of-requires
 of-requires c =

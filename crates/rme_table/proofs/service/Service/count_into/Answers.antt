@@ -1,8 +1,8 @@
 use Rattle.std.proofs.Common.{◌≡◌, ℕ, List, [], length, sym, ◌∙◌, ap, subst, arith}
 use Rattle.rme_words.specs.declared.shape.Shape.{Shape}
 use Rattle.rme_words.specs.Words.{Memory, word_count}
-use Rattle.rme_seats.specs.Stands.{Ident, Stand}
-use Rattle.rme_seats.specs.Closing.{Gathers, entries_given}
+use Rattle.rme_service_steps.specs.SeatViews.{ServiceId, SeatView}
+use Rattle.rme_service_steps.specs.Closing.{ServiceIsGathered, entries_given}
 use Rattle.rme_table.proofs.Mixed.{some_given}
 use Rattle.rme_table.proofs.Closes.{gathered_long}
 use Rattle.rme_table.proofs.Counts.{counts}
@@ -11,15 +11,15 @@ use Rattle.rme_table.proofs.service.Service.count_into.Goals as goal
 pub gather_words-words-requires-clause-some_seat : goal.gather_words-words-requires-clause-some_seat
 gather_words-words-requires-clause-some_seat c =
     let some = some_given c.args.self.shape c.args.downs.items c.requires.given in
-    let same = ap (λ (xs : List Stand). length xs) c.all_seats.ensures in
+    let same = ap (λ (xs : List SeatView). length xs) c.all_seats.ensures in
     omega (arith, some, same)
 
--- What was gathered, by the service and the workers that were given.
-gathered : (one two : Ident) (seats downs : List Stand) (before after : List ℕ) → one ≡ two → seats ≡ downs → Gathers one.shape seats before [] after (entries_given seats)
-    → Gathers two.shape downs before [] after (entries_given downs)
+-- The gathered parts, by the service and the given workers.
+gathered : (one two : ServiceId) (seats downs : List SeatView) (before after : List ℕ) → one ≡ two → seats ≡ downs → ServiceIsGathered one.shape seats before [] after (entries_given seats)
+    → ServiceIsGathered two.shape downs before [] after (entries_given downs)
 gathered one two seats downs before after idents same g =
-    let P : Ident → List Stand → Type 0 = λ (x : Ident) (xs : List Stand). Gathers x.shape xs before [] after (entries_given xs) in
-    subst (λ (x : Ident). P x downs) idents (subst (λ (xs : List Stand). P one xs) same g)
+    let P : ServiceId → List SeatView → Type 0 = λ (x : ServiceId) (xs : List SeatView). ServiceIsGathered x.shape xs before [] after (entries_given xs) in
+    subst (λ (x : ServiceId). P x downs) idents (subst (λ (xs : List SeatView). P one xs) same g)
 
 pub of-requires : goal.of-requires
 of-requires c =

@@ -23,15 +23,15 @@ returns-then-not-make_room c = rw (c.if-not-make_room.ensures.unchanged refl) re
   begins = tt;
 }
 
-pub hand-requires-clause-kept : goal.hand-requires-clause-kept
-hand-requires-clause-kept c =
+pub submit_checked-requires-clause-kept : goal.submit_checked-requires-clause-kept
+submit_checked-requires-clause-kept c =
     roomy_kept c.args.self.now c.make_room.new.self c.args.worker c.args.job c.in-Ok.private c.make_room.ensures.room c.in-Ok.ensures.found c.in-Ok.ensures.ready.2
     c.make_room.ensures.kept c.in-Ok.ensures.ready.0 c.in-Ok.ensures.ready.1 (rw c.shape.ensures at (c.if-not-make_room.ensures.made refl))
 
 pub returns : goal.returns
 returns c =
     let submits = roomy_submits c.args.self.now c.make_room.new.self c.args.worker c.args.job c.in-Ok.private c.make_room.ensures.room c.in-Ok.ensures.found c.in-Ok.ensures.ready.2
-    c.hand.new.self c.hand.result c.make_room.ensures.roomier c.in-Ok.ensures.may c.hand.ensures.number c.hand.ensures.hands in
+    c.submit_checked.new.self c.submit_checked.result c.make_room.ensures.roomier c.in-Ok.ensures.may c.submit_checked.ensures.number c.submit_checked.ensures.hands in
     record {
       accepted = submits;
       refused = tt;
@@ -39,6 +39,6 @@ returns c =
       headline = submit_run _ _ _ _ _ c.may_submit.ensures.kept submits;
       room = kept_room _ _
           (roomy_kept c.args.self.now c.make_room.new.self c.args.worker c.args.job c.in-Ok.private c.make_room.ensures.room c.in-Ok.ensures.found c.in-Ok.ensures.ready.2
-          c.make_room.ensures.kept c.in-Ok.ensures.ready.0 c.in-Ok.ensures.ready.1 (rw c.shape.ensures at (c.if-not-make_room.ensures.made refl))) c.hand.ensures.hands;
+          c.make_room.ensures.kept c.in-Ok.ensures.ready.0 c.in-Ok.ensures.ready.1 (rw c.shape.ensures at (c.if-not-make_room.ensures.made refl))) c.submit_checked.ensures.hands;
       begins = submit_begins _ _ _ _ _ c.may_submit.ensures.kept submits;
     }

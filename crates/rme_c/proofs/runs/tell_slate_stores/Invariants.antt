@@ -1,6 +1,0 @@
-use Rattle.std.proofs.Common.{◌*◌}
-use Rattle.rme_c.proofs.Going.{TellsPost}
-use Rattle.rme_c.proofs.runs.tell_slate_stores.Given as goal
-
-abbrev pub invariant-loop-at : goal.invariant-loop-at
-invariant-loop-at l = TellsPost l.shape l.until l.private l.slate.job (3 * l.at) l.batch

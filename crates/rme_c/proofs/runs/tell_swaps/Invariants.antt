@@ -1,5 +1,0 @@
-use Rattle.rme_c.proofs.Going.{TellsSwaps}
-use Rattle.rme_c.proofs.runs.tell_swaps.Given as goal
-
-abbrev pub invariant-loop-level : goal.invariant-loop-level
-invariant-loop-level l = TellsSwaps l.shape l.until l.worker l.lock l.held l.level l.fn.batch l.batch

@@ -1,9 +1,0 @@
-use Rattle.std.proofs.Common.{◌-◌}
-use Rattle.rme_c.proofs.Finishing.{TellsCopies}
-use Rattle.rme_c.proofs.stores.tell_copies.Given as goal
-
-abbrev pub invariant-loop-cell : goal.invariant-loop-cell
-invariant-loop-cell l = TellsCopies l.shape l.until l.visit l.named l.from l.fn.batch l.batch
-
-abbrev pub decreases-loop-cell : goal.decreases-loop-cell
-decreases-loop-cell l = l.shape.cells - l.from

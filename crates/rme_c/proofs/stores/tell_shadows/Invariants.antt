@@ -1,9 +1,0 @@
-use Rattle.std.proofs.Common.{◌-◌}
-use Rattle.rme_c.proofs.Finishing.{TellsShadows}
-use Rattle.rme_c.proofs.stores.tell_shadows.Given as goal
-
-abbrev pub invariant-loop-next : goal.invariant-loop-next
-invariant-loop-next l = TellsShadows l.shape l.until l.visit l.named l.row l.cell l.at l.fn.batch l.batch
-
-abbrev pub decreases-loop-next : goal.decreases-loop-next
-decreases-loop-next l = l.shape.cells - l.at

@@ -1,0 +1,2 @@
+pub mod FinalReports
+pub mod Drawn

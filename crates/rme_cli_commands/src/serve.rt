@@ -1,0 +1,157 @@
+//! `rme serve`: sessions over TCP and over Unix sockets, which share the workers and the locks of one service.
+
+ghost use Rattle.std.specs.Prelude.{◌≡◌, [], IfOk};
+ghost use Rattle.rme_service_steps.specs.Closing.{SeatsAreOfService};
+ghost use Rattle.rme_session_threads.specs.WorkerSlots.{AreDownsInPlace};
+ghost use Rattle.rme_cli_commands.specs.FinalReports.{FinalReportSays};
+
+use crate::final_report::{FinalReport, end_with, report_service};
+use log::sink::Console;
+use log::{Level, Logged, info};
+use rme_cli_listen::{BoundAddresses, StderrObserver, listen};
+use rme_cli_messages::{CliFault, why_not_locks, why_not_sizes};
+use rme_cli_options::{Diagnostics, ServeTask};
+use rme_server::{Listener, ServeFault, ServerLimits, SessionRegistry, Slots, serve};
+use rme_table::{CountRoom, Down, Service, Tag};
+use rme_wire::{GivenNames, Names};
+use rme_words::Shape;
+use std::io;
+use std::marker::Brand;
+use std::sync::Wait;
+use std::thread::Threads;
+use std::time::Clock;
+
+/// Serves the connections, prints the final state of the locks, and answers the status.
+pub fn run_serve<R: Threads + Wait + Clock + Sync>(
+    rt: &HostRuntime,
+    threads: &R,
+    task: ServeTask,
+) -> Result<u8, CliFault> {
+    let why = why_not_locks(rt.alloc(), &task.locks)?;
+    let shape = shape_of(&task);
+    let ServeTask {
+        places,
+        connections,
+        at_once,
+        idle,
+        diagnostics,
+        locks,
+        ..
+    } = task;
+    let locks = GivenNames::of(locks);
+    if !locks.are_names() {
+        return Err(CliFault::BadArguments(why));
+    }
+    let shape = shape?;
+    let names = locks.names(rt.alloc())?;
+    let (listeners, addresses) = listen(rt, places)?;
+    let host = ServeContext {
+        rt,
+        addresses,
+        limits: ServerLimits {
+            connections,
+            at_once,
+            idle,
+            tells_why: diagnostics == Diagnostics::Why,
+        },
+        names: &names,
+    };
+    let ended = serve_workers(threads, &host, listeners, shape);
+    host.addresses.clear(rt);
+    ended
+}
+
+/// The shape of the requested service.
+fn shape_of(task: &ServeTask) -> Result<Shape, CliFault> {
+    let locks = u32::try_from(task.locks.len()).unwrap_or(u32::MAX);
+    match Shape::new(task.workers, locks, task.cells, task.jobs) {
+        Ok(shape) => Ok(shape),
+        Err(_) => Err(CliFault::BadArguments(why_not_sizes(
+            ("--workers", task.workers),
+            ("--cells", task.cells),
+            ("--jobs", task.jobs),
+        ))),
+    }
+}
+
+/// The addresses of a server, its limits, and the names of the locks.
+#[derive(Drop)]
+struct ServeContext<'a> {
+    rt: &'a HostRuntime,
+    addresses: BoundAddresses,
+    limits: ServerLimits,
+    names: &'a Names,
+}
+
+/// Serves the workers of a new service of this shape, prints the final state of its locks, and answers the status.
+fn serve_workers<R: Threads + Wait + Clock + Sync>(
+    threads: &R,
+    host: &ServeContext<'_>,
+    listeners: (Listener, Option<Listener>),
+    shape: Shape,
+) -> Result<u8, CliFault> {
+    let (service, downs) = Service::new(host.rt.alloc(), shape)?;
+    let room = service.room_for_counts()?;
+    let closing = FinalReport::with_room(host.rt.alloc())?;
+    host.addresses.print(host.rt)?;
+    let (downs, served) = serve_all::<Brand, R>(threads, host, listeners, &service, downs)?;
+    log_served(host.rt, host.limits.connections.unwrap_or(0));
+    let status = close(host, service, downs, room, closing)?;
+    match served {
+        Ok(()) => Ok(status),
+        Err(fault) => Err(CliFault::of_serving(fault, host.addresses.text(host.rt.alloc())?)),
+    }
+}
+
+/// Logs that a server has served all its connections.
+fn log_served(rt: &HostRuntime, connections: u32) {
+    info!(Logged::new(rt, Level::Info, Console(rt)); target: "rme", "served {connections}");
+}
+
+/// Closes the service, prints the state of its locks, and answers the status. All room for that was reserved before.
+fn close(
+    host: &ServeContext<'_>,
+    service: Service,
+    downs: Vec<Down>,
+    room: CountRoom,
+    closing: FinalReport,
+) -> Result<u8, CliFault>
+    requires ours { SeatsAreOfService service downs.items }
+    requires room { room ≡ service.shape }
+    requires none { FinalReportSays closing [] [] 0 }
+{
+    let closed = service.close_counted(downs, room);
+    let closing = report_service(closing, host.names, &closed)?;
+    end_with(&mut io::writer(host.rt), &mut host.rt.stderr(), &closing)
+}
+
+/// Serves these workers, all of the service, to the sessions of the connections; gives back those that are present at
+/// the end, with the server's fault, if any.
+fn serve_all<K: Tag + Send + Sync, R: Threads + Wait + Clock + Sync>(
+    threads: &R,
+    host: &ServeContext<'_>,
+    listeners: (Listener, Option<Listener>),
+    service: &Service,
+    downs: Vec<Down>,
+) -> Result<(Vec<Down>, Result<(), ServeFault>), CliFault>
+    requires named { service.now ≡ K.ident }
+    requires all { AreDownsInPlace service.now downs.items }
+    ensures ours { IfOk result (λ served. SeatsAreOfService service.now served.0.items) }
+{
+    let alloc = host.rt.alloc();
+    let room = Vec::with_capacity(alloc, downs.len())?;
+    let Ok(slots) = Slots::<K>::new(threads, alloc, downs) else {
+        return Err(CliFault::NoMemory);
+    };
+    let registry = SessionRegistry::new(alloc, service.shape())?;
+    let shared = rme_server::ServiceBackend {
+        alloc,
+        service,
+        slots: &slots,
+        names: host.names,
+        registry: &registry,
+    };
+    let complaints = StderrObserver::new(host.rt);
+    let served = serve(threads, listeners, host.limits, &complaints, &shared);
+    Ok((slots.into_downs_in(threads, room), served))
+}

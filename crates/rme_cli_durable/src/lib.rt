@@ -1,0 +1,11 @@
+//! `rme serve --state`: the durable server.
+//!
+//! A start first decides everything, then listens, and only then writes (`serve_durable.rt`): it reads the file or
+//! plans a new one, binds its addresses, and opens the log. The crate stands on rme_durable_server and the crates below
+//! it, on rme_durable_file for the file, on rme_cli_listen for the addresses, and on rme_cli_options and
+//! rme_cli_messages.
+#![tactic(auto)]
+
+mod serve_durable;
+
+pub use serve_durable::run_serve_durable;

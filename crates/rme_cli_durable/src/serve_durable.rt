@@ -1,0 +1,475 @@
+//! `rme serve --state`: sessions over a world that is logged to a file.
+
+ghost use Rattle.std.specs.Prelude.{◌≡◌};
+
+use rme_cli_listen::{BoundAddresses, StderrObserver, listen};
+use rme_cli_messages::{BadArgument, CliFault, escape_controls, why_not_locks, why_not_sizes};
+use rme_cli_options::{Diagnostics, DurableServeTask, ListenAddresses, SyncPolicy};
+use rme_durable_checkpoint::{EpochExecutor, MOST_SET};
+use rme_durable_file::{StateFile, StateName, check_replaceable, make_state, read_state};
+use rme_durable_format::{LogHeader, RecoveredLog, append_crashes, push_header, whole_lines};
+use rme_durable_log::{LogTag, OpenLog};
+use rme_durable_server::{DurableServer, RecoveredState, clients_of};
+use rme_line_diagnose::Reason;
+use rme_line_text::{lock_name, push_opening};
+use rme_session_server::{Backend, Closer, Listener, ServerLimits, ServerObserver, serve};
+use rme_session_world::Executor;
+use rme_wire::{GivenNames, Names};
+use rme_words::{NoMemory, Shape};
+use std::alloc::{AllocError, Global};
+use std::io;
+use std::marker::Brand;
+use std::sync::Wait;
+use std::thread::Threads;
+use std::time::Clock;
+
+/// The default number of workers, besides the checkpoint worker.
+const USUAL_WORKERS: u32 = 8;
+
+/// The default number of cells of each lock.
+const USUAL_CELLS: u32 = 1;
+
+/// The default number of jobs of each worker.
+const USUAL_JOBS: u32 = 10_000;
+
+/// The greatest number of workers of a state, besides the checkpoint worker.
+const MOST_WORKERS: u32 = 255;
+
+/// The requested state.
+#[derive(Drop)]
+struct ServerConfig {
+    path: String,
+    workers: Option<u32>,
+    cells: Option<u32>,
+    jobs: Option<u32>,
+    locks: Vec<String>,
+    syncs: bool,
+}
+
+/// Serves a state until the process is killed, and creates it first if it does not exist. Returns if it cannot start,
+/// and if an event cannot be logged, which was already reported.
+///
+/// A start decides everything that depends on the command line and on the files, and listens, before it changes
+/// anything: a refused start leaves each file unchanged.
+pub fn run_serve_durable<R: Threads + Wait + Clock + Sync>(
+    rt: &HostRuntime,
+    threads: &R,
+    task: DurableServeTask,
+) -> Result<u8, CliFault> {
+    let limits = limits_of(&task);
+    let sections = task.sections;
+    let (asked, places) = split_task(task);
+    let name = StateName::new(String::from_str(rt.alloc(), asked.path.as_str())?);
+    let planned = plan_start(rt, &asked, &name)?;
+    let (listeners, addresses) = listen(rt, places)?;
+    let site = DurableServeContext {
+        rt,
+        addresses,
+        limits,
+        name: &name,
+        sections,
+    };
+    let served = match open_or_create(rt, &asked, &name, planned) {
+        Ok(opened) => serve_opened::<Brand, R>(threads, &site, listeners, opened),
+        Err(fault) => Err(fault),
+    };
+    site.addresses.clear(rt);
+    served
+}
+
+/// The addresses of a durable server, its limits, and its file.
+#[derive(Drop)]
+struct DurableServeContext<'a> {
+    rt: &'a HostRuntime,
+    addresses: BoundAddresses,
+    limits: ServerLimits,
+    name: &'a StateName,
+    /// The number of sections after which the file is checkpointed.
+    sections: u32,
+}
+
+/// The plan of a start: nothing was changed yet.
+#[derive(Drop)]
+enum StartPlan<'a> {
+    /// Continue with a file, which no other server has.
+    GoOn(RecoveredFile<'a>),
+    /// Create a file with these lines.
+    Make(String),
+}
+
+/// A file that was recovered, and can be served.
+#[derive(Drop)]
+struct RecoveredFile<'a> {
+    file: StateFile<'a>,
+    recovered: RecoveredState,
+    /// The number of bytes of its whole lines. What follows is a torn line.
+    whole: usize,
+}
+
+/// A state whose events are all in its file, and whose workers are all down.
+#[derive(Drop)]
+struct OpenedState<'a> {
+    names: Names,
+    executor: EpochExecutor,
+    opened: OpenLog<StateFile<'a>>,
+}
+
+/// Serves a state on these listeners, with a tag for its log.
+fn serve_opened<J: LogTag + Send + Sync, R: Threads + Wait + Clock + Sync>(
+    threads: &R,
+    site: &DurableServeContext<'_>,
+    listeners: (Listener, Option<Listener>),
+    state: OpenedState<'_>,
+) -> Result<u8, CliFault>
+    requires { state.opened ≡ J.book }
+{
+    let OpenedState {
+        names,
+        executor,
+        opened,
+    } = state;
+    let alloc = site.rt.alloc();
+    let kept = DurableServer::<StateFile<'_>, Closer, J>::new(
+        alloc,
+        names,
+        executor,
+        site.sections,
+        opened,
+    )?;
+    site.addresses.print(site.rt)?;
+    serve_durable_state(threads, site, listeners, &kept)
+}
+
+/// The limits of the server.
+fn limits_of(task: &DurableServeTask) -> ServerLimits {
+    ServerLimits {
+        connections: None,
+        at_once: task.at_once,
+        idle: task.idle,
+        tells_why: task.diagnostics == Diagnostics::Why,
+    }
+}
+
+/// The requested state, and the addresses.
+fn split_task(task: DurableServeTask) -> (ServerConfig, ListenAddresses) {
+    let DurableServeTask {
+        state,
+        workers,
+        cells,
+        jobs,
+        places,
+        sync,
+        locks,
+        ..
+    } = task;
+    let asked = ServerConfig {
+        path: state,
+        workers,
+        cells,
+        jobs,
+        locks,
+        syncs: sync == SyncPolicy::Always,
+    };
+    (asked, places)
+}
+
+/// Serves a durable state on these listeners. If an event cannot be logged, this is reported at the end.
+fn serve_durable_state<J: LogTag + Send + Sync, R: Threads + Wait + Clock + Sync>(
+    threads: &R,
+    site: &DurableServeContext<'_>,
+    listeners: (Listener, Option<Listener>),
+    kept: &DurableServer<StateFile<'_>, Closer, J>,
+) -> Result<u8, CliFault> {
+    let complaints = StderrObserver::new(site.rt);
+    let observer = StateObserver {
+        complaints: &complaints,
+        threads,
+        name: site.name,
+        kept,
+    };
+    let served = serve(threads, listeners, site.limits, &observer, kept);
+    site.name.tell(site.rt, complaints.stderr());
+    if kept.is_over(threads) {
+        return Ok(CliFault::WriteFailed.status());
+    }
+    match served {
+        Ok(()) => Ok(0),
+        Err(fault) => Err(CliFault::of_serving(fault, site.addresses.text(site.rt.alloc())?)),
+    }
+}
+
+/// Observes a durable server: each second it checks whether the state's file still has its name, without which nothing
+/// may be answered, and reports faults of the file.
+#[derive(Drop)]
+struct StateObserver<'a, 'f, J: LogTag, R> {
+    complaints: &'a StderrObserver<'a>,
+    threads: &'a R,
+    name: &'a StateName,
+    kept: &'a DurableServer<StateFile<'f>, Closer, J>,
+}
+
+impl<J: LogTag, R: Wait> ServerObserver for StateObserver<'_, '_, J, R> {
+    fn not_accepted(&self, why: io::Error) {
+        self.complaints.not_accepted(why);
+    }
+
+    fn no_thread(&self) {
+        self.complaints.no_thread();
+    }
+
+    fn bad_line(&self, connection: u64, line: u64, why: &Reason) {
+        self.complaints.bad_line(connection, line, why);
+    }
+
+    fn second_passed(&self) {
+        let rt = self.complaints.rt();
+        if self.name.check_name(rt) {
+            self.kept.fail(self.threads);
+        }
+        self.name.tell(rt, self.complaints.stderr());
+    }
+}
+
+/// Plans a start, and changes nothing. A file that exists is recovered: it must be a state, and match the request. If
+/// it does not exist, the requested state must be a possible one. And the file must be one that a checkpoint can
+/// replace.
+fn plan_start<'a>(
+    rt: &'a HostRuntime,
+    asked: &ServerConfig,
+    name: &'a StateName,
+) -> Result<StartPlan<'a>, CliFault> {
+    if asked.path.is_empty() {
+        return Err(CliFault::BadArguments(BadArgument::NoFile("--state")));
+    }
+    let planned = match recover_file(rt, asked, name)? {
+        Some(found) => StartPlan::GoOn(found),
+        None => StartPlan::Make(first_lines(rt, asked)?),
+    };
+    check_replaceable(rt, name.path())?;
+    Ok(planned)
+}
+
+/// The file, if it exists: recovered, and matching the request. Then no other server can have it.
+fn recover_file<'a>(
+    rt: &'a HostRuntime,
+    asked: &ServerConfig,
+    name: &'a StateName,
+) -> Result<Option<RecoveredFile<'a>>, CliFault> {
+    let Some(file) = StateFile::open(rt, name, asked.syncs)? else {
+        return Ok(None);
+    };
+    let mut file = file;
+    let bytes = file.bytes()?;
+    let recovered = read_state(rt, asked.path.as_str(), bytes.as_slice())?;
+    check_against(rt, asked, &recovered.log)?;
+    Ok(Some(RecoveredFile {
+        file,
+        recovered,
+        whole: whole_lines(bytes.as_slice()).len(),
+    }))
+}
+
+/// Executes the plan: creates the file if it does not exist, and logs a crash of each worker that was up.
+fn open_or_create<'a>(
+    rt: &'a HostRuntime,
+    asked: &ServerConfig,
+    name: &'a StateName,
+    planned: StartPlan<'a>,
+) -> Result<OpenedState<'a>, CliFault> {
+    match planned {
+        StartPlan::GoOn(found) => open_state(rt.alloc(), found),
+        StartPlan::Make(lines) => {
+            make_state(rt, asked.path.as_str(), lines.as_bytes())?;
+            match recover_file(rt, asked, name)? {
+                Some(found) => open_state(rt.alloc(), found),
+                None => Err(CliFault::BadArguments(BadArgument::NoState(escape_controls(
+                    rt.alloc(),
+                    asked.path.as_str(),
+                )?))),
+            }
+        }
+    }
+}
+
+/// Cuts off the torn line, and logs a crash of each worker that was up.
+fn open_state<'a>(alloc: Global, found: RecoveredFile<'a>) -> Result<OpenedState<'a>, CliFault> {
+    let RecoveredFile {
+        file,
+        recovered,
+        whole,
+    } = found;
+    let mut file = file;
+    let falls = crash_lines(alloc, &recovered.log)?;
+    file.begin(whole)?;
+    file.write(falls.as_bytes())?;
+    let length = whole.saturating_add(falls.len()) as u64;
+    Ok(opened_state_of(alloc, recovered, length, file)?)
+}
+
+/// The lines that crash each worker that was up.
+fn crash_lines(alloc: Global, log: &RecoveredLog) -> Result<String, CliFault> {
+    let mut falls = String::new(alloc);
+    if append_crashes(&mut falls, alloc, &log.names, &log.world).is_err() {
+        return Err(CliFault::NoMemory);
+    }
+    Ok(falls)
+}
+
+/// The state that was recovered from the file, with the length of its log.
+fn opened_state_of<'a>(
+    alloc: Global,
+    recovered: RecoveredState,
+    length: u64,
+    file: StateFile<'a>,
+) -> Result<OpenedState<'a>, NoMemory> {
+    let RecoveredState { log, base } = recovered;
+    let RecoveredLog {
+        header,
+        names,
+        world,
+        ..
+    } = log;
+    let executor = Executor::new(alloc, world)?;
+    let executor = EpochExecutor::new(alloc, executor, base, header.epoch, length);
+    Ok(OpenedState {
+        names,
+        executor,
+        opened: OpenLog::new(file),
+    })
+}
+
+/// The lines of a new state.
+fn first_lines(rt: &HostRuntime, asked: &ServerConfig) -> Result<String, CliFault> {
+    let alloc = rt.alloc();
+    if asked.locks.as_slice().is_empty() {
+        let path = escape_controls(alloc, asked.path.as_str())?;
+        return Err(CliFault::BadArguments(BadArgument::NoNames(path)));
+    }
+    let names = names_of(alloc, &asked.locks)?;
+    let shape = new_shape(asked, names.len())?;
+    Ok(lines_of(alloc, &names, shape)?)
+}
+
+/// The names of the locks of a new state.
+fn names_of(alloc: Global, locks: &[String]) -> Result<Names, CliFault> {
+    let why = why_not_locks(alloc, locks)?;
+    let given = GivenNames::of(copies(alloc, locks)?);
+    if !given.are_names() {
+        return Err(CliFault::BadArguments(why));
+    }
+    Ok(given.names(alloc)?)
+}
+
+fn copies(alloc: Global, texts: &[String]) -> Result<Vec<String>, AllocError> {
+    let mut copies = Vec::new(alloc);
+    for text in texts {
+        copies.push(String::from_str(alloc, text.as_str())?)?;
+    }
+    Ok(copies)
+}
+
+/// The lines of a new state with these names and of this shape.
+fn lines_of(alloc: Global, names: &Names, shape: Shape) -> Result<String, AllocError> {
+    let mut lines = String::new(alloc);
+    push_header(&mut lines, names, &LogHeader::first(alloc, shape)?)?;
+    push_opening(&mut lines, names, shape)?;
+    lines.push_str("\n")?;
+    Ok(lines)
+}
+
+/// The shape of a new state: the requested sizes, or the defaults, and the checkpoint worker besides the workers.
+fn new_shape(asked: &ServerConfig, locks: u32) -> Result<Shape, CliFault> {
+    let workers = asked.workers.unwrap_or(USUAL_WORKERS);
+    let cells = asked.cells.unwrap_or(USUAL_CELLS);
+    let jobs = asked.jobs.unwrap_or(USUAL_JOBS);
+    if workers == 0 || workers > MOST_WORKERS {
+        let why = BadArgument::OutOfRange("--workers", workers, MOST_WORKERS);
+        return Err(CliFault::BadArguments(why));
+    }
+    match Shape::new(workers + 1, locks, cells, jobs_for(jobs, locks, cells)) {
+        Ok(shape) => Ok(shape),
+        Err(_) => Err(CliFault::BadArguments(why_not_sizes(
+            ("--workers", workers),
+            ("--cells", cells),
+            ("--jobs", jobs),
+        ))),
+    }
+}
+
+/// The number of jobs of each worker for a requested number: at least as many as the checkpoint worker may need, which
+/// sets the cells of each lock at the beginning of an epoch, eight in a job. Clients do not notice it: their numbers
+/// continue.
+fn jobs_for(jobs: u32, locks: u32, cells: u32) -> u32 {
+    if jobs == 0 {
+        return jobs;
+    }
+    let of_a_lock = cells.div_ceil(MOST_SET);
+    jobs.max(locks.saturating_mul(of_a_lock))
+}
+
+/// Refuses a request that does not match the state.
+fn check_against(
+    rt: &HostRuntime,
+    asked: &ServerConfig,
+    log: &RecoveredLog,
+) -> Result<(), CliFault> {
+    let shape = log.world.shape();
+    let sizes = [
+        ("--workers", asked.workers, clients_of(&log.world)),
+        ("--cells", asked.cells, shape.cells()),
+        ("--jobs", jobs_asked(asked, shape), shape.jobs()),
+    ];
+    for (option, asked, has) in sizes {
+        if let Some(number) = asked {
+            if number != has {
+                let why = BadArgument::OtherSize(option, number, has);
+                return Err(CliFault::BadArguments(why));
+            }
+        }
+    }
+    if are_others(&asked.locks, &log.names) {
+        let path = escape_controls(rt.alloc(), asked.path.as_str())?;
+        let locks = names_text(rt.alloc(), &log.names)?;
+        return Err(CliFault::BadArguments(BadArgument::OtherNames(path, locks)));
+    }
+    Ok(())
+}
+
+/// The names of all locks, with a space between them.
+fn names_text(alloc: Global, names: &Names) -> Result<String, AllocError> {
+    let mut text = String::new(alloc);
+    for lock in 0..names.len() {
+        if lock > 0 {
+            text.push_str(" ")?;
+        }
+        text.push_str(lock_name(names, lock))?;
+    }
+    Ok(text)
+}
+
+/// The requested number of jobs, or that of a state that was created with this request.
+fn jobs_asked(asked: &ServerConfig, shape: Shape) -> Option<u32> {
+    let jobs = asked.jobs?;
+    if jobs_for(jobs, shape.locks(), shape.cells()) == shape.jobs() {
+        return Some(shape.jobs());
+    }
+    Some(jobs)
+}
+
+/// Whether the requested locks are not these.
+fn are_others(locks: &[String], names: &Names) -> bool {
+    if locks.is_empty() {
+        return false;
+    }
+    if locks.len() != names.len() as usize {
+        return true;
+    }
+    let mut place = 0;
+    for lock in locks {
+        if names.number(lock.as_str()) != Some(place) {
+            return true;
+        }
+        place += 1;
+    }
+    false
+}

@@ -1,0 +1,95 @@
+//! Reporting faults of connections on the standard error.
+
+use rme_cli_messages::{MessageLimit, RepeatCount, Stderr};
+use rme_line_diagnose::Reason;
+use rme_session_server::ServerObserver;
+use std::sync::atomic::{AtomicU64, Ordering};
+use std::time::Duration;
+use std::{io, thread};
+
+/// The pause in milliseconds after a connection that could not be accepted or served, so that others can end.
+const PAUSE: u64 = 100;
+
+/// Reports faults on the standard error; a repeated fault once in some seconds, with its count.
+#[derive(Drop)]
+pub struct StderrObserver<'a> {
+    rt: &'a HostRuntime,
+    stderr: Stderr<'a>,
+    not_accepted: RepeatedFailure,
+    no_thread: RepeatedFailure,
+}
+
+/// A repeated fault.
+#[derive(Drop)]
+struct RepeatedFailure {
+    count: AtomicU64,
+    limit: MessageLimit,
+}
+
+impl RepeatedFailure {
+    fn new() -> RepeatedFailure {
+        RepeatedFailure {
+            count: AtomicU64::new(0),
+            limit: MessageLimit::new(),
+        }
+    }
+
+    /// Counts the fault once more. If it is to be reported now, answers its count since the last report.
+    fn count_one(&self, stderr: &Stderr<'_>) -> Option<RepeatCount> {
+        self.count.fetch_add(1, Ordering::SeqCst);
+        if !self.limit.may_tell(stderr) {
+            return None;
+        }
+        Some(RepeatCount(self.count.swap(0, Ordering::SeqCst)))
+    }
+}
+
+impl<'a> StderrObserver<'a> {
+    pub fn new(rt: &'a HostRuntime) -> StderrObserver<'a> {
+        StderrObserver {
+            rt,
+            stderr: Stderr::new(rt),
+            not_accepted: RepeatedFailure::new(),
+            no_thread: RepeatedFailure::new(),
+        }
+    }
+
+    pub fn rt(&self) -> &'a HostRuntime {
+        self.rt
+    }
+
+    pub fn stderr(&self) -> &Stderr<'a> {
+        &self.stderr
+    }
+}
+
+impl ServerObserver for StderrObserver<'_> {
+    fn not_accepted(&self, why: io::Error) {
+        if let Some(again) = self.not_accepted.count_one(&self.stderr) {
+            let text = format!(in self.rt.alloc();
+                "rme: a connection can't be accepted: {why}{again}\n"
+            );
+            self.stderr.tell(text);
+        }
+        thread::sleep(self.rt, Duration::from_millis(PAUSE));
+    }
+
+    fn no_thread(&self) {
+        if let Some(again) = self.no_thread.count_one(&self.stderr) {
+            let text = format!(in self.rt.alloc();
+                "rme: a connection is closed, since it can't have a thread{again}\n"
+            );
+            self.stderr.tell(text);
+        }
+        thread::sleep(self.rt, Duration::from_millis(PAUSE));
+    }
+
+    fn bad_line(&self, connection: u64, line: u64, why: &Reason) {
+        let text = format!(in self.rt.alloc();
+            "rme: connection {connection}, line {line}: {why}\n"
+        );
+        self.stderr.tell(text);
+    }
+
+    fn second_passed(&self) {}
+}

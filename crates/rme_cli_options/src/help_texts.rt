@@ -1,0 +1,326 @@
+//! The texts of help.
+//!
+//! They are functions, not constants: the value of a constant is known wherever it is used, and a long text is slow to
+//! check there.
+
+pub fn about<'a>() -> &'a str {
+    "A recoverable mutual exclusion lock service, for workers that may be killed at any moment"
+}
+
+/// The program's version, and below it the version of the toolchain that proved it.
+pub fn version<'a>() -> &'a str {
+    "0.2.0\nrattle-kit-13f logic dac8208d650f15bf"
+}
+
+pub fn example<'a>() -> &'a str {
+    "\
+A server that keeps what it did in a file, and goes on from it however it ended:
+
+  rme serve --state bank.state bank
+
+Or by hand: a worker asks for a lock, enters, crashes inside, and goes on where it fell.
+
+  rme run <<'END'
+  {\"do\":\"open\",\"workers\":2,\"locks\":[\"bank\"],\"cells\":1,\"jobs\":10}
+  {\"do\":\"submit\",\"worker\":0,\"lock\":\"bank\",\"script\":[[\"add\",0,5]]}
+  {\"do\":\"walk\",\"worker\":0,\"until\":\"entered\"}
+  {\"do\":\"crash\",\"worker\":0}
+  {\"do\":\"owner\",\"lock\":\"bank\"}
+  {\"do\":\"restart\",\"worker\":0}
+  {\"do\":\"walk\",\"worker\":0}
+  {\"do\":\"cells\",\"lock\":\"bank\"}
+  END
+
+`rme serve --help` says what a client sends, `rme run --help` what the lines mean."
+}
+
+pub fn run_about<'a>() -> &'a str {
+    "Answers each line of the standard input by one line of the standard output"
+}
+
+pub fn transcript_help<'a>() -> &'a str {
+    "Writes what happened in the place of answers: each event that the world took, for `rme check`"
+}
+
+pub fn why_help<'a>() -> &'a str {
+    "Says on the standard error why a line is answered BadLine"
+}
+
+pub fn image_help<'a>() -> &'a str {
+    "Begins with the world that was saved in this file; with nothing, where the file is not there"
+}
+
+pub fn locks_help<'a>() -> &'a str {
+    "Names the locks of that world, in order and with commas between: an image has no names"
+}
+
+pub fn save_help<'a>() -> &'a str {
+    "Saves the world that is open at the end of the input in this file"
+}
+
+pub fn check_about<'a>() -> &'a str {
+    "Checks a transcript on the standard input: whether the abstract machine has each of its steps"
+}
+
+pub fn check_lines<'a>() -> &'a str {
+    "\
+A transcript is what `rme run --transcript` writes, or another program in its form: a first line that
+opens a world, and then one line for each event, as
+
+  {\"do\":\"submit\",\"lock\":NAME,\"number\":N,\"script\":[OP,..],\"worker\":W}
+  {\"do\":\"crash\",\"worker\":W}      or \"restart\", or \"withdraw\"
+  {\"do\":\"note\",\"note\":NOTE,\"worker\":W}
+                                 a step of a worker, with its note: [\"asked\",k] [\"blocked\"]
+                                 [\"entered\",NAME] [\"reentered\",NAME] [\"left\",NAME] [\"ready\"]
+                                 [\"withdrew\",k] [\"finished\",NAME,number,place,reply] [\"quiet\"]
+
+It prints one line: yes, where the abstract machine has all these steps in turn; no LINE for the first
+line whose step it does not have there; bad LINE for the first line that is no event line, or for the
+first of all where it opens no world.
+
+Status: 0 after yes, 1 after no and bad, 2 for words that are refused, 3 where reading failed, 4 where
+writing failed, 5 where memory ran out."
+}
+
+pub fn draw_about<'a>() -> &'a str {
+    "Draws a transcript on the standard input: a picture in SVG on the standard output"
+}
+
+pub fn draw_lines<'a>() -> &'a str {
+    "\
+The picture has a row for each worker, with its phases, and a row for each lock, with its owner, its finished
+sections and what its cells held after them; there is a column for each line of the transcript. It opens in
+any browser. A worker that crashes in its section, and what becomes of the lock:
+
+  rme run --transcript >run.jsonl <<'END'
+  {\"do\":\"open\",\"workers\":2,\"locks\":[\"bank\"],\"cells\":1,\"jobs\":10}
+  {\"do\":\"submit\",\"worker\":0,\"lock\":\"bank\",\"script\":[[\"add\",0,5]]}
+  {\"do\":\"walk\",\"worker\":0,\"until\":\"entered\"}
+  {\"do\":\"crash\",\"worker\":0}
+  {\"do\":\"restart\",\"worker\":0}
+  {\"do\":\"walk\",\"worker\":0}
+  END
+  rme draw <run.jsonl >run.svg
+
+A transcript is checked as `rme check` does it, and drawn only where that says yes. Else there is no picture,
+and its verdict, no LINE or bad LINE, stands on the standard error.
+
+Status: 0 after a picture, 1 after no and bad, 2 for words that are refused, 3 where reading failed, 4 where
+writing failed, 5 where memory ran out."
+}
+
+pub fn explain_about<'a>() -> &'a str {
+    "Explains a refusal or a status of the program, by its number or its name"
+}
+
+pub fn explain_lines<'a>() -> &'a str {
+    "\
+A refused line is answered {\"code\":N,\"error\":NAME}; a program that ends has a status, 0 to 7. Where a refusal
+and a status have the same number or name, both are explained; `rme explain status 1` is about the status
+alone. Several are explained in turn:
+
+  rme explain TooManyJobs
+
+  14 TooManyJobs: the worker has begun all its jobs
+    The world was opened with so many jobs for each worker, and a withdrawn one counts too. Use another worker, or open the next world with more `jobs`.
+
+Status: 0 after an explanation, 2 where no refusal and no status has the number or the name, 4 where writing
+failed, 5 where memory ran out."
+}
+
+pub fn run_lines<'a>() -> &'a str {
+    "\
+Each line is one JSON object; its keys may come in any order. A world must be open or loaded first.
+
+  {\"do\":\"open\",\"workers\":N,\"locks\":[NAME,..],\"cells\":N,\"jobs\":N}
+                                 opens a world: 1 to 256 workers, 1 to 16 locks of 1 to 16 cells each, at
+                                 most 1000000 jobs for each worker; a name has 1 to 32 of a-z 0-9 _ -
+  {\"do\":\"submit\",\"worker\":W,\"lock\":NAME,\"script\":[OP,..]}
+                                 hands a ready worker a job: at most 8 operations on that lock's cells,
+                                 [\"get\",c] [\"set\",c,v] [\"add\",c,v] [\"copy\",a,b] [\"swap\",a,b]
+  {\"do\":\"step\",\"worker\":W}       one step of a worker: one operation on one shared word
+  {\"do\":\"walk\",\"worker\":W}       steps until the worker is ready or blocked; \"until\":KIND ends it at a
+                                 note of that kind (asked entered reentered finished left ready
+                                 withdrew), \"max\":N after 1 to 10000 steps
+  {\"do\":\"crash\",\"worker\":W}      the worker loses all that it alone knows
+  {\"do\":\"restart\",\"worker\":W}    the worker begins to recover
+  {\"do\":\"withdraw\",\"worker\":W}   a waiting worker gives up its job
+  {\"do\":\"owner\",\"lock\":NAME}     who owns the lock
+  {\"do\":\"cells\",\"lock\":NAME}     what its cells hold, and whether no section is half done
+  {\"do\":\"last\",\"worker\":W}       the receipt of the worker's last job
+  {\"do\":\"history\"}               all finished jobs, in order
+  {\"do\":\"report\"}                the most steps of one stay in each phase, over all workers
+  {\"do\":\"save\"}                  the image of the world, in hexadecimal
+  {\"do\":\"load\",\"image\":HEX,\"locks\":[NAME,..]}
+                                 goes on with the world of an image, in the place of one that is open; its
+                                 locks have the given names, and all its workers are down
+
+A line that is refused is answered {\"code\":N,\"error\":NAME} and changes nothing. --why says on the standard
+error what is wrong with one that is no command: {\"code\":1,\"error\":\"BadLine\"}.
+
+A run that begins with the world that the last one left, and leaves its own:
+
+  rme run --image bank.rme --locks bank --save bank.rme
+
+A world is saved at the end of the input alone: a run that ends early leaves bank.rme as it was, and so does
+one that ends with no world open. A new file beside it is written first, and then put in the place of
+bank.rme, with its mode.
+
+Status: 0 at the end of the input, 2 for words that are refused, for an image that is broken, for --locks that
+don't fit it and where nothing can be saved in the file, 3 where reading failed, 4 where writing failed, 5
+where memory ran out."
+}
+
+pub fn threads_about<'a>() -> &'a str {
+    "Supervises workers in threads, which fall and go on, and prints what their lock then holds"
+}
+
+pub fn threads_lines<'a>() -> &'a str {
+    "\
+Each worker makes JOBS jobs, one after another, on one lock with one cell; a job adds 1 to it. Where a
+worker falls its thread ends there and all that it knew is lost, and its next life goes on. Each job
+counts once all the same:
+
+  rme threads 8 100 7 19 40
+
+  workers 8
+  jobs 100
+  all done 8
+  cell 800
+  entries 800
+
+Status: 0 where all workers were done, 1 where one was not, 2 for words that are refused (falls that do
+not rise, or more than 256 workers or 1000000 jobs), 4 where writing failed, 5 where memory ran out."
+}
+
+pub fn serve_about<'a>() -> &'a str {
+    "Serves a lock service to clients over TCP on 127.0.0.1 or a Unix socket, a session for each connection"
+}
+
+/// The text for a `serve` whose required arguments are missing.
+pub fn shortest_start<'a>() -> &'a str {
+    "the shortest start is `rme serve --state FILE bank`; without --state a server needs --workers, --cells, --jobs, --port or --socket, and the names of its locks"
+}
+
+pub fn serve_lines<'a>() -> &'a str {
+    "\
+The shortest start, of a server that keeps its state in FILE, with 8 workers, a lock `bank` of 1 cell, and the
+port 7000:
+
+  rme serve --state FILE bank
+
+It prints `listening PORT` as soon as clients can connect, and `listening PATH` where there is a socket. With
+--connections it takes no more over both, and when all of these have ended it logs `served n` to the standard
+error, closes the service, and prints a line for each lock: `lock NAME cells V V .. entries E`, with what its
+cells hold and how many jobs they have seen.
+
+A connection for which there is no room (--at-once) is answered {\"code\":9,\"error\":\"Busy\"} and closed. One that
+can't be accepted or have a thread is told of on the standard error, and the server goes on.
+
+Each line of a client is one JSON object, which is obeyed and answered by one line:
+
+  {\"do\":\"attach\",\"worker\":W}     takes a worker that no other session has, and recovers it:
+                                 {\"number\":N,\"ok\":\"attach\",\"stance\":\"ready\"} with its last number, or the
+                                 stance climb or held with that of the job that it is in. With \"take\":true
+                                 also from a session that has it, which is ended
+  {\"do\":\"submit\",\"number\":N,\"lock\":NAME,\"script\":[OP,..]}
+                                 makes the job of the number after the last: {\"ok\":\"submit\",\"receipt\":{..}};
+                                 {\"ok\":\"submit\",\"waiting\":true} where the lock was not had in 1000 tries, or
+                                 in \"tries\":N, 1 to 1000000, or in \"wait\":MS, milliseconds, 0 to 3600000;
+                                 {\"fell\":true,\"ok\":\"submit\"} at a planned crash.
+                                 The same line again goes on with the job, or answers its receipt, or
+                                 {\"ok\":\"submit\",\"withdrawn\":true}: a job counts once. The operations are
+                                 those of `rme run --help`
+  {\"do\":\"enter\",..}              as submit, and stops inside the lock, for work of one's own:
+                                 {\"number\":N,\"ok\":\"enter\",\"stance\":\"held\"}; nobody else enters before
+  {\"do\":\"commit\"}                makes the section and leaves: {\"ok\":\"commit\",\"receipt\":{..}}
+  {\"do\":\"resume\"}                goes on with the job that the worker is in, answered as submit is, with
+                                 \"ok\":\"resume\"; it takes \"tries\" and \"wait\" too
+  {\"do\":\"withdraw\"}              gives up a job that waits: {\"number\":N,\"ok\":\"withdraw\"}, or with
+                                 \"fell\":true in the number's place at a planned crash
+  {\"do\":\"last\"}                  the receipt of the last job, or null: {\"last\":{..},\"ok\":\"last\"}
+  {\"do\":\"crash_after\",\"steps\":N} plans a crash after N further own steps, at most 1000000:
+                                 {\"ok\":\"crash_after\"}
+  {\"do\":\"detach\"}                lets the worker go: {\"ok\":\"detach\"}
+
+A line that is refused is answered {\"code\":N,\"error\":NAME} and changes nothing. --why says on the standard
+error what is wrong with one that is no order; where that is a pipe that nobody reads, it is left out. A
+worker that a session lets go, or whose session ends, falls; whoever attaches it next goes on where it was.
+
+The file of a --socket is made with mode 0600. One that no server listens on is replaced; one that is listened on,
+and whatever else is there, is refused. It is removed at the end, but not after a signal.
+
+A server and a client, for bash:
+
+  rme serve --workers 2 --cells 1 --jobs 10 --port 0 --connections 1 bank | {
+    read -r _ port
+    exec 3<>/dev/tcp/127.0.0.1/$port
+    echo '{\"do\":\"attach\",\"worker\":0}' >&3
+    echo '{\"do\":\"submit\",\"number\":1,\"lock\":\"bank\",\"script\":[[\"add\",0,5]]}' >&3
+    head -n 2 <&3
+    exec 3>&-
+    cat
+  }
+
+  {\"number\":0,\"ok\":\"attach\",\"stance\":\"ready\"}
+  {\"ok\":\"submit\",\"receipt\":{\"lock\":\"bank\",\"number\":1,\"place\":0,\"reply\":5,\"worker\":0}}
+  lock bank cells 5 entries 1
+
+A client that is stuck or silent keeps its own worker alone, with what this one holds of a lock; the server
+goes on for all others. --idle ends a session that is silent for so long, and one whose client takes no answer
+for 10 seconds is ended always. SIGTERM ends the server at once, with no closing lines, and all that the
+service held is gone.
+
+With --state FILE it keeps what it did in FILE before it answers, and goes on from there when it is started
+again with the same words, however it ended. What is no longer so:
+
+  - it serves until it is killed, or ends with status 4 where it can't keep what it did; there are no closing
+    lines and no --connections
+  - sizes and LOCKs may be left out: they are those of FILE, or 8 workers, 1 cell and 10000 jobs
+  - further lines, in any stance: {\"do\":\"owner\",\"lock\":NAME} and {\"do\":\"cells\",\"lock\":NAME}, as for
+    `rme run`, and {\"do\":\"status\"}, all of it at once; `rme look FILE` prints the same of a file
+  - --sync always: what is answered survives the machine too; without it it survives the process
+  - FILE is renewed when a worker has made its --jobs, and after --sections finished jobs of all: a new file
+    with what they came to takes its place. Clients see no difference: numbers and places go on, up to
+    9007199254740992 (2^53)
+
+FILE is a first line and then lines of `rme run`: `tail -n +2 FILE | rme run` shows its state. A last piece
+without its newline is cut off at the start. A line that is none or is refused ends the start with `fault: bad
+state` and its number, and leaves FILE as it was. So does each start that is refused. A server whose FILE is
+removed, renamed or replaced ends with status 4 within a second or two.
+
+Status: 0 after the closing lines, 1 with none of them where a worker was not given back, 2 for words that
+are refused (also 0 or more than 256 workers, 16 locks, 16 cells or 1000000 jobs, and a name that is none
+or stands twice; a socket that is listened on, and another file in its place; a FILE that another server
+has, that is no state, or that the words contradict), 3 where FILE can't be read, 4 where writing failed, FILE
+included, 5 where memory ran out, 6 where it can't listen on the port or the socket. After the closing lines
+it is 5, 6 or 7 where a connection found no memory, could not be accepted or had no thread."
+}
+
+pub fn look_about<'a>() -> &'a str {
+    "Looks at the file of a state, or of words that processes map, whether somebody has it or not"
+}
+
+pub fn look_lines<'a>() -> &'a str {
+    "\
+It reads the file as a server would that starts from it, and changes nothing. It prints a line for each lock
+and each worker, as
+
+  epoch 0
+  lock bank owner 0 cells 5,7 unsettled sections 2
+  worker 0 attached held bank 3
+  worker 1 down ready 2
+
+with the owner, or nobody; what the cells hold, with `unsettled` behind while the lock is owned; whether a
+session has the worker; and what the worker is at, with its last number. --json prints it as the answer to the
+order `status`. --check prints yes, or `no LINE` for the first line that a server would not accept. A last
+piece without its newline, which a server cuts off, is left out.
+
+Of a file that `rme_create` made for processes it prints the same lines, with `living` or `dead` for whether a
+process has the worker, and first `moved` or `old boot` where nobody may go on with it. --check prints yes, or
+`no: ` and why the words are those of no world: of words alone, since the file has no history. Where processes
+step meanwhile, they are of no one moment.
+
+Status: 0, 1 after no, 2 for words that are refused and for a file that nobody would accept, 3 where
+reading failed, 4 where writing failed, 5 where memory ran out."
+}

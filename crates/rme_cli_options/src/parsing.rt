@@ -1,0 +1,214 @@
+//! Parsing the words of the command line into a task.
+
+use crate::commands::command;
+use crate::help_texts;
+use crate::tasks::{
+    CliTask, Diagnostics, DurableServeTask, LineTask, ListenAddresses, LookTask, OutputFormat,
+    RunImages, ServeTask, SyncPolicy, ThreadsTask,
+};
+use clap::error::ErrorKind;
+use clap::{ArgMatches, Error};
+use std::alloc::{AllocError, Global};
+
+/// The default port of a durable server.
+const USUAL_PORT: u16 = 7000;
+
+/// The default number of sessions that a server runs at a time.
+const AT_ONCE: u32 = 1000;
+
+/// The default number of finished jobs between two checkpoints of a state's file.
+const USUAL_SECTIONS: u32 = 100_000;
+
+/// The task of the words, the first of which is the program's own name.
+///
+/// An error has the text to print: help, the version or the mistake; or its kind is `OutOfMemory`.
+pub fn task_of(alloc: Global, words: &[String]) -> Result<CliTask, Error> {
+    let found = match command(alloc)?.try_get_matches_from(words) {
+        Ok(found) => found,
+        Err(error) => return Err(explain_error(alloc, words, error)?),
+    };
+    if let Some(task) = service_task(alloc, &found)? {
+        return Ok(task);
+    }
+    if found.subcommand_matches("draw").is_some() {
+        return Ok(CliTask::Draw);
+    }
+    Ok(CliTask::Lines(line_task(alloc, &found)?))
+}
+
+/// The error in the words. For a `serve` with missing arguments, the shortest valid command comes first.
+fn explain_error(alloc: Global, words: &[String], error: Error) -> Result<Error, Error> {
+    let is_serve = words.get(1).is_some_and(|word| word.as_str() == "serve");
+    if !is_serve || error.kind() != ErrorKind::MissingRequiredArgument {
+        return Ok(error);
+    }
+    Ok(command(alloc)?.error(
+        ErrorKind::MissingRequiredArgument,
+        help_texts::shortest_start(),
+    )?)
+}
+
+/// The task of words that request a service in threads.
+fn service_task(alloc: Global, found: &ArgMatches<'_>) -> Result<Option<CliTask>, Error> {
+    if let Some(threads) = found.subcommand_matches("threads") {
+        return Ok(Some(CliTask::Threads(threads_task(alloc, threads)?)));
+    }
+    if let Some(look) = found.subcommand_matches("look") {
+        return Ok(Some(CliTask::Look(look_task(alloc, look)?)));
+    }
+    let Some(serve) = found.subcommand_matches("serve") else {
+        return Ok(None);
+    };
+    match text_of(alloc, serve, "state")? {
+        None => Ok(Some(CliTask::Serve(serve_task(alloc, serve)?))),
+        Some(state) => Ok(Some(CliTask::ServeDurable(durable_serve_task(alloc, serve, state)?))),
+    }
+}
+
+/// The task of the words after `look`.
+fn look_task(alloc: Global, found: &ArgMatches<'_>) -> Result<LookTask, AllocError> {
+    let form = if found.get_flag("check") {
+        OutputFormat::Check
+    } else if found.get_flag("json") {
+        OutputFormat::Json
+    } else {
+        OutputFormat::Text
+    };
+    let state = text_of(alloc, found, "FILE")?.unwrap_or(String::new(alloc));
+    Ok(LookTask { state, form })
+}
+
+/// The task of words that request something over lines, or an explanation.
+fn line_task(alloc: Global, found: &ArgMatches<'_>) -> Result<LineTask, AllocError> {
+    if let Some(explain) = found.subcommand_matches("explain") {
+        return Ok(LineTask::Explain(texts_of(alloc, explain, "CODE")?));
+    }
+    match found.subcommand_matches("run") {
+        None => Ok(LineTask::Check),
+        Some(run) => run_task(alloc, run),
+    }
+}
+
+/// The task of the words after `run`.
+fn run_task(alloc: Global, found: &ArgMatches<'_>) -> Result<LineTask, AllocError> {
+    let diagnostics = diagnostics_of(found);
+    if found.get_flag("transcript") {
+        return Ok(LineTask::Transcript(diagnostics));
+    }
+    let load = text_of(alloc, found, "image")?;
+    let save = text_of(alloc, found, "save")?;
+    if load.is_none() && save.is_none() {
+        return Ok(LineTask::Run(diagnostics));
+    }
+    let locks = texts_of(alloc, found, "locks")?;
+    Ok(LineTask::Images(RunImages { load, locks, save }, diagnostics))
+}
+
+/// The requested diagnostics of lines.
+fn diagnostics_of(found: &ArgMatches<'_>) -> Diagnostics {
+    if found.get_flag("why") {
+        return Diagnostics::Why;
+    }
+    Diagnostics::Nothing
+}
+
+/// The texts of an argument, in order.
+fn texts_of(
+    alloc: Global,
+    found: &ArgMatches<'_>,
+    argument: &str,
+) -> Result<Vec<String>, AllocError> {
+    let mut texts = Vec::new(alloc);
+    for text in found.get_strs(argument).unwrap_or(&[]) {
+        texts.push(text.to_string(alloc)?)?;
+    }
+    Ok(texts)
+}
+
+/// The text of an option, if it was given.
+fn text_of(
+    alloc: Global,
+    found: &ArgMatches<'_>,
+    option: &str,
+) -> Result<Option<String>, AllocError> {
+    match found.get_str(option) {
+        None => Ok(None),
+        Some(text) => Ok(Some(text.to_string(alloc)?)),
+    }
+}
+
+/// The task of the words after `threads`. Each number was parsed before, as an argument of its type.
+fn threads_task(alloc: Global, found: &ArgMatches<'_>) -> Result<ThreadsTask, Error> {
+    let mut falls = Vec::new(alloc);
+    if let Some(given) = found.get_many::<u32>("FALL") {
+        for fall in given {
+            falls.push(fall.unwrap_or(0))?;
+        }
+    }
+    Ok(ThreadsTask {
+        workers: found.get_one("WORKERS").unwrap_or(0),
+        jobs: found.get_one("JOBS").unwrap_or(0),
+        falls,
+        is_quiet: found.get_flag("quiet"),
+    })
+}
+
+/// The addresses of the words after `serve`, with this default port. A port is required if there is no socket and no
+/// state.
+fn listen_addresses_of(
+    alloc: Global,
+    found: &ArgMatches<'_>,
+    usual: u16,
+) -> Result<ListenAddresses, AllocError> {
+    let port = found.get_one::<u16>("port");
+    let socket = text_of(alloc, found, "socket")?;
+    Ok(match (port, socket) {
+        (None, Some(path)) => ListenAddresses::Socket(path),
+        (Some(port), Some(path)) => ListenAddresses::Both(port, path),
+        (port, None) => ListenAddresses::Port(port.unwrap_or(usual)),
+    })
+}
+
+/// The task of the words after `serve`. Each number was parsed before, as an argument of its type.
+fn serve_task(alloc: Global, found: &ArgMatches<'_>) -> Result<ServeTask, AllocError> {
+    Ok(ServeTask {
+        workers: found.get_one("workers").unwrap_or(0),
+        cells: found.get_one("cells").unwrap_or(0),
+        jobs: found.get_one("jobs").unwrap_or(0),
+        places: listen_addresses_of(alloc, found, 0)?,
+        connections: found.get_one("connections"),
+        at_once: found.get_one("at-once").unwrap_or(AT_ONCE),
+        idle: found.get_one("idle"),
+        diagnostics: diagnostics_of(found),
+        locks: texts_of(alloc, found, "LOCK")?,
+    })
+}
+
+/// The task of the words after `serve` with a state.
+fn durable_serve_task(
+    alloc: Global,
+    found: &ArgMatches<'_>,
+    state: String,
+) -> Result<DurableServeTask, AllocError> {
+    Ok(DurableServeTask {
+        state,
+        workers: found.get_one("workers"),
+        cells: found.get_one("cells"),
+        jobs: found.get_one("jobs"),
+        sections: found.get_one("sections").unwrap_or(USUAL_SECTIONS),
+        places: listen_addresses_of(alloc, found, USUAL_PORT)?,
+        at_once: found.get_one("at-once").unwrap_or(AT_ONCE),
+        idle: found.get_one("idle"),
+        sync: sync_policy_of(found),
+        diagnostics: diagnostics_of(found),
+        locks: texts_of(alloc, found, "LOCK")?,
+    })
+}
+
+/// The requested sync policy.
+fn sync_policy_of(found: &ArgMatches<'_>) -> SyncPolicy {
+    match found.get_str("sync") {
+        Some("always") => SyncPolicy::Always,
+        _ => SyncPolicy::Never,
+    }
+}

@@ -1,0 +1,138 @@
+//! The tasks of the command line.
+
+/// A task of the command line.
+#[derive(Drop)]
+pub enum CliTask {
+    /// A command that only reads and writes lines, or an explanation.
+    Lines(LineTask),
+    /// Draw the transcript on the standard input.
+    Draw,
+    /// Supervise workers that add to one cell.
+    Threads(ThreadsTask),
+    /// Serve workers to the sessions of connections.
+    Serve(ServeTask),
+    /// Serve workers of a world that is logged to a file.
+    ServeDurable(DurableServeTask),
+    /// Look at a file of a durable world.
+    Look(LookTask),
+}
+
+/// A command that only reads and writes lines, without threads and pictures.
+#[derive(Drop)]
+pub enum LineTask {
+    /// Answer the lines of the standard input.
+    Run(Diagnostics),
+    /// Answer them over a loaded world, save the world that they leave, or both.
+    Images(RunImages, Diagnostics),
+    /// Execute the lines of the standard input, and write a transcript.
+    Transcript(Diagnostics),
+    /// Check the transcript on the standard input.
+    Check,
+    /// Explain these words or, if there are none, list all.
+    Explain(Vec<String>),
+}
+
+/// The diagnostics of lines on the standard error.
+#[derive(Clone, Copy, PartialEq, Eq)]
+pub enum Diagnostics {
+    Nothing,
+    /// Why a line is answered `BadLine`.
+    Why,
+}
+
+/// The images with which a run begins and ends.
+#[derive(Drop)]
+pub struct RunImages {
+    /// The file of the world to load, if one was named.
+    pub load: Option<String>,
+    /// The words for the names of the loaded world's locks.
+    pub locks: Vec<String>,
+    /// The file to save the last world to, if one was named.
+    pub save: Option<String>,
+}
+
+/// The request of `rme threads`: this number of workers, with this number of jobs each, all with the same falls.
+#[derive(Drop)]
+pub struct ThreadsTask {
+    pub workers: u32,
+    pub jobs: u32,
+    pub falls: Vec<u32>,
+    pub is_quiet: bool,
+}
+
+/// The addresses of a server.
+#[derive(Drop)]
+pub enum ListenAddresses {
+    /// This port; a free one for 0.
+    Port(u16),
+    /// The Unix socket of this path.
+    Socket(String),
+    Both(u16, String),
+}
+
+/// The request of `rme serve`: a service of these sizes with these locks, its addresses and its limits.
+#[derive(Drop)]
+pub struct ServeTask {
+    pub workers: u32,
+    pub cells: u32,
+    pub jobs: u32,
+    pub places: ListenAddresses,
+    /// The number of connections, or until it is killed.
+    pub connections: Option<u32>,
+    /// The greatest number of sessions at a time.
+    pub at_once: u32,
+    /// The number of seconds of silence that end a session, if any.
+    pub idle: Option<u32>,
+    pub diagnostics: Diagnostics,
+    /// The words for the names of its locks.
+    pub locks: Vec<String>,
+}
+
+/// The sync policy: when logged lines are on the disk.
+#[derive(Clone, Copy, PartialEq, Eq)]
+pub enum SyncPolicy {
+    /// Before each answer that depends on them.
+    Always,
+    /// When the system writes them: an answered event survives the process, but not the machine.
+    Never,
+}
+
+/// The request of `rme serve --state`. A size that is not given is that of the state, or the default.
+#[derive(Drop)]
+pub struct DurableServeTask {
+    /// The file of the state.
+    pub state: String,
+    pub workers: Option<u32>,
+    pub cells: Option<u32>,
+    pub jobs: Option<u32>,
+    /// The number of finished jobs after which the state's file is replaced by a checkpoint.
+    pub sections: u32,
+    pub places: ListenAddresses,
+    /// The greatest number of sessions at a time.
+    pub at_once: u32,
+    /// The number of seconds of silence that end a session, if any.
+    pub idle: Option<u32>,
+    pub sync: SyncPolicy,
+    pub diagnostics: Diagnostics,
+    /// The words for the names of its locks; if there are none, those of the state.
+    pub locks: Vec<String>,
+}
+
+/// The request of `rme look`.
+#[derive(Drop)]
+pub struct LookTask {
+    /// The file of the state.
+    pub state: String,
+    pub form: OutputFormat,
+}
+
+/// The output of `rme look`.
+#[derive(Clone, Copy, PartialEq, Eq)]
+pub enum OutputFormat {
+    /// Lines for people.
+    Text,
+    /// The answer to the order `status`.
+    Json,
+    /// Whether all of it can be read.
+    Check,
+}

@@ -1,6 +1,0 @@
-use Rattle.std.proofs.Common.{string_bytes}
-use Rattle.rme_commands.proofs.InOrder.{CellsSoFar}
-use Rattle.rme_commands.proofs.closing.push_cells.Given as goal
-
-abbrev pub invariant-loop-cell : goal.invariant-loop-cell
-invariant-loop-cell l = CellsSoFar (string_bytes l.fn.out) l.cells (string_bytes l.out) l.cell-index

@@ -1,0 +1,17 @@
+use Rattle.std.proofs.Common.{ℕ, ap, sym, ◌∙◌}
+use Rattle.rme_words.specs.declared.shape.Shape.{Shape}
+use Rattle.rme_words.specs.declared.address.Address.TheVariants.{Shadow}
+use Rattle.rme_words.specs.Words.{memory_of}
+use Rattle.rme_core_image_check.proofs.Answering.{no_to, yes_to}
+use Rattle.rme_core_image_check.proofs.Shadowing.{shadow_off, shadows_all}
+use Rattle.rme_core_image_check.proofs.shadows.has_shadows.Goals as goal
+
+pub returns-then-load-get : goal.returns-then-load-get
+returns-then-load-get c =
+    no_to (shadow_off (λ (k : ℕ). memory_of c.args.bank.now (Shadow c.args.lock k)) _ _ (ap (λ (s : Shape). s.cells) c.shape-c-end.ensures)
+    c.args.mask c.args.row.now c.loop-c.c c.load.result c.get.result c.loop-c-test.true c.load.ensures c.get.ensures c.if-load-get.true (sym c.has_cell.ensures ∙ c.if-has_cell.true))
+
+pub returns : goal.returns
+returns c =
+    yes_to (shadows_all (λ (k : ℕ). memory_of c.args.bank.now (Shadow c.args.lock k)) _ _ (ap (λ (s : Shape). s.cells) c.shape-c-end.ensures)
+    c.args.mask c.args.row.now c.loop-c.c c.loop-c-test.false c.loop-c.invariant)

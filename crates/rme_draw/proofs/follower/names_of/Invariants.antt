@@ -1,6 +1,0 @@
--- The texts are the names so far.
-use Rattle.std.proofs.Common.{◌≡◌, ◌++◌, drop, map, string_bytes}
-use Rattle.rme_draw.proofs.follower.names_of.Given as goal
-
-abbrev pub invariant-loop-number : goal.invariant-loop-number
-invariant-loop-number l = map string_bytes l.texts.items ++ drop l.number l.names ≡ l.names

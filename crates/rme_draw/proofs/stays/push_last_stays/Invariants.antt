@@ -1,7 +1,0 @@
--- What was added, and what is to be added of the rest, is what is to be added of all.
-use Rattle.std.proofs.Common.{◌≡◌, ◌++◌, drop}
-use Rattle.rme_draw.specs.Stays.{stays_at_end}
-use Rattle.rme_draw.proofs.stays.push_last_stays.Given as goal
-
-abbrev pub invariant-loop-staying : goal.invariant-loop-staying
-invariant-loop-staying l = l.stays.items ++ stays_at_end (drop l.staying-index l.all) l.to ≡ l.fn.stays.items ++ stays_at_end l.all l.to

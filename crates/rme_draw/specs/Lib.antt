@@ -1,7 +1,0 @@
--- In reading order: the phase that a worker is drawn in, what a line tells, how stays and holds come about, and the picture
--- of a run.
-pub mod Phases
-pub mod Telling
-pub mod Stays
-pub mod Holds
-pub mod Following

@@ -1,0 +1,110 @@
+//! What a line of a transcript tells.
+
+ghost use Rattle.std.specs.Prelude.{◌≡◌, ◌++◌, OnOk};
+ghost use Rattle.rme_draw_history.specs.LineMarks as spec;
+
+use rme_draw_picture::{Mark, MarkKind};
+use rme_line_text::EventLine;
+use rme_program::Note;
+use std::alloc::AllocError;
+
+/// Adds the mark of a line, if it tells something.
+pub fn push_mark(marks: &mut Vec<Mark>, told: &EventLine, line: u64) -> Result<(), AllocError>
+    ensures { OnOk result (marks.new.items ≡ marks.old.items ++ spec.marks_at told.now line) }
+{
+    let worker = line_worker(told);
+    match mark_kind_of(told) {
+        Some(told) => {
+            marks.push(Mark { line, worker, told })?;
+            Ok(())
+        }
+        None => Ok(()),
+    }
+}
+
+/// What a line tells of its worker; a quiet step tells nothing.
+fn mark_kind_of(line: &EventLine) -> Option<MarkKind>
+    ensures { result ≡ spec.mark_kind_of line.now }
+{
+    match line {
+        EventLine::Submit(handed) => Some(MarkKind::Submit(handed.number)),
+        EventLine::Crash(_) => Some(MarkKind::Crash),
+        EventLine::Restart(_) => Some(MarkKind::Restart),
+        EventLine::Withdraw(_) => Some(MarkKind::Withdraw),
+        EventLine::Note(_, note) => mark_kind_of_note(note),
+    }
+}
+
+fn mark_kind_of_note(note: &Note) -> Option<MarkKind>
+    ensures { result ≡ spec.mark_kind_of_note note.now }
+{
+    match note {
+        Note::Quiet => None,
+        Note::Asked(number) => Some(MarkKind::Asked(*number)),
+        Note::Blocked => Some(MarkKind::Blocked),
+        Note::Entered(_) => Some(MarkKind::Entered),
+        Note::Reentered(_) => Some(MarkKind::Reentered),
+        Note::Finished(receipt) => Some(MarkKind::Finished(receipt.number)),
+        Note::Left(_) => Some(MarkKind::Left),
+        Note::Ready => Some(MarkKind::Ready),
+        Note::Withdrew(number) => Some(MarkKind::Withdrew(*number)),
+    }
+}
+
+/// The worker that a line tells of.
+pub fn line_worker(line: &EventLine) -> u32
+    ensures { result ≡ spec.line_worker line.now }
+{
+    match line {
+        EventLine::Submit(handed) => handed.worker,
+        EventLine::Crash(worker) => *worker,
+        EventLine::Restart(worker) => *worker,
+        EventLine::Withdraw(worker) => *worker,
+        EventLine::Note(worker, _) => *worker,
+    }
+}
+
+/// The number of a job that a line tells, or 0.
+pub fn line_job_number(told: &EventLine) -> u32
+    ensures { result ≡ spec.line_job_number told.now }
+{
+    match told {
+        EventLine::Submit(handed) => handed.number,
+        _ => 0,
+    }
+}
+
+/// The line, where it tells that the worker gave its job up.
+pub fn withdrawal_line(told: &EventLine, line: u64) -> Option<u64>
+    ensures { result ≡ spec.withdrawal_line told.now line }
+{
+    match told {
+        EventLine::Note(_, note) => withdrawal_line_of_note(note, line),
+        _ => None,
+    }
+}
+
+fn withdrawal_line_of_note(note: &Note, line: u64) -> Option<u64>
+    ensures { result ≡ spec.withdrawal_line_of_note note.now line }
+{
+    match note {
+        Note::Withdrew(_) => Some(line),
+        _ => None,
+    }
+}
+
+/// Whether it tells that the worker became ready.
+pub fn is_ready_line(told: &EventLine) -> bool
+    ensures { result ≡ spec.is_ready_line told.now }
+{
+    match told {
+        EventLine::Note(_, note) => is_ready_note(note),
+        _ => false,
+    }
+}
+
+fn is_ready_note(note: &Note) -> bool
+    ensures { result ≡ spec.is_ready_note note.now }
+{
+    matches!(note, Note::Ready)
+}

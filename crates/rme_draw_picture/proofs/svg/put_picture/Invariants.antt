@@ -1,0 +1,6 @@
+-- Some text was put so far.
+use Rattle.rme_draw_picture.specs.Pages.{SomeTextPut}
+use Rattle.rme_draw_picture.proofs.svg.put_picture.Given as goal
+
+abbrev pub invariant-loop-strip : goal.invariant-loop-strip
+invariant-loop-strip g l = SomeTextPut g.W.Sink.contents g.W.Sink.took l.fn.page l.fn.writer l.page l.writer

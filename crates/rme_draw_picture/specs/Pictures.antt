@@ -1,0 +1,46 @@
+-- The contents of a picture, as contracts see it.
+use Rattle.std.specs.Prelude.{ℕ, List, [], map, string_bytes}
+use Rattle.rme_draw_picture.specs.declared.drawing.Drawing.{Drawing}
+use Rattle.rme_draw_picture.specs.declared.drawing.DrawnStay.{DrawnStay}
+use Rattle.rme_draw_picture.specs.declared.drawing.Hold.{Hold}
+use Rattle.rme_draw_picture.specs.declared.drawing.Mark.{Mark}
+use Rattle.rme_draw_picture.specs.declared.drawing.Finish.{Finish}
+
+-- The number of workers, the names of the locks, the last line, the greatest number of a job; and the stays, the holds,
+-- the marks and the finished sections, each list in the order of the lines.
+pub record Picture : Type 0 where
+  pub workers : ℕ
+  pub names : List (List ℕ)
+  pub line : ℕ
+  pub number : ℕ
+  pub stays : List DrawnStay
+  pub holds : List Hold
+  pub marks : List Mark
+  pub finishes : List Finish
+
+abbrev pub picture_of_drawing : Drawing → Picture
+picture_of_drawing drawing = record {
+  workers = drawing.workers;
+  names = map string_bytes drawing.names.items;
+  line = drawing.line;
+  number = drawing.number;
+  stays = drawing.stays.items;
+  holds = drawing.holds.items;
+  marks = drawing.marks.items;
+  finishes = drawing.finishes.items;
+}
+
+-- the empty picture
+abbrev pub empty_picture : Picture
+empty_picture =
+    record { workers = 0; names = []; line = 0; number = 0; stays = []; holds = []; marks = []; finishes = [] }
+
+-- A text that `put_svg` put for a drawing of this picture. Nothing is said of its letters, and the definition is opaque
+-- outside this file: so a proof that a text is one comes from the painter that made it of that picture.
+pub IsSvg : Picture → List ℕ → Type 0
+IsSvg picture text = Unit {0}
+
+-- only for the painter
+pub made_by_painter : (picture : Picture) (text : List ℕ) → IsSvg picture text
+unfolding IsSvg
+made_by_painter picture text = tt

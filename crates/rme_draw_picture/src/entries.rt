@@ -1,0 +1,185 @@
+//! The entries of a picture: what was finished, and what the cells of its lock then held.
+
+ghost use Rattle.rme_draw_picture.specs.Pages.{SomeTextPut};
+
+use crate::drawing::Finish;
+use crate::page::Page;
+use crate::piece::Piece::{Number, Text};
+use crate::piece::digits_of;
+use crate::rows::{BAR, BAR_HEIGHT, WORDS};
+use crate::sheet::{Point, Sheet, TEXT_LINE};
+use crate::strips::Strip;
+use rme_line_io::Sink;
+use rme_script::Row;
+
+/// The most letters of a line of an entry's text: an entry is three columns from the next one of its lock.
+const ENTRY_LETTERS: u64 = 24;
+
+/// An entry's text names its place, its worker and number, and its reply, before the cells.
+const RECEIPT_LINES: u64 = 3;
+
+/// What stands before what the cells hold.
+const CELLS: &str = "cells";
+
+/// A line of an entry's text, in which what a cell holds stands behind that of the cells before.
+#[derive(Clone, Copy)]
+struct CellLine {
+    /// How many lines of cells are above it.
+    above: u64,
+    letters: u64,
+    /// Whether the cell is the first one in it.
+    is_new: bool,
+}
+
+impl CellLine {
+    /// The line that has no cell yet.
+    fn first() -> CellLine {
+        CellLine {
+            above: 0,
+            letters: CELLS.len() as u64,
+            is_new: false,
+        }
+    }
+
+    /// The line in which the next cell stands: this one where it has room for the value.
+    fn with(self, value: u64) -> CellLine {
+        let more = digits_of(value).saturating_add(1);
+        let letters = self.letters.saturating_add(more);
+        if letters <= ENTRY_LETTERS {
+            return CellLine {
+                above: self.above,
+                letters,
+                is_new: false,
+            };
+        }
+        CellLine {
+            above: self.above.saturating_add(1),
+            letters: more,
+            is_new: true,
+        }
+    }
+}
+
+/// How many lines an entry's text has where its cells are these.
+pub fn entry_lines(cells: &Row) -> u64 {
+    let mut line = CellLine::first();
+    for cell in 0..cells.len() {
+        line = line.with(cells.get(cell));
+    }
+    line.above.saturating_add(RECEIPT_LINES + 1)
+}
+
+/// Puts a finished section: a dot on its lock's bar, and the words below.
+#[tactic(auto, using(crate::proofs::Putting::puts_more))]
+pub fn put_finish<W: Sink>(
+    page: &mut Page,
+    writer: &mut W,
+    sheet: &Sheet,
+    strip: &Strip,
+    finish: &Finish,
+)
+    ensures { SomeTextPut W.contents W.took page.old writer.old page.new writer.new }
+{
+    let x = sheet.x(strip.column(finish.line));
+    let top = sheet.lock(finish.receipt.lock);
+    let y = top.saturating_add(BAR + BAR_HEIGHT);
+    page.put(
+        writer,
+        &[
+            Text("<circle cx=\""),
+            Number(x),
+            Text("\" cy=\""),
+            Number(y),
+            Text("\" r=\"5\" fill=\"#1f5fa8\"/>\n"),
+        ],
+    );
+    let first = Point { x, y: top }.below(WORDS + TEXT_LINE / 2);
+    put_receipt(page, writer, first, finish);
+    let below = first.below(RECEIPT_LINES * TEXT_LINE);
+    put_cells(page, writer, below, &finish.cells);
+}
+
+/// Puts the place of a finished section, its worker and number, and its reply.
+#[tactic(auto, using(crate::proofs::Putting::puts_more))]
+fn put_receipt<W: Sink>(page: &mut Page, writer: &mut W, first: Point, finish: &Finish)
+    ensures { SomeTextPut W.contents W.took page.old writer.old page.new writer.new }
+{
+    let receipt = finish.receipt;
+    let worker = u64::from(receipt.worker);
+    let number = u64::from(receipt.number);
+    put_line(page, writer, first, "place ", u64::from(receipt.place));
+    put_opening(page, writer, first.below(TEXT_LINE));
+    page.put(
+        writer,
+        &[
+            Text("worker "),
+            Number(worker),
+            Text(", job "),
+            Number(number),
+            Text("</text>\n"),
+        ],
+    );
+    put_line(
+        page,
+        writer,
+        first.below(2 * TEXT_LINE),
+        "reply ",
+        receipt.reply,
+    );
+}
+
+/// Puts a line of an entry's text that is a word and a number.
+#[tactic(auto, using(crate::proofs::Putting::puts_more))]
+fn put_line<W: Sink>(page: &mut Page, writer: &mut W, at: Point, word: &'static str, number: u64)
+    ensures { SomeTextPut W.contents W.took page.old writer.old page.new writer.new }
+{
+    put_opening(page, writer, at);
+    page.put(writer, &[Text(word), Number(number), Text("</text>\n")]);
+}
+
+/// Begins a line of an entry's text.
+fn put_opening<W: Sink>(page: &mut Page, writer: &mut W, at: Point)
+    ensures { SomeTextPut W.contents W.took page.old writer.old page.new writer.new }
+{
+    page.put(
+        writer,
+        &[
+            Text("<text x=\""),
+            Number(at.x),
+            Text("\" y=\""),
+            Number(at.y),
+            Text("\" fill=\"#333333\">"),
+        ],
+    );
+}
+
+/// Puts what the cells hold, in as many lines as it needs.
+#[tactic(auto, using(crate::proofs::Putting::puts_more))]
+fn put_cells<W: Sink>(page: &mut Page, writer: &mut W, first: Point, cells: &Row)
+    ensures { SomeTextPut W.contents W.took page.old writer.old page.new writer.new }
+{
+    put_opening(page, writer, first);
+    page.put(writer, &[Text(CELLS)]);
+    let mut line = CellLine::first();
+    for cell in 0..cells.len() {
+        let value = cells.get(cell);
+        line = line.with(value);
+        let at = first.below(line.above.saturating_mul(TEXT_LINE));
+        put_cell(page, writer, at, line.is_new, value);
+    }
+    page.put(writer, &[Text("</text>\n")]);
+}
+
+/// Puts what a cell holds, in a new line where it begins one.
+#[tactic(auto, using(crate::proofs::Putting::puts_more))]
+fn put_cell<W: Sink>(page: &mut Page, writer: &mut W, at: Point, is_new: bool, value: u64)
+    ensures { SomeTextPut W.contents W.took page.old writer.old page.new writer.new }
+{
+    if !is_new {
+        page.put(writer, &[Text(" "), Number(value)]);
+        return;
+    }
+    page.put(writer, &[Text("</text>\n")]);
+    put_opening(page, writer, at);
+    page.put(writer, &[Text(" "), Number(value)]);
+}

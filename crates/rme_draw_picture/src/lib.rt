@@ -1,0 +1,26 @@
+//! The text of a picture: stays, holds, marks and finished sections as a timeline in SVG.
+//!
+//! The crate knows no transcript and no machine; rme_draw_history fills a `Drawing`, and a painter puts it on a `Page`:
+//! `Svg`, by `put_svg`. It stands on rme_line_io for what is written to, on rme_program and rme_script for receipts and
+//! cells, and on itoa for numbers. Begin with `drawing.rt`, what a picture shows, `page.rt`, by which its text reaches
+//! a writer piece by piece, and `svg.rt`; where things stand is in `sheet.rt` and `strips.rt`, and how they look in
+//! `rows.rt`, `entries.rt` and `mark_kind.rt`.
+#![tactic(auto)]
+
+mod drawing;
+mod drawn_phase;
+mod entries;
+mod mark_kind;
+mod page;
+mod paint;
+mod piece;
+mod rows;
+mod sheet;
+mod strips;
+mod svg;
+
+pub use drawing::{Drawing, DrawnStay, Finish, Hold, Mark};
+pub use drawn_phase::DrawnPhase;
+pub use mark_kind::MarkKind;
+pub use page::Page;
+pub use paint::{Paint, Svg};

@@ -1,0 +1,36 @@
+//! What a line of a transcript tells of a worker, in words.
+
+/// What a line told of a worker. The numbers are those of its jobs.
+#[derive(Clone, Copy)]
+pub enum MarkKind {
+    Submit(u32),
+    Crash,
+    Restart,
+    Withdraw,
+    Asked(u32),
+    Blocked,
+    Entered,
+    Reentered,
+    Finished(u32),
+    Left,
+    Ready,
+    Withdrew(u32),
+}
+
+/// The words for what was told, and the number of a job that ends them, if they have one.
+pub fn words_of_mark(told: MarkKind) -> (&'static str, Option<u32>) {
+    match told {
+        MarkKind::Submit(number) => ("submit ", Some(number)),
+        MarkKind::Crash => ("crash", None),
+        MarkKind::Restart => ("restart", None),
+        MarkKind::Withdraw => ("withdraw", None),
+        MarkKind::Asked(number) => ("asked ", Some(number)),
+        MarkKind::Blocked => ("blocked", None),
+        MarkKind::Entered => ("entered", None),
+        MarkKind::Reentered => ("re-entered", None),
+        MarkKind::Finished(number) => ("finished ", Some(number)),
+        MarkKind::Left => ("left", None),
+        MarkKind::Ready => ("ready", None),
+        MarkKind::Withdrew(number) => ("withdrew ", Some(number)),
+    }
+}

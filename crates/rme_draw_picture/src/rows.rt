@@ -1,0 +1,359 @@
+//! The rows of a picture: what stays, who holds, and what was told.
+
+ghost use Rattle.rme_draw_picture.specs.Pages.{SomeTextPut};
+
+use crate::drawing::{Drawing, DrawnStay, Hold, Mark};
+use crate::drawn_phase::DrawnPhase;
+use crate::mark_kind::{MarkKind, words_of_mark};
+use crate::page::Page;
+use crate::piece::Piece;
+use crate::piece::Piece::{Number, Text};
+use crate::sheet::{Point, Sheet, top_of_worker};
+use crate::strips::Strip;
+use rme_line_io::Sink;
+
+/// From the top of a row to its bar.
+pub const BAR: u64 = 12;
+
+/// How high a bar is.
+pub const BAR_HEIGHT: u64 = 24;
+
+/// From the top of a row to the words below its bar.
+pub const WORDS: u64 = 50;
+
+/// The colour of a phase.
+pub fn colour_of(phase: DrawnPhase) -> &'static str {
+    match phase {
+        DrawnPhase::Ready => "#e9edf2",
+        DrawnPhase::Post => "#c9dcf2",
+        DrawnPhase::Enter => "#f5e0a9",
+        DrawnPhase::Section => "#5fb37a",
+        DrawnPhase::Exit => "#c5e6cf",
+        DrawnPhase::Recover => "#dccbf0",
+        DrawnPhase::Down => "#f3c6c6",
+    }
+}
+
+/// The name of a phase.
+pub fn name_of(phase: DrawnPhase) -> &'static str {
+    match phase {
+        DrawnPhase::Ready => "ready",
+        DrawnPhase::Post => "Post",
+        DrawnPhase::Enter => "Enter",
+        DrawnPhase::Section => "Critical section",
+        DrawnPhase::Exit => "Exit",
+        DrawnPhase::Recover => "Recover",
+        DrawnPhase::Down => "down",
+    }
+}
+
+/// Where a bar is, the top of its row, its first column, and how many it has; and how it looks.
+#[derive(Clone, Copy)]
+struct Bar {
+    top: u64,
+    column: u64,
+    count: u64,
+    colour: &'static str,
+    edge: &'static str,
+    dashes: &'static str,
+}
+
+/// The texts of a bar: `tip` is shown where the pointer is on the bar; in it stands the long text, or else the short
+/// one, if there is room.
+#[derive(Clone, Copy)]
+struct BarTexts<'a> {
+    tip: &'a [Piece<'a>],
+    long: &'a [Piece<'a>],
+    short: &'a [Piece<'a>],
+}
+
+/// Puts a bar with its texts.
+#[tactic(auto, using(crate::proofs::Putting::puts_more))]
+fn put_bar<W: Sink>(page: &mut Page, writer: &mut W, sheet: &Sheet, bar: Bar, texts: BarTexts)
+    ensures { SomeTextPut W.contents W.took page.old writer.old page.new writer.new }
+{
+    let x = sheet.x(bar.column);
+    let width = sheet.columns(bar.count);
+    let y = bar.top.saturating_add(BAR);
+    put_box(page, writer, bar, Point { x, y }, width);
+    page.put(writer, texts.tip);
+    page.put(writer, &[Text("</title></rect>\n")]);
+    let middle = Point {
+        x: x.saturating_add(width / 2),
+        y: y.saturating_add(16),
+    };
+    if sheet.has_room(texts.long, width) {
+        put_centred(page, writer, middle, texts.long);
+    } else if sheet.has_room(texts.short, width) {
+        put_centred(page, writer, middle, texts.short);
+    }
+}
+
+/// Puts the box of a bar, and begins what is told of it.
+fn put_box<W: Sink>(page: &mut Page, writer: &mut W, bar: Bar, at: Point, width: u64)
+    ensures { SomeTextPut W.contents W.took page.old writer.old page.new writer.new }
+{
+    page.put(
+        writer,
+        &[
+            Text("<rect x=\""),
+            Number(at.x),
+            Text("\" y=\""),
+            Number(at.y),
+            Text("\" width=\""),
+            Number(width),
+            Text("\" height=\""),
+            Number(BAR_HEIGHT),
+            Text("\" fill=\""),
+            Text(bar.colour),
+            Text("\" stroke=\""),
+            Text(bar.edge),
+            Text("\""),
+            Text(bar.dashes),
+            Text("><title>"),
+        ],
+    );
+}
+
+/// Puts a text that stands in a bar.
+#[tactic(auto, using(crate::proofs::Putting::puts_more))]
+fn put_centred<W: Sink>(page: &mut Page, writer: &mut W, middle: Point, text: &[Piece])
+    ensures { SomeTextPut W.contents W.took page.old writer.old page.new writer.new }
+{
+    page.put(
+        writer,
+        &[
+            Text("<text x=\""),
+            Number(middle.x),
+            Text("\" y=\""),
+            Number(middle.y),
+            Text("\" text-anchor=\"middle\" fill=\"#111111\">"),
+        ],
+    );
+    page.put(writer, text);
+    page.put(writer, &[Text("</text>\n")]);
+}
+
+/// A stay, and the name of the lock that it waits for, if it waits for one.
+#[derive(Clone, Copy)]
+pub struct NamedStay<'a> {
+    pub stay: DrawnStay,
+    pub lock: &'a str,
+}
+
+/// Puts a worker's stay in a phase.
+pub fn put_stay<W: Sink>(
+    page: &mut Page,
+    writer: &mut W,
+    sheet: &Sheet,
+    strip: &Strip,
+    named: NamedStay,
+)
+    ensures { SomeTextPut W.contents W.took page.old writer.old page.new writer.new }
+{
+    let NamedStay { stay, lock } = named;
+    let name = name_of(stay.phase);
+    let gap = if stay.phase == DrawnPhase::Enter {
+        " "
+    } else {
+        ""
+    };
+    let (column, count) = strip.part(stay.from, stay.to);
+    let tip = [
+        Text("worker "),
+        Number(u64::from(stay.worker)),
+        Text(": "),
+        Text(name),
+        Text(gap),
+        Text(lock),
+        Text(", lines "),
+        Number(stay.from),
+        Text(" to "),
+        Number(stay.to),
+    ];
+    put_bar(
+        page,
+        writer,
+        sheet,
+        bar_of_stay(&stay, column, count),
+        BarTexts {
+            tip: &tip,
+            long: &[Text(name), Text(gap), Text(lock)],
+            short: &[Text(short_name_of(stay.phase))],
+        },
+    );
+}
+
+/// The bar of a stay. Down has a dashed edge.
+fn bar_of_stay(stay: &DrawnStay, column: u64, count: u64) -> Bar {
+    let is_down = stay.phase == DrawnPhase::Down;
+    Bar {
+        top: top_of_worker(u64::from(stay.worker)),
+        column,
+        count,
+        colour: colour_of(stay.phase),
+        edge: if is_down { "#b03030" } else { "#8a96a5" },
+        dashes: dashes_if(is_down),
+    }
+}
+
+/// The name of a phase for a bar of one column.
+fn short_name_of(phase: DrawnPhase) -> &'static str {
+    match phase {
+        DrawnPhase::Section => "Section",
+        _ => name_of(phase),
+    }
+}
+
+/// Puts a stretch of a lock with one owner. One who is down is drawn paler, with a dashed edge.
+pub fn put_hold<W: Sink>(page: &mut Page, writer: &mut W, sheet: &Sheet, strip: &Strip, hold: &Hold)
+    ensures { SomeTextPut W.contents W.took page.old writer.old page.new writer.new }
+{
+    let owner = u64::from(hold.owner);
+    let down = if hold.is_up { "" } else { ", down" };
+    let (column, count) = strip.part(hold.from, hold.to);
+    let tip = [
+        Text("owned by worker "),
+        Number(owner),
+        Text(down),
+        Text(", lines "),
+        Number(hold.from),
+        Text(" to "),
+        Number(hold.to),
+    ];
+    put_bar(
+        page,
+        writer,
+        sheet,
+        bar_of_hold(sheet, hold, column, count),
+        BarTexts {
+            tip: &tip,
+            long: &[Text("worker "), Number(owner), Text(down)],
+            short: &[Text("worker "), Number(owner)],
+        },
+    );
+}
+
+/// The bar of a stretch of a lock.
+fn bar_of_hold(sheet: &Sheet, hold: &Hold, column: u64, count: u64) -> Bar {
+    Bar {
+        top: sheet.lock(hold.lock),
+        column,
+        count,
+        colour: owner_colour(hold.owner),
+        edge: if hold.is_up { "#5b6673" } else { "#b03030" },
+        dashes: dashes_if(!hold.is_up),
+    }
+}
+
+/// The colour of an owner: six, in turn.
+fn owner_colour(owner: u32) -> &'static str {
+    match owner % 6 {
+        0 => "#9ec5e8",
+        1 => "#f0c38a",
+        2 => "#b5d99c",
+        3 => "#d5b8e6",
+        4 => "#efb9b9",
+        _ => "#a5d8d3",
+    }
+}
+
+/// What makes an edge dashed.
+fn dashes_if(is_dashed: bool) -> &'static str {
+    if is_dashed {
+        " stroke-dasharray=\"5 3\" fill-opacity=\"0.6\""
+    } else {
+        ""
+    }
+}
+
+/// The name of the lock that a stay waits for, if it waits for one.
+pub fn lock_waited_for<'a>(drawing: &'a Drawing, stay: &DrawnStay) -> &'a str {
+    if stay.phase != DrawnPhase::Enter {
+        return "";
+    }
+    let Some(lock) = stay.lock else {
+        return "";
+    };
+    match drawing.names.get(lock as usize) {
+        Some(name) => name.as_str(),
+        None => "",
+    }
+}
+
+/// Puts what a line told of a worker: a sign on its bar, and the words below.
+#[tactic(auto, using(crate::proofs::Putting::puts_more))]
+pub fn put_mark<W: Sink>(page: &mut Page, writer: &mut W, sheet: &Sheet, strip: &Strip, mark: &Mark)
+    ensures { SomeTextPut W.contents W.took page.old writer.old page.new writer.new }
+{
+    let x = sheet.x(strip.column(mark.line));
+    let top = top_of_worker(u64::from(mark.worker));
+    let at = Point { x, y: top };
+    put_sign(page, writer, at.below(BAR), mark.told);
+    put_words(page, writer, at.below(WORDS), mark.told);
+}
+
+/// Puts the words for what was told.
+fn put_words<W: Sink>(page: &mut Page, writer: &mut W, at: Point, told: MarkKind)
+    ensures { SomeTextPut W.contents W.took page.old writer.old page.new writer.new }
+{
+    let (words, number) = words_of_mark(told);
+    page.put(
+        writer,
+        &[
+            Text("<text x=\""),
+            Number(at.x),
+            Text("\" y=\""),
+            Number(at.y),
+            Text("\" text-anchor=\"middle\" fill=\""),
+            Text(ink_of(told)),
+            Text("\">"),
+            Text(words),
+            number_or_nothing(number),
+            Text("</text>\n"),
+        ],
+    );
+}
+
+fn number_or_nothing(number: Option<u32>) -> Piece<'static> {
+    match number {
+        Some(number) => Number(u64::from(number)),
+        None => Text(""),
+    }
+}
+
+/// The colour of the words for what was told.
+fn ink_of(told: MarkKind) -> &'static str {
+    match told {
+        MarkKind::Crash => "#b03030",
+        MarkKind::Restart => "#6a3fa0",
+        _ => "#333333",
+    }
+}
+
+/// Puts the sign of what was told: a cross for a crash, a triangle for a restart, and else a short line.
+fn put_sign<W: Sink>(page: &mut Page, writer: &mut W, at: Point, told: MarkKind)
+    ensures { SomeTextPut W.contents W.took page.old writer.old page.new writer.new }
+{
+    page.put(
+        writer,
+        &[
+            Text("<path transform=\"translate("),
+            Number(at.x),
+            Text(" "),
+            Number(at.y),
+            Text(")\" d=\""),
+            Text(shape_of(told)),
+            Text("/>\n"),
+        ],
+    );
+}
+
+/// The shape of a sign, and how it is drawn.
+fn shape_of(told: MarkKind) -> &'static str {
+    match told {
+        MarkKind::Crash => "M-7 5 L7 19 M7 5 L-7 19\" stroke=\"#b03030\" stroke-width=\"3.5\"",
+        MarkKind::Restart => "M0 4 L8 19 L-8 19 Z\" fill=\"#6a3fa0\"",
+        _ => "M0 20 V28\" stroke=\"#555555\"",
+    }
+}

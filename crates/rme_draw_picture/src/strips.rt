@@ -1,0 +1,110 @@
+//! The strips of a picture: stretches of the transcript that are drawn one below the other.
+
+use crate::drawing::{Drawing, DrawnStay, Hold};
+use std::alloc::{AllocError, Global};
+
+/// The lines from `first` to `last`, and what was seen in them, by its places in the drawing.
+#[derive(Drop)]
+pub struct Strip {
+    pub first: u64,
+    pub last: u64,
+    pub stays: Vec<usize>,
+    pub holds: Vec<usize>,
+    pub marks: Vec<usize>,
+    pub finishes: Vec<usize>,
+}
+
+impl Strip {
+    /// The column of a line of this strip.
+    pub fn column(&self, line: u64) -> u64 {
+        line.saturating_sub(self.first).saturating_add(1)
+    }
+
+    /// What this strip has of the lines from one to another: the column of the first, and how many they are.
+    pub fn part(&self, from: u64, to: u64) -> (u64, u64) {
+        let first = from.max(self.first);
+        let end = to.min(self.last.saturating_add(1));
+        (self.column(first), end.saturating_sub(first))
+    }
+}
+
+/// What was seen, in strips of so many lines, in order. A stay and a hold stand in each strip that they reach into.
+pub fn strips_of(alloc: Global, drawing: &Drawing, lines: u64) -> Result<Vec<Strip>, AllocError> {
+    let mut strips = empty_strips(alloc, drawing.line, lines)?;
+    for (index, stay) in drawing.stays.iter().enumerate() {
+        add_stay(&mut strips, index, stay, lines)?;
+    }
+    for (index, hold) in drawing.holds.iter().enumerate() {
+        add_hold(&mut strips, index, hold, lines)?;
+    }
+    add_marks(&mut strips, drawing, lines)?;
+    Ok(strips)
+}
+
+/// Strips of so many lines each, up to the last line, with nothing in them.
+fn empty_strips(alloc: Global, last: u64, lines: u64) -> Result<Vec<Strip>, AllocError> {
+    let mut strips = Vec::new(alloc);
+    for place in 0..=place_of(last, lines) {
+        let before = place.saturating_mul(lines);
+        strips.push(Strip {
+            first: before.saturating_add(1),
+            last: before.saturating_add(lines).min(last),
+            stays: Vec::new(alloc),
+            holds: Vec::new(alloc),
+            marks: Vec::new(alloc),
+            finishes: Vec::new(alloc),
+        })?;
+    }
+    Ok(strips)
+}
+
+/// In which strip a line is, from 0.
+fn place_of(line: u64, lines: u64) -> u64 {
+    line.saturating_sub(1) / lines.max(1)
+}
+
+/// Adds a stay to each strip that it reaches into.
+fn add_stay(
+    strips: &mut [Strip],
+    index: usize,
+    stay: &DrawnStay,
+    lines: u64,
+) -> Result<(), AllocError> {
+    let last = place_of(stay.to.saturating_sub(1), lines);
+    for place in place_of(stay.from, lines)..=last {
+        if let Some(strip) = strips.get_mut(place as usize) {
+            strip.stays.push(index)?;
+        }
+    }
+    Ok(())
+}
+
+/// Adds a hold to each strip that it reaches into.
+fn add_hold(strips: &mut [Strip], index: usize, hold: &Hold, lines: u64) -> Result<(), AllocError> {
+    let last = place_of(hold.to.saturating_sub(1), lines);
+    for place in place_of(hold.from, lines)..=last {
+        if let Some(strip) = strips.get_mut(place as usize) {
+            strip.holds.push(index)?;
+        }
+    }
+    Ok(())
+}
+
+/// Adds what was told and what was finished, each to the strip of its line.
+fn add_marks(strips: &mut [Strip], drawing: &Drawing, lines: u64) -> Result<(), AllocError> {
+    for (index, mark) in drawing.marks.iter().enumerate() {
+        if let Some(strip) = strips.get_mut(place_of(mark.line, lines) as usize) {
+            strip.marks.push(index)?;
+        }
+    }
+    add_finishes(strips, drawing, lines)
+}
+
+fn add_finishes(strips: &mut [Strip], drawing: &Drawing, lines: u64) -> Result<(), AllocError> {
+    for (index, finish) in drawing.finishes.iter().enumerate() {
+        if let Some(strip) = strips.get_mut(place_of(finish.line, lines) as usize) {
+            strip.finishes.push(index)?;
+        }
+    }
+    Ok(())
+}

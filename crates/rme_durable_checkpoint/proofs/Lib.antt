@@ -1,0 +1,5 @@
+-- A worker with a job has a number; refusals over epochs; session steps over epochs; the replies of sessions.
+pub mod Numbering
+pub mod Refusals
+pub mod Overs
+pub mod Telling

@@ -1,0 +1,64 @@
+-- What a checkpoint preserves: everything that clients can see.
+use Rattle.std.specs.Prelude.{◌≡◌, ℕ, ◌+◌, ◌<◌, Bool, true, false, Option, Some, None, Ok}
+use Rattle.rme_tree.specs.Nodes.{owner_in}
+use Rattle.rme_script.specs.declared.job.Job.{Job}
+use Rattle.rme_program.specs.declared.note.Receipt.{Receipt}
+use Rattle.rme_machine.specs.Views.{is_pending, slate_job}
+use Rattle.rme_history.specs.Legal.{rows_of_locks}
+use Rattle.rme_world.specs.Calls.{LastContract}
+use Rattle.rme_world.specs.Queries.{world_worker_words}
+use Rattle.rme_world.specs.WorldViews.{WorldView, world_memory}
+use Rattle.rme_session_world.specs.Executors.{held_session}
+use Rattle.rme_session_world.specs.ExecutorStates.{ExecutorState}
+use Rattle.rme_durable_checkpoint.specs.ClientValues.{client_last, worker_base, client_session}
+use Rattle.rme_durable_checkpoint.specs.declared.epoch_base.Base.{Base}
+
+-- The pending job of a worker: begun, and neither finished nor withdrawn, whether the worker is up or down.
+abbrev pub pending_job_if : Bool → Job → Option Job
+pending_job_if true job = Some job
+pending_job_if false job = None
+
+abbrev pub pending_job_of : WorldView → ℕ → Option Job
+pending_job_of seen worker =
+    pending_job_if (is_pending (world_worker_words seen worker)) (slate_job (world_worker_words seen worker))
+
+-- The number of a worker's last job, as clients see it.
+abbrev pub client_number : Base → WorldView → ℕ → ℕ
+client_number base seen worker = (worker_base base worker).numbers + (world_worker_words seen worker).begun
+
+-- The outcome of that number, as clients see it: the answer of the world's look-up `last`, with the numbers and places
+-- of earlier epochs.
+pub record IsClientLast (base : Base) (seen : WorldView) (worker : ℕ) (told : Option Receipt) : Type 0 where
+  pub last : Option Receipt
+  pub shows : LastContract seen worker (Ok last)
+  pub over : told ≡ client_last base (worker_base base worker) (world_worker_words seen worker).begun last
+
+-- If no job is pending, the last number has the same outcome.
+abbrev pub IsLastAlike : Option Job → Base → WorldView → Base → WorldView → ℕ → Type 0
+IsLastAlike (Some job) base before later after worker = Unit {0}
+IsLastAlike None base before later after worker =
+    (told : Option Receipt) × IsClientLast base before worker told × IsClientLast later after worker told
+
+-- A worker is alike: the client of the session that has it sees the same; and whether the worker is up or down, it has
+-- the same pending job, the same number, and the same outcome of that number.
+pub record IsWorkerAlike (base : Base) (before : ExecutorState) (later : Base) (after : ExecutorState) (worker : ℕ) :
+    Type 0 where
+  pub shown : client_session later (held_session after worker) ≡ client_session base (held_session before worker)
+  pub pending : pending_job_of after.world worker ≡ pending_job_of before.world worker
+  pub number : client_number later after.world worker ≡ client_number base before.world worker
+  pub last : IsLastAlike (pending_job_of before.world worker) base before.world later after.world worker
+
+-- A world of the same sizes, in which the same sessions have the same workers, each worker but the last is alike, each
+-- lock has the same owner, and the finished scripts left the same cells.
+pub record CheckpointShowsSame (base : Base) (before : ExecutorState) (later : Base) (after : ExecutorState) : Type 0
+  where
+    pub workers : after.world.shape.workers ≡ before.world.shape.workers
+    pub locks : after.world.shape.locks ≡ before.world.shape.locks
+    pub jobs : after.world.shape.jobs ≡ before.world.shape.jobs
+    pub holders : after.holders ≡ before.holders
+    pub alike : (worker : ℕ) → worker + 1 < before.world.shape.workers → IsWorkerAlike base before later after worker
+    pub owners : (lock : ℕ) → lock < before.world.shape.locks
+        → owner_in after.world.shape (world_memory after.world) lock ≡ owner_in before.world.shape
+        (world_memory before.world) lock
+    pub cells : rows_of_locks after.world.shape after.world.history ≡ rows_of_locks before.world.shape
+        before.world.history

@@ -1,0 +1,8 @@
+-- In reading order: an executor and its lines; a client's session; the values that clients see over epochs, and the
+-- replies that need no event; a session step over epochs; and what a checkpoint preserves.
+pub mod LoggedStates
+pub mod ClientSessions
+pub mod ClientValues
+pub mod ImmediateReplies
+pub mod EpochStates
+pub mod Checkpoints

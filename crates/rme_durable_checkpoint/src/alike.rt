@@ -1,0 +1,96 @@
+//! Equality of what clients see.
+
+ghost use Rattle.std.specs.Prelude.{◌≡◌, IsTrue};
+
+use crate::client_session::{ClientPending, ClientReady, ClientSession};
+use rme_line_text::ClientReceipt;
+use rme_script::{Job, Row};
+
+/// Whether two sessions are equal.
+pub(crate) fn same_session(one: &ClientSession, other: &ClientSession) -> bool
+    ensures { IsTrue result → one.now ≡ other.now }
+{
+    match (one, other) {
+        (ClientSession::Nobody, ClientSession::Nobody) => true,
+        (ClientSession::Ready(one), ClientSession::Ready(other)) => same_ready(one, other),
+        (ClientSession::Climb(one), ClientSession::Climb(other)) => same_pending(one, other),
+        (ClientSession::Held(one), ClientSession::Held(other)) => same_pending(one, other),
+        _ => false,
+    }
+}
+
+fn same_ready(one: &ClientReady, other: &ClientReady) -> bool
+    ensures { IsTrue result → one.now ≡ other.now }
+{
+    if one.worker != other.worker || one.number != other.number {
+        return false;
+    }
+    same_last(one.last, other.last)
+}
+
+fn same_pending(one: &ClientPending, other: &ClientPending) -> bool
+    ensures { IsTrue result → one.now ≡ other.now }
+{
+    if one.worker != other.worker || one.number != other.number {
+        return false;
+    }
+    same_job(one.draft, other.draft)
+}
+
+/// Whether two last outcomes are equal.
+pub(crate) fn same_last(one: Option<ClientReceipt>, other: Option<ClientReceipt>) -> bool
+    ensures { IsTrue result → one ≡ other }
+{
+    match (one, other) {
+        (None, None) => true,
+        (Some(one), Some(other)) => same_receipt(one, other),
+        _ => false,
+    }
+}
+
+fn same_receipt(one: ClientReceipt, other: ClientReceipt) -> bool
+    ensures { IsTrue result → one ≡ other }
+{
+    one == other
+}
+
+/// Whether two jobs are equal.
+pub(crate) fn same_job(one: Option<Job>, other: Option<Job>) -> bool
+    ensures { IsTrue result → one ≡ other }
+{
+    match (one, other) {
+        (None, None) => true,
+        (Some(one), Some(other)) => one.lock == other.lock && one.script.same(&other.script),
+        _ => false,
+    }
+}
+
+/// Whether two lists of rows are equal.
+pub(crate) fn same_rows(one: &[Row], other: &[Row]) -> bool
+    ensures { IsTrue result → one.now ≡ other.now }
+{
+    if one.len() != other.len() {
+        return false;
+    }
+    for place in 0..one.len() {
+        if !same_row(&one[place], &other[place]) {
+            return false;
+        }
+    }
+    true
+}
+
+/// Whether two rows are equal.
+fn same_row(one: &Row, other: &Row) -> bool
+    ensures { IsTrue result → one.now ≡ other.now }
+{
+    if one.len() != other.len() {
+        return false;
+    }
+    for cell in 0..one.len() {
+        if one.get(cell) != other.get(cell) {
+            return false;
+        }
+    }
+    true
+}

@@ -1,0 +1,193 @@
+//! The checkpoint: a new epoch, in which clients see the same state.
+
+ghost use Rattle.std.specs.Prelude.{◌≡◌, IfOk, string_bytes};
+ghost use Rattle.rme_history.specs.Legal.{rows_of_locks};
+
+use crate::checkpoint_builder::{CheckpointBuilder, CheckpointFailed, JobProgress};
+use crate::epoch_base::Base;
+use crate::epoch_executor::EpochExecutor;
+use crate::outgoing::next_header;
+use crate::setting::set_cells;
+use crate::validation::{ComparedState, is_checkpoint_same};
+use rme_durable_format::{LogHeader, RecoveredLog, RecoveryProgress, push_header, recover_log};
+use rme_history::replay;
+use rme_line_text::push_opening;
+use rme_script::Row;
+use rme_session_world::Executor;
+use rme_wire::Names;
+use rme_world::World;
+use std::alloc::{AllocError, Global};
+
+/// A new epoch: the bytes that replace all lines so far, and the executor that they lead to.
+#[derive(Drop)]
+pub struct Checkpoint {
+    pub bytes: String,
+    pub executor: EpochExecutor,
+}
+
+/// The progress of recovery is not reported.
+struct NoProgress;
+
+impl RecoveryProgress for NoProgress {
+    fn read(&self, _lines: u64) {}
+}
+
+impl EpochExecutor {
+    ghost use Rattle.std.specs.Prelude.{◌≡◌, [], IfOk, List, ℕ, string_bytes};
+    ghost use Rattle.rme_durable_checkpoint.specs.Checkpoints.{CheckpointShowsSame};
+    ghost use Rattle.rme_durable_format.specs.Recovery.{RecoversWorld};
+
+    /// Builds a new epoch of the same locks and workers, in which clients see the same state: each worker with a job
+    /// has it again, and is inside its lock if it was; the same sessions have the same workers; and the cells have the
+    /// values that the finished scripts left. Its world is the one that recovery reads from its bytes.
+    ///
+    /// After an error nothing is changed.
+    pub fn checkpoint(&self, alloc: Global, names: &Names) -> Result<Checkpoint, CheckpointFailed>
+        ensures same { IfOk result (λ renewed. CheckpointShowsSame self.now.base self.now.executor renewed.executor.base
+            renewed.executor.executor) }
+        ensures starts { IfOk result (λ renewed. (own : List (List ℕ))
+            × RecoversWorld (string_bytes renewed.bytes) own renewed.executor.executor.world) }
+        ensures lines { IfOk result (λ renewed. renewed.executor.lines ≡ []) }
+    {
+        let rows = rows_of(alloc, self.executor().world())?;
+        let bytes = checkpoint_lines(alloc, names, self, rows.as_slice())?;
+        let Ok(started) = recover_log(alloc, bytes.as_bytes(), &NoProgress) else {
+            return Err(CheckpointFailed);
+        };
+        let RecoveredLog { header, world, .. } = started;
+        let base = base_of(alloc, &header)?;
+        let after = rows_of(alloc, &world)?;
+        let holders = copy_holders(alloc, self.executor().holders())?;
+        let Some(executor) = Executor::resume(world, holders) else {
+            return Err(CheckpointFailed);
+        };
+        let before = ComparedState {
+            executor: self.executor(),
+            base: self.base(),
+            rows: rows.as_slice(),
+        };
+        let shown = ComparedState {
+            executor: &executor,
+            base: &base,
+            rows: after.as_slice(),
+        };
+        if !is_checkpoint_same(&before, &shown) {
+            return Err(CheckpointFailed);
+        }
+        let length = bytes.len() as u64;
+        let executor = EpochExecutor::new(alloc, executor, base, header.epoch, length);
+        Ok(Checkpoint { bytes, executor })
+    }
+
+    /// A worker that finished its job and crashed before it left the lock, if there is one: a new epoch cannot have it
+    /// inside.
+    pub fn crashed_before_exit(&self) -> Option<u32> {
+        let world = self.executor().world();
+        for lock in 0..world.shape().locks {
+            if let Ok(Some(owner)) = world.owner(lock) {
+                if owner < world.shape().workers && world.pending(owner).is_none() {
+                    return Some(owner);
+                }
+            }
+        }
+        None
+    }
+}
+
+/// The cells of each lock that the finished scripts left.
+fn rows_of(alloc: Global, world: &World) -> Result<Vec<Row>, CheckpointFailed>
+    ensures { IfOk result (λ rows. rows.items ≡ rows_of_locks world.now.shape world.now.history) }
+{
+    match replay(alloc, world.shape(), world.history()) {
+        Ok(rows) => Ok(rows),
+        Err(_) => Err(CheckpointFailed),
+    }
+}
+
+fn base_of(alloc: Global, header: &LogHeader) -> Result<Base, CheckpointFailed> {
+    match Base::from_header(alloc, header) {
+        Ok(Some(base)) => Ok(base),
+        _ => Err(CheckpointFailed),
+    }
+}
+
+fn copy_holders(
+    alloc: Global,
+    holders: &[Option<u64>],
+) -> Result<Vec<Option<u64>>, CheckpointFailed>
+    ensures { IfOk result (λ copy. copy.items ≡ holders.now) }
+{
+    match holders.to_vec(alloc) {
+        Ok(copy) => Ok(copy),
+        Err(_) => Err(CheckpointFailed),
+    }
+}
+
+/// The lines of the epoch after this one, whose finished scripts left these rows.
+fn checkpoint_lines(
+    alloc: Global,
+    names: &Names,
+    old: &EpochExecutor,
+    rows: &[Row],
+) -> Result<String, CheckpointFailed> {
+    let shape = old.executor().world().shape();
+    let mut draft = CheckpointBuilder::new(alloc, names, shape)?;
+    let keepers = set_cells(alloc, &mut draft, shape, rows)?;
+    restore_jobs(&mut draft, old.executor().world(), JobProgress::Inside)?;
+    restore_jobs(&mut draft, old.executor().world(), JobProgress::Waiting)?;
+    crash_free_workers(&mut draft, old.executor())?;
+    let header = next_header(alloc, old, keepers.as_slice())?;
+    let mut lines = String::new(alloc);
+    match push_first_lines(&mut lines, names, &header, old.executor().world()) {
+        Ok(()) => {}
+        Err(_) => return Err(CheckpointFailed),
+    }
+    match lines.push_str(draft.into_lines().as_str()) {
+        Ok(()) => Ok(lines),
+        Err(_) => Err(CheckpointFailed),
+    }
+}
+
+/// Appends the header and the opening.
+fn push_first_lines(
+    lines: &mut String,
+    names: &Names,
+    header: &LogHeader,
+    world: &World,
+) -> Result<(), AllocError> {
+    push_header(lines, names, header)?;
+    push_opening(lines, names, world.shape())?;
+    lines.push_str("\n")
+}
+
+/// Submits the pending jobs again whose workers have this progress in the world, and runs them to it.
+fn restore_jobs(
+    draft: &mut CheckpointBuilder<'_>,
+    world: &World,
+    extent: JobProgress,
+) -> Result<(), CheckpointFailed> {
+    for worker in 0..world.shape().workers {
+        if let Some(job) = world.pending(worker) {
+            let is_inside = matches!(world.owner(job.lock), Ok(Some(owner)) if owner == worker);
+            if is_inside == (extent == JobProgress::Inside) {
+                draft.submit_job(worker, &job, extent)?;
+            }
+        }
+    }
+    Ok(())
+}
+
+/// Crashes each worker that no session has.
+fn crash_free_workers(
+    draft: &mut CheckpointBuilder<'_>,
+    executor: &Executor,
+) -> Result<(), CheckpointFailed> {
+    let mut worker: u32 = 0;
+    for holder in executor.holders() {
+        if holder.is_none() {
+            draft.crash_worker(worker)?;
+        }
+        worker = worker.saturating_add(1);
+    }
+    Ok(())
+}

@@ -1,0 +1,303 @@
+//! An executor over epochs: its event batches are logged, and its clients see numbers that continue over epochs.
+
+ghost use Rattle.std.specs.Prelude.{◌≡◌, IfErr, IfOk, OnOk, string_bytes};
+ghost use Rattle.rme_session_world.specs.declared.event_batch.EventBatch.{EventBatch};
+ghost use Rattle.rme_durable_checkpoint.specs.declared.apply_error.ApplyError.TheVariants as error;
+ghost use Rattle.rme_durable_format.specs.BatchCommands.{batch_commands_if};
+ghost use Rattle.rme_durable_format.specs.CommandLines.{AppendsCommands};
+
+use crate::apply_error::ApplyError;
+use crate::epoch_base::{Base, epoch_order};
+use crate::immediate::immediate_reply;
+use rme_durable_format::{CommandWriter, append_batch};
+use rme_session_protocol::{ClientReply, Order, Session, SessionReply, is_still_waiting};
+use rme_session_world::{EventBatch, Executor, SessionState};
+use rme_wire::Names;
+use std::alloc::Global;
+use std::marker::Model;
+use std::mem::replace;
+
+/// The bytes reserved for the lines of an order before it is executed: more than they need.
+const ROOM: usize = 4_096;
+
+/// The reply to an order, as the client of its session sees it.
+#[derive(Clone, Copy)]
+pub struct ClientAnswer {
+    pub reply: ClientReply,
+    /// The lock that the session's job waits for, if it waits.
+    pub waits_for: Option<u32>,
+}
+
+/// The reply to an order in one epoch.
+#[derive(Clone, Copy)]
+struct EpochAnswer {
+    reply: SessionReply,
+    /// The lock that the session's job waits for, if it waits.
+    waits_for: Option<u32>,
+}
+
+/// An executor, the pending lines of its event batches, and its base.
+#[derive(Drop)]
+pub struct EpochExecutor {
+    executor: Executor,
+    writer: CommandWriter,
+    lines: String,
+    /// Whether an event batch could not be logged. No order is executed after that.
+    is_failed: bool,
+    base: Base,
+    /// The number of earlier epochs.
+    epoch: u64,
+    /// The bytes of the epoch's lines, without the pending ones.
+    bytes: u64,
+}
+
+impl Model for EpochExecutor {
+    ghost use Rattle.std.specs.Prelude.{string_bytes};
+    ghost use Rattle.rme_durable_checkpoint.specs.EpochStates.{EpochState};
+
+    ghost Value = { EpochState };
+
+    ghost view = { λ epoch. record {
+      executor = epoch.executor;
+      lines = string_bytes epoch.lines;
+      base = epoch.base;
+    } };
+}
+
+impl EpochExecutor {
+    ghost use Rattle.std.specs.Prelude.{◌≡◌, [], IfOk, IfErr, IfSome, OnOk, OnSome, option_map, string_bytes};
+    ghost use Rattle.rme_session_world.specs.Executors.{executor_session_view};
+    ghost use Rattle.rme_session_protocol.specs.Attempts.{with_tries};
+    ghost use Rattle.rme_session_protocol.specs.ClientReplies.{reply_of_client};
+    ghost use Rattle.rme_session_protocol.specs.SessionSteps.{SessionStep};
+    ghost use Rattle.rme_durable_checkpoint.specs.EpochStates.{SessionStepAcrossCheckpoints};
+    ghost use Rattle.rme_durable_checkpoint.specs.ClientValues.{client_session};
+    ghost use Rattle.rme_durable_checkpoint.specs.LoggedStates.{LoggedStep, logged_state};
+    ghost use Rattle.rme_durable_checkpoint.specs.ImmediateReplies.{immediate_reply};
+    ghost use Rattle.rme_durable_checkpoint.specs.declared.apply_error.ApplyError.TheVariants as error;
+
+    /// An executor of the epoch that follows this number of epochs, without pending lines. Lines of this many bytes led
+    /// to it.
+    pub fn new(
+        alloc: Global,
+        executor: Executor,
+        base: Base,
+        epoch: u64,
+        bytes: u64,
+    ) -> EpochExecutor
+        ensures executor { result.executor ≡ executor }
+        ensures lines { result.lines ≡ [] }
+        ensures base { result.base ≡ base }
+    {
+        EpochExecutor {
+            executor,
+            writer: CommandWriter::new(alloc),
+            lines: String::new(alloc),
+            is_failed: false,
+            base,
+            epoch,
+            bytes,
+        }
+    }
+
+    /// The executor, for reading.
+    pub fn executor(&self) -> &Executor
+        ensures { result.now ≡ self.now.executor }
+    {
+        &self.executor
+    }
+
+    /// The pending lines, for reading.
+    pub fn lines(&self) -> &str
+        ensures { result.now ≡ self.now.lines }
+    {
+        self.lines.as_str()
+    }
+
+    /// The base that earlier epochs left.
+    pub fn base(&self) -> &Base
+        ensures { result.now ≡ self.now.base }
+    {
+        &self.base
+    }
+
+    /// The number of earlier epochs.
+    pub fn epoch(&self) -> u64 {
+        self.epoch
+    }
+
+    /// The bytes of the epoch's lines.
+    pub fn bytes(&self) -> u64 {
+        self.bytes.saturating_add(self.lines.len() as u64)
+    }
+
+    /// Whether an event batch could not be logged: no order is executed any more.
+    pub fn is_failed(&self) -> bool {
+        self.is_failed
+    }
+
+    /// Executes an order of a session with one try, with the numbers that its client sees, and logs its event batch.
+    ///
+    /// After `NoMemory` nothing is changed. After `NotLogged` no order is executed any more.
+    pub fn execute(
+        &mut self,
+        names: &Names,
+        session: &mut SessionState,
+        order: &Order,
+    ) -> Result<ClientAnswer, ApplyError>
+        ensures obeys { IfOk result (λ answered. SessionStepAcrossCheckpoints self.old.base self.old.executor session.old
+            order.now self.new.executor session.new (reply_of_client answered.reply)) }
+        ensures written { OnOk result (LoggedStep names.now (logged_state self.old.executor self.old.lines)
+            (logged_state self.new.executor self.new.lines)) }
+        ensures base { self.new.base ≡ self.old.base }
+        ensures unchanged { IfErr result (λ why. why ≡ error.NoMemory
+            → (self.new ≡ self.old) × (session.new ≡ session.old)) }
+    {
+        let view = self.executor.session(session);
+        if let Some(reply) = self.immediate_reply(&view, order)? {
+            return Ok(ClientAnswer {
+                reply,
+                waits_for: None,
+            });
+        }
+        let numbers = self.base.numbers_for(&view, order);
+        let executed = self.execute_in_epoch(names, session, &epoch_order(numbers, order))?;
+        match self.base.client_reply(numbers, executed.reply) {
+            Some(reply) => Ok(ClientAnswer {
+                reply,
+                waits_for: executed.waits_for,
+            }),
+            None => Err(self.fail()),
+        }
+    }
+
+    /// The reply to an order that needs no event, of a session with this view. (No number is too large: that is checked
+    /// when an epoch begins.)
+    fn immediate_reply(
+        &self,
+        view: &Session,
+        order: &Order,
+    ) -> Result<Option<ClientReply>, ApplyError>
+        ensures told { IfOk result (λ reply. option_map reply_of_client reply ≡ immediate_reply
+            (client_session self.now.base view.now) order.now) }
+        ensures why { IfErr result (λ why. why ≡ error.NoMemory) }
+    {
+        match self.base.client_session(view) {
+            Some(over) => Ok(immediate_reply(&over, order)),
+            None => Err(ApplyError::NoMemory),
+        }
+    }
+
+    /// Executes an order with the numbers of this epoch, and logs its event batch.
+    fn execute_in_epoch(
+        &mut self,
+        names: &Names,
+        session: &mut SessionState,
+        order: &Order,
+    ) -> Result<EpochAnswer, ApplyError>
+        ensures obeys { IfOk result (λ executed. SessionStep self.old.executor.world.shape
+            (executor_session_view self.old.executor session.old) (with_tries 1 order.now)
+            (executor_session_view self.new.executor session.new) executed.reply) }
+        ensures written { OnOk result (LoggedStep names.now (logged_state self.old.executor self.old.lines)
+            (logged_state self.new.executor self.new.lines)) }
+        ensures base { self.new.base ≡ self.old.base }
+        ensures unchanged { IfErr result (λ why. why ≡ error.NoMemory
+            → (self.new ≡ self.old) × (session.new ≡ session.old)) }
+    {
+        if self.is_failed {
+            return Err(ApplyError::NotLogged);
+        }
+        if self.lines.reserve(ROOM).is_err() {
+            return Err(ApplyError::NoMemory);
+        }
+        let done = match self.executor.execute(session, order) {
+            Ok(done) => done,
+            Err(_) => return Err(ApplyError::NoMemory),
+        };
+        if log_batch(&mut self.lines, &mut self.writer, names, done.batch).is_err() {
+            return Err(self.fail());
+        }
+        let reply = done.reply;
+        Ok(EpochAnswer {
+            reply,
+            waits_for: self.lock_waited_for(session, reply),
+        })
+    }
+
+    /// Ends a session: its worker, if it has one, crashes, and that is logged.
+    pub fn detach_session(
+        &mut self,
+        names: &Names,
+        session: &mut SessionState,
+    ) -> Result<(), ApplyError>
+        ensures written { OnOk result (LoggedStep names.now (logged_state self.old.executor self.old.lines)
+            (logged_state self.new.executor self.new.lines)) }
+        ensures base { self.new.base ≡ self.old.base }
+    {
+        let batch = self.executor.detach_session(session);
+        if self.is_failed || log_batch(&mut self.lines, &mut self.writer, names, batch).is_err() {
+            return Err(self.fail());
+        }
+        Ok(())
+    }
+
+    /// Takes the pending lines, and leaves this empty text in their place. `None` after an event batch could not be
+    /// logged: later lines would be of another world.
+    pub fn take_lines(&mut self, empty: String) -> Option<String>
+        ensures taken { IfSome result (λ lines. string_bytes lines ≡ self.old.lines) }
+        ensures left { OnSome result (self.new.lines ≡ string_bytes empty) }
+        ensures executor { self.new.executor ≡ self.old.executor }
+        ensures base { self.new.base ≡ self.old.base }
+    {
+        if self.is_failed {
+            return None;
+        }
+        self.bytes = self.bytes();
+        Some(replace(&mut self.lines, empty))
+    }
+
+    /// An event batch could not be logged: the pending lines are dropped, since they may have only a part of it, and no
+    /// order is executed any more.
+    fn fail(&mut self) -> ApplyError
+        ensures why { result ≡ error.NotLogged }
+        ensures executor { self.new.executor ≡ self.old.executor }
+        ensures base { self.new.base ≡ self.old.base }
+    {
+        self.lines.clear();
+        self.is_failed = true;
+        ApplyError::NotLogged
+    }
+
+    /// The lock of a session's job, if the reply says that the job waits.
+    fn lock_waited_for(&self, session: &SessionState, reply: SessionReply) -> Option<u32> {
+        if !is_still_waiting(reply) {
+            return None;
+        }
+        let worker = session.worker?;
+        let world = self.executor.world();
+        if worker >= world.shape().workers() {
+            return None;
+        }
+        Some(world.pending(worker)?.lock)
+    }
+}
+
+/// Appends the lines of an event batch, if there is one.
+fn log_batch(
+    lines: &mut String,
+    writer: &mut CommandWriter,
+    names: &Names,
+    batch: Option<EventBatch>,
+) -> Result<(), ApplyError>
+    ensures lines { OnOk result (AppendsCommands names.now (string_bytes lines.old) (batch_commands_if batch)
+        (string_bytes lines.new)) }
+    ensures kind { IfErr result (λ why. why ≡ error.NotLogged) }
+{
+    let Some(batch) = batch else {
+        return Ok(());
+    };
+    match append_batch(lines, writer, names, batch) {
+        Ok(()) => Ok(()),
+        Err(_) => Err(ApplyError::NotLogged),
+    }
+}

@@ -1,0 +1,79 @@
+//! The numbers of finished sections of a world, and the last receipt of each worker.
+
+use crate::epoch_executor::EpochExecutor;
+use rme_program::Receipt;
+use rme_words::MOST_LOCKS;
+use rme_world::World;
+use std::alloc::{AllocError, Global};
+
+/// The number of finished sections of each lock.
+#[derive(Clone, Copy)]
+pub struct Sections {
+    counts: [u64; MOST_LOCKS as usize],
+}
+
+impl Sections {
+    /// The finished sections of a world.
+    pub fn of(world: &World) -> Sections {
+        let mut counts = [0u64; MOST_LOCKS as usize];
+        let history = world.history();
+        for at in 0..history.len() {
+            let Some(receipt) = history.receipt(at) else {
+                unreachable!();
+            };
+            if let Some(count) = counts.get_mut(receipt.lock as usize) {
+                *count = count.saturating_add(1);
+            }
+        }
+        Sections { counts }
+    }
+
+    /// The finished sections of a lock.
+    pub fn at(&self, lock: u32) -> u64 {
+        self.counts.get(lock as usize).copied().unwrap_or(0)
+    }
+}
+
+/// The receipt of each worker's last finished section, if it finished any.
+pub(crate) fn last_receipts(
+    alloc: Global,
+    world: &World,
+) -> Result<Vec<Option<Receipt>>, AllocError> {
+    let mut last = vec![in alloc; None; world.shape().workers() as usize]?;
+    let history = world.history();
+    for at in 0..history.len() {
+        let Some(receipt) = history.receipt(at) else {
+            unreachable!();
+        };
+        if let Some(own) = last.get_mut(receipt.worker as usize) {
+            *own = Some(receipt);
+        }
+    }
+    Ok(last)
+}
+
+impl EpochExecutor {
+    /// The number of finished sections of this epoch, without those by which the checkpoint worker set the cells.
+    pub fn sections(&self) -> u64 {
+        let world = self.executor().world();
+        let all = world.history().len() as u64;
+        all.saturating_sub(begun_jobs(world, world.shape().workers.saturating_sub(1)))
+    }
+
+    /// Whether a worker has used all its job numbers of this epoch.
+    pub fn has_spent_jobs(&self, worker: Option<u32>) -> bool {
+        let world = self.executor().world();
+        match worker {
+            Some(worker) => begun_jobs(world, worker) >= u64::from(world.shape().jobs),
+            None => false,
+        }
+    }
+}
+
+/// The number of jobs that a worker began; 0 if there is no such worker.
+fn begun_jobs(world: &World, worker: u32) -> u64 {
+    if worker >= world.shape().workers {
+        return 0;
+    }
+    world.number(worker)
+}

@@ -1,0 +1,90 @@
+//! Why a file could not be written or replaced.
+
+use std::alloc::AllocError;
+use std::{fmt, io};
+
+/// The first code that is not a number of the system.
+const OWN: u64 = 1 << 32;
+
+/// Why a file could not be written or replaced. It is `Copy`, so that another thread can report it later.
+#[derive(Clone, Copy, Debug, PartialEq, Eq)]
+pub enum Cause {
+    /// An error number of the system.
+    System(u32),
+    NoMemory,
+    /// The file's name names another file, or none.
+    NameLost,
+    /// Another program has locked the new file.
+    Locked,
+    /// The disk may not have the name of the new file.
+    NameUnsure,
+    /// What is under the name `FILE.renewal` was not made by a server.
+    NotOurs,
+    /// The system gave no error number.
+    Unknown,
+}
+
+impl Cause {
+    /// The code of the cause; never 0.
+    pub(crate) fn code(self) -> u64 {
+        match self {
+            Cause::System(number) => u64::from(number),
+            Cause::NoMemory => OWN,
+            Cause::NameLost => OWN + 1,
+            Cause::Locked => OWN + 2,
+            Cause::NameUnsure => OWN + 3,
+            Cause::NotOurs => OWN + 4,
+            Cause::Unknown => OWN + 5,
+        }
+    }
+
+    /// The cause of a code.
+    pub(crate) fn of_code(code: u64) -> Cause {
+        match u32::try_from(code) {
+            Ok(number) => Cause::System(number),
+            Err(_) => match code - OWN {
+                0 => Cause::NoMemory,
+                1 => Cause::NameLost,
+                2 => Cause::Locked,
+                3 => Cause::NameUnsure,
+                4 => Cause::NotOurs,
+                _ => Cause::Unknown,
+            },
+        }
+    }
+}
+
+impl From<io::Error> for Cause {
+    fn from(error: io::Error) -> Cause {
+        if error.kind() == io::ErrorKind::OutOfMemory {
+            return Cause::NoMemory;
+        }
+        match error.raw_os_error().map(u32::try_from) {
+            Some(Ok(number)) => Cause::System(number),
+            _ => Cause::Unknown,
+        }
+    }
+}
+
+impl From<AllocError> for Cause {
+    fn from(_refused: AllocError) -> Cause {
+        Cause::NoMemory
+    }
+}
+
+impl fmt::Display for Cause {
+    fn fmt<W: fmt::Write>(&self, f: &mut fmt::Formatter<W>) -> fmt::Result {
+        match self {
+            Cause::System(number) => {
+                let error = io::Error::from_raw_os_error(i32::try_from(*number).unwrap_or(0));
+                write!(f, "{error}")
+            }
+            Cause::NoMemory => f.write_str("no memory"),
+            Cause::NameLost => f.write_str("its name is another file's by now, or nobody's"),
+            Cause::Locked => f.write_str("another program has locked it"),
+            Cause::NameUnsure => f.write_str("the disk may not have its name"),
+            Cause::NotOurs => f.write_str("what is there was not made by a server"),
+            Cause::Unknown => f.write_str("the system does not say why"),
+        }
+    }
+}

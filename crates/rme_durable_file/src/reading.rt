@@ -1,0 +1,69 @@
+//! Reading a state.
+
+use rme_cli_messages::{CliFault, escape_controls};
+use rme_durable_format::{BadLog, RecoveryProgress, whole_lines};
+use rme_durable_server::{RecoveredState, other_version, recover};
+use rme_process_file::is_process_file;
+use std::time::{Duration, Instant};
+
+/// Reports the progress of recovery on the standard error, once it has taken a second.
+#[derive(Drop)]
+struct StderrProgress<'a> {
+    rt: &'a HostRuntime,
+    began: Option<Instant>,
+}
+
+impl RecoveryProgress for StderrProgress<'_> {
+    fn read(&self, lines: u64) {
+        let Some(began) = self.began else {
+            return;
+        };
+        match began.elapsed(self.rt) {
+            Ok(went_by) if went_by >= Duration::from_secs(1) => {
+                let _ = eprintln!(self.rt; "rme: {lines} lines are read");
+            }
+            _ => {}
+        }
+    }
+}
+
+/// Recovers a state from these bytes, which may end with a torn line, and reports the number of lines and the time on
+/// the standard error.
+pub fn read_state(rt: &HostRuntime, path: &str, bytes: &[u8]) -> Result<RecoveredState, CliFault> {
+    let telling = StderrProgress {
+        rt,
+        began: Instant::now(rt).ok(),
+    };
+    let recovered = match recover(rt.alloc(), whole_lines(bytes), &telling) {
+        Ok(recovered) => recovered,
+        Err(why) => return Err(bad_log_fault(rt, path, bytes, why)?),
+    };
+    let took = telling.began.and_then(|began| began.elapsed(rt).ok());
+    let milliseconds = took.map_or(0, |took| took.as_millis());
+    let lines = recovered.log.lines;
+    let _ = eprintln!(rt; "rme: {lines} lines read in {milliseconds} ms");
+    Ok(recovered)
+}
+
+/// The fault of bytes that are no state for this reason. It says what they are instead, if that is known.
+pub fn bad_log_fault(
+    rt: &HostRuntime,
+    path: &str,
+    bytes: &[u8],
+    why: BadLog,
+) -> Result<CliFault, CliFault> {
+    let BadLog::Line(line) = why else {
+        return Ok(CliFault::NoMemory);
+    };
+    let path = escape_controls(rt.alloc(), path)?;
+    if line > 1 {
+        return Ok(CliFault::BadState(path, line));
+    }
+    if is_process_file(bytes) {
+        return Ok(CliFault::StateOfProcesses(path));
+    }
+    match other_version(rt.alloc(), bytes)? {
+        Some(version) => Ok(CliFault::StateOfVersion(path, version)),
+        None => Ok(CliFault::BadState(path, line)),
+    }
+}

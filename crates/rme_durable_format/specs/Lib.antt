@@ -1,0 +1,7 @@
+-- In reading order: the commands of an event batch; the line of a command; line 1; recovery from the bytes of a file;
+-- the events of a file's lines.
+pub mod BatchCommands
+pub mod CommandLines
+pub mod Headers
+pub mod Recovery
+pub mod CommandRuns

@@ -1,0 +1,67 @@
+-- The log as threads share it: its rule, and what the appender and the writer know of it.
+use Rattle.std.specs.Prelude.{◌≡◌, ◌<◌, ℕ, suc, true, false, List, [], ◌∷◌, ◌++◌, length, drop, Option, Some, None}
+use Rattle.std.specs.List.{concat}
+use mathlib.Core.List.{IsPrefix}
+use Rattle.logbook.specs.Pages.{Cell, Step, View, Book, Named}
+use Rattle.rme_durable_log.specs.declared.log_entry.LogEntry.{LogEntry}
+use Rattle.rme_durable_log.specs.declared.log_entry.LogEntry.TheVariants.{Lines, Whole}
+use Rattle.rme_durable_log.specs.Logs.{IsLogDurable, line_entries}
+
+-- The first entry has the store's initial contents. One word has the number of entries appended after it.
+pub record IsLogState (cells : List Cell) (log : List LogEntry) : Type 0 where
+  pub told : ℕ
+  pub words : cells ≡ (told, true) ∷ []
+  pub counted : length log ≡ suc told
+
+abbrev pub log_head : Book → Named
+log_head book = record { tracked = true; key = 0; book = book }
+
+-- An entry is appended after all entries seen; or others were appended before it.
+abbrev pub AppendsEntry : Step LogEntry → View LogEntry ℕ → ℕ → View LogEntry ℕ → Type 0
+AppendsEntry step before found after = (found ≡ step.old) → after.0 ≡ before.0 ++ step.ask ∷ []
+
+-- The durable mark: this number of entries after the first were stored.
+pub record IsDurableMark {X : Type 0} (holds : X → Option (List ℕ)) (count : ℕ) (log : List LogEntry) : Type 0 where
+  pub start : List LogEntry
+  pub begins : IsPrefix start log
+  pub counted : length start ≡ suc count
+  pub held : IsLogDurable holds start
+
+-- The initial contents of a store.
+abbrev pub known_bytes : Option (List ℕ) → List ℕ
+known_bytes None = []
+known_bytes (Some bytes) = bytes
+
+-- The lines among entries.
+abbrev pub entry_lines : List LogEntry → List ℕ
+entry_lines [] = []
+entry_lines (Lines lines ∷ log) = lines ++ entry_lines log
+entry_lines (Whole bytes ∷ log) = entry_lines log
+
+-- The entries after those that were taken.
+abbrev pub entries_behind : List LogEntry → List LogEntry → List LogEntry
+entries_behind taken told = drop (length taken) told
+
+-- Only lines were appended since, and their bytes are this text.
+pub record AreLinesSince (taken : List LogEntry) (log : List LogEntry) (lines : List ℕ) : Type 0 where
+  pub texts : List (List ℕ)
+  pub told : log ≡ taken ++ line_entries texts
+  pub come : lines ≡ concat texts
+
+-- The log, and the pending lines, which nobody has taken yet.
+pub record AppenderState : Type 0 where
+  pub log : List LogEntry
+  pub waits : List ℕ
+
+pub record AppenderInvariant (book : Book) (head : Named) (taken : List LogEntry) (told : List LogEntry) : Type 0 where
+  pub head_is : head ≡ log_head book
+  pub some : 0 < length taken
+  pub since : AreLinesSince taken told (entry_lines (entries_behind taken told))
+
+-- A log that was just opened over a store.
+pub record OpenLogInvariant {X : Type 0} (holds : X → Option (List ℕ)) (store : X) (head : Named) (kept : Named)
+    (book : Book) (log : List LogEntry) : Type 0 where
+  pub head_is : head ≡ log_head book
+  pub untracked : kept.tracked ≡ false
+  pub of_book : kept.book ≡ book
+  pub first : log ≡ Whole (known_bytes (holds store)) ∷ []

@@ -1,0 +1,270 @@
+//! Two threads that append and commit at once, over a store in memory.
+
+ghost use Rattle.std.specs.Prelude.{◌≡◌};
+
+use super::*;
+use std::alloc::Global;
+use std::marker::{Brand, Model};
+use std::mem::replace;
+use std::process::Abort;
+use std::sync::{Mutex, Wait};
+use std::test::*;
+use std::thread::{Threads, join};
+
+/// A store that counts its calls.
+#[derive(Drop)]
+struct Pages {
+    alloc: Global,
+    bytes: Vec<u8>,
+    losses: u32,
+    is_quick: bool,
+}
+
+impl Pages {
+    fn has(&self, text: &str) -> bool {
+        self.bytes.as_slice() == text.as_bytes()
+    }
+}
+
+impl LogStore for Pages {
+    ghost use Rattle.std.specs.Prelude.{Some};
+
+    ghost holds = { λ pages. Some pages.bytes.items };
+
+    fn append(&mut self, lines: &[u8]) -> Result<(), NotDurable> {
+        match self.bytes.extend_from_slice(lines) {
+            Ok(()) => Ok(()),
+            Err(_) => Err(NotDurable),
+        }
+    }
+
+    fn replace(&mut self, bytes: &[u8]) -> Result<(), NotDurable> {
+        match Vec::from_slice(self.alloc, bytes) {
+            Ok(all) => {
+                self.bytes = all;
+                Ok(())
+            }
+            Err(_) => Err(NotDurable),
+        }
+    }
+
+    fn is_quick(&self) -> bool {
+        self.is_quick
+    }
+
+    fn fail(&mut self) {
+        self.losses = self.losses.saturating_add(1);
+    }
+}
+
+/// Pending lines, beside their appender; `None` once an event could not be written.
+#[derive(Drop)]
+struct LineSource<J: LogTag> {
+    lines: String,
+    appender: Option<LogAppender<Pages, J>>,
+}
+
+impl<J: LogTag> Model for LineSource<J> {
+    ghost use Rattle.std.specs.Prelude.{◌≡◌, ℕ, List, IfSome, string_bytes};
+
+    ghost Value = { List ℕ };
+
+    ghost view = { λ desk. string_bytes desk.lines };
+
+    ghost invariant = { λ desk. IfSome desk.appender (λ appender. appender.waits ≡ string_bytes desk.lines) };
+}
+
+impl<J: LogTag> PendingLines<Pages, J> for LineSource<J> {
+    fn take_lines(&mut self, empty: String) -> Option<PendingBatch<Pages, J>> {
+        let mut appender = self.appender.take()?;
+        let mut empty = empty;
+        empty.clear();
+        let taken = appender.take(replace(&mut self.lines, empty));
+        self.appender = Some(appender);
+        Some(taken)
+    }
+}
+
+impl<J: LogTag> LineSource<J> {
+    /// Writes a line and appends it, if there is memory.
+    fn write(&mut self, line: &str) -> Option<LogPosition<Pages, J>> {
+        let mut appender = self.appender.take()?;
+        if self.lines.push_str(line).is_err() {
+            self.appender = Some(appender);
+            return None;
+        }
+        if !appender.append(line.as_bytes()) {
+            return None;
+        }
+        let told = appender.position();
+        self.appender = Some(appender);
+        Some(told)
+    }
+
+    /// Replaces all bytes of the store.
+    fn replace(&mut self, held: LogWriter<Pages, J>, bytes: &[u8]) -> Option<LogWriter<Pages, J>> {
+        let mut appender = self.appender.take()?;
+        let (held, is_new) = held.replace(&mut appender, bytes).ok()?;
+        if !is_new {
+            return None;
+        }
+        self.lines.clear();
+        self.appender = Some(appender);
+        Some(held)
+    }
+}
+
+/// Appends a line and commits it.
+fn say<J: LogTag, R: Wait>(
+    rt: &R,
+    desk: &Mutex<LineSource<J>>,
+    commits: &GroupCommit<Pages, J>,
+    line: &str,
+) -> bool {
+    let told = desk.lock(rt).write(line);
+    match told {
+        Some(told) => commits.commit(rt, desk, &told).is_ok(),
+        None => false,
+    }
+}
+
+/// The final contents of the store, and the failures that it was told of.
+fn end<J: LogTag, R: Wait>(rt: &R, commits: &GroupCommit<Pages, J>) -> Option<Pages> {
+    let (held, spare) = commits.take_writer(rt)?;
+    drop(spare);
+    Some(held.fail())
+}
+
+#[test]
+fn two_lines_are_kept(rt: HostRuntime) -> Result<(), Fail> {
+    let pages = Pages {
+        alloc: rt.alloc(),
+        bytes: Vec::from_slice(rt.alloc(), b"before\n")?,
+        losses: 0,
+        is_quick: false,
+    };
+    kept_by_two::<Brand, _>(&rt, rt.alloc(), OpenLog::new(pages))
+}
+
+fn kept_by_two<J: LogTag + Send + Sync, R: Threads + Wait + Abort + Sync>(
+    rt: &R,
+    alloc: Global,
+    opened: OpenLog<Pages>,
+) -> Result<(), Fail>
+    requires { opened ≡ J.book }
+{
+    let (appender, commits) = opened.split::<J>(alloc);
+    let desk = Mutex::new(LineSource {
+        lines: String::new(alloc),
+        appender: Some(appender),
+    });
+    let (one, two) = join(
+        rt,
+        || say(rt, &desk, &commits, "one\n"),
+        || say(rt, &desk, &commits, "two\n"),
+    );
+    assert!(rt; one && two);
+    let pages = end(rt, &commits).ok_or("kept")?;
+    let is_first = pages.has("before\none\ntwo\n");
+    assert!(rt; is_first || pages.has("before\ntwo\none\n"));
+    assert_eq!(rt; pages.losses, 1);
+    Ok(())
+}
+
+#[test]
+fn other_bytes_take_their_place(rt: HostRuntime) -> Result<(), Fail> {
+    let pages = Pages {
+        alloc: rt.alloc(),
+        bytes: Vec::new(rt.alloc()),
+        losses: 0,
+        is_quick: false,
+    };
+    replaced::<Brand, _>(&rt, rt.alloc(), OpenLog::new(pages))
+}
+
+fn replaced<J: LogTag, R: Wait + Abort>(
+    rt: &R,
+    alloc: Global,
+    opened: OpenLog<Pages>,
+) -> Result<(), Fail>
+    requires { opened ≡ J.book }
+{
+    let (appender, commits) = opened.split::<J>(alloc);
+    let desk = Mutex::new(LineSource {
+        lines: String::new(alloc),
+        appender: Some(appender),
+    });
+    assert!(rt; say(rt, &desk, &commits, "one\n"));
+    let (held, spare) = commits.take_writer(rt).ok_or("taken")?;
+    let held = desk.lock(rt).replace(held, b"all\n").ok_or("replaced")?;
+    commits.return_writer(rt, spare, Ok(held));
+    assert!(rt; say(rt, &desk, &commits, "two\n"));
+    let pages = end(rt, &commits).ok_or("kept")?;
+    assert!(rt; pages.has("all\ntwo\n"));
+    Ok(())
+}
+
+#[test]
+fn nothing_is_kept_once_it_is_broken(rt: HostRuntime) -> Result<(), Fail> {
+    let pages = Pages {
+        alloc: rt.alloc(),
+        bytes: Vec::new(rt.alloc()),
+        losses: 0,
+        is_quick: false,
+    };
+    broken::<Brand, _>(&rt, rt.alloc(), OpenLog::new(pages))
+}
+
+fn broken<J: LogTag, R: Wait + Abort>(
+    rt: &R,
+    alloc: Global,
+    opened: OpenLog<Pages>,
+) -> Result<(), Fail>
+    requires { opened ≡ J.book }
+{
+    let (appender, commits) = opened.split::<J>(alloc);
+    let desk = Mutex::new(LineSource {
+        lines: String::new(alloc),
+        appender: Some(appender),
+    });
+    let told = desk.lock(rt).write("one\n").ok_or("told")?;
+    commits.fail(rt);
+    assert!(rt; commits.is_failed());
+    assert!(rt; commits.commit(rt, &desk, &told).is_err());
+    assert!(rt; commits.take_writer(rt).is_none());
+    Ok(())
+}
+
+#[test]
+fn who_tells_keeps_at_once(rt: HostRuntime) -> Result<(), Fail> {
+    let pages = Pages {
+        alloc: rt.alloc(),
+        bytes: Vec::new(rt.alloc()),
+        losses: 0,
+        is_quick: true,
+    };
+    kept_at_once::<Brand, _>(&rt, rt.alloc(), OpenLog::new(pages))
+}
+
+fn kept_at_once<J: LogTag, R: Wait + Abort>(
+    rt: &R,
+    alloc: Global,
+    opened: OpenLog<Pages>,
+) -> Result<(), Fail>
+    requires { opened ≡ J.book }
+{
+    let (appender, commits) = opened.split::<J>(alloc);
+    let desk = Mutex::new(LineSource {
+        lines: String::new(alloc),
+        appender: Some(appender),
+    });
+    let mut front = desk.lock(rt);
+    let told = front.write("one\n").ok_or("told")?;
+    commits.commit_inline(rt, &mut *front, &told);
+    assert!(rt; front.lines.is_empty());
+    drop(front);
+    assert!(rt; commits.commit(rt, &desk, &told).is_ok());
+    let pages = end(rt, &commits).ok_or("kept")?;
+    assert!(rt; pages.has("one\n"));
+    Ok(())
+}

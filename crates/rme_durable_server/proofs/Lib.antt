@@ -1,0 +1,3 @@
+-- The lines that an event batch adds, and orders that are executed try by try.
+pub mod Growing
+pub mod Extending

@@ -1,0 +1,2 @@
+-- How the orders and the lines of a session are answered.
+pub mod DurableAnswers

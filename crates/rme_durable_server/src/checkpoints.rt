@@ -1,0 +1,221 @@
+//! Checkpoints: a new epoch begins once the log of one has grown long.
+
+ghost use Rattle.std.specs.Prelude.{◌≡◌, [], IfSome};
+
+use crate::durable_executor::DurableExecutor;
+use crate::durable_server::DurableServer;
+use rme_durable_checkpoint::{Checkpoint, EpochExecutor};
+use rme_durable_log::{LogStore, LogTag, LogWriter, PendingLines};
+use rme_session_protocol::{Attachment, Order};
+use rme_session_server::CloseHandle;
+use rme_session_world::SessionState;
+use std::sync::atomic::{AtomicBool, AtomicU64, Ordering};
+use std::sync::{Mutex, Wait};
+use std::time::{Clock, Duration, Instant};
+
+/// More bytes of lines than a section takes, with everything that a session does for it. By this limit the lines do not
+/// grow for ever even if sessions only attach and detach.
+const MOST_BYTES: u64 = 1_024;
+
+/// The pause after a checkpoint that failed, in seconds. It doubles with each further failure, up to `LONGEST_PAUSE`.
+const FIRST_PAUSE: u64 = 5;
+
+const LONGEST_PAUSE: u64 = 60;
+
+/// A checkpoint failed: none is tried until the pause is over. Each try stops all orders, mostly for the disk.
+#[derive(Clone, Copy)]
+struct CheckpointRetry {
+    at: Instant,
+    /// In seconds.
+    pause: u64,
+}
+
+impl CheckpointRetry {
+    /// The pause that begins now, after a failure, and perhaps an earlier one.
+    fn after_failure<R: Clock>(rt: &R, before: Option<CheckpointRetry>) -> Option<CheckpointRetry> {
+        let at = Instant::now(rt).ok()?;
+        let pause = match before {
+            Some(failure) => failure.pause.saturating_mul(2).min(LONGEST_PAUSE),
+            None => FIRST_PAUSE,
+        };
+        Some(CheckpointRetry { at, pause })
+    }
+
+    /// Whether the pause is over.
+    fn is_over<R: Clock>(&self, rt: &R) -> bool {
+        match self.at.elapsed(rt) {
+            Ok(passed) => passed >= Duration::from_secs(self.pause),
+            Err(_) => true,
+        }
+    }
+}
+
+/// When a checkpoint is due.
+#[derive(Drop)]
+pub(crate) struct CheckpointPolicy {
+    /// A checkpoint is due after this number of finished sections in one epoch, without those of the checkpoint worker,
+    /// or once the log has as many bytes as they may take.
+    sections: u64,
+    /// No checkpoint is due before the log has this number of bytes.
+    not_before: AtomicU64,
+    /// Whether a checkpoint was seen to be due.
+    is_long: AtomicBool,
+    /// The failure of the last checkpoint, if it failed.
+    failure: Mutex<Option<CheckpointRetry>>,
+}
+
+impl CheckpointPolicy {
+    /// A checkpoint is due after this number of finished sections in one epoch.
+    pub(crate) fn after_sections(sections: u32) -> CheckpointPolicy {
+        CheckpointPolicy {
+            sections: u64::from(sections),
+            not_before: AtomicU64::new(0),
+            is_long: AtomicBool::new(false),
+            failure: Mutex::new(None),
+        }
+    }
+
+    /// Whether a checkpoint may be tried: the last one succeeded, or failed long enough ago.
+    pub(crate) fn may_try<R: Wait + Clock>(&self, rt: &R) -> bool {
+        let failure = self.failure.lock(rt);
+        match &*failure {
+            Some(failure) => failure.is_over(rt),
+            None => true,
+        }
+    }
+
+    /// Whether a checkpoint was seen to be due.
+    pub(crate) fn is_seen_due(&self) -> bool {
+        self.is_long.load(Ordering::Relaxed)
+    }
+
+    /// Notes whether a checkpoint is due.
+    pub(crate) fn observe(&self, executor: &EpochExecutor) {
+        if self.is_due(executor) {
+            self.is_long.store(true, Ordering::Relaxed);
+        }
+    }
+
+    fn is_due(&self, executor: &EpochExecutor) -> bool {
+        let bytes = executor.bytes();
+        let is_long = executor.sections() >= self.sections || bytes >= self.most_bytes();
+        is_long && bytes >= self.not_before.load(Ordering::Relaxed)
+    }
+
+    /// The number of bytes that the limit of sections may take.
+    fn most_bytes(&self) -> u64 {
+        self.sections.saturating_mul(MOST_BYTES)
+    }
+
+    /// Notes the outcome of a checkpoint. If it failed, or the new epoch begins with `most_bytes` or more, none is due
+    /// before another `most_bytes`.
+    fn note_attempt<R: Wait + Clock>(&self, rt: &R, executor: &EpochExecutor, is_new: bool) {
+        let mut failure = self.failure.lock(rt);
+        *failure = if is_new {
+            None
+        } else {
+            CheckpointRetry::after_failure(rt, *failure)
+        };
+        drop(failure);
+        let wait = if is_new && executor.bytes() < self.most_bytes() {
+            0
+        } else {
+            executor.bytes().saturating_add(self.most_bytes())
+        };
+        self.not_before.store(wait, Ordering::Relaxed);
+        self.is_long.store(false, Ordering::Relaxed);
+    }
+}
+
+impl<L: LogStore, H: CloseHandle, J: LogTag> DurableServer<L, H, J> {
+    ghost use Rattle.std.specs.Prelude.{◌≡◌, [], IfSome};
+
+    /// Makes a checkpoint, if one is still due, or if this worker has used all job numbers of the epoch. Meanwhile no
+    /// other session does anything. None is tried soon after one that failed. Answers true if a new epoch began, or if
+    /// none was due any more.
+    pub(crate) fn checkpoint<R: Wait + Clock>(&self, rt: &R, spent: Option<u32>) -> bool {
+        if !self.due.may_try(rt) {
+            return false;
+        }
+        let Some((held, spare)) = self.commits.take_writer(rt) else {
+            return false;
+        };
+        let mut executor = self.executor.lock(rt);
+        let is_due = self.is_checkpoint_due(rt, &executor, spent);
+        let renewed = if is_due {
+            self.build_checkpoint(&mut executor)
+        } else {
+            None
+        };
+        let Some(taken) = executor.take_lines(spare) else {
+            self.observe(&executor);
+            drop(executor);
+            let _ledger = held.fail();
+            self.commits.fail(rt);
+            return false;
+        };
+        let (kept, is_new) = install_checkpoint(&mut executor, held.append(&taken), renewed);
+        if is_due {
+            self.due.note_attempt(rt, executor.executor(), is_new);
+        }
+        drop(executor);
+        self.commits.return_writer(rt, taken.into_empty(), kept);
+        is_new || !is_due
+    }
+
+    /// Whether a checkpoint is due, for all or for this worker, and may be tried: another session may have tried it
+    /// meanwhile.
+    fn is_checkpoint_due<R: Wait + Clock>(
+        &self,
+        rt: &R,
+        executor: &DurableExecutor<L, J>,
+        spent: Option<u32>,
+    ) -> bool {
+        let is_due = self.due.is_due(executor.executor())
+            || executor.executor().has_spent_jobs(spent);
+        is_due && self.due.may_try(rt)
+    }
+
+    /// The checkpoint, if it could be built and its state is validated against this epoch's.
+    fn build_checkpoint(&self, executor: &mut DurableExecutor<L, J>) -> Option<Checkpoint>
+        ensures { IfSome result (λ renewed. renewed.executor.lines ≡ []) }
+    {
+        for _ in 0..self.names.len() {
+            match executor.executor().crashed_before_exit() {
+                Some(worker) => self.finish_exit(executor, worker)?,
+                None => break,
+            }
+        }
+        executor.executor().checkpoint(self.alloc, &self.names).ok()
+    }
+
+    /// Attaches a crashed worker, which leaves the lock of its finished job, and detaches it again.
+    fn finish_exit(&self, executor: &mut DurableExecutor<L, J>, worker: u32) -> Option<()> {
+        let mut stand = self.new_session();
+        let order = Order::Attach(Attachment {
+            worker,
+            take: false,
+        });
+        executor.execute(&self.names, &mut stand, &order).ok()?;
+        executor.detach_session(&self.names, &mut stand).ok()?;
+        Some(())
+    }
+}
+
+/// Replaces the epoch by the checkpoint, in the log first, once all earlier lines are stored. Answers whether it did.
+fn install_checkpoint<L: LogStore, J: LogTag>(
+    durable: &mut DurableExecutor<L, J>,
+    kept: Result<LogWriter<L, J>, L>,
+    renewed: Option<Checkpoint>,
+) -> (Result<LogWriter<L, J>, L>, bool)
+    requires { IfSome renewed (λ renewed. renewed.executor.lines ≡ []) }
+{
+    match (kept, renewed) {
+        (Ok(held), Some(Checkpoint { bytes, executor })) => durable.install_checkpoint(
+            held,
+            bytes.as_bytes(),
+            executor,
+        ),
+        (kept, _) => (kept, false),
+    }
+}

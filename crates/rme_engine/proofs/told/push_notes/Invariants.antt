@@ -1,7 +1,0 @@
--- What was written, and what is to be told of the rest, is what is to be told of all.
-use Rattle.std.proofs.Common.{string_bytes, drop}
-use Rattle.rme_engine.proofs.ToldLemmas.{Told}
-use Rattle.rme_engine.proofs.told.push_notes.Given as goal
-
-abbrev pub invariant-loop-note : goal.invariant-loop-note
-invariant-loop-note l = Told l.names l.worker (string_bytes l.fn.out) l.notes (string_bytes l.out) (drop l.note-index l.notes)

@@ -1,6 +1,0 @@
--- The rows so far are the same.
-use Rattle.std.proofs.Common.{◌≡◌, ℕ, ◌<◌, List, get_or}
-use Rattle.rme_epochs.proofs.alike.same_rows.Given as goal
-
-abbrev pub invariant-loop-place : goal.invariant-loop-place
-invariant-loop-place l = (place : ℕ) (none : List ℕ) → place < l.place → get_or l.fn.one place none ≡ get_or l.fn.other place none

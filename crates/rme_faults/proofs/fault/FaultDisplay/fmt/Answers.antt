@@ -1,4 +1,0 @@
-use Rattle.rme_faults.proofs.fault.FaultDisplay.fmt.Goals as goal
-
-pub returns-in-OtherLocks-clause-writes : goal.returns-in-OtherLocks-clause-writes
-returns-in-OtherLocks-clause-writes g c = rw c.in-OtherLocks.is c.write-in-OtherLocks.ensures.writes

@@ -1,5 +1,0 @@
-use Rattle.std.proofs.Common.{◌≡◌}
-use Rattle.rme_helpers.proofs.jobs.life.live.Given as goal
-
-abbrev pub invariant-loop : goal.invariant-loop
-invariant-loop l = l.ready.ident ≡ l.service

@@ -1,5 +1,0 @@
-use Rattle.rme_history.proofs.Machines.{legal_both}
-use Rattle.rme_history.proofs.laws.telling.Goals as goal
-
-pub returns : goal.returns
-returns c = legal_both

@@ -1,7 +1,0 @@
--- Whatever the lines of the workers that are left make of the text, those of all make of it.
-use Rattle.std.specs.Prelude.{string_bytes}
-use Rattle.rme_journal.proofs.Falling.{FallsOn}
-use Rattle.rme_journal.proofs.deed_lines.push_falls.Given as goal
-
-abbrev pub invariant-loop-worker : goal.invariant-loop-worker
-invariant-loop-worker l = record { on : FallsOn l.names (string_bytes l.fn.out) l.fn.world.privates l.worker (string_bytes l.out) }

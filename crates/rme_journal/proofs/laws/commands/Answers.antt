@@ -1,5 +1,0 @@
-use Rattle.rme_journal.proofs.Running.{command_runs}
-use Rattle.rme_journal.proofs.laws.commands.Goals as goal
-
-pub returns : goal.returns
-returns c old new command reply changes none does = command_runs old new reply none command changes does

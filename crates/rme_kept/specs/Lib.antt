@@ -1,2 +1,0 @@
--- How an order of a session is answered, and a line.
-pub mod Serving

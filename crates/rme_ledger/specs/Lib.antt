@@ -1,5 +1,0 @@
--- In reading order: what one call does to what a ledger holds; what was told, and what of it was held; and the log in which all
--- that was told stands, as threads share it.
-pub mod Calls
-pub mod Logs
-pub mod Rules

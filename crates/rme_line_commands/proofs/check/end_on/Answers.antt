@@ -1,5 +1,0 @@
-use Rattle.rme_line_commands.proofs.Fronts.{no_front}
-use Rattle.rme_line_commands.proofs.check.end_on.Goals as goal
-
-pub returns-in_err-text-clause-front : goal.returns-in_err-text-clause-front
-returns-in_err-text-clause-front g c = no_front c.from_residual.result _ _

@@ -1,0 +1,178 @@
+//! The words of `do`, and the keys of each.
+
+use std::fmt;
+
+/// The lines that are diagnosed.
+#[derive(Clone, Copy, PartialEq, Eq)]
+pub enum Vocabulary {
+    /// The commands of `rme run`.
+    Commands,
+    /// Those of `rme run --transcript`, which loads no world.
+    Transcript,
+    /// The orders of a session.
+    Orders,
+}
+
+/// The valid values of a key.
+#[derive(Clone, Copy)]
+pub enum KeyKind {
+    Text,
+    Flag,
+    /// A whole number from the first to the second.
+    Number(u32, u32),
+    /// The kind of note that ends a walk.
+    Note,
+    Texts,
+    Script,
+}
+
+/// A key other than `do`.
+#[derive(Clone, Copy)]
+pub struct Key {
+    pub name: &'static str,
+    pub kind: KeyKind,
+    pub is_optional: bool,
+}
+
+/// Any number of 32 bits.
+const NUMBER: KeyKind = KeyKind::Number(0, 4_294_967_295);
+
+const WORKERS: Key = Key {
+    name: "workers",
+    kind: NUMBER,
+    is_optional: false,
+};
+
+const CELLS: Key = Key {
+    name: "cells",
+    kind: NUMBER,
+    is_optional: false,
+};
+
+const JOBS: Key = Key {
+    name: "jobs",
+    kind: NUMBER,
+    is_optional: false,
+};
+
+const WORKER: Key = Key {
+    name: "worker",
+    kind: NUMBER,
+    is_optional: false,
+};
+
+const LOCK: Key = Key {
+    name: "lock",
+    kind: KeyKind::Text,
+    is_optional: false,
+};
+
+const LOCKS: Key = Key {
+    name: "locks",
+    kind: KeyKind::Texts,
+    is_optional: false,
+};
+
+const IMAGE: Key = Key {
+    name: "image",
+    kind: KeyKind::Text,
+    is_optional: false,
+};
+
+const SCRIPT: Key = Key {
+    name: "script",
+    kind: KeyKind::Script,
+    is_optional: false,
+};
+
+const UNTIL: Key = Key {
+    name: "until",
+    kind: KeyKind::Note,
+    is_optional: true,
+};
+
+const MAX: Key = Key {
+    name: "max",
+    kind: KeyKind::Number(1, 10_000),
+    is_optional: true,
+};
+
+const NUMBER_OF_JOB: Key = Key {
+    name: "number",
+    kind: NUMBER,
+    is_optional: false,
+};
+
+const TRIES: Key = Key {
+    name: "tries",
+    kind: KeyKind::Number(1, 1_000_000),
+    is_optional: true,
+};
+
+const WAIT: Key = Key {
+    name: "wait",
+    kind: KeyKind::Number(0, 3_600_000),
+    is_optional: true,
+};
+
+const TAKE: Key = Key {
+    name: "take",
+    kind: KeyKind::Flag,
+    is_optional: true,
+};
+
+const STEPS: Key = Key {
+    name: "steps",
+    kind: KeyKind::Number(0, 1_000_000),
+    is_optional: false,
+};
+
+/// The keys of a word, or `None` if it is no word of this vocabulary.
+pub fn keys_of(vocabulary: Vocabulary, word: &str) -> Option<&'static [Key]> {
+    match vocabulary {
+        Vocabulary::Orders => order_keys(word),
+        Vocabulary::Transcript if word == "load" => None,
+        _ => command_keys(word),
+    }
+}
+
+fn command_keys(word: &str) -> Option<&'static [Key]> {
+    match word {
+        "open" => Some(&[WORKERS, LOCKS, CELLS, JOBS]),
+        "submit" => Some(&[WORKER, LOCK, SCRIPT]),
+        "walk" => Some(&[WORKER, UNTIL, MAX]),
+        "step" | "crash" | "restart" | "withdraw" | "last" => Some(&[WORKER]),
+        "owner" | "cells" => Some(&[LOCK]),
+        "history" | "report" | "save" => Some(&[]),
+        "load" => Some(&[IMAGE, LOCKS]),
+        _ => None,
+    }
+}
+
+fn order_keys(word: &str) -> Option<&'static [Key]> {
+    match word {
+        "attach" => Some(&[WORKER, TAKE]),
+        "submit" | "enter" => Some(&[NUMBER_OF_JOB, LOCK, SCRIPT, TRIES, WAIT]),
+        "resume" => Some(&[TRIES, WAIT]),
+        "crash_after" => Some(&[STEPS]),
+        "commit" | "withdraw" | "last" | "detach" => Some(&[]),
+        _ => None,
+    }
+}
+
+impl fmt::Display for KeyKind {
+    fn fmt<W: fmt::Write>(&self, f: &mut fmt::Formatter<W>) -> fmt::Result {
+        match self {
+            KeyKind::Text => f.write_str("a text"),
+            KeyKind::Flag => f.write_str("true or false"),
+            KeyKind::Number(least, most) => write!(f, "a whole number from {least} to {most}"),
+            KeyKind::Note => f.write_str(
+                "\"asked\", \"entered\", \"reentered\", \"finished\", \"left\", \"ready\" or \"withdrew\"",
+            ),
+            KeyKind::Texts => f.write_str("a list of texts"),
+            KeyKind::Script => f.write_str(
+                "a list of operations: [\"get\",c], [\"set\",c,v], [\"add\",c,v], [\"copy\",a,b] or [\"swap\",a,b]",
+            ),
+        }
+    }
+}

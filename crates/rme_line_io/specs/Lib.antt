@@ -1,0 +1,8 @@
+-- In reading order.
+pub mod StreamEvents
+pub mod BufferedWrites
+pub mod Pieces
+pub mod Cuts
+pub mod Readers
+pub mod LineRuns
+pub mod Names

@@ -1,6 +1,0 @@
-pub mod PutLemmas
-pub mod PieceLemmas
-pub mod ReaderLemmas
-pub mod RunLemmas
-pub mod TrafficLemmas
-pub mod MomentLemmas

@@ -1,5 +1,0 @@
-use Rattle.rme_machine.proofs.Further.{clauses}
-use Rattle.rme_machine.proofs.laws.clauses.Goals as goal
-
-pub returns : goal.returns
-returns c = clauses

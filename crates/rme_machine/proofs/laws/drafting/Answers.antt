@@ -1,5 +1,0 @@
-use Rattle.rme_machine.proofs.Books.{drafting}
-use Rattle.rme_machine.proofs.laws.drafting.Goals as goal
-
-pub returns : goal.returns
-returns c = drafting

@@ -1,5 +1,0 @@
-use Rattle.rme_machine.proofs.Events.{submit}
-use Rattle.rme_machine.proofs.laws.handing.Goals as goal
-
-pub returns : goal.returns
-returns c = submit

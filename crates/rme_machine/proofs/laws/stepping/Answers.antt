@@ -1,5 +1,0 @@
-use Rattle.rme_machine.proofs.Own_step.{own_step}
-use Rattle.rme_machine.proofs.laws.stepping.Goals as goal
-
-pub returns : goal.returns
-returns c = own_step

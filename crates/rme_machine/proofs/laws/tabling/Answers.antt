@@ -1,5 +1,0 @@
-use Rattle.rme_machine.proofs.Tables.{tables}
-use Rattle.rme_machine.proofs.laws.tabling.Goals as goal
-
-pub returns : goal.returns
-returns c = tables

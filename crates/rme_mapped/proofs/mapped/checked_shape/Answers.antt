@@ -1,7 +1,0 @@
-use Rattle.rme_good.proofs.Answering.{refuted}
-use Rattle.rme_mapped.proofs.Reading.{other_size}
-use Rattle.rme_mapped.proofs.mapped.checked_shape.Goals as goal
-
-pub returns-then-not-is_of_size : goal.returns-then-not-is_of_size
-returns-then-not-is_of_size c = λ shape sizes count size.
-    other_size c.args.bytes.now c.in-Some.shape shape c.in-Some.ensures sizes (refuted c.if-not-is_of_size.ensures) count size

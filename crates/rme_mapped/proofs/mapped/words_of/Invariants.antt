@@ -1,7 +1,0 @@
-use Rattle.std.proofs.Common.{◌≡◌, ◌+◌, map}
-use Rattle.std.specs.List.{range_with_len}
-use Rattle.rme_mapped.specs.Files.{number_at}
-use Rattle.rme_mapped.proofs.mapped.words_of.Given as goal
-
-abbrev pub invariant-loop-at : goal.invariant-loop-at
-invariant-loop-at l = l.words.items ≡ map (λ i. number_at l.bytes (512 + i)) (range_with_len 0 l.at)

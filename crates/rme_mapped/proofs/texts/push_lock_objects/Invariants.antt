@@ -1,9 +1,0 @@
--- What was written, and the text of the rest, is the text of all.
-use Rattle.std.proofs.Common.{string_bytes, drop}
-use Rattle.std.specs.List.{range_with_len}
-use Rattle.rme_texts.proofs.TextLemmas.{Separates}
-use Rattle.rme_mapped.specs.Lines.{lock_object}
-use Rattle.rme_mapped.proofs.texts.push_lock_objects.Given as goal
-
-abbrev pub invariant-loop-lock : goal.invariant-loop-lock
-invariant-loop-lock l = Separates (lock_object l.mapped) (string_bytes l.fn.out) (range_with_len 0 l.mapped.shape.locks) (string_bytes l.out) l.later (drop l.lock (range_with_len 0 l.mapped.shape.locks))

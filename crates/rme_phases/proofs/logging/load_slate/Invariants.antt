@@ -1,5 +1,0 @@
-use Rattle.rme_phases.proofs.Slated.{Reads}
-use Rattle.rme_phases.proofs.logging.load_slate.Given as goal
-
-abbrev pub invariant-loop-i : goal.invariant-loop-i
-invariant-loop-i g l = Reads l.service l.fn.seat (g.C.Chance.tally l.fn.chance) l.lock l.turn l.operations l.words l.seat (g.C.Chance.tally l.chance) l.i

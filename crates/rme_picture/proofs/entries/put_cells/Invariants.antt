@@ -1,6 +1,0 @@
--- Some text was put so far.
-use Rattle.rme_picture.specs.Pages.{PutsSome}
-use Rattle.rme_picture.proofs.entries.put_cells.Given as goal
-
-abbrev pub invariant-loop-cell : goal.invariant-loop-cell
-invariant-loop-cell g l = PutsSome g.W.Sink.contents g.W.Sink.took l.fn.page l.fn.writer l.page l.writer

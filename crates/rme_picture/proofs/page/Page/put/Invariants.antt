@@ -1,6 +1,0 @@
--- Some text was put so far.
-use Rattle.rme_picture.specs.Pages.{PutsSome}
-use Rattle.rme_picture.proofs.page.Page.put.Given as goal
-
-abbrev pub invariant-loop-piece : goal.invariant-loop-piece
-invariant-loop-piece g l = PutsSome g.W.Sink.contents g.W.Sink.took l.fn.self l.fn.writer l.self l.writer

@@ -1,8 +1,0 @@
-use Rattle.rme_picture.proofs.Putting.{puts_more}
-use Rattle.rme_picture.proofs.svg.put_head.Goals as goal
-
-pub returns : goal.returns
-returns g c =
-    let title = puts_more _ _ _ _ _ _ _ _ c.put_opening.ensures c.put_title.ensures in
-    let again = puts_more _ _ _ _ _ _ _ _ c.put.ensures c.put_title-2.ensures in
-    puts_more _ _ _ _ _ _ _ _ (puts_more _ _ _ _ _ _ _ _ title again) c.put-2.ensures

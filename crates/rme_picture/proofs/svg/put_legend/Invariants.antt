@@ -1,6 +1,0 @@
--- Some text was put so far.
-use Rattle.rme_picture.specs.Pages.{PutsSome}
-use Rattle.rme_picture.proofs.svg.put_legend.Given as goal
-
-abbrev pub invariant-loop-phase : goal.invariant-loop-phase
-invariant-loop-phase g l = PutsSome g.W.Sink.contents g.W.Sink.took l.fn.page l.fn.writer l.page l.writer

@@ -1,8 +1,0 @@
-use Rattle.rme_picture.proofs.Putting.{puts_more}
-use Rattle.rme_picture.proofs.svg.put_strip.Goals as goal
-
-pub returns : goal.returns
-returns g c =
-    let names = puts_more _ _ _ _ _ _ _ _ c.put_workers.ensures c.put_locks.ensures in
-    let columns = puts_more _ _ _ _ _ _ _ _ c.put_group.ensures c.put_columns.ensures in
-    puts_more _ _ _ _ _ _ _ _ (puts_more _ _ _ _ _ _ _ _ columns names) c.put_rows.ensures

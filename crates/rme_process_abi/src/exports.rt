@@ -1,0 +1,175 @@
+//! What C calls. Each call is a method of `CoreWorker`, behind a handle.
+//!
+//! A handle that a call takes is one that `rme_core_new` wrote and `rme_core_free` has not had, and no other call has
+//! it at the same time: that is all that C must keep, and nothing checks it. All numbers may be any. An `alloc` takes
+//! no bytes, and C does not pass it.
+
+ghost use Rattle.std.specs.Prelude.{◌≡◌};
+ghost use Rattle.rme_process_abi.specs.Handles.{IsLiveHandle, AbiNewCall, shape_numbers};
+ghost use Rattle.rme_process_abi.specs.Workers.{WorkerRestarted};
+ghost use Rattle.rme_process_abi.specs.Calls.{AbiNextCall, AbiAfterCall, AbiStanceCall, AbiSubmitCall, AbiWithdrawCall, after_state, submit_state, submitted_slate};
+
+use crate::flat::{Batch, BatchOutcome, FlatStance};
+use crate::handle::Handle;
+use crate::worker::CoreWorker;
+use rme_script::SLATE_WORDS;
+use rme_words::{Refusal, Shape};
+use std::alloc::Global;
+
+/// Makes the private state of a worker that comes up after a crash, and writes its handle. It takes memory once.
+/// A handle that is live already is written over, and what it held is never freed.
+///
+/// Answers 0, 5 (`BadShape`), 6 (`NoWorker`) or 20 (`NoMemory`); a refusal leaves the handle as it was.
+#[unsafe(no_mangle)]
+pub extern "C" fn rme_core_new(
+    alloc: Global,
+    workers: u32,
+    locks: u32,
+    cells: u32,
+    jobs: u32,
+    worker: u32,
+    handle: &mut Handle,
+) -> u32
+    ensures { AbiNewCall (shape_numbers workers locks cells jobs) worker handle.old result handle.new }
+{
+    let shape = match Shape::new(workers, locks, cells, jobs) {
+        Ok(shape) => shape,
+        Err(refusal) => return refusal.code(),
+    };
+    if worker >= shape.workers {
+        return Refusal::NoWorker.code();
+    }
+    match Box::new(alloc, CoreWorker::restarted(shape, worker)) {
+        Ok(made) => {
+            handle.close(made);
+            0
+        }
+        Err(_) => Refusal::NoMemory.code(),
+    }
+}
+
+/// Frees what a handle holds.
+#[unsafe(no_mangle)]
+pub extern "C" fn rme_core_free(handle: Handle)
+    requires { IsLiveHandle handle }
+{
+    drop(handle.into_box());
+}
+
+/// Fills the batch with the worker's next own steps, at least one and at most 96: none behind one that says something
+/// of the kind `until`. The steps behind a swap that puts nothing, or a load that does not find what it should, are not
+/// made.
+///
+/// Answers 0, 102 while a batch is outstanding, or 10 (`Idle`) where the worker is ready; neither changes anything.
+#[unsafe(no_mangle)]
+pub extern "C" fn rme_core_next(
+    alloc: Global,
+    handle: &mut Handle,
+    until: u32,
+    batch: &mut Batch,
+) -> u32
+    requires { IsLiveHandle handle.old }
+    ensures told { AbiNextCall handle.old.value until batch.old result handle.new.value batch.new }
+    ensures live { IsLiveHandle handle.new }
+{
+    let mut worker = handle.open(alloc);
+    let answer = worker.predict(until, batch);
+    handle.close(worker);
+    answer
+}
+
+/// Takes back what the steps of a batch found, and writes what came of them.
+///
+/// `count` is how many of the steps of the batch that is outstanding were made, at least one: all, or those as far as
+/// the first that ended it. Answers 0; 100 where a value is one that no world can have: the worker then is as after the
+/// steps before it; or 101 where no batch of so many steps is outstanding, which changes nothing. After 0 and 100 no
+/// batch is outstanding.
+#[unsafe(no_mangle)]
+pub extern "C" fn rme_core_after(
+    alloc: Global,
+    handle: &mut Handle,
+    batch: &Batch,
+    count: u32,
+    outcome: &mut BatchOutcome,
+) -> u32
+    requires { IsLiveHandle handle.old }
+    ensures took { AbiAfterCall (after_state handle.old.value outcome.old) batch.now count result
+        (after_state handle.new.value outcome.new) }
+    ensures live { IsLiveHandle handle.new }
+{
+    let mut worker = handle.open(alloc);
+    let answer = worker.accept_values(batch, count, outcome);
+    handle.close(worker);
+    answer
+}
+
+/// Writes where the worker is, and answers 0.
+#[unsafe(no_mangle)]
+pub extern "C" fn rme_core_stance(
+    alloc: Global,
+    handle: &mut Handle,
+    stance: &mut FlatStance,
+) -> u32
+    requires { IsLiveHandle handle.old }
+    ensures stood { AbiStanceCall handle.old.value stance.new }
+    ensures answer { result ≡ 0 }
+    ensures unchanged { handle.new.value ≡ handle.old.value }
+    ensures live { IsLiveHandle handle.new }
+{
+    let worker = handle.open(alloc);
+    worker.write_stance(stance);
+    handle.close(worker);
+    0
+}
+
+/// Hands a job to a worker that is ready, and writes the number that it will have.
+///
+/// The script has three words for each of its operations; further words are not read. Refused, in this order, by 9
+/// (`Busy`), 11 (`NoLock`), 12 (`BadScript`), 13 (`NoCell`) and 14 (`TooManyJobs`), which changes nothing.
+#[unsafe(no_mangle)]
+pub extern "C" fn rme_core_submit(
+    alloc: Global,
+    handle: &mut Handle,
+    lock: u32,
+    operations: u32,
+    words: &[u64; SLATE_WORDS],
+    number: &mut u64,
+) -> u32
+    requires { IsLiveHandle handle.old }
+    ensures posted { AbiSubmitCall (submit_state handle.old.value number.old) (submitted_slate lock operations words.now) result
+        (submit_state handle.new.value number.new) }
+    ensures live { IsLiveHandle handle.new }
+{
+    let mut worker = handle.open(alloc);
+    let answer = worker.post(lock, operations, words, number);
+    handle.close(worker);
+    answer
+}
+
+/// Has a worker that waits for a lock give its job up: its next steps withdraw it.
+///
+/// Answers 0, 102 while a batch is outstanding, 10 (`Idle`) where the worker is ready, or 21 (`NotWaiting`) where it is
+/// not in phase Enter; none of these changes anything.
+#[unsafe(no_mangle)]
+pub extern "C" fn rme_core_withdraw(alloc: Global, handle: &mut Handle) -> u32
+    requires { IsLiveHandle handle.old }
+    ensures withdrew { AbiWithdrawCall handle.old.value result handle.new.value }
+    ensures live { IsLiveHandle handle.new }
+{
+    let mut worker = handle.open(alloc);
+    let answer = worker.withdraw();
+    handle.close(worker);
+    answer
+}
+
+/// Loses all that the worker knows but its number, and the batch that is outstanding: its recovery begins.
+#[unsafe(no_mangle)]
+pub extern "C" fn rme_core_restart(alloc: Global, handle: &mut Handle)
+    requires { IsLiveHandle handle.old }
+    ensures restarted { WorkerRestarted handle.old.value.shape handle.old.value.private.worker handle.new.value }
+    ensures live { IsLiveHandle handle.new }
+{
+    let mut worker = handle.open(alloc);
+    worker.restart();
+    handle.close(worker);
+}

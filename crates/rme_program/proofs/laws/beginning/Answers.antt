@@ -1,5 +1,0 @@
-use Rattle.rme_program.proofs.RowLaws.{begin_law}
-use Rattle.rme_program.proofs.laws.beginning.Goals as goal
-
-pub returns : goal.returns
-returns c = begin_law

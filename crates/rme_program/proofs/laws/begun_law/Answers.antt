@@ -1,0 +1,5 @@
+use Rattle.rme_program.proofs.NoteLaws.{begun_stays}
+use Rattle.rme_program.proofs.laws.begun_law.Goals as goal
+
+pub returns : goal.returns
+returns c = begun_stays

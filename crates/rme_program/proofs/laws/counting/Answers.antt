@@ -1,5 +1,0 @@
-use Rattle.rme_program.proofs.RowLaws.{row_lengths}
-use Rattle.rme_program.proofs.laws.counting.Goals as goal
-
-pub returns : goal.returns
-returns c = row_lengths

@@ -1,5 +1,0 @@
-use Rattle.rme_program.proofs.WalkLaws.{end_law}
-use Rattle.rme_program.proofs.laws.ending.Goals as goal
-
-pub returns : goal.returns
-returns c = end_law

@@ -1,5 +1,0 @@
-use Rattle.rme_program.proofs.NoteLaws.{phase_law}
-use Rattle.rme_program.proofs.laws.following.Goals as goal
-
-pub returns : goal.returns
-returns c = phase_law

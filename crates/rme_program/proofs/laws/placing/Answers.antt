@@ -1,5 +1,0 @@
-use Rattle.rme_program.proofs.RowLaws.{place_law}
-use Rattle.rme_program.proofs.laws.placing.Goals as goal
-
-pub returns : goal.returns
-returns c = place_law

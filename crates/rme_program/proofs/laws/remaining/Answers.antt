@@ -1,5 +1,0 @@
-use Rattle.rme_program.proofs.NoteLaws.{some_left}
-use Rattle.rme_program.proofs.laws.remaining.Goals as goal
-
-pub returns : goal.returns
-returns c = some_left

@@ -1,5 +1,0 @@
-use Rattle.rme_program.proofs.WalkLaws.{walk_law}
-use Rattle.rme_program.proofs.laws.walking.Goals as goal
-
-pub returns : goal.returns
-returns c = walk_law

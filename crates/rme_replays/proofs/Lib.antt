@@ -1,9 +1,0 @@
--- What a store finds does not matter; one event from alike worlds leads to alike worlds, and so do all; and so do walks, and the
--- lines of a file.
-pub mod Steps
-pub mod Events
-pub mod Still
-pub mod Walks
-pub mod Lines
-pub mod Written
-pub mod Reading

@@ -1,3 +1,0 @@
--- When two worlds are alike; lines that were written of events, and a world that is read back.
-pub mod Alike
-pub mod Written

@@ -1,9 +1,0 @@
-use Rattle.std.proofs.Common.{sym}
-use Rattle.rme_seats.proofs.Positions.{first_half, other_half}
-use Rattle.rme_seats.proofs.layout.half_of.Goals as goal
-
-pub returns-then-offset-shape-clause-half : goal.returns-then-offset-shape-clause-half
-returns-then-offset-shape-clause-half c = sym (first_half c.args.shape c.args.offset c.if-offset-shape.true)
-
-pub returns-else-offset-shape-clause-half : goal.returns-else-offset-shape-clause-half
-returns-else-offset-shape-clause-half c = sym (other_half c.args.shape c.args.offset c.if-offset-shape.false)

@@ -1,6 +1,0 @@
-use Rattle.std.proofs.Common.{◌∙◌, ◌+◌, ◌*◌, ℕ, ap, sym}
-use Rattle.rme_seats.proofs.Positions.{is_position}
-use Rattle.rme_seats.proofs.layout.position_of.Goals as goal
-
-pub returns-clause-position : goal.returns-clause-position
-returns-clause-position c = ap (λ (block : ℕ). c.args.number + 7 * (1 + block)) c.block_of.ensures.block ∙ sym (is_position c.args.shape c.args.number)

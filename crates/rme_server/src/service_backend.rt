@@ -1,0 +1,241 @@
+//! The running service as a backend of sessions.
+
+ghost use Rattle.std.specs.Prelude.{◌≤◌};
+
+use rme_session_protocol::{
+    ClientReply, Order, Patience, SessionReply, WORLD_NUMBERS, is_still_waiting, merge_replies,
+    order_patience, retry_order, with_tries,
+};
+use rme_session_server::{
+    AnswerError, AttemptError, Backend, Buffers, Client, CloseHandle, FirstReply, OrderAttempts,
+    OrderRun, SessionRegistry, update_claim,
+};
+use rme_session_threads::{Holding, Slots, Stand, detach_session, obey};
+use rme_table::{Service, Tag};
+use rme_wire::{Cut, Names, Sink};
+use rme_words::Refusal;
+use std::alloc::Global;
+use std::sync::Wait;
+use std::time::Clock;
+
+/// The largest number of tries of a first attempt, whose pauses only yield the processor: together they take about as
+/// long as a section.
+const QUICK_TRIES: u32 = 12;
+
+/// What all sessions of a service share. `H` is the handle type of their clients.
+#[derive(Drop)]
+pub struct ServiceBackend<'a, K: Tag, H: CloseHandle> {
+    pub alloc: Global,
+    pub service: &'a Service,
+    pub slots: &'a Slots<K>,
+    pub names: &'a Names,
+    pub registry: &'a SessionRegistry<H>,
+}
+
+/// A line is executed as an order of the running service.
+///
+/// A job that waits for its lock takes no processor time meanwhile. If its client is found to be gone while it waits,
+/// it is not tried again, whatever its order says, and is answered as waiting. However a session ends, its worker
+/// crashes, and the worker's Down is back in its slot.
+impl<K: Tag, H: CloseHandle> Backend for ServiceBackend<'_, K, H> {
+    ghost use Rattle.std.specs.Prelude.{◌≡◌};
+    ghost use Rattle.rme_session_protocol.specs.SessionLines.{SessionLineAnswer};
+    ghost use Rattle.rme_server.specs.ServiceAttempts.{SessionStepUntilGone};
+    ghost use Rattle.rme_session_protocol.specs.Orders.{world_numbers};
+    ghost use Rattle.rme_session_threads.specs.Stands as stands;
+
+    type Stand = Stand;
+
+    type Handle = H;
+
+    ghost fits = { λ host. host.service.now ≡ K.ident };
+
+    ghost may_hold = { λ host stand. stands.IsValidHolding K.ident host.slots.now stand.value };
+
+    ghost nobody = { λ _. stands.empty_stand };
+
+    ghost answers = { λ host gone. SessionLineAnswer (SessionStepUntilGone gone K.ident host.slots.now) host.names.now
+        world_numbers };
+
+    fn alloc(&self) -> Global {
+        self.alloc
+    }
+
+    fn names(&self) -> &Names {
+        self.names
+    }
+
+    fn is_over<R: Wait>(&self, _rt: &R) -> bool {
+        false
+    }
+
+    fn begin_session(&self) -> Stand {
+        Stand::empty()
+    }
+
+    fn answer<R: Wait + Clock, O: Sink, C: Client<Handle = H>>(
+        &self,
+        rt: &R,
+        stand: Stand,
+        cut: Cut,
+        buffers: &mut Buffers,
+        writer: &mut O,
+        client: &C,
+    ) -> (Stand, Result<(), AnswerError>) {
+        let order = match buffers.parse_order(cut, self.names, WORLD_NUMBERS) {
+            Ok(Ok(order)) => order,
+            Ok(Err(why)) => return (
+                stand,
+                buffers.write_reply(self.names, SessionReply::Refused(why)),
+            ),
+            Err(_) => return (stand, Err(AnswerError::NoMemory)),
+        };
+        let run = OrderRun {
+            backend: self,
+            client,
+            order,
+        };
+        let (stand, replied) = run.execute(rt, stand, &mut buffers.exchange, writer);
+        match replied {
+            Ok(reply) => (stand, buffers.write_reply(self.names, reply)),
+            Err(why) => (stand, Err(why)),
+        }
+    }
+
+    fn end_session<R: Wait>(&self, rt: &R, stand: Stand) {
+        let claim = self.registry.claim_worker(rt, stand.worker());
+        detach_session(rt, stand, self.slots);
+        if let Some(mut claim) = claim {
+            *claim = None;
+        }
+        self.registry.notify_worker_free(rt);
+    }
+}
+
+/// An order with this number of tries is one call of the running service; another try is a call with one.
+impl<K: Tag, H: CloseHandle> OrderAttempts for ServiceBackend<'_, K, H> {
+    ghost use Rattle.std.specs.Prelude.{◌≡◌};
+    ghost use Rattle.rme_session_protocol.specs.Attempts.{with_tries};
+    ghost use Rattle.rme_session_threads.specs.ThreadSteps.{ThreadSessionStep};
+    ghost use Rattle.rme_session_threads.specs.Stands.{IsValidHolding};
+
+    type Session = Stand;
+
+    type Reply = SessionReply;
+
+    type Handle = H;
+
+    ghost is_usable = { λ host. host.service.now ≡ K.ident };
+
+    ghost may_have = { λ host stand. IsValidHolding K.ident host.slots.now stand.value };
+
+    ghost says = { λ reply. reply };
+
+    ghost executes = { λ host tries old its now reply. ThreadSessionStep K.ident host.slots.now old (with_tries tries its) now
+        reply };
+
+    fn registry(&self) -> &SessionRegistry<H> {
+        self.registry
+    }
+
+    fn is_waiting(&self, reply: &SessionReply) -> bool {
+        is_still_waiting(*reply)
+    }
+
+    fn is_taken(&self, reply: &SessionReply) -> bool {
+        *reply == SessionReply::Refused(Refusal::Taken)
+    }
+
+    fn lock_waited_for(&self, stand: &Stand, _reply: &SessionReply) -> Option<u32> {
+        match &stand.value {
+            Holding::Climb(climb) => Some(climb.lock()),
+            _ => None,
+        }
+    }
+
+    fn begin<R: Wait + Clock, C: Client<Handle = H>>(
+        &self,
+        rt: &R,
+        stand: Stand,
+        order: &Order,
+        is_hurried: bool,
+        client: &C,
+    ) -> (Stand, Result<FirstReply<SessionReply>, AttemptError>) {
+        let tries = quick_tries(order, is_hurried);
+        let (stand, reply) = self.attempt(rt, stand, &with_tries(order, tries), client);
+        (stand, Ok(FirstReply { reply, tries }))
+    }
+
+    fn retry<R: Wait + Clock, C: Client<Handle = H>>(
+        &self,
+        rt: &R,
+        stand: Stand,
+        order: &Order,
+        reply: SessionReply,
+        client: &C,
+    ) -> (Stand, Result<SessionReply, AttemptError>) {
+        let (stand, last) = self.attempt(rt, stand, &retry_order(*order), client);
+        (stand, Ok(merge_replies(reply, last)))
+    }
+}
+
+impl<K: Tag, H: CloseHandle> ServiceBackend<'_, K, H> {
+    ghost use Rattle.std.specs.Prelude.{◌≡◌};
+    ghost use Rattle.rme_session_threads.specs.ThreadSteps.{ThreadSessionStep};
+    ghost use Rattle.rme_session_threads.specs.Stands.{IsValidHolding};
+
+    /// Executes an order with its worker's claim locked, and updates the claim.
+    fn attempt<R: Wait, C: Client<Handle = H>>(
+        &self,
+        rt: &R,
+        stand: Stand,
+        order: &Order,
+        client: &C,
+    ) -> (Stand, SessionReply)
+        requires ours { self.now.service.now ≡ K.ident }
+        requires stand { IsValidHolding K.ident self.now.slots.now stand.value }
+        ensures ours { IsValidHolding K.ident self.now.slots.now result.0.value }
+        ensures executes { ThreadSessionStep K.ident self.now.slots.now stand order.now result.0 result.1 }
+    {
+        let had = stand.worker().is_some();
+        let claim = self.registry.claim_worker(rt, order_worker(&stand, order));
+        let turn = self.registry.climb_lock(rt, climbed_lock(&stand, order));
+        let (stand, reply) = obey(rt, stand, order, self.service, self.slots);
+        drop(turn);
+        update_claim(claim, client, had, stand.worker().is_some());
+        self.registry.notify_reply(rt, ClientReply::from(reply));
+        (stand, reply)
+    }
+}
+
+/// The number of tries of a first attempt: one if it is hurried, else at most `QUICK_TRIES`, and at most as many as the
+/// order asks for, but at least one.
+fn quick_tries(order: &Order, is_hurried: bool) -> u32
+    ensures { 1 ≤ result }
+{
+    if is_hurried {
+        return 1;
+    }
+    match order_patience(order) {
+        Some(Patience::Tries(most)) => most.min(QUICK_TRIES).max(1),
+        _ => QUICK_TRIES,
+    }
+}
+
+/// The worker that the order concerns, if any.
+fn order_worker(stand: &Stand, order: &Order) -> Option<u32> {
+    match (stand.worker(), order) {
+        (Some(worker), _) => Some(worker),
+        (None, Order::Attach(asked)) => Some(asked.worker),
+        (None, _) => None,
+    }
+}
+
+/// The lock that an order of a session climbs to, if any.
+fn climbed_lock(stand: &Stand, order: &Order) -> Option<u32> {
+    match (&stand.value, order) {
+        (Holding::Climb(climb), _) => Some(climb.lock()),
+        (Holding::Ready(_), Order::Submit(its) | Order::Enter(its)) => Some(its.job.lock),
+        _ => None,
+    }
+}

@@ -1,0 +1,26 @@
+//! What an operation tells the seat that made it.
+
+use crate::local_changes::LocalChange;
+use crate::seat_record::SeatRecord;
+use atomic_table::Play;
+use std::marker::PhantomData;
+
+/// The worker made its own step.
+pub(crate) struct OwnStep<X: LocalChange> {
+    lead: PhantomData<X>,
+}
+
+impl<X: LocalChange> Play<u8, SeatRecord> for OwnStep<X> {
+    ghost use Rattle.rme_service_steps.specs.Steps.{OwnStepEffect};
+
+    ghost then = { OwnStepEffect X.lead };
+}
+
+/// A word was read, and nothing changed.
+pub(crate) struct ReaderLoad;
+
+impl Play<u8, SeatRecord> for ReaderLoad {
+    ghost use Rattle.rme_service_steps.specs.Steps.{ReaderLoadEffect};
+
+    ghost then = { ReaderLoadEffect };
+}

@@ -1,0 +1,60 @@
+//! What stands before the first step of a call: it comes to pass together with that step.
+
+ghost use Rattle.rme_script.specs.declared.job.Job.{Job};
+ghost use Rattle.rme_service_steps.specs.declared.seat_record.Part.{Part};
+
+use std::marker::{Brand, PhantomData};
+
+/// A change of a worker's part that is no step.
+pub trait LocalChange {
+    ghost lead: { Part → Part };
+}
+
+/// Names a job, for the proofs alone.
+pub trait JobTag {
+    ghost job: { Job };
+}
+
+impl JobTag for Brand {
+    ghost use Rattle.rme_service_steps.specs.Placeholders.{no_job};
+
+    ghost job = { no_job };
+}
+
+/// Nothing stands before the step.
+pub struct NoChange;
+
+impl LocalChange for NoChange {
+    ghost use Rattle.rme_service_steps.specs.Parts.{unchanged_part};
+
+    ghost lead = { unchanged_part };
+}
+
+/// The worker crashed, and comes up again.
+pub struct Restart;
+
+impl LocalChange for Restart {
+    ghost use Rattle.rme_service_steps.specs.Parts.{restarted_part};
+
+    ghost lead = { restarted_part };
+}
+
+/// The worker was handed a job.
+pub struct Submit<J: JobTag> {
+    job: PhantomData<J>,
+}
+
+impl<J: JobTag> LocalChange for Submit<J> {
+    ghost use Rattle.rme_service_steps.specs.Parts.{submitted_part};
+
+    ghost lead = { submitted_part J.job };
+}
+
+/// The worker gives its job up.
+pub struct Withdraw;
+
+impl LocalChange for Withdraw {
+    ghost use Rattle.rme_service_steps.specs.Parts.{withdrawing_part};
+
+    ghost lead = { withdrawing_part };
+}

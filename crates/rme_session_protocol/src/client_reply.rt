@@ -1,0 +1,71 @@
+//! The answer that the client of a session gets.
+
+ghost use Rattle.std.specs.Prelude.{◌≡◌};
+ghost use Rattle.rme_session_protocol.specs.ClientReplies as spec;
+
+use crate::reply::{JobOutcome, SessionReply, SessionStance};
+use rme_line_text::{ClientReceipt, client_receipt_of};
+use rme_words::Refusal;
+
+/// The outcome of a job, as its client gets it.
+#[derive(Clone, Copy, PartialEq, Eq)]
+pub enum ClientOutcome {
+    Receipt(ClientReceipt),
+    Withdrawn,
+    Waiting,
+    Fell,
+    Inside(u64),
+}
+
+/// An answer of a session, over all worlds of its service: as `SessionReply`, but its numbers and places may exceed
+/// those of one world.
+#[derive(Clone, Copy, PartialEq, Eq)]
+pub enum ClientReply {
+    Attached(u64, SessionStance),
+    Submitted(ClientOutcome),
+    Resumed(ClientOutcome),
+    Entered(ClientOutcome),
+    Committed(ClientOutcome),
+    Withdrew(u64),
+    WithdrawFell,
+    Last(Option<ClientReceipt>),
+    CrashPlanned,
+    Detached,
+    Refused(Refusal),
+}
+
+impl From<JobOutcome> for ClientOutcome {
+    ghost from_gives = { λ became told. spec.outcome_of_client told ≡ became };
+
+    fn from(became: JobOutcome) -> ClientOutcome {
+        match became {
+            JobOutcome::Receipt(receipt) => ClientOutcome::Receipt(ClientReceipt::from(receipt)),
+            JobOutcome::Withdrawn => ClientOutcome::Withdrawn,
+            JobOutcome::Waiting => ClientOutcome::Waiting,
+            JobOutcome::Fell => ClientOutcome::Fell,
+            JobOutcome::Inside(number) => ClientOutcome::Inside(u64::from(number)),
+        }
+    }
+}
+
+impl From<SessionReply> for ClientReply {
+    ghost from_gives = { λ reply told. spec.reply_of_client told ≡ reply };
+
+    fn from(reply: SessionReply) -> ClientReply {
+        match reply {
+            SessionReply::Attached(number, standing) => {
+                ClientReply::Attached(u64::from(number), standing)
+            }
+            SessionReply::Submitted(became) => ClientReply::Submitted(ClientOutcome::from(became)),
+            SessionReply::Resumed(became) => ClientReply::Resumed(ClientOutcome::from(became)),
+            SessionReply::Entered(became) => ClientReply::Entered(ClientOutcome::from(became)),
+            SessionReply::Committed(became) => ClientReply::Committed(ClientOutcome::from(became)),
+            SessionReply::Withdrew(number) => ClientReply::Withdrew(u64::from(number)),
+            SessionReply::WithdrawFell => ClientReply::WithdrawFell,
+            SessionReply::Last(last) => ClientReply::Last(client_receipt_of(last)),
+            SessionReply::CrashPlanned => ClientReply::CrashPlanned,
+            SessionReply::Detached => ClientReply::Detached,
+            SessionReply::Refused(refusal) => ClientReply::Refused(refusal),
+        }
+    }
+}

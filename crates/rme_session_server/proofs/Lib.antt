@@ -1,0 +1,3 @@
+pub mod Asking
+mod Talking
+mod Retrying

@@ -1,0 +1,169 @@
+//! The registry that sessions share: the claims of the workers, and the wait queues.
+
+use crate::client::{Client, CloseHandle};
+use crate::wait_queue::{WaitQueue, Waiter};
+use crossbeam_utils::CachePadded;
+use rme_session_protocol::{ClientOutcome, ClientReply, SessionStance};
+use rme_words::{NoMemory, Shape};
+use std::alloc::Global;
+use std::sync::{Mutex, MutexGuard, Wait};
+
+/// The locked claim of a worker: a handle of the client whose session has the worker. While it is locked, no other
+/// session attaches or detaches the worker.
+pub type WorkerClaim<'a, H> = MutexGuard<'a, Option<H>>;
+
+/// The workers' claims, the climb locks, and the wait queues.
+///
+/// Each order locks its worker's claim and its lock's climb lock. Each of these has a cache line of its own, to avoid
+/// false sharing.
+#[derive(Drop)]
+pub struct SessionRegistry<H: CloseHandle> {
+    /// One for each worker.
+    claims: Vec<CachePadded<Mutex<Option<H>>>>,
+    /// One for each lock.
+    climb_locks: Vec<CachePadded<Mutex<()>>>,
+    /// One for each lock, notified when the lock may have been released.
+    left: Vec<WaitQueue>,
+    /// Notified when a worker was detached.
+    returned: WaitQueue,
+}
+
+impl<H: CloseHandle> SessionRegistry<H> {
+    /// A registry for the sessions of a service of this shape.
+    pub fn new(alloc: Global, shape: Shape) -> Result<SessionRegistry<H>, NoMemory> {
+        Ok(SessionRegistry {
+            claims: new_claims(alloc, shape.workers())?,
+            climb_locks: new_climb_locks(alloc, shape.locks())?,
+            left: new_wait_queues(alloc, shape.locks())?,
+            returned: WaitQueue::new(),
+        })
+    }
+
+    /// Locks the claim of a worker; `None` if there is no such worker.
+    pub fn claim_worker<R: Wait>(&self, rt: &R, worker: Option<u32>) -> Option<WorkerClaim<'_, H>> {
+        let claim = self.claims.get(worker? as usize)?;
+        Some(claim.lock(rt))
+    }
+
+    /// Locks the climb lock of a lock; `None` if there is no such lock. Correctness does not need it. Without it, a
+    /// session that climbs while another sleeps halfway up would wait for that one although the lock is free.
+    pub fn climb_lock<R: Wait>(&self, rt: &R, lock: Option<u32>) -> Option<MutexGuard<'_, ()>> {
+        let turn = self.climb_locks.get(lock? as usize)?;
+        Some(turn.lock(rt))
+    }
+
+    /// Closes the client whose session has the worker, if there is one, and wakes the waiters of all locks: its session
+    /// may be one of them.
+    pub fn close_client<R: Wait>(&self, rt: &R, worker: u32) {
+        if let Some(claim) = self.claim_worker(rt, Some(worker)) {
+            if let Some(handle) = &*claim {
+                handle.close();
+            }
+        }
+        self.notify_all_locks(rt);
+    }
+
+    /// Registers a waiter for the release of a lock; `None` if there is no such lock.
+    pub fn wait_at_lock<R: Wait>(&self, rt: &R, lock: u32) -> Option<Waiter<'_>> {
+        Some(self.left.get(lock as usize)?.register(rt))
+    }
+
+    /// Registers a waiter for the detach of any worker.
+    pub fn wait_for_workers<R: Wait>(&self, rt: &R) -> Waiter<'_> {
+        self.returned.register(rt)
+    }
+
+    /// Notifies the queues that the order of this reply may concern: it may have released a lock, or detached a worker.
+    pub fn notify_reply<R: Wait>(&self, rt: &R, reply: ClientReply) {
+        match reply {
+            ClientReply::Submitted(outcome)
+            | ClientReply::Resumed(outcome)
+            | ClientReply::Entered(outcome)
+            | ClientReply::Committed(outcome) => self.notify_outcome(rt, outcome),
+            ClientReply::Attached(_, SessionStance::Ready) | ClientReply::Withdrew(_) => {
+                self.notify_all_locks(rt);
+            }
+            ClientReply::WithdrawFell | ClientReply::Detached => self.notify_worker_free(rt),
+            _ => {}
+        }
+    }
+
+    fn notify_outcome<R: Wait>(&self, rt: &R, outcome: ClientOutcome) {
+        match outcome {
+            ClientOutcome::Receipt(receipt) => {
+                if let Some(queue) = self.left.get(receipt.lock as usize) {
+                    queue.notify(rt);
+                }
+            }
+            ClientOutcome::Fell => self.notify_worker_free(rt),
+            ClientOutcome::Withdrawn | ClientOutcome::Waiting | ClientOutcome::Inside(_) => {}
+        }
+    }
+
+    /// Notifies that a worker was detached. It may have released its lock just before.
+    pub fn notify_worker_free<R: Wait>(&self, rt: &R) {
+        self.returned.notify(rt);
+        self.notify_all_locks(rt);
+    }
+
+    /// Notifies the queues of all locks: any may have been released.
+    pub fn notify_all_locks<R: Wait>(&self, rt: &R) {
+        for queue in &self.left {
+            queue.notify(rt);
+        }
+    }
+}
+
+/// Updates the claim of a worker, if it changed whether the client's session has the worker.
+pub fn update_claim<C: Client>(
+    claim: Option<WorkerClaim<'_, C::Handle>>,
+    client: &C,
+    had: bool,
+    has: bool,
+) {
+    if had == has {
+        return;
+    }
+    if let Some(mut claim) = claim {
+        *claim = if has { client.handle() } else { None };
+    }
+}
+
+fn new_claims<H: CloseHandle>(
+    alloc: Global,
+    count: u32,
+) -> Result<Vec<CachePadded<Mutex<Option<H>>>>, NoMemory> {
+    let Ok(mut claims) = Vec::with_capacity(alloc, count as usize) else {
+        return Err(NoMemory);
+    };
+    for _ in 0..count {
+        if claims.push(CachePadded::new(Mutex::new(None))).is_err() {
+            return Err(NoMemory);
+        }
+    }
+    Ok(claims)
+}
+
+fn new_climb_locks(alloc: Global, count: u32) -> Result<Vec<CachePadded<Mutex<()>>>, NoMemory> {
+    let Ok(mut climb_locks) = Vec::with_capacity(alloc, count as usize) else {
+        return Err(NoMemory);
+    };
+    for _ in 0..count {
+        if climb_locks.push(CachePadded::new(Mutex::new(()))).is_err() {
+            return Err(NoMemory);
+        }
+    }
+    Ok(climb_locks)
+}
+
+fn new_wait_queues(alloc: Global, count: u32) -> Result<Vec<WaitQueue>, NoMemory> {
+    let Ok(mut bells) = Vec::with_capacity(alloc, count as usize) else {
+        return Err(NoMemory);
+    };
+    for _ in 0..count {
+        if bells.push(WaitQueue::new()).is_err() {
+            return Err(NoMemory);
+        }
+    }
+    Ok(bells)
+}

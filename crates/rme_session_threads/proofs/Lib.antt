@@ -1,0 +1,5 @@
+pub mod Planning
+pub mod Rising
+pub mod Showing
+pub mod Working
+mod Ordering

@@ -1,0 +1,257 @@
+-- A worker whose job was driven.
+use Rattle.std.proofs.Common.{◌≡◌, ℕ, [], ◌-◌, ◌≤◌, Result, Ok, Err, sym, subst, ◌∙◌, refl, arith}
+use Rattle.std.specs.Prelude.{false, true, Option, Some, None}
+use Rattle.rme_words.specs.declared.shape.Shape.{Shape}
+use Rattle.rme_script.specs.declared.job.Job.{Job}
+use Rattle.rme_program.specs.declared.note.Receipt.{Receipt}
+use Rattle.rme_service_steps.specs.declared.seat_record.Part.{Part}
+use Rattle.rme_service_steps.specs.Parts.{unchanged_part}
+use Rattle.rme_service_steps.specs.Parts.{submitted_part as handed}
+use Rattle.rme_service_steps.specs.SeatViews.{ServiceId, SeatView}
+use Rattle.rme_table.specs.Driving.{DriveDoesNotWait, DriveOutcome, WaitsAfterAllSweeps, DriveSteps, FinishesJobNow as FinishedJob, GateLetsPass, GateStopsInside, GateWatches}
+use Rattle.rme_table.specs.declared.driving.Driven.{Driven}
+use Rattle.rme_table.specs.declared.driving.Driven.TheVariants as driven
+use Rattle.rme_table.specs.declared.driving.SweepTries.{SweepTries}
+use Rattle.rme_session_protocol.specs.declared.reply.JobOutcome.{JobOutcome}
+use Rattle.rme_session_protocol.specs.declared.reply.JobOutcome.TheVariants as outcome
+use Rattle.rme_session_protocol.specs.declared.order.Submission.{Submission}
+use Rattle.rme_session_protocol.specs.PlannedCrashes.{planned_after}
+use Rattle.rme_session_protocol.proofs.Counting.{leaves_none}
+use Rattle.rme_session_threads.specs.CrashPlans.{countdown_tally}
+use Rattle.rme_session_threads.specs.Stands.{HasSlot, IsValidWorkResult, held_worker}
+use Rattle.rme_session_threads.specs.SessionWorks.{HasWorkTries, IsResumeWork, IsSubmitWork, WorkWithinPlan, WorkEffect, WorkSettlement, CountdownSpares, WorkSpendsCountdown, entered_result, work_holding, work_lead, work_until_inside, finished_result}
+use Rattle.rme_session_threads.specs.JobOutcomes.{WorkWaitsAfterTries, WorkResultSatisfies, ThreadEnterPendingEffect, ThreadPendingJobEffect, PlanSpares, ThreadWaitsAfterTries, IsNotFallen, ThreadRepeatEffect, OwnStepsBetween, submit_lead}
+use Rattle.rme_session_protocol.specs.declared.planned_crash.Countdown.{Countdown}
+use Rattle.rme_session_protocol.specs.declared.planned_crash.Countdown.TheVariants.{Runs, Fallen}
+use Rattle.rme_session_protocol.specs.declared.planned_crash.PlannedCrash.{PlannedCrash}
+use Rattle.rme_session_threads.specs.declared.stand.Holding.{Holding}
+use Rattle.rme_session_threads.specs.declared.stand.Holding.TheVariants.{Ready}
+use Rattle.rme_session_threads.specs.declared.stand.Stand.{Stand as Session}
+use Rattle.rme_session_threads.specs.declared.work.SessionWork.{SessionWork}
+use Rattle.rme_session_threads.specs.declared.work.SessionWork.TheVariants.{Repeat, Post, GoIn, GoOn, PostInside, GoInside, Stay}
+use Rattle.rme_session_threads.proofs.Planning.{fallen, spared, stayed}
+
+-- The session after a drive whose gate admits every worker, and so never stops one.
+module _ (shape : Shape) (start : SeatView) (old now : Countdown) where
+  done_did : (ready : SeatView) (receipt : Receipt) → DriveSteps shape start ready (countdown_tally old) (countdown_tally now) 0 → FinishedJob start ready receipt
+      → ready.part.private.begun ≡ start.part.private.begun → ThreadPendingJobEffect start (Ready ready) (outcome.Receipt receipt)
+  done_did ready receipt goes its number = (
+    its.job,
+    its.draft,
+    (
+      record { receipt = receipt; script = its.job.script },
+      record {
+        is_of = record { by = its.by; number = its.number; lock = its.lock; script = refl };
+        entries = its.entries;
+        own = goes.own;
+        number = number;
+      },
+      refl,
+    ),
+  )
+
+  pub driven_did : (drive : Driven) → DriveOutcome shape false start (countdown_tally old) (countdown_tally now) drive → GateLetsPass drive → WorkResultSatisfies (finished_result drive) (ThreadPendingJobEffect start)
+  driven_did (driven.Done ready receipt) (goes, its, number) passes = (done_did ready receipt goes its number, tt)
+  driven_did (driven.Waits climb) (goes, still) passes = (record { draft = still.draft; entries = still.entries; own = goes.own; number = still.number }, tt)
+  driven_did (driven.Stopped held) drives passes = absurd passes
+  driven_did (driven.Fell down) drives passes = tt
+
+  has_slot : (ident : ServiceId) (count : ℕ) (falls : ℕ) (later : SeatView) → DriveSteps shape start later (countdown_tally old) (countdown_tally now) falls → HasSlot ident count start → HasSlot ident count later
+  has_slot ident count falls later goes slot = record { ident_is = goes.ident ∙ slot.ident_is; slot = rw goes.own slot.slot }
+
+  pub driven_ours : (ident : ServiceId) (drive : Driven) → DriveOutcome shape false start (countdown_tally old) (countdown_tally now) drive → GateLetsPass drive
+      → (count : ℕ) → HasSlot ident count start → IsValidWorkResult ident count (finished_result drive)
+  driven_ours ident (driven.Done ready receipt) (goes, its, number) passes count slot = has_slot ident count 0 ready goes slot
+  driven_ours ident (driven.Waits climb) (goes, still) passes count slot = has_slot ident count 0 climb goes slot
+  driven_ours ident (driven.Stopped held) drives passes count slot = absurd passes
+  driven_ours ident (driven.Fell down) goes passes count slot = has_slot ident count 1 down goes slot
+
+  pub driven_plan : (drive : Driven) → DriveOutcome shape false start (countdown_tally old) (countdown_tally now) drive → GateLetsPass drive → WorkSpendsCountdown shape unchanged_part old (Some start) now (finished_result drive)
+  driven_plan (driven.Done ready receipt) (goes, its, number) passes = spared shape unchanged_part start ready old now goes.walks goes.ident goes.own
+  driven_plan (driven.Waits climb) (goes, still) passes = spared shape unchanged_part start climb old now goes.walks goes.ident goes.own
+  driven_plan (driven.Stopped held) drives passes = absurd passes
+  driven_plan (driven.Fell down) goes passes = fallen shape unchanged_part start down old now goes.walks goes.ident goes.own
+
+-- With a gate that admits no worker, no job is finished.
+abbrev pub IsBarred : Driven → Type 0
+IsBarred (driven.Done ready receipt) = ⊥
+IsBarred drive = Unit {0}
+
+pub barred : (told : ℕ → ℕ → ℕ → Type 0) (shape : Shape) (worker : ℕ) (drive : Driven) → GateWatches (λ _ _ answer. answer ≡ false) told shape false worker drive → IsBarred drive
+barred told shape worker (driven.Done ready receipt) (asked, told_so) = let bad : true ≡ false = (asked refl).asked in cc
+barred told shape worker (driven.Waits climb) watches = tt
+barred told shape worker (driven.Stopped held) watches = tt
+barred told shape worker (driven.Fell down) watches = tt
+
+-- The session after a drive until the worker is inside.
+module _ (shape : Shape) (start : SeatView) (old now : Countdown) where
+  pub arrived_did : (drive : Driven) → DriveOutcome shape false start (countdown_tally old) (countdown_tally now) drive → IsBarred drive → GateStopsInside drive → WorkResultSatisfies (entered_result drive) (ThreadEnterPendingEffect start)
+  arrived_did (driven.Done ready receipt) drives bars stops = absurd bars
+  arrived_did (driven.Waits climb) (goes, still) bars stops = (record { draft = still.draft; entries = still.entries; own = goes.own; number = still.number }, tt)
+  arrived_did (driven.Stopped held) (goes, still) bars (entered, pending) =
+      ((record { draft = still.draft; entries = still.entries; own = goes.own; number = still.number }, entered, still.number), tt)
+  arrived_did (driven.Fell down) drives bars stops = tt
+
+  pub arrived_ours : (ident : ServiceId) (drive : Driven) → DriveOutcome shape false start (countdown_tally old) (countdown_tally now) drive → IsBarred drive → GateStopsInside drive
+      → (count : ℕ) → HasSlot ident count start → IsValidWorkResult ident count (entered_result drive)
+  arrived_ours ident (driven.Done ready receipt) drives bars stops count slot = absurd bars
+  arrived_ours ident (driven.Waits climb) (goes, still) bars stops count slot = has_slot shape start old now ident count 0 climb goes slot
+  arrived_ours ident (driven.Stopped held) (goes, still) bars (entered, pending) count slot = (has_slot shape start old now ident count 0 held goes slot, pending)
+  arrived_ours ident (driven.Fell down) goes bars stops count slot = has_slot shape start old now ident count 1 down goes slot
+
+  pub arrived_plan : (drive : Driven) → DriveOutcome shape false start (countdown_tally old) (countdown_tally now) drive → IsBarred drive → WorkSpendsCountdown shape unchanged_part old (Some start) now (entered_result drive)
+  arrived_plan (driven.Done ready receipt) drives bars = absurd bars
+  arrived_plan (driven.Waits climb) (goes, still) bars = spared shape unchanged_part start climb old now goes.walks goes.ident goes.own
+  arrived_plan (driven.Stopped held) (goes, still) bars = spared shape unchanged_part start held old now goes.walks goes.ident goes.own
+  arrived_plan (driven.Fell down) goes bars = fallen shape unchanged_part start down old now goes.walks goes.ident goes.own
+
+pub arrived_tried : (start : SeatView) (before after : SweepTries) (drive : Driven) → WaitsAfterAllSweeps start before after drive → IsBarred drive
+    → WorkWaitsAfterTries (before.most - before.blocked) start.part.steps (entered_result drive)
+arrived_tried start before after (driven.Done ready receipt) exhausts bars = absurd bars
+arrived_tried start before after (driven.Waits climb) exhausts bars = exhausts.steps
+arrived_tried start before after (driven.Stopped held) exhausts bars = tt
+arrived_tried start before after (driven.Fell down) exhausts bars = tt
+
+-- The session afterwards: a worker that did not crash was spared.
+module _ (shape : Shape) (lead : Part → Part) where
+  left_up : (old now : Session) (its : JobOutcome) (let_go : Option SeatView) → IsNotFallen its → let_go ≡ None → PlanSpares shape lead old.planned (held_worker old.value) now.planned (held_worker now.value)
+      → WorkWithinPlan shape lead old now its let_go
+  left_up old now (outcome.Receipt receipt) let_go up none spares = (spares, none)
+  left_up old now outcome.Withdrawn let_go up none spares = (spares, none)
+  left_up old now outcome.Waiting let_go up none spares = (spares, none)
+  left_up old now (outcome.Inside number) let_go up none spares = (spares, none)
+  left_up old now outcome.Fell let_go up none spares = absurd up
+
+  pub spared_by : (old : PlannedCrash) (start : Option SeatView) (now : Countdown) (end : Option SeatView) → CountdownSpares shape lead (Runs old) start now end → PlanSpares shape lead old start (planned_after now) end
+  spared_by old start (Runs now) end spares = spares
+  spared_by old start Fallen end spares = absurd spares
+
+  pub left_so : (old : Session) (Has : Holding → JobOutcome → Type 0) (countdown : Countdown) (worked : Result (Holding × JobOutcome) SeatView) (now : Session) (its : JobOutcome) (let_go : Option SeatView)
+      → WorkResultSatisfies worked Has → WorkSpendsCountdown shape lead (Runs old.planned) (held_worker old.value) countdown worked → WorkSettlement worked (planned_after countdown) now its let_go
+      → Has now.value its × WorkWithinPlan shape lead old now its let_go
+  left_so old Has countdown (Ok (value, became)) now its let_go (has, up) spares (now_is, its_is, none) =
+      rw (now_is, its_is) (
+        has,
+        left_up old (record { value = value; planned = planned_after countdown }) became let_go up none (spared_by old.planned (held_worker old.value) countdown (held_worker value) spares),
+      )
+  left_so old Has countdown (Err down) now its let_go has falls (now_is, its_is, go_is) = rw (now_is, its_is, go_is) (has, (falls, refl))
+
+-- A worker that answers its last number again makes no step.
+pub spares_none : (shape : Shape) (ready : SeatView) (plan : Countdown) → CountdownSpares shape unchanged_part plan (Some ready) plan (Some ready)
+spares_none shape ready (Runs planned) =
+    (0, record { ident = refl; own = refl; values = []; walk = refl; found = tt; count = refl; steps = omega arith }, leaves_none planned)
+spares_none shape ready Fallen = tt
+
+pub repeats_spares : (shape : Shape) (ready : SeatView) (plan : Countdown) (value : Holding) (became : JobOutcome) → ThreadRepeatEffect shape ready value became
+    → CountdownSpares shape unchanged_part plan (Some ready) plan (held_worker value)
+repeats_spares shape ready plan value (outcome.Receipt receipt) (same, last, is_last) = rw same (spares_none shape ready plan)
+repeats_spares shape ready plan value outcome.Withdrawn (same, last) = rw same (spares_none shape ready plan)
+repeats_spares shape ready plan value outcome.Waiting repeats = absurd repeats
+repeats_spares shape ready plan value outcome.Fell repeats = absurd repeats
+repeats_spares shape ready plan value (outcome.Inside number) repeats = absurd repeats
+
+-- The lead of the work is that of the order; answering the last number again makes no step.
+repeated : (shape : Shape) (ready : SeatView) (planned : PlannedCrash) (job : Job) (now : Session) (became : JobOutcome) (let_go : Option SeatView) → ThreadRepeatEffect shape ready now.value became
+    → WorkWithinPlan shape unchanged_part (record { value = Ready ready; planned = planned }) now became let_go → WorkWithinPlan shape (handed job) (record { value = Ready ready; planned = planned }) now became let_go
+repeated shape ready planned job now (outcome.Receipt receipt) let_go (same, last, is_last) ((made, went, left), none) =
+    let P : Holding → Type 0 = λ value. OwnStepsBetween shape unchanged_part (Some ready) (held_worker value) made in
+    let Q : Holding → Type 0 = λ value. OwnStepsBetween shape (handed job) (Some ready) (held_worker value) made in
+    ((made, subst Q (sym same) (stayed shape unchanged_part (handed job) ready made (subst P same went)), left), none)
+repeated shape ready planned job now outcome.Withdrawn let_go (same, last) ((made, went, left), none) =
+    let P : Holding → Type 0 = λ value. OwnStepsBetween shape unchanged_part (Some ready) (held_worker value) made in
+    let Q : Holding → Type 0 = λ value. OwnStepsBetween shape (handed job) (Some ready) (held_worker value) made in
+    ((made, subst Q (sym same) (stayed shape unchanged_part (handed job) ready made (subst P same went)), left), none)
+repeated shape ready planned job now outcome.Waiting let_go repeats left = absurd repeats
+repeated shape ready planned job now outcome.Fell let_go repeats left = absurd repeats
+repeated shape ready planned job now (outcome.Inside number) let_go repeats left = absurd repeats
+
+pub led_so : (shape : Shape) (its : Submission) (work : SessionWork) (planned : PlannedCrash) (now : Session) (became : JobOutcome) (let_go : Option SeatView) → IsSubmitWork shape its work
+    → WorkEffect shape work now.value became → WorkWithinPlan shape (work_lead work) (record { value = work_holding work; planned = planned }) now became let_go
+    → WorkWithinPlan shape (submit_lead (work_holding work) its.job) (record { value = work_holding work; planned = planned }) now became let_go
+led_so shape its (Repeat ready) planned now became let_go asked makes left = repeated shape ready planned its.job now became let_go makes left
+led_so shape its (Post admitted tries) planned now became let_go (next, same, none) makes left =
+    let P : Job → Type 0 = λ job. WorkWithinPlan shape (handed job) (record { value = Ready admitted.ready; planned = planned }) now became let_go in subst P same left
+led_so shape its (GoIn climb tries) planned now became let_go asked makes left = left
+led_so shape its (GoOn held) planned now became let_go asked makes left = left
+led_so shape its (PostInside admitted tries) planned now became let_go asked makes left = absurd asked
+led_so shape its (GoInside climb tries) planned now became let_go asked makes left = absurd asked
+led_so shape its (Stay held) planned now became let_go asked makes left = absurd asked
+
+-- The same for work until the worker is inside.
+pub led_inside : (shape : Shape) (its : Submission) (work : SessionWork) (planned : PlannedCrash) (now : Session) (became : JobOutcome) (let_go : Option SeatView) → IsSubmitWork shape its work
+    → WorkEffect shape (work_until_inside work) now.value became → WorkWithinPlan shape (work_lead (work_until_inside work)) (record { value = work_holding (work_until_inside work); planned = planned }) now became let_go
+    → WorkWithinPlan shape (submit_lead (work_holding work) its.job) (record { value = work_holding work; planned = planned }) now became let_go
+led_inside shape its (Repeat ready) planned now became let_go asked makes left = repeated shape ready planned its.job now became let_go makes left
+led_inside shape its (Post admitted tries) planned now became let_go (next, same, none) makes left =
+    let P : Job → Type 0 = λ job. WorkWithinPlan shape (handed job) (record { value = Ready admitted.ready; planned = planned }) now became let_go in subst P same left
+led_inside shape its (GoIn climb tries) planned now became let_go asked makes left = left
+led_inside shape its (GoOn held) planned now became let_go asked makes left = left
+led_inside shape its (PostInside admitted tries) planned now became let_go asked makes left = absurd asked
+led_inside shape its (GoInside climb tries) planned now became let_go asked makes left = absurd asked
+led_inside shape its (Stay held) planned now became let_go asked makes left = absurd asked
+
+-- It starts from the same worker, and has the same number of tries.
+pub same_start : (work : SessionWork) → work_holding (work_until_inside work) ≡ work_holding work
+same_start (Repeat ready) = refl
+same_start (Post admitted tries) = refl
+same_start (GoIn climb tries) = refl
+same_start (GoOn held) = refl
+same_start (PostInside admitted tries) = refl
+same_start (GoInside climb tries) = refl
+same_start (Stay held) = refl
+
+pub same_tries : (tries : ℕ) (work : SessionWork) → HasWorkTries tries work → HasWorkTries tries (work_until_inside work)
+same_tries tries (Repeat ready) has = has
+same_tries tries (Post admitted given) has = has
+same_tries tries (GoIn climb given) has = has
+same_tries tries (GoOn held) has = tt
+same_tries tries (PostInside admitted given) has = has
+same_tries tries (GoInside climb given) has = has
+same_tries tries (Stay held) has = has
+
+-- The work of an order that continues a job.
+pub led_onward : (shape : Shape) (work : SessionWork) (old now : Session) (became : JobOutcome) (let_go : Option SeatView) → IsResumeWork work → WorkWithinPlan shape (work_lead work) old now became let_go
+    → WorkWithinPlan shape unchanged_part old now became let_go
+led_onward shape (Repeat ready) old now became let_go asked left = absurd asked
+led_onward shape (Post admitted tries) old now became let_go asked left = absurd asked
+led_onward shape (GoIn climb tries) old now became let_go asked left = left
+led_onward shape (GoOn held) old now became let_go asked left = left
+led_onward shape (PostInside admitted tries) old now became let_go asked left = absurd asked
+led_onward shape (GoInside climb tries) old now became let_go asked left = absurd asked
+led_onward shape (Stay held) old now became let_go asked left = absurd asked
+
+-- The tries that were made before a job waits.
+pub driven_tried : (start : SeatView) (before after : SweepTries) (drive : Driven) → WaitsAfterAllSweeps start before after drive → GateLetsPass drive → WorkWaitsAfterTries (before.most - before.blocked) start.part.steps (finished_result drive)
+driven_tried start before after (driven.Done ready receipt) exhausts passes = tt
+driven_tried start before after (driven.Waits climb) exhausts passes = exhausts.steps
+driven_tried start before after (driven.Stopped held) exhausts passes = absurd passes
+driven_tried start before after (driven.Fell down) exhausts passes = tt
+
+pub owning_tried : (most steps : ℕ) (drive : Driven) → DriveDoesNotWait drive → GateLetsPass drive → WorkWaitsAfterTries most steps (finished_result drive)
+owning_tried most steps (driven.Done ready receipt) owns passes = tt
+owning_tried most steps (driven.Waits climb) owns passes = absurd owns
+owning_tried most steps (driven.Stopped held) owns passes = absurd passes
+owning_tried most steps (driven.Fell down) owns passes = tt
+
+tried_before : (most first later : ℕ) (value : Holding) (became : JobOutcome) → first ≤ later → ThreadWaitsAfterTries most later value became → ThreadWaitsAfterTries most first value became
+tried_before most first later value (outcome.Receipt receipt) more tried = tt
+tried_before most first later value outcome.Withdrawn more tried = tt
+tried_before most first later value outcome.Waiting more tried = omega (arith, more, tried)
+tried_before most first later value outcome.Fell more tried = tt
+tried_before most first later value (outcome.Inside number) more tried = tt
+
+pub tried_since : (most first later : ℕ) (worked : Result (Holding × JobOutcome) SeatView) → first ≤ later → WorkWaitsAfterTries most later worked → WorkWaitsAfterTries most first worked
+tried_since most first later (Ok (value, became)) more tried = tried_before most first later value became more tried
+tried_since most first later (Err down) more tried = tt
+
+pub repeats_tried : (shape : Shape) (ready : SeatView) (most steps : ℕ) (value : Holding) (became : JobOutcome) → ThreadRepeatEffect shape ready value became → ThreadWaitsAfterTries most steps value became
+repeats_tried shape ready most steps value (outcome.Receipt receipt) repeats = tt
+repeats_tried shape ready most steps value outcome.Withdrawn repeats = tt
+repeats_tried shape ready most steps value outcome.Waiting repeats = absurd repeats
+repeats_tried shape ready most steps value outcome.Fell repeats = tt
+repeats_tried shape ready most steps value (outcome.Inside number) repeats = tt
+
+pub settled_tried : (most steps : ℕ) (planned : PlannedCrash) (worked : Result (Holding × JobOutcome) SeatView) (now : Session) (became : JobOutcome) (let_go : Option SeatView) → WorkSettlement worked planned now became let_go
+    → WorkWaitsAfterTries most steps worked → ThreadWaitsAfterTries most steps now.value became
+settled_tried most steps planned (Ok (value, its)) now became let_go (now_is, its_is, none) tried = rw (now_is, its_is) tried
+settled_tried most steps planned (Err down) now became let_go (now_is, its_is, go_is) tried = rw its_is tt

@@ -1,0 +1,239 @@
+//! The work of a session's worker on its job, up to the end of the order.
+//!
+//! The functions of a submission are inlined, here and in `orders.rt` and `refusal.rt`: otherwise each would copy the
+//! worker.
+
+ghost use Rattle.std.specs.Prelude.{◌≡◌, ℕ, Some, false};
+ghost use Rattle.rme_table.specs.Calls.{is_section_over};
+ghost use Rattle.rme_session_threads.specs.Stands.{HasSlot, IsValidHolding, IsValidWorkResult, held_worker};
+ghost use Rattle.rme_service_steps.specs.Parts.{unchanged_part, submitted_part};
+ghost use Rattle.rme_session_threads.specs.SessionWorks.{HasWorkTries, WorkEffect, WorkSpendsCountdown, entered_result, work_holding, work_lead, finished_result};
+ghost use Rattle.rme_session_threads.specs.JobOutcomes.{WorkWaitsAfterTries, ThreadEnterEffect, WorkResultSatisfies, ThreadEnterPendingEffect, ThreadPendingJobEffect, ThreadRepeatEffect, ThreadJobEffect, stand_next_job, holding_steps};
+ghost use Rattle.rme_session_threads.specs.declared.stand.Holding.TheVariants as holds;
+ghost use Rattle.rme_session_protocol.specs.declared.reply.JobOutcome.TheVariants as outcome;
+
+use crate::crash_plan::CountdownChance;
+use crate::stand::Holding;
+use crossbeam_utils::Backoff;
+use rme_session_protocol::JobOutcome;
+use rme_table::{Admitted, Climb, Down, Driven, Free, Held, Ready, Service, Shut, SweepTries};
+
+/// What the session holds afterwards, and the outcome of the job.
+pub(crate) type WorkResult = (Holding, JobOutcome);
+
+/// The work of a session's worker.
+pub(crate) enum SessionWork<'a> {
+    /// Answer the last number again.
+    Repeat(Ready),
+    /// Post the job, whose number is the next, and continue it with at most this number of sweeps.
+    Post(Admitted<'a>, u32),
+    /// Continue the waiting job, with at most this number of sweeps.
+    GoIn(Climb, u32),
+    /// Continue the job that the worker is inside with.
+    GoOn(Held),
+    /// Post the job, and continue until the worker is inside, with at most this number of sweeps.
+    PostInside(Admitted<'a>, u32),
+    /// Continue the waiting job until the worker is inside, with at most this number of sweeps.
+    GoInside(Climb, u32),
+    /// Stay inside.
+    Stay(Held),
+}
+
+impl<'a> SessionWork<'a> {
+    ghost use Rattle.std.specs.Prelude.{◌≡◌};
+    ghost use Rattle.rme_session_threads.specs.SessionWorks.{work_until_inside};
+
+    /// The same work, until the worker is inside.
+    pub(crate) fn until_inside(self) -> SessionWork<'a>
+        ensures { result ≡ work_until_inside self.entry }
+    {
+        match self {
+            SessionWork::Post(admitted, tries) => SessionWork::PostInside(admitted, tries),
+            SessionWork::GoIn(climb, tries) => SessionWork::GoInside(climb, tries),
+            SessionWork::GoOn(held) => SessionWork::Stay(held),
+            work => work,
+        }
+    }
+}
+
+/// Executes the work. `Err` is a crash.
+#[inline(always)]
+pub(crate) fn perform_work(
+    work: SessionWork<'_>,
+    planned: &mut CountdownChance,
+    service: &Service,
+) -> Result<WorkResult, Down>
+    requires ours { (count : ℕ) × IsValidHolding service.now count (work_holding work) }
+    ensures ours { (count : ℕ) → IsValidHolding service.now count (work_holding work.entry)
+        → IsValidWorkResult service.now count result }
+    ensures did { WorkResultSatisfies result (WorkEffect service.now.shape work.entry) }
+    ensures plan { WorkSpendsCountdown service.now.shape (work_lead work.entry) planned.old.countdown
+        (held_worker (work_holding work.entry)) planned.new.countdown result }
+    ensures tried { (most : ℕ) → HasWorkTries most work.entry
+        → WorkWaitsAfterTries most (holding_steps (work_holding work.entry)) result }
+{
+    match work {
+        SessionWork::Repeat(ready) => Ok(repeat_last(ready, service)),
+        SessionWork::Post(admitted, tries) => post_and_finish(admitted, tries, planned, service),
+        SessionWork::GoIn(climb, tries) => climb_and_finish(climb, tries, planned, service),
+        SessionWork::GoOn(held) => finish_held(held, planned, service),
+        SessionWork::PostInside(admitted, tries) => post_and_enter(
+            admitted, tries, planned, service,
+        ),
+        SessionWork::GoInside(climb, tries) => climb_and_enter(climb, tries, planned, service),
+        SessionWork::Stay(held) => Ok(stay_inside(held)),
+    }
+}
+
+/// The outcome of the last number.
+fn repeat_last(mut ready: Ready, service: &Service) -> WorkResult
+    requires ours { ready.ident ≡ service.now }
+    ensures { ThreadRepeatEffect service.now.shape ready result.0 result.1 }
+{
+    let outcome = match ready.last(service) {
+        Some(receipt) => JobOutcome::Receipt(receipt),
+        None => JobOutcome::Withdrawn,
+    };
+    (Holding::Ready(ready), outcome)
+}
+
+/// Posts the job and continues it.
+#[inline(always)]
+fn post_and_finish(
+    admitted: Admitted<'_>,
+    tries: u32,
+    planned: &mut CountdownChance,
+    service: &Service,
+) -> Result<WorkResult, Down>
+    requires ours { admitted.ready.ident ≡ service.now }
+    ensures ours { (count : ℕ) → HasSlot service.now count admitted.entry.ready
+        → IsValidWorkResult service.now count result }
+    ensures did { WorkResultSatisfies result (ThreadJobEffect (stand_next_job admitted.entry.ready admitted.entry.job)
+        admitted.entry.ready.part.entries) }
+    ensures plan { WorkSpendsCountdown service.now.shape (submitted_part admitted.entry.job) planned.old.countdown
+        (Some admitted.entry.ready) planned.new.countdown result }
+    ensures tried { WorkWaitsAfterTries tries admitted.entry.ready.part.steps result }
+{
+    match admitted.post(service, planned) {
+        Ok(climb) => climb_and_finish(climb, tries, planned, service),
+        Err(down) => Err(down),
+    }
+}
+
+/// From waiting to readiness, with at most this number of sweeps and a pause after each blocked one.
+#[inline(always)]
+fn climb_and_finish(
+    climb: Climb,
+    tries: u32,
+    planned: &mut CountdownChance,
+    service: &Service,
+) -> Result<WorkResult, Down>
+    requires ours { climb.ident ≡ service.now }
+    ensures ours { (count : ℕ) → HasSlot service.now count climb → IsValidWorkResult service.now count result }
+    ensures did { WorkResultSatisfies result (ThreadPendingJobEffect climb) }
+    ensures plan { WorkSpendsCountdown service.now.shape unchanged_part planned.old.countdown (Some climb)
+        planned.new.countdown result }
+    ensures tried { WorkWaitsAfterTries tries climb.part.steps result }
+{
+    let backoff = Backoff::new();
+    let mut tries = SweepTries {
+        blocked: 0,
+        most: tries,
+    };
+    finished_result(climb.drive_waiting(service, planned, &Free, &mut tries, || backoff.snooze()))
+}
+
+/// Posts the job and continues until the worker is inside.
+fn post_and_enter(
+    admitted: Admitted<'_>,
+    tries: u32,
+    planned: &mut CountdownChance,
+    service: &Service,
+) -> Result<WorkResult, Down>
+    requires ours { admitted.ready.ident ≡ service.now }
+    ensures ours { (count : ℕ) → HasSlot service.now count admitted.entry.ready
+        → IsValidWorkResult service.now count result }
+    ensures did { WorkResultSatisfies result (ThreadEnterEffect (stand_next_job admitted.entry.ready admitted.entry.job)
+        admitted.entry.ready.part.entries) }
+    ensures plan { WorkSpendsCountdown service.now.shape (submitted_part admitted.entry.job) planned.old.countdown
+        (Some admitted.entry.ready) planned.new.countdown result }
+    ensures tried { WorkWaitsAfterTries tries admitted.entry.ready.part.steps result }
+{
+    match admitted.post(service, planned) {
+        Ok(climb) => climb_and_enter(climb, tries, planned, service),
+        Err(down) => Err(down),
+    }
+}
+
+/// From waiting to the lock's entry, with at most this number of sweeps and a pause after each blocked one.
+fn climb_and_enter(
+    climb: Climb,
+    tries: u32,
+    planned: &mut CountdownChance,
+    service: &Service,
+) -> Result<WorkResult, Down>
+    requires ours { climb.ident ≡ service.now }
+    ensures ours { (count : ℕ) → HasSlot service.now count climb → IsValidWorkResult service.now count result }
+    ensures did { WorkResultSatisfies result (ThreadEnterPendingEffect climb) }
+    ensures plan { WorkSpendsCountdown service.now.shape unchanged_part planned.old.countdown (Some climb)
+        planned.new.countdown result }
+    ensures tried { WorkWaitsAfterTries tries climb.part.steps result }
+{
+    let backoff = Backoff::new();
+    let mut tries = SweepTries {
+        blocked: 0,
+        most: tries,
+    };
+    entered_result(climb.drive_waiting(service, planned, &Shut, &mut tries, || backoff.snooze()))
+}
+
+/// A worker that is already inside makes no step.
+fn stay_inside(held: Held) -> WorkResult
+    ensures { (result.0 ≡ holds.Held held) × (result.1 ≡ outcome.Inside held.part.private.begun) }
+{
+    let number = held.number();
+    (Holding::Held(held), JobOutcome::Inside(number))
+}
+
+/// From the lock's entry to readiness.
+fn finish_held(
+    held: Held,
+    planned: &mut CountdownChance,
+    service: &Service,
+) -> Result<WorkResult, Down>
+    requires ours { held.ident ≡ service.now }
+    requires pending { is_section_over held.part.private.stage ≡ false }
+    ensures ours { (count : ℕ) → HasSlot service.now count held → IsValidWorkResult service.now count result }
+    ensures did { WorkResultSatisfies result (ThreadPendingJobEffect held) }
+    ensures plan { WorkSpendsCountdown service.now.shape unchanged_part planned.old.countdown (Some held)
+        planned.new.countdown result }
+    ensures tried { (most : ℕ) → WorkWaitsAfterTries most held.part.steps result }
+{
+    finished_result(held.drive_owner(service, planned, &Free))
+}
+
+/// What the session holds of a worker that was driven until it was inside, and the outcome of its job.
+fn entered_result(driven: Driven) -> Result<WorkResult, Down>
+    ensures { result ≡ entered_result driven }
+{
+    match driven {
+        Driven::Stopped(held) => Ok(stay_inside(held)),
+        Driven::Waits(climb) => Ok((Holding::Climb(climb), JobOutcome::Waiting)),
+        // The gate admits no worker to its section.
+        Driven::Done(ready, receipt) => Ok((Holding::Ready(ready), JobOutcome::Receipt(receipt))),
+        Driven::Fell(down) => Err(down),
+    }
+}
+
+/// What the session holds of a driven worker, and the outcome of its job.
+fn finished_result(driven: Driven) -> Result<WorkResult, Down>
+    ensures { result ≡ finished_result driven }
+{
+    match driven {
+        Driven::Done(ready, receipt) => Ok((Holding::Ready(ready), JobOutcome::Receipt(receipt))),
+        Driven::Waits(climb) => Ok((Holding::Climb(climb), JobOutcome::Waiting)),
+        // The gate of a session admits every worker.
+        Driven::Stopped(held) => Ok((Holding::Held(held), JobOutcome::Waiting)),
+        Driven::Fell(down) => Err(down),
+    }
+}

@@ -1,0 +1,21 @@
+-- The sum of consecutive runs; the last receipt; the stance of a worker by its phase.
+pub mod Walking
+pub mod Lasts
+pub mod Stances
+pub mod Planning
+pub mod Ways
+pub mod Sighting
+pub mod Posting
+pub mod Working
+pub mod Events
+pub mod Frames
+pub mod Carrying
+pub mod Beginning
+pub mod Obeying
+pub mod Giving
+pub mod Answering
+pub mod Handing
+pub mod Sorting
+pub mod Seating
+pub mod Falling
+pub mod Places

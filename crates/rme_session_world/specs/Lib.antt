@@ -1,0 +1,12 @@
+-- In reading order: the session view; own steps of one worker; a worker's work on its job; the event batch of an order;
+-- the effect of an order; an executor.
+pub mod WorkerSessions
+pub mod Downs
+pub mod Outcomes
+pub mod WorkerRuns
+pub mod JobRuns
+pub mod EventBatches
+pub mod Replies
+pub mod AppliedOrders
+pub mod ExecutorStates
+pub mod Executors

@@ -1,4 +1,0 @@
-pub mod Planning
-pub mod Rising
-pub mod Showing
-pub mod Working

@@ -1,7 +1,0 @@
-use Rattle.std.specs.Prelude.{◌≡◌, ℕ, ◌<◌, slice_get, Some}
-use Rattle.rme_supervisor.specs.declared.plan.WorkerPlan.{WorkerPlan}
-use Rattle.rme_supervisor.specs.Plans.{IsPlan}
-use Rattle.rme_supervisor.proofs.checking.are_plans.Given as goal
-
-abbrev pub invariant-loop-plan : goal.invariant-loop-plan
-invariant-loop-plan l = (worker : ℕ) (plan : WorkerPlan) → worker < l.plan-index → slice_get l.plans worker ≡ Some plan → IsPlan plan

@@ -1,0 +1,8 @@
+use Rattle.std.specs.Prelude.{◌≡◌, take, length}
+use Rattle.rme_machine.specs.Histories.{history_of_lock}
+use Rattle.rme_service_steps.specs.Rule.{total_of}
+use Rattle.rme_service_steps.specs.SeatViews.{SeatView}
+use Rattle.rme_table.proofs.close_room.count_at.Given as goal
+
+abbrev pub invariant-loop-down : goal.invariant-loop-down
+invariant-loop-down l = l.count ≡ total_of (λ (down : SeatView). length (history_of_lock down.part.entries l.lock)) (take l.down-index l.downs)

@@ -1,0 +1,14 @@
+use Rattle.std.proofs.Common.{sym, ◌∙◌, ap}
+use Rattle.rme_service_steps.specs.SeatViews.{SeatView}
+use Rattle.rme_table.proofs.Entries.{split_last}
+use Rattle.rme_table.proofs.Owners.{told_there}
+use Rattle.rme_table.proofs.kinds.Held.last_receipt_again.Goals as goal
+
+pub unreachable-requires : goal.unreachable-requires
+unreachable-requires c = told_there c.self.inside.seat c.args.self _ _ _ c.entries.result.now.entries c.self.view_is c.self.invariant c.requires.over c.entries.ensures (sym c.last.ensures ∙ c.in_default.is)
+
+pub returns-clause-last : goal.returns-clause-last
+returns-clause-last c =
+    let own = c.entries.ensures ∙ ap (λ (x : SeatView). x.part.entries) c.self.view_is in
+    let (before, last, all, its) = split_last c.entries.result.now.entries c.in-Some.entry (sym c.last.ensures ∙ c.in-Some.is) in
+    (before, last, sym own ∙ all, its)

@@ -1,8 +1,0 @@
-use Rattle.std.specs.Prelude.{◌≡◌, take, length}
-use Rattle.rme_machine.specs.Histories.{entries_at}
-use Rattle.rme_seats.specs.Rule.{total}
-use Rattle.rme_seats.specs.Stands.{Stand}
-use Rattle.rme_table.proofs.room.count_at.Given as goal
-
-abbrev pub invariant-loop-down : goal.invariant-loop-down
-invariant-loop-down l = l.count ≡ total (λ (down : Stand). length (entries_at down.part.entries l.lock)) (take l.down-index l.downs)

@@ -1,8 +1,0 @@
-//! The two ways through Exit.
-
-/// How a worker leaves: the whole of Exit, or the release of so many lower nodes alone.
-#[derive(Clone, Copy)]
-pub(crate) enum Way {
-    Whole,
-    Partial { level: u32 },
-}

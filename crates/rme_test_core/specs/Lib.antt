@@ -1,0 +1,3 @@
+-- What a caller of the engine over bytes in memory may rely on: of answers, and of transcripts.
+pub mod InputAnswers
+pub mod InputTranscripts

@@ -1,0 +1,197 @@
+//! The orders that the lines of sessions are.
+
+use crate::texts::lock_names;
+use rme_script::{Job, Op, Script};
+use rme_session_protocol::{
+    Attachment, Order, Patience, SERVICE_NUMBERS, Submission, WORLD_NUMBERS, parse_order,
+};
+use rme_wire::{Names, ValueReader};
+use std::alloc::Global;
+use std::process::Abort;
+use std::test::Fail;
+
+/// Lines that submit the job that adds 5, with its number, its lock and its tries. A lock that the service does not
+/// have is the number of its locks.
+const SUBMISSIONS: &[(&str, u64, u32, u32)] = &[
+    (
+        r#"{"do":"submit","lock":"a","number":1,"script":[["add",0,5]]}"#,
+        1,
+        0,
+        1_000,
+    ),
+    (
+        r#"{"do":"submit","lock":"a","number":0,"script":[["add",0,5]],"tries":1}"#,
+        0,
+        0,
+        1,
+    ),
+    (
+        r#"{"do":"submit","lock":"b","number":4294967295,"script":[["add",0,5]],"tries":1000000}"#,
+        4_294_967_295,
+        1,
+        1_000_000,
+    ),
+];
+
+fn attach(worker: u32, take: bool) -> Order {
+    Order::Attach(Attachment { worker, take })
+}
+
+/// A line must give this order.
+fn check_order(
+    rt: &impl Abort,
+    alloc: Global,
+    names: &Names,
+    line: &str,
+    wanted: Order,
+) -> Result<(), Fail> {
+    let order = parse_order(
+        &mut ValueReader::new(alloc),
+        names,
+        WORLD_NUMBERS,
+        line.as_bytes(),
+    )?;
+    assert!(rt; order == Some(wanted));
+    Ok(())
+}
+
+/// The orders without a script. An order without a number of tries asks for 1,000.
+#[test]
+fn orders(rt: HostRuntime) -> Result<(), Fail> {
+    let names = lock_names(&rt, rt.alloc());
+    for (line, wanted) in [
+        (r#"{"do":"attach","worker":0}"#, attach(0, false)),
+        (r#"{"worker":9,"do":"attach"}"#, attach(9, false)),
+        (
+            r#"{"do":"attach","take":false,"worker":1}"#,
+            attach(1, false),
+        ),
+        (r#"{"do":"attach","take":true,"worker":1}"#, attach(1, true)),
+        (r#"{"do":"resume"}"#, Order::Resume(Patience::Tries(1_000))),
+        (
+            r#"{"do":"resume","tries":1}"#,
+            Order::Resume(Patience::Tries(1)),
+        ),
+        (
+            r#"{"do":"resume","tries":1000000}"#,
+            Order::Resume(Patience::Tries(1_000_000)),
+        ),
+        (
+            r#"{"do":"resume","wait":0}"#,
+            Order::Resume(Patience::Wait(0)),
+        ),
+        (
+            r#"{"do":"resume","wait":3600000}"#,
+            Order::Resume(Patience::Wait(3_600_000)),
+        ),
+        (r#"{"do":"commit"}"#, Order::Commit),
+        (r#"{"do":"withdraw"}"#, Order::Withdraw),
+        (r#"{"do":"last"}"#, Order::Last),
+        (r#"{"do":"crash_after","steps":0}"#, Order::CrashAfter(0)),
+        (
+            r#"{"do":"crash_after","steps":1000000}"#,
+            Order::CrashAfter(1_000_000),
+        ),
+        (r#"{"do":"detach"}"#, Order::Detach),
+    ] {
+        check_order(&rt, rt.alloc(), &names, line, wanted)?;
+    }
+    Ok(())
+}
+
+/// The line of `enter` has the form of that of `submit`.
+#[test]
+fn entering(rt: HostRuntime) -> Result<(), Fail> {
+    let names = lock_names(&rt, rt.alloc());
+    let line = r#"{"do":"enter","lock":"a","number":1,"script":[["add",0,5]],"tries":3}"#;
+    let submission = Submission {
+        number: 1,
+        job: Job {
+            lock: 0,
+            script: Script::of(&[Op::Add(0, 5)]),
+        },
+        patience: Patience::Tries(3),
+    };
+    check_order(&rt, rt.alloc(), &names, line, Order::Enter(submission))
+}
+
+/// Lines that lack a key, have an extra one, or a value of another kind, are no orders.
+#[test]
+fn no_orders(rt: HostRuntime) -> Result<(), Fail> {
+    let names = lock_names(&rt, rt.alloc());
+    for line in [
+        r#"{"do":"commit","number":1}"#,
+        r#"{"do":"commit","tries":1}"#,
+        r#"{"do":"enter","lock":"a","number":1}"#,
+        r#"{"do":"enter","lock":"a","script":[]}"#,
+        r#"{"do":"enter","number":1,"script":[]}"#,
+        r#"{"do":"enter","lock":0,"number":1,"script":[]}"#,
+        r#"{"do":"enter","lock":"a","number":1,"script":[],"tries":0}"#,
+        r#"{"do":"enter","lock":"a","number":1,"script":[],"worker":0}"#,
+        r#"{"do":"enter","lock":"a","number":1,"script":[],"wait":3600001}"#,
+        r#"{"do":"enter","lock":"a","number":1,"script":[],"tries":1,"wait":1}"#,
+        r#"{"do":"resume","tries":1,"wait":1}"#,
+        r#"{"do":"resume","wait":-1}"#,
+        r#"{"do":"attach","take":1,"worker":0}"#,
+        r#"{"do":"attach","take":true}"#,
+        r#"{"do":"submit","lock":"a","number":4294967296,"script":[]}"#,
+    ] {
+        assert!(rt;
+            parse_order(
+                &mut ValueReader::new(rt.alloc()),
+                &names,
+                WORLD_NUMBERS,
+                line.as_bytes()
+            )?
+            .is_none()
+        );
+    }
+    Ok(())
+}
+
+#[test]
+fn submissions(rt: HostRuntime) -> Result<(), Fail> {
+    let names = lock_names(&rt, rt.alloc());
+    let script = Script::of(&[Op::Add(0, 5)]);
+    for (line, number, lock, tries) in SUBMISSIONS {
+        let submission = Submission {
+            number: *number,
+            job: Job {
+                lock: *lock,
+                script,
+            },
+            patience: Patience::Tries(*tries),
+        };
+        check_order(&rt, rt.alloc(), &names, line, Order::Submit(submission))?;
+    }
+    Ok(())
+}
+
+/// The client of a service over epochs may give its jobs numbers up to 2^53.
+#[test]
+fn large_numbers(rt: HostRuntime) -> Result<(), Fail> {
+    let names = lock_names(&rt, rt.alloc());
+    for (line, number) in [
+        (
+            r#"{"do":"submit","lock":"a","number":9007199254740992,"script":[]}"#,
+            Some(9_007_199_254_740_992),
+        ),
+        (
+            r#"{"do":"submit","lock":"a","number":9007199254740993,"script":[]}"#,
+            None,
+        ),
+    ] {
+        let order = parse_order(
+            &mut ValueReader::new(rt.alloc()),
+            &names,
+            SERVICE_NUMBERS,
+            line.as_bytes(),
+        )?;
+        let given = match order {
+            Some(Order::Submit(its)) => Some(its.number),
+            _ => None,
+        };
+        assert!(rt; given == number);
+    }
+    Ok(())
+}

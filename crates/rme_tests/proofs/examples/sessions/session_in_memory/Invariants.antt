@@ -1,4 +1,0 @@
-use Rattle.rme_tests.proofs.examples.sessions.session_in_memory.Given as goal
-
-abbrev pub ghosts-talk : goal.ghosts-talk
-ghosts-talk g a = record { ident = a.service.now }

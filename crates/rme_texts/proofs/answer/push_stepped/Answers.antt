@@ -1,8 +1,0 @@
-use Rattle.std.proofs.Common.{string_bytes}
-use Rattle.rme_texts.specs.Texts.{note_text}
-use Rattle.rme_texts.proofs.TextLemmas.{append_three}
-use Rattle.rme_texts.proofs.answer.push_stepped.Goals as goal
-
-pub returns : goal.returns
-returns c =
-    append_three (string_bytes c.args.out.now) _ _ _ _ (note_text c.args.names.now c.args.note) _ c.in_ok-push_str.ensures.bytes c.in_ok-push_note.ensures c.in_ok-push_str-2.ensures.bytes

@@ -1,8 +1,0 @@
--- What was written, and the text of the rest, is the text of all.
-use Rattle.std.proofs.Common.{string_bytes, drop}
-use Rattle.rme_texts.specs.Texts.{quoted}
-use Rattle.rme_texts.proofs.TextLemmas.{Separates}
-use Rattle.rme_texts.proofs.texts.push_names.Given as goal
-
-abbrev pub invariant-loop-number : goal.invariant-loop-number
-invariant-loop-number l = Separates quoted (string_bytes l.fn.out) l.names (string_bytes l.out) l.later (drop l.number l.names)

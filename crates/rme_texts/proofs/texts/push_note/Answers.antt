@@ -1,4 +1,0 @@
-use Rattle.rme_texts.proofs.texts.push_note.Goals as goal
-
-pub returns-in-Reentered : goal.returns-in-Reentered
-returns-in-Reentered c = rw (c.in-Reentered.is, ← c.name_of-in-Reentered.ensures) c.push_lock_note-in-Reentered.ensures

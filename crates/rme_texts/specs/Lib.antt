@@ -1,6 +1,0 @@
--- In reading order, after the names of locks: what receipt a client is told, the texts of things, of whole answers, of a transcript's lines.
-pub use Rattle.rme_names.specs.Names
-pub mod Told
-pub mod Texts
-pub mod Replies
-pub mod Events

@@ -1,5 +1,0 @@
-use Rattle.rme_tree.proofs.Steps.{blocked}
-use Rattle.rme_tree.proofs.laws.blocking.Goals as goal
-
-pub returns : goal.returns
-returns c = blocked

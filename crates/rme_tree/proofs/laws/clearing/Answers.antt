@@ -1,5 +1,0 @@
-use Rattle.rme_tree.proofs.Steps.{clear}
-use Rattle.rme_tree.proofs.laws.clearing.Goals as goal
-
-pub returns : goal.returns
-returns c = clear

@@ -1,5 +1,0 @@
-use Rattle.rme_tree.proofs.Ownership.{same_tree}
-use Rattle.rme_tree.proofs.laws.copying.Goals as goal
-
-pub returns : goal.returns
-returns c = same_tree

@@ -1,5 +1,0 @@
-use Rattle.rme_tree.proofs.Steps.{same_owner}
-use Rattle.rme_tree.proofs.laws.excluding.Goals as goal
-
-pub returns : goal.returns
-returns c = same_owner

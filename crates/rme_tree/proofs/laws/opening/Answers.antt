@@ -1,5 +1,0 @@
-use Rattle.rme_tree.proofs.Steps.{free_tree}
-use Rattle.rme_tree.proofs.laws.opening.Goals as goal
-
-pub returns : goal.returns
-returns c = free_tree

@@ -1,0 +1,5 @@
+use Rattle.rme_tree.proofs.Ownership.{owner_step_law}
+use Rattle.rme_tree.proofs.laws.owner_step_law.Goals as goal
+
+pub returns : goal.returns
+returns c = owner_step_law

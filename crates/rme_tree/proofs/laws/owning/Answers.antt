@@ -1,5 +1,0 @@
-use Rattle.rme_tree.proofs.Ownership.{owner_law}
-use Rattle.rme_tree.proofs.laws.owning.Goals as goal
-
-pub returns : goal.returns
-returns c = owner_law

@@ -1,5 +1,0 @@
-use Rattle.rme_tree.proofs.Local.{local_law}
-use Rattle.rme_tree.proofs.laws.rooting.Goals as goal
-
-pub returns : goal.returns
-returns c = local_law

@@ -1,5 +1,0 @@
-use Rattle.rme_tree.proofs.Memory.{store_law}
-use Rattle.rme_tree.proofs.laws.storing.Goals as goal
-
-pub returns : goal.returns
-returns c = store_law
