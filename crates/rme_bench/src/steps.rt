@@ -74,8 +74,8 @@ fn run_job(
         made.steps = made.steps.wrapping_add(1);
         match note {
             Note::Finished(receipt) => {
-                let told = receipt.reply.wrapping_add(u64::from(receipt.place));
-                made.sum = made.sum.wrapping_add(told);
+                let sum = receipt.reply.wrapping_add(u64::from(receipt.place));
+                made.sum = made.sum.wrapping_add(sum);
             }
             Note::Ready => break,
             _ => {}

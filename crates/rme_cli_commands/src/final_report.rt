@@ -76,7 +76,8 @@ pub fn end_with<W: Write, E: Write>(
     errors: &mut E,
     closing: &FinalReport,
 ) -> Result<u8, CliFault>
-    ensures text { OnOk result (Appends (W.contents writer.old) (W.contents writer.new) (string_bytes closing.now.text)) }
+    ensures text { OnOk result (Appends (W.contents writer.old) (W.contents writer.new)
+        (string_bytes closing.now.text)) }
     ensures front { OnErr result (WritesPrefix (W.contents writer.old) (W.contents writer.new)
         (string_bytes closing.now.text)) }
     ensures diagnostics { WritesPrefix (E.contents errors.old) (E.contents errors.new)

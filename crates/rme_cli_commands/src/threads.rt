@@ -9,7 +9,7 @@ use crate::progress_gate::ProgressGate;
 use rme_cli_messages::{CliFault, why_not_falls, why_not_sizes};
 use rme_cli_options::ThreadsTask;
 use rme_script::{Job, Op, Script};
-use rme_supervisor::{Attended, Free, Gate, Schedule, WorkerPlan, attend};
+use rme_supervisor::{Attended, Free, Gate, RunContext, Schedule, WorkerPlan, attend};
 use rme_table::{CountRoom, Service};
 use rme_words::{Refusal, Shape};
 use std::alloc::{AllocError, Global};
@@ -86,7 +86,12 @@ fn run_with<G: Gate + Sync, R: Threads + Wait + Sync>(
         plans: &plans,
         rounds: task.jobs,
     };
-    match attend(threads, rt.alloc(), &service, downs, &schedule, gate) {
+    let context = RunContext {
+        service: &service,
+        schedule,
+        gate,
+    };
+    match attend(threads, rt.alloc(), &context, downs) {
         Ok(attended) => close(service, attended, room),
         Err(unattended) => match unattended.why {
             Refusal::BadShape => Err(CliFault::BadArguments(why_not_falls(task.falls.as_slice()))),

@@ -276,19 +276,16 @@ fn open_or_create<'a>(
     name: &'a StateName,
     planned: StartPlan<'a>,
 ) -> Result<OpenedState<'a>, CliFault> {
-    match planned {
-        StartPlan::GoOn(found) => open_state(rt.alloc(), found),
-        StartPlan::Make(lines) => {
-            make_state(rt, asked.path.as_str(), lines.as_bytes())?;
-            match recover_file(rt, asked, name)? {
-                Some(found) => open_state(rt.alloc(), found),
-                None => Err(CliFault::BadArguments(BadArgument::NoState(escape_controls(
-                    rt.alloc(),
-                    asked.path.as_str(),
-                )?))),
-            }
-        }
-    }
+    let lines = match planned {
+        StartPlan::GoOn(found) => return open_state(rt.alloc(), found),
+        StartPlan::Make(lines) => lines,
+    };
+    make_state(rt, asked.path.as_str(), lines.as_bytes())?;
+    let Some(found) = recover_file(rt, asked, name)? else {
+        let path = escape_controls(rt.alloc(), asked.path.as_str())?;
+        return Err(CliFault::BadArguments(BadArgument::NoState(path)));
+    };
+    open_state(rt.alloc(), found)
 }
 
 /// Cuts off the torn line, and logs a crash of each worker that was up.

@@ -24,12 +24,12 @@ pub fn given_lines<'a>(
     vocabulary: Vocabulary,
     diagnostics: Diagnostics,
 ) -> Result<LineReader<DiagnosedReader<Stdin, StderrReasons<'a>>>, AllocError> {
-    let teller = match diagnostics {
+    let observer = match diagnostics {
         Diagnostics::Nothing => None,
         Diagnostics::Why => Some(StderrReasons { rt }),
     };
     LineReader::new(
         rt.alloc(),
-        DiagnosedReader::new(rt.alloc(), rt.stdin(), vocabulary, teller),
+        DiagnosedReader::new(rt.alloc(), rt.stdin(), vocabulary, observer),
     )
 }

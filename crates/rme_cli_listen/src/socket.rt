@@ -1,4 +1,4 @@
-//! The Unix socket of a server: a file to which only the user who started it may connect.
+//! The Unix socket of a server: only the user that started the server may connect to it.
 
 use rme_cli_messages::{BadArgument, CliFault, escape_controls};
 use std::alloc::{AllocError, Global};

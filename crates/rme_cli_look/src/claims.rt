@@ -72,7 +72,7 @@ pub(crate) fn file_at(rt: &HostRuntime, path: &str) -> Result<FileNumber, CliFau
     }
 }
 
-/// Whether each of a file's workers has a living process; an empty list if the system does not tell.
+/// Whether each of a file's workers has a living process; an empty list if the system does not say.
 pub(crate) fn living_workers(
     rt: &HostRuntime,
     file: FileNumber,

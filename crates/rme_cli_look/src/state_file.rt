@@ -81,18 +81,22 @@ fn push_json(out: &mut String, recovered: &RecoveredState) -> Result<u8, AllocEr
 /// Appends a line for the epoch, for each lock and for each worker, and answers the status of the process.
 fn push_text(out: &mut String, recovered: &RecoveredState) -> Result<u8, AllocError> {
     let names = &recovered.log.names;
-    let told = status_view_of(recovered);
-    let epoch = told.epoch;
+    let source = status_view_of(recovered);
+    let epoch = source.epoch;
     write!(out, "epoch {epoch}\n")?;
-    push_locks(out, names, &told)?;
-    push_workers(out, names, &told)?;
+    push_locks(out, names, &source)?;
+    push_workers(out, names, &source)?;
     Ok(0)
 }
 
-fn push_locks(out: &mut String, names: &Names, told: &StatusSource<'_>) -> Result<(), AllocError> {
-    let sections = Sections::of(told.world);
+fn push_locks(
+    out: &mut String,
+    names: &Names,
+    source: &StatusSource<'_>,
+) -> Result<(), AllocError> {
+    let sections = Sections::of(source.world);
     for lock in 0..names.len() {
-        let Some(status) = lock_status(told, lock, &sections) else {
+        let Some(status) = lock_status(source, lock, &sections) else {
             continue;
         };
         let name = lock_name(names, lock);
@@ -113,10 +117,10 @@ fn push_locks(out: &mut String, names: &Names, told: &StatusSource<'_>) -> Resul
 fn push_workers(
     out: &mut String,
     names: &Names,
-    told: &StatusSource<'_>,
+    source: &StatusSource<'_>,
 ) -> Result<(), AllocError> {
-    for worker in 0..clients_of(told.world) {
-        let Some(status) = worker_status(told, worker) else {
+    for worker in 0..clients_of(source.world) {
+        let Some(status) = worker_status(source, worker) else {
             continue;
         };
         let had = if status.attached { "attached" } else { "down" };

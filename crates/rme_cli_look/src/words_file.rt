@@ -88,7 +88,7 @@ fn push_state(out: &mut String, rt: &HostRuntime, mapped: &ProcessFile) -> Resul
     Ok(())
 }
 
-/// Whether the file was made before the machine's last boot, as far as the system tells.
+/// Whether the file was made before the machine's last boot, as far as the system says.
 fn is_old(rt: &HostRuntime, mapped: &ProcessFile) -> bool {
     let Ok(boot) = fs::read(rt, BOOT) else {
         return false;

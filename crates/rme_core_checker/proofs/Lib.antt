@@ -2,5 +2,5 @@
 -- of a checker state; the effect of its changes on the machine's state.
 pub mod Tests
 pub mod Deciding
-pub mod Ledgers
+pub mod StateReads
 pub mod Taking

@@ -1,5 +1,7 @@
--- How a step is decided: tests for the column "Where" of the machine's steps, and total functions for the column
--- "Then". The steps are rme_machine's `ActEffect`; the proofs show in both directions that these decide it.
+-- An executable form of the machine's steps, which are rme_machine's `ActEffect`: tests for the column "Where", and
+-- total functions for the column "Then". The proofs show in both directions that these decide `ActEffect`. So a reader
+-- of the machine can stop here: no public contract cites this file. The decision itself is `is_step_admitted` and
+-- `state_after_act`; all definitions before them are their cases, by stance or by act.
 use Rattle.std.specs.Prelude.{ℕ, ◌+◌, ◌==◌, nat_lt, Bool, true, false, not, ◌&&◌, List, [], ◌∷◌, ◌++◌, Option, Some, None, Result, Ok, Err, length, slice_get, slice_set}
 use Rattle.rme_words.specs.declared.shape.Shape.{Shape}
 use Rattle.rme_words.specs.declared.refusal.Refusal.{Refusal}

@@ -1,4 +1,4 @@
-//! The machine step that an event and its answer stand for.
+//! The machine step of an event and its answer.
 
 ghost use Rattle.std.specs.Prelude.{◌≡◌};
 ghost use Rattle.rme_machine.specs.Labels.{event_label};
@@ -24,7 +24,7 @@ pub fn event_label(event: &Event, answer: &Answer) -> Option<Label>
     }
 }
 
-/// The step that a note stands for.
+/// The step of a note.
 fn act_of_note(note: &Note) -> Act
     ensures { result ≡ act_of_note note.now }
 {

@@ -41,17 +41,17 @@ module _ (s : Shape) (lock : LockWords) (es : List Entry) (l : ℕ) where
   abbrev OwnedBy : Option Entry → ℕ → WorkerWords → Bool → Type 0
   OwnedBy last u own pending = OwnedLockIsValid s lock (placed_fold last) u own pending
 
-  owned_by : (u : ℕ) (own : WorkerWords) (pending : Bool) → OwnedLockInvariant s lock es l u own pending → OwnedBy (last_entry_of_lock es l) u own pending
+  owned_by : (u : ℕ) (own : WorkerWords) (pending : Bool) → OwnedLockInvariant s lock es l record { worker = u; words = own } pending → OwnedBy (last_entry_of_lock es l) u own pending
   owned_by u own true stands = stands
   owned_by u own false stands =
       let its : IsOwnersLastEntry es l u own.done stands.0 = stands.1 in
       subst (λ (last : Option Entry). OwnedBy last u own false) (sym its.found) (record { by = its.by; under = its.under }, stands.2)
 
-  owned_back : (u : ℕ) (own : WorkerWords) (pending : Bool) → OwnedBy (last_entry_of_lock es l) u own pending → OwnedLockInvariant s lock es l u own pending
+  owned_back : (u : ℕ) (own : WorkerWords) (pending : Bool) → OwnedBy (last_entry_of_lock es l) u own pending → OwnedLockInvariant s lock es l record { worker = u; words = own } pending
   owned_back u own true stands = stands
   owned_back u own false stands = go (last_entry_of_lock es l) refl stands
     where
-      go : (last : Option Entry) → last_entry_of_lock es l ≡ last → OwnedBy last u own false → OwnedLockInvariant s lock es l u own false
+      go : (last : Option Entry) → last_entry_of_lock es l ≡ last → OwnedBy last u own false → OwnedLockInvariant s lock es l record { worker = u; words = own } false
       go None found none = absurd none
       go (Some e) found stands = (e, record { found = found; by = stands.0.by; under = stands.0.under }, stands.1)
 

@@ -108,7 +108,8 @@ fn is_finished_lock_valid(bank: &Bank, lock: u32, row: &Row, last: &Entry, worke
     requires script { IsScript bank.now.shape.cells last.now.script }
     ensures { IsTrue result ↔ (EntryIsLastJobOf last.now worker (bank_worker_words bank.now worker)
         × (IsSettledLock (bank_lock_words bank.now lock) row.now (last.now.receipt.place + 1)
-        ⊎ IsFinishedLock bank.now.shape (bank_lock_words bank.now lock) row.now (last.now.receipt.place + 1) last.now)) }
+        ⊎ IsFinishedLock bank.now.shape (bank_lock_words bank.now lock) row.now
+        (last.now.receipt.place + 1) last.now)) }
 {
     if !is_last_job_of(bank, last, worker) {
         return false;

@@ -18,7 +18,8 @@ use std::alloc::Global;
 /// One pass over the entries and one over the words. Takes memory for the rows and the last entries; `NoMemory` if that
 /// was refused.
 pub fn is_valid_memory(alloc: Global, bank: &Bank, entries: &EntryList) -> Result<bool, NoMemory>
-    ensures { IfOk result (λ good. IsTrue good ↔ IsValidMemory bank.now.shape (memory_of bank.now) entries.now.entries) }
+    ensures { IfOk result (λ good. IsTrue good ↔ IsValidMemory bank.now.shape (memory_of bank.now)
+        entries.now.entries) }
 {
     let shape = bank.shape();
     let rows = match replay(alloc, shape, entries) {

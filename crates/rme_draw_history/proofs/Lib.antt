@@ -1,4 +1,4 @@
 pub mod Adding
-pub mod Sights
+pub mod Observing
 pub mod Staying
 pub mod Writing

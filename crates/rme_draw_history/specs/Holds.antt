@@ -1,4 +1,4 @@
--- The holds of a picture: a stretch of a lock ends where the owner changes, crashes or restarts.
+-- The holds of a picture: a hold of a lock ends where the owner changes, crashes or restarts.
 use Rattle.std.specs.Prelude.{ℕ, zero, suc, ◌+◌, ◌==◌, map, Bool, true, false, ◌&&◌, Option, Some, None, List, [], ◌∷◌, ◌++◌, slice_get}
 use Rattle.std.specs.List.{range_with_len}
 use Rattle.rme_machine.specs.Machine.{WorkerState}
@@ -10,7 +10,7 @@ abbrev pub is_up_if_some : Option WorkerState → Bool
 is_up_if_some None = false
 is_up_if_some (Some me) = me.up
 
--- the stretch of a lock that begins at a line, if the lock has an owner there
+-- the hold of a lock that begins at a line, if the lock has an owner there
 abbrev pub hold_of_owner : Option ℕ → MachineView → ℕ → ℕ → Option Hold
 hold_of_owner None machine lock line = None
 hold_of_owner (Some owner) machine lock line =
@@ -43,7 +43,7 @@ abbrev pub hold_if_same : Bool → Option Hold → Option Hold → Option Hold
 hold_if_same true before now = before
 hold_if_same false before now = now
 
--- the stretch that a lock is in after a line
+-- the hold of a lock after a line
 abbrev pub hold_after : MachineView → ℕ → ℕ → Option Hold → Option Hold
 hold_after machine line lock before =
     hold_if_same (are_same_hold before (hold_now machine lock line)) before (hold_now machine lock line)
@@ -57,7 +57,7 @@ abbrev pub holds_unless_same : Bool → Option Hold → ℕ → List Hold
 holds_unless_same true before line = []
 holds_unless_same false before line = hold_up_to before line
 
--- the stretch that a line ends, if it ends one
+-- the hold that a line ends, if it ends one
 abbrev pub ended_hold : MachineView → ℕ → ℕ → Option Hold → List Hold
 ended_hold machine line lock before = holds_unless_same (are_same_hold before (hold_now machine lock line)) before line
 
@@ -65,16 +65,16 @@ abbrev pub flat_hold : Option (Option Hold) → Option Hold
 flat_hold None = None
 flat_hold (Some before) = before
 
--- the stretch that a lock was in
+-- the hold of a lock before the line
 abbrev pub hold_at : List (Option Hold) → ℕ → Option Hold
 hold_at old lock = flat_hold (slice_get old lock)
 
--- the stretches of all locks of the machine after a line
+-- the holds of all locks of the machine after a line
 abbrev pub holding_after : MachineView → ℕ → List (Option Hold) → List (Option Hold)
 holding_after machine line old =
     map (λ lock. hold_after machine line lock (hold_at old lock)) (range_with_len 0 machine.shape.locks)
 
--- the stretches that a line ends, of this number of locks from this one on
+-- the holds that a line ends, of this number of locks from this one on
 abbrev pub holds_from : MachineView → ℕ → List (Option Hold) → ℕ → ℕ → List Hold
 holds_from machine line old lock zero = []
 holds_from machine line old lock (suc count) =
@@ -83,7 +83,7 @@ holds_from machine line old lock (suc count) =
 abbrev pub holds_after : MachineView → ℕ → List (Option Hold) → List Hold
 holds_after machine line old = holds_from machine line old 0 machine.shape.locks
 
--- all stretches that end with the run
+-- all holds that end with the run
 abbrev pub holds_at_end : List (Option Hold) → ℕ → List Hold
 holds_at_end [] to = []
 holds_at_end (before ∷ all) to = hold_up_to before to ++ holds_at_end all to

@@ -1,5 +1,5 @@
--- In reading order: the phase that a worker is drawn in, what a line says, the stays and the holds, and the picture of
--- a run.
+-- In reading order: the phase in which a worker is drawn, the event of a line, the stays and the holds, and the picture
+-- of a run.
 pub mod Phases
 pub mod LineMarks
 pub mod Stays

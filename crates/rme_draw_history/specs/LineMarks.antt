@@ -1,30 +1,30 @@
--- What a line of a transcript says of its worker.
+-- The event of a line of a transcript, for its worker.
 use Rattle.std.specs.Prelude.{ℕ, Bool, true, false, Option, Some, None, List, [], ◌∷◌}
 use Rattle.rme_program.specs.declared.note.Note.{Note}
 use Rattle.rme_program.specs.declared.note.Note.TheVariants as note
 use Rattle.rme_line_text.specs.declared.event.EventLine.{EventLine}
 use Rattle.rme_line_text.specs.declared.event.EventLine.TheVariants as line
 use Rattle.rme_draw_picture.specs.declared.mark_kind.MarkKind.{MarkKind}
-use Rattle.rme_draw_picture.specs.declared.mark_kind.MarkKind.TheVariants as told
+use Rattle.rme_draw_picture.specs.declared.mark_kind.MarkKind.TheVariants as mark
 use Rattle.rme_draw_picture.specs.declared.drawing.Mark.{Mark}
 
 abbrev pub mark_kind_of_note : Note → Option MarkKind
 mark_kind_of_note note.Quiet = None
-mark_kind_of_note (note.Asked number) = Some (told.Asked number)
-mark_kind_of_note note.Blocked = Some told.Blocked
-mark_kind_of_note (note.Entered lock) = Some told.Entered
-mark_kind_of_note (note.Reentered lock) = Some told.Reentered
-mark_kind_of_note (note.Finished receipt) = Some (told.Finished receipt.number)
-mark_kind_of_note (note.Left lock) = Some told.Left
-mark_kind_of_note note.Ready = Some told.Ready
-mark_kind_of_note (note.Withdrew number) = Some (told.Withdrew number)
+mark_kind_of_note (note.Asked number) = Some (mark.Asked number)
+mark_kind_of_note note.Blocked = Some mark.Blocked
+mark_kind_of_note (note.Entered lock) = Some mark.Entered
+mark_kind_of_note (note.Reentered lock) = Some mark.Reentered
+mark_kind_of_note (note.Finished receipt) = Some (mark.Finished receipt.number)
+mark_kind_of_note (note.Left lock) = Some mark.Left
+mark_kind_of_note note.Ready = Some mark.Ready
+mark_kind_of_note (note.Withdrew number) = Some (mark.Withdrew number)
 
 -- a quiet step has no mark
 abbrev pub mark_kind_of : EventLine → Option MarkKind
-mark_kind_of (line.Submit handed) = Some (told.Submit handed.number)
-mark_kind_of (line.Crash worker) = Some told.Crash
-mark_kind_of (line.Restart worker) = Some told.Restart
-mark_kind_of (line.Withdraw worker) = Some told.Withdraw
+mark_kind_of (line.Submit handed) = Some (mark.Submit handed.number)
+mark_kind_of (line.Crash worker) = Some mark.Crash
+mark_kind_of (line.Restart worker) = Some mark.Restart
+mark_kind_of (line.Withdraw worker) = Some mark.Withdraw
 mark_kind_of (line.Note worker noted) = mark_kind_of_note noted
 
 abbrev pub line_worker : EventLine → ℕ
@@ -45,12 +45,12 @@ line_job_number (line.Note worker noted) = 0
 -- the mark of a line, if it has one
 abbrev pub marks_by : Option MarkKind → ℕ → ℕ → List Mark
 marks_by None worker at = []
-marks_by (Some what) worker at = record { line = at; worker = worker; told = what } ∷ []
+marks_by (Some what) worker at = record { line = at; worker = worker; kind = what } ∷ []
 
 abbrev pub marks_at : EventLine → ℕ → List Mark
-marks_at told at = marks_by (mark_kind_of told) (line_worker told) at
+marks_at event_line at = marks_by (mark_kind_of event_line) (line_worker event_line) at
 
--- the line, if it says that the worker withdrew its job
+-- the line, if by it the worker withdrew its job
 abbrev pub withdrawal_line_of_note : Note → ℕ → Option ℕ
 withdrawal_line_of_note note.Quiet at = None
 withdrawal_line_of_note (note.Asked number) at = None
@@ -69,7 +69,7 @@ withdrawal_line (line.Restart worker) at = None
 withdrawal_line (line.Withdraw worker) at = None
 withdrawal_line (line.Note worker noted) at = withdrawal_line_of_note noted at
 
--- whether a note says that the worker became ready
+-- whether by a note the worker became ready
 abbrev pub is_ready_note : Note → Bool
 is_ready_note note.Quiet = false
 is_ready_note (note.Asked number) = false

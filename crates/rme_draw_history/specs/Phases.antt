@@ -1,4 +1,4 @@
--- The phase that a worker is drawn in, from the machine's state of it and its last line; and when that is its section.
+-- The phase in which a worker is drawn, from the machine's state of it and its last line; and when that is its section.
 use Rattle.std.specs.Prelude.{ℕ, Bool, true, false}
 use Rattle.rme_program.specs.declared.note.Note.{Note}
 use Rattle.rme_program.specs.declared.note.Note.TheVariants as note
@@ -42,7 +42,7 @@ is_without_lock phase.Down = false
 
 -- ---- the phase after a line
 
--- the phases in their order
+-- the phases in order
 abbrev pub drawn_phase_rank : DrawnPhase → ℕ
 drawn_phase_rank phase.Ready = 0
 drawn_phase_rank phase.Post = 1
@@ -110,11 +110,11 @@ owner_phase true other = other
 owner_phase false other = phase.Recover
 
 abbrev pub phase_of_up_worker : EventLine → Bool → DrawnPhase → Bool → JobStance → DrawnPhase
-phase_of_up_worker told are_few before entered Idle = idle_phase_after told are_few before
-phase_of_up_worker told are_few before entered (Handed job) = phase.Post
-phase_of_up_worker told are_few before entered (Waiting k job) = waiting_phase_after told before
-phase_of_up_worker told are_few before entered (Inside k job) = owner_phase entered phase.Section
-phase_of_up_worker told are_few before entered (Finished k job) = owner_phase entered phase.Exit
+phase_of_up_worker event_line are_few before entered Idle = idle_phase_after event_line are_few before
+phase_of_up_worker event_line are_few before entered (Handed job) = phase.Post
+phase_of_up_worker event_line are_few before entered (Waiting k job) = waiting_phase_after event_line before
+phase_of_up_worker event_line are_few before entered (Inside k job) = owner_phase entered phase.Section
+phase_of_up_worker event_line are_few before entered (Finished k job) = owner_phase entered phase.Exit
 
 abbrev pub phase_if_up : Bool → DrawnPhase → DrawnPhase
 phase_if_up true up = up
@@ -123,4 +123,5 @@ phase_if_up false up = phase.Down
 -- THE PHASE OF A WORKER with this state in the machine after a line of it, and the given phase before the line;
 -- `are_few` says whether there are at most two workers
 abbrev pub phase_after : EventLine → Bool → DrawnPhase → WorkerState → DrawnPhase
-phase_after told are_few before me = phase_if_up me.up (phase_of_up_worker told are_few before me.entered me.stance)
+phase_after event_line are_few before me =
+    phase_if_up me.up (phase_of_up_worker event_line are_few before me.entered me.stance)

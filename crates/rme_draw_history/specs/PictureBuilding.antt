@@ -22,7 +22,8 @@ use Rattle.rme_draw_history.specs.Holds.{holding_after, holds_after, holds_at_en
 use Rattle.rme_draw_history.specs.Stays.{first_stay, ongoing_stays_after, ended_stays_after, stays_at_end}
 use Rattle.rme_draw_history.specs.LineMarks.{marks_at, line_job_number}
 
--- The observations so far: a picture of what has ended, the stay that each worker is in, and the stretch of each lock.
+-- The observations so far: a picture of what has ended, the present stay of each worker, and the present hold of each
+-- lock.
 pub record PictureState : Type 0 where
   pub picture : Picture
   pub staying : List OngoingStay
@@ -44,7 +45,7 @@ empty_picture_state = record { picture = empty_picture; staying = []; holding = 
 abbrev pub next_line_number : ℕ → ℕ
 next_line_number line = min (line + 1) (2 ^ 64 - 1)
 
--- a section that a line finished, and what the cells of its lock held after it
+-- a section that a line finished, and the cells of its lock after it
 abbrev pub finish_if_lock : Bool → Receipt → MachineView → ℕ → List Finish
 finish_if_lock true receipt machine at =
     record { line = at; receipt = receipt; cells = lock_row machine.shape machine.state.history receipt.lock } ∷ []
@@ -89,32 +90,33 @@ first_picture_state names machine = record {
 
 -- what a line adds, given the machine after it
 abbrev pub picture_state_after_line : ℕ → EventLine → MachineView → PictureState → PictureState
-picture_state_after_line at told machine old = record {
+picture_state_after_line at event_line machine old = record {
   picture = record {
     workers = old.picture.workers;
     names = old.picture.names;
     line = at;
-    number = max old.picture.number (line_job_number told);
-    stays = old.picture.stays ++ ended_stays_after told at machine old.staying;
+    number = max old.picture.number (line_job_number event_line);
+    stays = old.picture.stays ++ ended_stays_after event_line at machine old.staying;
     holds = old.picture.holds ++ holds_after machine at old.holding;
-    marks = old.picture.marks ++ marks_at told at;
-    finishes = old.picture.finishes ++ finishes_of_line told machine at;
+    marks = old.picture.marks ++ marks_at event_line at;
+    finishes = old.picture.finishes ++ finishes_of_line event_line machine at;
   };
-  staying = ongoing_stays_after told at machine old.staying;
+  staying = ongoing_stays_after event_line at machine old.staying;
   holding = holding_after machine at old.holding;
 }
 
 abbrev pub picture_state_after : CheckObservation → PictureState → PictureState
 picture_state_after (begins names machine) old = first_picture_state names machine
-picture_state_after (takes told machine) old =
-    picture_state_after_line (next_line_number old.picture.line) told machine old
+picture_state_after (takes event_line machine) old =
+    picture_state_after_line (next_line_number old.picture.line) event_line machine old
 
 -- all observations in turn
 abbrev pub picture_state_after_all : PictureState → List CheckObservation → PictureState
 picture_state_after_all old [] = old
-picture_state_after_all old (sight ∷ sights) = picture_state_after_all (picture_state_after sight old) sights
+picture_state_after_all old (observation ∷ observations) =
+    picture_state_after_all (picture_state_after observation old) observations
 
--- all stays and stretches end one line after the last
+-- all stays and holds end one line after the last
 abbrev pub picture_ended_at : ℕ → PictureState → Picture
 picture_ended_at to old = record {
   workers = old.picture.workers;
@@ -132,10 +134,10 @@ ended_picture old = picture_ended_at (next_line_number old.picture.line) old
 
 -- THE PICTURE of the observations of a run
 abbrev pub picture_of_run : List CheckObservation → Picture
-picture_of_run sights = ended_picture (picture_state_after_all empty_picture_state sights)
+picture_of_run observations = ended_picture (picture_state_after_all empty_picture_state observations)
 
 -- the written text is a painter's text of the picture of a transcript
 abbrev pub PictureWritten : (Picture → List ℕ → Type 0) → Option (List ℕ) → Option (List ℕ) → Option (List ℕ) → Type 0
 PictureWritten paints input before after =
-    (lines : List InputLine) × (sights : List CheckObservation) × (text : List ℕ) × AreInputLines input lines
-    × TranscriptObservations lines sights × paints (picture_of_run sights) text × Appends before after text
+    (lines : List InputLine) × (observations : List CheckObservation) × (text : List ℕ) × AreInputLines input lines
+    × TranscriptObservations lines observations × paints (picture_of_run observations) text × Appends before after text

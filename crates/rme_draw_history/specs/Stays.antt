@@ -1,4 +1,4 @@
--- The stays of a picture: a stay of a worker ends at the line that finds the worker in another phase.
+-- The stays of a picture: a stay of a worker ends at the line after which the worker is in another phase.
 use Rattle.std.specs.Prelude.{ℕ, ◌==◌, nat_lt, nat_le, Bool, true, false, not, ◌&&◌, Option, Some, None, List, [], ◌∷◌, ◌++◌, length, slice_get, slice_set}
 use Rattle.rme_machine.specs.declared.stance.JobStance.{JobStance}
 use Rattle.rme_machine.specs.declared.stance.JobStance.TheVariants.{Idle, Handed, Waiting, Inside, Finished}
@@ -32,7 +32,7 @@ stay_ending_at stay to =
 abbrev pub stay_up_to : DrawnStay → ℕ → List DrawnStay
 stay_up_to stay to = stay_unless_empty (nat_lt stay.from to) (stay_ending_at stay to)
 
--- a worker that withdrew its job was ready at once, unless a later note says that it became ready
+-- a worker that withdrew its job was ready at once, unless it became ready by a later note
 abbrev pub stays_split_if : Bool → DrawnStay → ℕ → ℕ → List DrawnStay
 stays_split_if true stay line to = stay_up_to stay line ++ stay_up_to (ready_stay_from stay.worker line) to
 stays_split_if false stay line to = stay_up_to stay to
@@ -60,55 +60,62 @@ first_if_some (Some line) later = Some line
 
 -- the phase after the line is the one before it
 abbrev pub stay_goes_on : EventLine → Bool → WorkerState → OngoingStay → Bool
-stay_goes_on told are_few_workers me before =
-    drawn_phase_rank (phase_after told are_few_workers before.stay.phase me) == drawn_phase_rank before.stay.phase
+stay_goes_on event_line are_few_workers me before =
+    drawn_phase_rank (phase_after event_line are_few_workers before.stay.phase me) == drawn_phase_rank before.stay.phase
 
 -- the stay continues, or another begins
 abbrev pub next_stay_by : Bool → EventLine → ℕ → DrawnPhase → WorkerState → OngoingStay → OngoingStay
-next_stay_by true told line phase me before =
-    record { stay = before.stay; gave_up = first_if_some before.gave_up (withdrawal_line told line) }
-next_stay_by false told line phase me before = record {
-  stay = record { worker = line_worker told; phase = phase; lock = stance_lock me.stance; from = line; to = line };
-  gave_up = withdrawal_line told line;
+next_stay_by true event_line line phase me before =
+    record { stay = before.stay; gave_up = first_if_some before.gave_up (withdrawal_line event_line line) }
+next_stay_by false event_line line phase me before = record {
+  stay = record {
+    worker = line_worker event_line;
+    phase = phase;
+    lock = stance_lock me.stance;
+    from = line;
+    to = line;
+  };
+  gave_up = withdrawal_line event_line line;
 }
 
 abbrev pub next_stay : EventLine → ℕ → Bool → WorkerState → OngoingStay → OngoingStay
-next_stay told line are_few_workers me before =
-    next_stay_by (stay_goes_on told are_few_workers me before) told line
-    (phase_after told are_few_workers before.stay.phase me) me before
+next_stay event_line line are_few_workers me before =
+    next_stay_by (stay_goes_on event_line are_few_workers me before) event_line line
+    (phase_after event_line are_few_workers before.stay.phase me) me before
 
 abbrev pub stays_ended_by : Bool → EventLine → ℕ → OngoingStay → List DrawnStay
-stays_ended_by true told line before = []
-stays_ended_by false told line before = stays_over before line (is_ready_line told)
+stays_ended_by true event_line line before = []
+stays_ended_by false event_line line before = stays_over before line (is_ready_line event_line)
 
 abbrev pub stays_ended : EventLine → ℕ → Bool → WorkerState → OngoingStay → List DrawnStay
-stays_ended told line are_few_workers me before =
-    stays_ended_by (stay_goes_on told are_few_workers me before) told line before
+stays_ended event_line line are_few_workers me before =
+    stays_ended_by (stay_goes_on event_line are_few_workers me before) event_line line before
 
 abbrev pub are_few_workers : List OngoingStay → Bool
 are_few_workers all = nat_le (length all) 2
 
--- the stays that the workers are in after a line, and the stay that the line ended, which can only be its own worker's
+-- the present stays of the workers after a line, and the stay that the line ended, which can only be its own worker's
 abbrev pub ongoing_stays_by : Option WorkerState → Option OngoingStay → EventLine → ℕ → List OngoingStay
     → List OngoingStay
-ongoing_stays_by None found told line all = all
-ongoing_stays_by (Some me) None told line all = all
-ongoing_stays_by (Some me) (Some before) told line all =
-    slice_set all (line_worker told) (next_stay told line (are_few_workers all) me before)
+ongoing_stays_by None found event_line line all = all
+ongoing_stays_by (Some me) None event_line line all = all
+ongoing_stays_by (Some me) (Some before) event_line line all =
+    slice_set all (line_worker event_line) (next_stay event_line line (are_few_workers all) me before)
 
 abbrev pub ongoing_stays_after : EventLine → ℕ → MachineView → List OngoingStay → List OngoingStay
-ongoing_stays_after told line machine all =
-    ongoing_stays_by (slice_get machine.state.workers (line_worker told)) (slice_get all (line_worker told)) told line
-    all
+ongoing_stays_after event_line line machine all =
+    ongoing_stays_by (slice_get machine.state.workers (line_worker event_line)) (slice_get all (line_worker event_line))
+    event_line line all
 
 abbrev pub ended_stays_by : Option WorkerState → Option OngoingStay → EventLine → ℕ → List OngoingStay → List DrawnStay
-ended_stays_by None found told line all = []
-ended_stays_by (Some me) None told line all = []
-ended_stays_by (Some me) (Some before) told line all = stays_ended told line (are_few_workers all) me before
+ended_stays_by None found event_line line all = []
+ended_stays_by (Some me) None event_line line all = []
+ended_stays_by (Some me) (Some before) event_line line all = stays_ended event_line line (are_few_workers all) me before
 
 abbrev pub ended_stays_after : EventLine → ℕ → MachineView → List OngoingStay → List DrawnStay
-ended_stays_after told line machine all =
-    ended_stays_by (slice_get machine.state.workers (line_worker told)) (slice_get all (line_worker told)) told line all
+ended_stays_after event_line line machine all =
+    ended_stays_by (slice_get machine.state.workers (line_worker event_line)) (slice_get all (line_worker event_line))
+    event_line line all
 
 -- all stays that end with the run
 abbrev pub stays_at_end : List OngoingStay → ℕ → List DrawnStay

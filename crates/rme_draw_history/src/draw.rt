@@ -14,12 +14,12 @@ use rme_line_check::{Verdict, watch_lines};
 use rme_wire::{EngineFault, LineReader, Sink, Source};
 use std::alloc::Global;
 
-/// Checks a transcript as `check_lines` does, and draws it where the verdict is yes: a timeline in SVG, with a row for
+/// Checks a transcript as `check_lines` does, and draws it if the verdict is yes: a timeline in SVG, with a row for
 /// each worker and for each lock, and a column for each line.
 ///
-/// After any other verdict nothing is written, and so it is after each fault but `WriteFailed`, which leaves a front of
-/// the picture. `NoMemory` says that there was no room for a line, the machine or what was seen of the run, all of
-/// which grow with the transcript; the picture's text is written as it is made.
+/// After any other verdict nothing is written, nor after any fault but `WriteFailed`, after which a prefix of the
+/// picture was written. `NoMemory` means that there was no room for a line, the machine or the drawing, all of which
+/// grow with the transcript; the picture's text is written as it is made.
 pub fn draw_lines<R: Source + Drop, W: Sink>(
     alloc: Global,
     lines: &mut LineReader<R>,
@@ -70,7 +70,7 @@ pub fn draw_with<R: Source + Drop, W: Sink, P: Paint>(
     }
 }
 
-/// Writes the picture of all that was seen after the verdict yes, and nothing after another.
+/// Writes the picture of the run after the verdict yes, and nothing after another.
 fn write_if_yes<W: Sink, P: Paint>(
     verdict: Verdict,
     follower: &mut PictureBuilder,

@@ -1,4 +1,4 @@
-//! The stretches of locks with their owners.
+//! The holds of locks by their owners.
 
 ghost use Rattle.std.specs.Prelude.{◌≡◌, ◌++◌, IfOk, OnOk, slice_get};
 ghost use Rattle.rme_draw_history.specs.Holds as spec;
@@ -7,7 +7,7 @@ use rme_core_checker::Machine;
 use rme_draw_picture::Hold;
 use std::alloc::{AllocError, Global};
 
-/// Adds the stretches of locks whose owner is another now, fell or came up.
+/// Adds the holds that a line ended: those of locks whose owner changed, crashed or restarted.
 pub fn push_holds(
     holds: &mut Vec<Hold>,
     holding: &[Option<Hold>],
@@ -23,7 +23,7 @@ pub fn push_holds(
     Ok(())
 }
 
-/// The stretch that a lock was in.
+/// The present hold of a lock.
 fn hold_at(holding: &[Option<Hold>], lock: u32) -> Option<Hold>
     ensures { result ≡ spec.hold_at holding.now lock }
 {
@@ -33,7 +33,7 @@ fn hold_at(holding: &[Option<Hold>], lock: u32) -> Option<Hold>
     }
 }
 
-/// Adds the stretch of a lock that a line ended, if it ended one.
+/// Adds the hold of a lock that a line ended, if it ended one.
 fn push_ended(
     holds: &mut Vec<Hold>,
     before: Option<Hold>,
@@ -50,7 +50,7 @@ fn push_ended(
     push_hold(holds, before, line)
 }
 
-/// Adds a stretch up to a line, if there is one.
+/// Adds a hold up to a line, if there is one.
 fn push_hold(holds: &mut Vec<Hold>, hold: Option<Hold>, to: u64) -> Result<(), AllocError>
     ensures { OnOk result (holds.new.items ≡ holds.old.items ++ spec.hold_up_to hold to) }
 {
@@ -63,7 +63,7 @@ fn push_hold(holds: &mut Vec<Hold>, hold: Option<Hold>, to: u64) -> Result<(), A
     }
 }
 
-/// The stretches that the locks are in after a line.
+/// The holds of the locks after a line.
 pub fn holding_after(
     alloc: Global,
     holding: &[Option<Hold>],
@@ -78,7 +78,7 @@ pub fn holding_after(
         .collect(alloc)
 }
 
-/// The stretch that a lock is in after a line.
+/// The hold of a lock after a line.
 fn hold_after(machine: &Machine, line: u64, lock: u32, before: Option<Hold>) -> Option<Hold>
     ensures { result ≡ spec.hold_after machine.now line lock before }
 {
@@ -89,7 +89,7 @@ fn hold_after(machine: &Machine, line: u64, lock: u32, before: Option<Hold>) -> 
     now
 }
 
-/// The stretch of a lock that begins at a line, if the lock has an owner there.
+/// The hold of a lock that begins at a line, if the lock has an owner there.
 fn hold_now(machine: &Machine, lock: u32, line: u64) -> Option<Hold>
     ensures { result ≡ spec.hold_now machine.now lock line }
 {
@@ -105,7 +105,7 @@ fn hold_now(machine: &Machine, lock: u32, line: u64) -> Option<Hold>
     }
 }
 
-/// Whether there is the worker, and it is up.
+/// Whether there is such a worker, and it is up.
 fn is_up(machine: &Machine, worker: u32) -> bool
     ensures { result ≡ spec.is_up_if_some (slice_get machine.now.state.workers worker) }
 {
@@ -115,7 +115,7 @@ fn is_up(machine: &Machine, worker: u32) -> bool
     }
 }
 
-/// Whether a stretch goes on: the same owner, up or down as before, or none still.
+/// Whether a hold continues: the same owner, up or down as before, or still none.
 fn are_same_hold(before: &Option<Hold>, now: &Option<Hold>) -> bool
     ensures { result ≡ spec.are_same_hold before.now now.now }
 {
@@ -134,7 +134,7 @@ fn is_same_flag(before: bool, now: bool) -> bool
     if before { now } else { !now }
 }
 
-/// Adds all stretches that go on, which end at a line.
+/// Adds all holds that end with the run.
 pub fn push_last_holds(
     holds: &mut Vec<Hold>,
     all: &[Option<Hold>],

@@ -1,11 +1,11 @@
 //! A picture of a run: a transcript drawn as a timeline in SVG.
 //!
-//! The crate stands on rme_line_check, whose check of a transcript it watches, on rme_core_checker, from whose machine
-//! it reads what it draws, on rme_draw_picture, which writes the picture's text, and on rme_wire for lines and names;
-//! on rme_line_text, rme_line_io, rme_machine, rme_program and rme_words for what these speak of. The one contract that
-//! the program uses is that of `draw_lines`: it answers the verdict of the check, after yes it writes the picture of
-//! the run, and else nothing. Begin with `draw.rt`, then `specs/PictureBuilding.antt`, what a picture shows of a run;
-//! `picture_builder.rt` gathers that.
+//! The crate stands on rme_line_check, whose check of a transcript it observes; on rme_core_checker, whose machine it
+//! draws; on rme_draw_picture, which writes the picture's text; on rme_wire for lines and names; and on rme_line_text,
+//! rme_line_io, rme_machine, rme_program and rme_words for their types. The program uses one contract, that of
+//! `draw_lines`: it answers the verdict of the check, writes the picture of the run if that is yes, and writes nothing
+//! if it is not. Begin with `draw.rt`, then `specs/PictureBuilding.antt`, which defines the picture of a run;
+//! `picture_builder.rt` builds it.
 #![tactic(auto)]
 
 mod draw;

@@ -1,4 +1,4 @@
-//! What a line of a transcript tells.
+//! The event of a line of a transcript.
 
 ghost use Rattle.std.specs.Prelude.{◌≡◌, ◌++◌, OnOk};
 ghost use Rattle.rme_draw_history.specs.LineMarks as spec;
@@ -8,21 +8,21 @@ use rme_line_text::EventLine;
 use rme_program::Note;
 use std::alloc::AllocError;
 
-/// Adds the mark of a line, if it tells something.
-pub fn push_mark(marks: &mut Vec<Mark>, told: &EventLine, line: u64) -> Result<(), AllocError>
-    ensures { OnOk result (marks.new.items ≡ marks.old.items ++ spec.marks_at told.now line) }
+/// Adds the mark of a line, if it has one.
+pub fn push_mark(marks: &mut Vec<Mark>, event_line: &EventLine, line: u64) -> Result<(), AllocError>
+    ensures { OnOk result (marks.new.items ≡ marks.old.items ++ spec.marks_at event_line.now line) }
 {
-    let worker = line_worker(told);
-    match mark_kind_of(told) {
-        Some(told) => {
-            marks.push(Mark { line, worker, told })?;
+    let worker = line_worker(event_line);
+    match mark_kind_of(event_line) {
+        Some(kind) => {
+            marks.push(Mark { line, worker, kind })?;
             Ok(())
         }
         None => Ok(()),
     }
 }
 
-/// What a line tells of its worker; a quiet step tells nothing.
+/// The event of a line, for its worker; a quiet step has none.
 fn mark_kind_of(line: &EventLine) -> Option<MarkKind>
     ensures { result ≡ spec.mark_kind_of line.now }
 {
@@ -51,7 +51,7 @@ fn mark_kind_of_note(note: &Note) -> Option<MarkKind>
     }
 }
 
-/// The worker that a line tells of.
+/// The worker of a line.
 pub fn line_worker(line: &EventLine) -> u32
     ensures { result ≡ spec.line_worker line.now }
 {
@@ -64,21 +64,21 @@ pub fn line_worker(line: &EventLine) -> u32
     }
 }
 
-/// The number of a job that a line tells, or 0.
-pub fn line_job_number(told: &EventLine) -> u32
-    ensures { result ≡ spec.line_job_number told.now }
+/// The job number of a line, or 0.
+pub fn line_job_number(event_line: &EventLine) -> u32
+    ensures { result ≡ spec.line_job_number event_line.now }
 {
-    match told {
+    match event_line {
         EventLine::Submit(handed) => handed.number,
         _ => 0,
     }
 }
 
-/// The line, where it tells that the worker gave its job up.
-pub fn withdrawal_line(told: &EventLine, line: u64) -> Option<u64>
-    ensures { result ≡ spec.withdrawal_line told.now line }
+/// The line, if by it the worker withdrew its job.
+pub fn withdrawal_line(event_line: &EventLine, line: u64) -> Option<u64>
+    ensures { result ≡ spec.withdrawal_line event_line.now line }
 {
-    match told {
+    match event_line {
         EventLine::Note(_, note) => withdrawal_line_of_note(note, line),
         _ => None,
     }
@@ -93,11 +93,11 @@ fn withdrawal_line_of_note(note: &Note, line: u64) -> Option<u64>
     }
 }
 
-/// Whether it tells that the worker became ready.
-pub fn is_ready_line(told: &EventLine) -> bool
-    ensures { result ≡ spec.is_ready_line told.now }
+/// Whether by it the worker became ready.
+pub fn is_ready_line(event_line: &EventLine) -> bool
+    ensures { result ≡ spec.is_ready_line event_line.now }
 {
-    match told {
+    match event_line {
         EventLine::Note(_, note) => is_ready_note(note),
         _ => false,
     }

@@ -1,4 +1,4 @@
-//! The phase that a worker is drawn in.
+//! The phase in which a worker is drawn.
 
 ghost use Rattle.std.specs.Prelude.{◌≡◌, ◌==◌, ◌↔◌, true, false};
 ghost use Rattle.rme_draw_history.specs.Phases as spec;
@@ -10,11 +10,10 @@ use rme_line_text::EventLine;
 use rme_machine::JobStance;
 use rme_program::Note;
 
-/// The phase of a worker of which the machine knows this after a line that told of it.
+/// The phase of a worker, from the machine's state of it after a line of that worker.
 ///
-/// Where two workers share a world, or one has it alone, the step that leaves a lock makes the worker ready, as does
-/// the one that withdraws; `are_few_workers` says that. Quiet steps are not in a transcript: a recovery is drawn up to
-/// the next note.
+/// `are_few` says that a world has one worker or two. There, the step that leaves a lock makes the worker
+/// ready, as does the one that withdraws. Quiet steps are not in a transcript: a recovery is drawn up to the next note.
 pub fn phase_after(
     me: &CheckedWorker,
     line: &EventLine,
@@ -98,7 +97,7 @@ fn idle_phase_after_note(note: &Note, are_few: bool, before: DrawnPhase) -> Draw
     }
 }
 
-/// The phase of a worker that left its lock or gave its job up.
+/// The phase of a worker that left its lock or withdrew its job.
 fn phase_after_leaving(are_few: bool) -> DrawnPhase
     ensures phase { result ≡ spec.phase_after_leaving are_few }
     ensures without_lock { is_without_lock result ≡ true }
@@ -110,7 +109,7 @@ fn phase_after_leaving(are_few: bool) -> DrawnPhase
     }
 }
 
-/// The phase after a step that tells nothing: a worker that recovers or leaves is still at it.
+/// The phase after a step without a note: a worker that recovers or leaves still does so.
 fn phase_after_quiet(before: DrawnPhase, other: DrawnPhase) -> DrawnPhase
     ensures phase { result ≡ spec.phase_after_quiet before other }
     ensures without_lock { is_without_lock other ≡ true → is_without_lock result ≡ true }
@@ -128,7 +127,7 @@ pub fn are_same_phase(phase: DrawnPhase, other: DrawnPhase) -> bool
     drawn_phase_rank(phase) == drawn_phase_rank(other)
 }
 
-/// The place of a phase among the phases.
+/// The index of a phase among the phases.
 fn drawn_phase_rank(phase: DrawnPhase) -> u8
     ensures { result ≡ spec.drawn_phase_rank phase }
 {

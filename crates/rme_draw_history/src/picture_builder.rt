@@ -1,4 +1,4 @@
-//! What follows a run, and gathers what its picture shows.
+//! The observer of a run, which builds its picture.
 
 ghost use Rattle.std.specs.Prelude.{◌≡◌, ◌++◌, IfOk, OnOk, map, nat_lt, string_bytes};
 ghost use Rattle.rme_draw_history.specs.PictureBuilding as spec;
@@ -16,15 +16,15 @@ use rme_wire::{EngineFault, Sink};
 use rme_words::NoMemory;
 use std::alloc::{AllocError, Global};
 
-/// What was seen of a run so far.
+/// The observations of a run so far.
 #[derive(Drop)]
 pub struct PictureBuilder {
     pub alloc: Global,
-    /// What is over.
+    /// What has ended.
     pub drawing: Drawing,
-    /// For each worker the stay that it is in.
+    /// For each worker its present stay.
     pub staying: Vec<OngoingStay>,
-    /// For each lock the stretch that it is in, if it has an owner.
+    /// For each lock its present hold, if it has an owner.
     pub holding: Vec<Option<Hold>>,
 }
 
@@ -32,7 +32,7 @@ impl CheckObserver for PictureBuilder {
     ghost use Rattle.std.specs.Prelude.{◌≡◌};
     ghost use Rattle.rme_draw_history.specs.PictureBuilding as spec;
 
-    ghost sees = { λ old sight new. spec.picture_state_of new ≡ spec.picture_state_after sight
+    ghost sees = { λ old observation new. spec.picture_state_of new ≡ spec.picture_state_after observation
         (spec.picture_state_of old) };
 
     fn opened(&mut self, names: &Names, machine: &Machine) -> Result<(), NoMemory> {
@@ -58,7 +58,7 @@ impl PictureBuilder {
     ghost use Rattle.rme_draw_picture.specs.Pictures.{picture_of_drawing};
     ghost use Rattle.rme_draw_history.specs.PictureBuilding as spec;
 
-    /// Nothing was seen yet.
+    /// Without an observation.
     pub fn new(alloc: Global) -> PictureBuilder
         ensures { spec.picture_state_of result ≡ spec.empty_picture_state }
     {
@@ -70,8 +70,8 @@ impl PictureBuilder {
         }
     }
 
-    /// Writes the painter's text of the picture of all that was seen, which ends here. Memory is taken before anything
-    /// is written.
+    /// Writes the painter's text of the picture of the run, which ends here. Memory is taken before anything is
+    /// written.
     pub fn write<W: Sink, P: Paint>(
         &mut self,
         writer: &mut W,
@@ -95,7 +95,7 @@ impl PictureBuilder {
         }
     }
 
-    /// The page on which the painter put the picture of all that was seen. After an error nothing was written.
+    /// The page on which the painter put the picture of the run. After an error nothing was written.
     fn painted<W: Sink, P: Paint>(
         &mut self,
         writer: &mut W,
@@ -114,7 +114,7 @@ impl PictureBuilder {
         Ok(page)
     }
 
-    /// Ends all that goes on, one line behind the last.
+    /// Ends all stays and holds, one line after the last.
     fn end(&mut self) -> Result<(), AllocError>
         ensures { OnOk result (picture_of_drawing self.new.drawing ≡ spec.ended_picture
             (spec.picture_state_of self.old)) }
@@ -143,21 +143,21 @@ impl PictureBuilder {
         Ok(())
     }
 
-    /// Notes what the last line told, and where the machine is after it.
-    fn add_line(&mut self, told: &EventLine, machine: &Machine) -> Result<(), AllocError>
+    /// Adds the event of the last line, and the machine's state after it.
+    fn add_line(&mut self, event_line: &EventLine, machine: &Machine) -> Result<(), AllocError>
         ensures { OnOk result (spec.picture_state_of self.new ≡ spec.picture_state_after_line
-            (spec.next_line_number self.old.drawing.line) told.now machine.now (spec.picture_state_of self.old)) }
+            (spec.next_line_number self.old.drawing.line) event_line.now machine.now (spec.picture_state_of self.old)) }
     {
         let line = self.drawing.line.saturating_add(1);
         let holding = holding_after(self.alloc, self.holding.as_slice(), machine, line)?;
         self.drawing.line = line;
-        self.drawing.number = self.drawing.number.max(line_job_number(told));
-        push_mark(&mut self.drawing.marks, told, line)?;
-        push_finishes(&mut self.drawing.finishes, told, machine, line)?;
+        self.drawing.number = self.drawing.number.max(line_job_number(event_line));
+        push_mark(&mut self.drawing.marks, event_line, line)?;
+        push_finishes(&mut self.drawing.finishes, event_line, machine, line)?;
         push_stay(
             &mut self.drawing.stays,
             &mut self.staying,
-            told,
+            event_line,
             machine,
             line,
         )?;
@@ -172,7 +172,7 @@ impl PictureBuilder {
     }
 }
 
-/// The names of the locks, each as a text of its own.
+/// The names of the locks, each as an own text.
 fn names_of(alloc: Global, names: &Names) -> Result<Vec<String>, AllocError>
     ensures { IfOk result (λ texts. map string_bytes texts.items ≡ names.now) }
 {
@@ -186,13 +186,14 @@ fn names_of(alloc: Global, names: &Names) -> Result<Vec<String>, AllocError>
 /// Adds the section that a line finished, if it finished one, and the cells after it.
 fn push_finishes(
     finishes: &mut Vec<Finish>,
-    told: &EventLine,
+    event_line: &EventLine,
     machine: &Machine,
     line: u64,
 ) -> Result<(), AllocError>
-    ensures { OnOk result (finishes.new.items ≡ finishes.old.items ++ spec.finishes_of_line told.now machine.now line) }
+    ensures { OnOk result (finishes.new.items ≡ finishes.old.items
+        ++ spec.finishes_of_line event_line.now machine.now line) }
 {
-    match told {
+    match event_line {
         EventLine::Note(_, note) => push_finishes_by(finishes, note, machine, line),
         _ => Ok(()),
     }

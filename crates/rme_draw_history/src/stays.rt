@@ -12,16 +12,16 @@ use rme_line_text::EventLine;
 use rme_machine::JobStance;
 use std::alloc::{AllocError, Global};
 
-/// The stay that a worker is in.
+/// The present stay of a worker.
 #[derive(Clone, Copy)]
 pub struct OngoingStay {
     pub stay: DrawnStay,
-    /// Where it gave its job up in this stay. Whether it has nodes to release the transcript does not tell; only where
-    /// it has does a note say later that it is ready.
+    /// The line at which it withdrew its job in this stay. The transcript does not say whether it has nodes to release;
+    /// only if it has, it becomes ready by a later note.
     pub gave_up: Option<u64>,
 }
 
-/// The stays that so many workers begin in: all are ready.
+/// The first stays of `workers` workers: all are ready.
 pub fn first_stays(alloc: Global, workers: u32) -> Result<Vec<OngoingStay>, AllocError>
     ensures { IfOk result (λ staying. staying.items ≡ map spec.first_stay (range_with_len 0 workers)) }
 {
@@ -37,20 +37,21 @@ fn first_stay(worker: u32) -> OngoingStay
     }
 }
 
-/// Begins a new stay where the worker of a line is in another phase now, and adds the one that is over.
+/// Begins a new stay if the worker of a line has changed its phase, and adds the one that has ended.
 pub fn push_stay(
     stays: &mut Vec<DrawnStay>,
     staying: &mut Vec<OngoingStay>,
-    told: &EventLine,
+    event_line: &EventLine,
     machine: &Machine,
     line: u64,
 ) -> Result<(), AllocError>
-    ensures over { OnOk result (stays.new.items ≡ stays.old.items ++ spec.ended_stays_after told.now line machine.now
+    ensures over { OnOk result (stays.new.items ≡ stays.old.items
+        ++ spec.ended_stays_after event_line.now line machine.now
         staying.old.items) }
-    ensures next { OnOk result (staying.new.items ≡ spec.ongoing_stays_after told.now line machine.now
+    ensures next { OnOk result (staying.new.items ≡ spec.ongoing_stays_after event_line.now line machine.now
         staying.old.items) }
 {
-    let worker = line_worker(told);
+    let worker = line_worker(event_line);
     let are_few = staying.len() <= 2;
     let Some(me) = machine.worker(worker) else {
         return Ok(());
@@ -59,12 +60,16 @@ pub fn push_stay(
         Some(before) => before,
         None => return Ok(()),
     };
-    let goes_on = stay_goes_on(told, are_few, me, before);
-    set_stay(staying, worker, next_stay(told, line, are_few, me, before));
-    push_ended(stays, told, line, goes_on, before)
+    let goes_on = stay_goes_on(event_line, are_few, me, before);
+    set_stay(
+        staying,
+        worker,
+        next_stay(event_line, line, are_few, me, before),
+    );
+    push_ended(stays, event_line, line, goes_on, before)
 }
 
-/// The stay that a worker is in, if there is the worker.
+/// The present stay of a worker, if there is such a worker.
 fn stay_at(staying: &[OngoingStay], worker: u32) -> Option<OngoingStay>
     ensures { result ≡ slice_get staying.now worker }
 {
@@ -74,7 +79,7 @@ fn stay_at(staying: &[OngoingStay], worker: u32) -> Option<OngoingStay>
     }
 }
 
-/// Puts a worker into a stay, if there is the worker.
+/// Sets the present stay of a worker, if there is such a worker.
 fn set_stay(staying: &mut Vec<OngoingStay>, worker: u32, stay: OngoingStay)
     ensures { staying.new.items ≡ slice_set staying.old.items worker stay }
 {
@@ -84,34 +89,39 @@ fn set_stay(staying: &mut Vec<OngoingStay>, worker: u32, stay: OngoingStay)
     }
 }
 
-/// Whether the worker is in the phase that it was in.
-fn stay_goes_on(told: &EventLine, are_few: bool, me: &CheckedWorker, before: OngoingStay) -> bool
-    ensures { result ≡ spec.stay_goes_on told.now are_few me.now before }
+/// Whether the worker is still in the same phase.
+fn stay_goes_on(
+    event_line: &EventLine,
+    are_few: bool,
+    me: &CheckedWorker,
+    before: OngoingStay,
+) -> bool
+    ensures { result ≡ spec.stay_goes_on event_line.now are_few me.now before }
 {
     let phase = before.stay.phase;
-    are_same_phase(phase_after(me, told, are_few, phase), phase)
+    are_same_phase(phase_after(me, event_line, are_few, phase), phase)
 }
 
-/// The stay that the worker of a line is in after it.
+/// The stay of a line's worker after the line.
 fn next_stay(
-    told: &EventLine,
+    event_line: &EventLine,
     line: u64,
     are_few: bool,
     me: &CheckedWorker,
     before: OngoingStay,
 ) -> OngoingStay
-    ensures { result ≡ spec.next_stay told.now line are_few me.now before }
+    ensures { result ≡ spec.next_stay event_line.now line are_few me.now before }
 {
-    let gave_up = withdrawal_line(told, line);
-    if stay_goes_on(told, are_few, me, before) {
+    let gave_up = withdrawal_line(event_line, line);
+    if stay_goes_on(event_line, are_few, me, before) {
         return OngoingStay {
             stay: before.stay,
             gave_up: first_if_some(before.gave_up, gave_up),
         };
     }
     let stay = DrawnStay {
-        worker: line_worker(told),
-        phase: phase_after(me, told, are_few, before.stay.phase),
+        worker: line_worker(event_line),
+        phase: phase_after(me, event_line, are_few, before.stay.phase),
         lock: stance_lock(&me.stance()),
         from: line,
         to: line,
@@ -128,24 +138,25 @@ fn first_if_some(earlier: Option<u64>, later: Option<u64>) -> Option<u64>
     }
 }
 
-/// Adds the stay that a line ended, unless it goes on.
+/// Adds the stay that a line ended, unless it continues.
 fn push_ended(
     stays: &mut Vec<DrawnStay>,
-    told: &EventLine,
+    event_line: &EventLine,
     line: u64,
     goes_on: bool,
     before: OngoingStay,
 ) -> Result<(), AllocError>
-    ensures { OnOk result (stays.new.items ≡ stays.old.items ++ spec.stays_ended_by goes_on told.now line before) }
+    ensures { OnOk result (stays.new.items ≡ stays.old.items
+        ++ spec.stays_ended_by goes_on event_line.now line before) }
 {
     if goes_on {
         return Ok(());
     }
-    push_over(stays, before, line, is_ready_line(told))
+    push_over(stays, before, line, is_ready_line(event_line))
 }
 
-/// Adds a stay that is over. A worker that gave up, and of which no note tells that it became ready later, was so at
-/// once.
+/// Adds a stay that has ended. A worker that withdrew its job was ready at once, unless it became ready by a later
+/// note.
 pub fn push_over(
     stays: &mut Vec<DrawnStay>,
     over: OngoingStay,
@@ -163,7 +174,7 @@ pub fn push_over(
     }
 }
 
-/// Adds a stay, in two parts where the worker was ready from a line on.
+/// Adds a stay, in two parts if the worker was ready from a line on.
 fn push_split(
     stays: &mut Vec<DrawnStay>,
     stay: DrawnStay,
@@ -180,7 +191,7 @@ fn push_split(
     push_stretch(stays, ready_stay_from(stay.worker, line), to)
 }
 
-/// Adds a stay up to a line, unless it has none.
+/// Adds a stay up to a line, unless it is empty.
 fn push_stretch(stays: &mut Vec<DrawnStay>, stay: DrawnStay, to: u64) -> Result<(), AllocError>
     ensures { OnOk result (stays.new.items ≡ stays.old.items ++ spec.stay_up_to stay to) }
 {
@@ -190,7 +201,7 @@ fn push_stretch(stays: &mut Vec<DrawnStay>, stay: DrawnStay, to: u64) -> Result<
     Ok(())
 }
 
-/// A worker that is ready from a line on.
+/// The stay of a worker that is ready from a line on.
 fn ready_stay_from(worker: u32, line: u64) -> DrawnStay
     ensures { result ≡ spec.ready_stay_from worker line }
 {
@@ -216,7 +227,7 @@ fn stance_lock(stance: &JobStance) -> Option<u32>
     }
 }
 
-/// Adds all stays that go on, which end at a line.
+/// Adds all stays that end with the run.
 pub fn push_last_stays(
     stays: &mut Vec<DrawnStay>,
     all: &[OngoingStay],

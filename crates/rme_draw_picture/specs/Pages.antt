@@ -1,10 +1,11 @@
--- What is put on a page, and reaches its writer.
+-- The text that is put on a page and reaches its writer.
 use Rattle.std.specs.Prelude.{◌≡◌, ℕ, List, Bool, true, false, Option}
 use Rattle.rme_line_io.specs.BufferedWrites.{BufferedWrite}
 use Rattle.rme_line_io.specs.StreamEvents.{StreamEvent, LastWriteFailed, WritesMade}
 use Rattle.rme_draw_picture.specs.declared.page.Page.{Page}
 
--- A page and its writer: what is kept back, whether a write failed, what the writer holds, and what was asked of it.
+-- A page and its writer: the text in the page's buffer, whether a write failed, the writer's contents, and the events
+-- of the stream.
 pub record PageState : Type 0 where
   pub pending : List ℕ
   pub failed : Bool
@@ -15,8 +16,8 @@ abbrev pub page_state : {W : Type 0} → (W → Option (List ℕ)) → (W → Op
 page_state contents took page writer =
     record { pending = page.pending; failed = page.failed; contents = contents writer; took = took writer }
 
--- A text was put behind what was kept back: what was written and what is kept back are all of it, in order. A page
--- whose write fails says so, and nothing is written from then on.
+-- A text was appended to the buffer: the written text and the buffer are all of it, in order. After a write that
+-- failed, the page says so, and nothing more is written.
 abbrev pub TextPutBy : Bool → Bool → List ℕ → PageState → PageState → Type 0
 TextPutBy false false text old new =
     BufferedWrite old.contents old.pending text new.contents new.pending × WritesMade old.took new.took
@@ -39,7 +40,7 @@ pub record TextOfKindPut (kind : List ℕ → Type 0) (old new : PageState) : Ty
   pub is_of_kind : kind text
   pub put : TextPut text old new
 
--- the last write failed: one of these, or one before them
+-- the last write failed: one of these, or an earlier one
 abbrev pub LastPageWriteFailed : Bool → Option (List StreamEvent) → Option (List StreamEvent) → Type 0
 LastPageWriteFailed false took takes = LastWriteFailed took takes
 LastPageWriteFailed true took takes = takes ≡ took

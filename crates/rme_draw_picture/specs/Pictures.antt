@@ -35,8 +35,8 @@ abbrev pub empty_picture : Picture
 empty_picture =
     record { workers = 0; names = []; line = 0; number = 0; stays = []; holds = []; marks = []; finishes = [] }
 
--- A text that `put_svg` put for a drawing of this picture. Nothing is said of its letters, and the definition is opaque
--- outside this file: so a proof that a text is one comes from the painter that made it of that picture.
+-- A text that `put_svg` put for a drawing of this picture. The definition says nothing of its characters, and is opaque
+-- outside this file. So a proof that a text is one comes from the painter that made it for that picture.
 pub IsSvg : Picture → List ℕ → Type 0
 IsSvg picture text = Unit {0}
 

@@ -1,4 +1,4 @@
-//! What a picture shows: how long each worker stayed in each phase, who held each lock, and what happened when.
+//! The contents of a picture: the stays of each worker, the owners of each lock, and the events and finished sections.
 
 use crate::drawn_phase::DrawnPhase;
 use crate::mark_kind::MarkKind;
@@ -11,13 +11,13 @@ use std::alloc::Global;
 pub struct DrawnStay {
     pub worker: u32,
     pub phase: DrawnPhase,
-    /// The lock of the job that it began with, if it had one.
+    /// The lock of the worker's job at the start of the stay, if it had one.
     pub lock: Option<u32>,
     pub from: u64,
     pub to: u64,
 }
 
-/// A stretch in which a lock had one owner, who was up or was down all the while.
+/// An interval in which a lock had one owner, which was up, or down, throughout.
 #[derive(Clone, Copy)]
 pub struct Hold {
     pub lock: u32,
@@ -27,15 +27,15 @@ pub struct Hold {
     pub to: u64,
 }
 
-/// What a line told of a worker.
+/// An event of a worker, from one line.
 #[derive(Clone, Copy)]
 pub struct Mark {
     pub line: u64,
     pub worker: u32,
-    pub told: MarkKind,
+    pub kind: MarkKind,
 }
 
-/// A finished section, and what the cells of its lock then held.
+/// A finished section, and the cells of its lock after it.
 #[derive(Clone, Copy)]
 pub struct Finish {
     pub line: u64,
@@ -43,14 +43,14 @@ pub struct Finish {
     pub cells: Row,
 }
 
-/// All that a picture shows.
+/// The contents of a picture.
 #[derive(Drop)]
 pub struct Drawing {
-    /// How many workers there are.
+    /// The number of workers.
     pub workers: u32,
     /// The locks' names, in order.
     pub names: Vec<String>,
-    /// The last line that was seen.
+    /// The last line of the transcript.
     pub line: u64,
     /// The greatest number of a job.
     pub number: u32,
@@ -64,7 +64,7 @@ impl Drawing {
     ghost use Rattle.std.specs.Prelude.{◌≡◌};
     ghost use Rattle.rme_draw_picture.specs.Pictures.{empty_picture, picture_of_drawing};
 
-    /// Shows nothing yet.
+    /// The empty drawing.
     pub fn new(alloc: Global) -> Drawing
         ensures { picture_of_drawing result ≡ empty_picture }
     {

@@ -1,20 +1,20 @@
-//! The phases that a worker is drawn in.
+//! The phases in which a worker is drawn.
 
-/// What a worker is at, as far as the machine and its events tell.
+/// The phase of a worker, as far as the machine and its events show it.
 #[derive(Clone, Copy)]
 pub enum DrawnPhase {
-    /// May be handed a job.
+    /// May be given a job.
     Ready,
-    /// Was handed a job, and writes it down.
+    /// Has a job, and logs it.
     Post,
     /// Waits for its lock.
     Enter,
     /// Owns its lock, and its job is not finished.
     Section,
-    /// Releases what it holds, or gives its job up.
+    /// Releases nodes, or gives up its job.
     Exit,
-    /// Came up after a crash, and no note has told yet where it goes on.
+    /// Restarted after a crash, and no note has shown yet where it continues.
     Recover,
-    /// Went down.
+    /// Crashed.
     Down,
 }

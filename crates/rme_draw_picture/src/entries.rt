@@ -1,4 +1,4 @@
-//! The entries of a picture: what was finished, and what the cells of its lock then held.
+//! The entries of a picture: the finished sections, and the cells of a lock after each.
 
 ghost use Rattle.rme_draw_picture.specs.Pages.{SomeTextPut};
 
@@ -12,19 +12,20 @@ use crate::strips::Strip;
 use rme_line_io::Sink;
 use rme_script::Row;
 
-/// The most letters of a line of an entry's text: an entry is three columns from the next one of its lock.
+/// The greatest number of characters of a line of an entry's text: an entry is three columns from the next one of its
+/// lock.
 const ENTRY_LETTERS: u64 = 24;
 
-/// An entry's text names its place, its worker and number, and its reply, before the cells.
+/// The lines of an entry's text before the cells: its place, its worker and number, and its reply.
 const RECEIPT_LINES: u64 = 3;
 
-/// What stands before what the cells hold.
+/// The word before the values of the cells.
 const CELLS: &str = "cells";
 
-/// A line of an entry's text, in which what a cell holds stands behind that of the cells before.
+/// A line of an entry's text with values of cells.
 #[derive(Clone, Copy)]
 struct CellLine {
-    /// How many lines of cells are above it.
+    /// The number of lines of cells above it.
     above: u64,
     letters: u64,
     /// Whether the cell is the first one in it.
@@ -32,7 +33,7 @@ struct CellLine {
 }
 
 impl CellLine {
-    /// The line that has no cell yet.
+    /// The line before the first cell.
     fn first() -> CellLine {
         CellLine {
             above: 0,
@@ -41,7 +42,7 @@ impl CellLine {
         }
     }
 
-    /// The line in which the next cell stands: this one where it has room for the value.
+    /// The line of the next cell: this one if it has room for the value.
     fn with(self, value: u64) -> CellLine {
         let more = digits_of(value).saturating_add(1);
         let letters = self.letters.saturating_add(more);
@@ -60,7 +61,7 @@ impl CellLine {
     }
 }
 
-/// How many lines an entry's text has where its cells are these.
+/// The number of lines of an entry's text with these cells.
 pub fn entry_lines(cells: &Row) -> u64 {
     let mut line = CellLine::first();
     for cell in 0..cells.len() {
@@ -69,7 +70,7 @@ pub fn entry_lines(cells: &Row) -> u64 {
     line.above.saturating_add(RECEIPT_LINES + 1)
 }
 
-/// Puts a finished section: a dot on its lock's bar, and the words below.
+/// Puts a finished section: a dot on its lock's bar, and the text below.
 #[tactic(auto, using(crate::proofs::Putting::puts_more))]
 pub fn put_finish<W: Sink>(
     page: &mut Page,
@@ -128,7 +129,7 @@ fn put_receipt<W: Sink>(page: &mut Page, writer: &mut W, first: Point, finish: &
     );
 }
 
-/// Puts a line of an entry's text that is a word and a number.
+/// Puts a line of an entry's text: a word and a number.
 #[tactic(auto, using(crate::proofs::Putting::puts_more))]
 fn put_line<W: Sink>(page: &mut Page, writer: &mut W, at: Point, word: &'static str, number: u64)
     ensures { SomeTextPut W.contents W.took page.old writer.old page.new writer.new }
@@ -153,7 +154,7 @@ fn put_opening<W: Sink>(page: &mut Page, writer: &mut W, at: Point)
     );
 }
 
-/// Puts what the cells hold, in as many lines as it needs.
+/// Puts the values of the cells, in as many lines as they need.
 #[tactic(auto, using(crate::proofs::Putting::puts_more))]
 fn put_cells<W: Sink>(page: &mut Page, writer: &mut W, first: Point, cells: &Row)
     ensures { SomeTextPut W.contents W.took page.old writer.old page.new writer.new }
@@ -170,7 +171,7 @@ fn put_cells<W: Sink>(page: &mut Page, writer: &mut W, first: Point, cells: &Row
     page.put(writer, &[Text("</text>\n")]);
 }
 
-/// Puts what a cell holds, in a new line where it begins one.
+/// Puts the value of a cell, in a new line if it begins one.
 #[tactic(auto, using(crate::proofs::Putting::puts_more))]
 fn put_cell<W: Sink>(page: &mut Page, writer: &mut W, at: Point, is_new: bool, value: u64)
     ensures { SomeTextPut W.contents W.took page.old writer.old page.new writer.new }

@@ -1,10 +1,10 @@
 //! The text of a picture: stays, holds, marks and finished sections as a timeline in SVG.
 //!
 //! The crate knows no transcript and no machine; rme_draw_history fills a `Drawing`, and a painter puts it on a `Page`:
-//! `Svg`, by `put_svg`. It stands on rme_line_io for what is written to, on rme_program and rme_script for receipts and
-//! cells, and on itoa for numbers. Begin with `drawing.rt`, what a picture shows, `page.rt`, by which its text reaches
-//! a writer piece by piece, and `svg.rt`; where things stand is in `sheet.rt` and `strips.rt`, and how they look in
-//! `rows.rt`, `entries.rt` and `mark_kind.rt`.
+//! `Svg`, by `put_svg`. It stands on rme_line_io for writers, on rme_program and rme_script for receipts and cells, and
+//! on itoa for numbers. Begin with `drawing.rt`, the contents of a picture; `page.rt`, which buffers its text for a
+//! writer; and `svg.rt`. `sheet.rt` and `strips.rt` have the layout; `rows.rt`, `entries.rt` and `mark_kind.rt` have
+//! the style.
 #![tactic(auto)]
 
 mod drawing;

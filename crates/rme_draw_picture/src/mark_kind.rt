@@ -1,6 +1,6 @@
-//! What a line of a transcript tells of a worker, in words.
+//! The kinds of events, and their words in a picture.
 
-/// What a line told of a worker. The numbers are those of its jobs.
+/// An event of a worker. The numbers are those of its jobs.
 #[derive(Clone, Copy)]
 pub enum MarkKind {
     Submit(u32),
@@ -17,9 +17,9 @@ pub enum MarkKind {
     Withdrew(u32),
 }
 
-/// The words for what was told, and the number of a job that ends them, if they have one.
-pub fn words_of_mark(told: MarkKind) -> (&'static str, Option<u32>) {
-    match told {
+/// The words for an event, and the number of a job after them, if they have one.
+pub fn words_of_mark(kind: MarkKind) -> (&'static str, Option<u32>) {
+    match kind {
         MarkKind::Submit(number) => ("submit ", Some(number)),
         MarkKind::Crash => ("crash", None),
         MarkKind::Restart => ("restart", None),

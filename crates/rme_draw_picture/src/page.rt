@@ -1,4 +1,4 @@
-//! The page that a picture's text is put on.
+//! The page on which a picture's text is put.
 
 ghost use Rattle.std.specs.Prelude.{◌≡◌, [], false, IfOk};
 
@@ -7,10 +7,10 @@ use itoa::Buffer;
 use rme_line_io::{EngineFault, Sink, WriteBuffer};
 use std::alloc::{AllocError, Global};
 
-/// A text on its way to a writer, of which 64 KiB are kept back, in memory that is taken once.
+/// A buffered writer, with 64 KiB that are allocated once.
 ///
-/// Who puts pieces on a page asks nothing after each: once a write failed no more is written, and `finish` tells of it.
-/// Only `new` takes memory, so that a text that was begun never ends for want of it.
+/// `put` has no result: after a write that failed, nothing more is written, and `finish` answers the failure. Only
+/// `new` allocates, so that a text that was begun never ends for lack of memory.
 #[derive(Drop)]
 pub struct Page {
     pub pending: WriteBuffer,
@@ -23,7 +23,7 @@ impl Page {
     ghost use Rattle.std.specs.Io.KnownBytes.{Appends};
     ghost use Rattle.rme_draw_picture.specs.Pages.{LastPageWriteFailed, TextPut, SomeTextPut, page_state};
 
-    /// Nothing is on the page yet.
+    /// An empty page.
     pub fn new(alloc: Global) -> Result<Page, AllocError>
         ensures empty { IfOk result (λ page. page.pending ≡ []) }
         ensures going { IfOk result (λ page. page.failed ≡ false) }
@@ -35,7 +35,7 @@ impl Page {
         })
     }
 
-    /// Puts pieces behind what was put before.
+    /// Appends pieces.
     #[tactic(auto, using(crate::proofs::Putting::puts_more, crate::proofs::Putting::puts_none))]
     pub fn put<W: Sink>(&mut self, writer: &mut W, pieces: &[Piece])
         ensures { SomeTextPut W.contents W.took self.old writer.old self.new writer.new }
@@ -57,7 +57,7 @@ impl Page {
         }
     }
 
-    /// Puts bytes behind what was put before.
+    /// Appends bytes.
     fn put_bytes<W: Sink>(&mut self, writer: &mut W, bytes: &[u8])
         ensures { TextPut bytes.now (page_state W.contents W.took self.old writer.old)
             (page_state W.contents W.took self.new writer.new) }
@@ -71,7 +71,7 @@ impl Page {
         }
     }
 
-    /// Writes what is kept back. After `WriteFailed` a front of all that was put was written.
+    /// Writes the rest of the buffer. After `WriteFailed`, a prefix of all that was put was written.
     pub fn finish<W: Sink>(&mut self, writer: &mut W) -> Result<(), EngineFault>
         ensures going { OnOk result (self.old.failed ≡ false) }
         ensures whole { OnOk result (Appends (W.contents writer.old) (W.contents writer.new) self.old.pending) }

@@ -1,4 +1,4 @@
-//! Who writes a picture.
+//! The painter of a picture.
 
 use crate::drawing::Drawing;
 use crate::page::Page;
@@ -12,11 +12,11 @@ pub trait Paint {
     ghost use Rattle.rme_draw_picture.specs.Pages.{TextOfKindPut, page_state};
     ghost use Rattle.rme_draw_picture.specs.Pictures.{Picture, picture_of_drawing};
 
-    // Which text is one of a picture. It may be any relation, so that what is drawn with every painter has to be this
-    // painter's text of the very picture.
+    // Which texts are texts of a picture. It may be any relation; so what is drawn with every painter is this painter's
+    // text of that very picture.
     ghost paints: { Picture → List ℕ → Type 0 };
 
-    /// Puts the text of a drawing. An error is want of memory, and comes before anything is put.
+    /// Puts the text of a drawing. An error is lack of memory, and comes before anything is put.
     fn paint<W: Sink>(
         &self,
         alloc: Global,

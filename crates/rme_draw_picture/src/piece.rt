@@ -1,15 +1,15 @@
-//! The pieces that a picture's text is put together of.
+//! The pieces of a picture's text.
 
 use itoa::Buffer;
 
-/// A piece of text. It borrows its letters, so that putting it on a page takes no memory.
+/// A piece of text. It borrows its characters, so that putting it on a page allocates nothing.
 #[derive(Clone, Copy)]
 pub enum Piece<'a> {
     Text(&'a str),
     Number(u64),
 }
 
-/// How many letters some pieces have.
+/// The number of characters of some pieces.
 pub fn length_of(pieces: &[Piece]) -> u64 {
     let mut length = 0u64;
     for piece in pieces {
@@ -21,7 +21,7 @@ pub fn length_of(pieces: &[Piece]) -> u64 {
     length
 }
 
-/// How many digits a number has.
+/// The number of a number's digits.
 pub fn digits_of(number: u64) -> u64 {
     Buffer::new().format(number).len() as u64
 }

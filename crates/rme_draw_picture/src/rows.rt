@@ -1,4 +1,4 @@
-//! The rows of a picture: what stays, who holds, and what was told.
+//! The rows of a picture: stays, holds, and marks.
 
 ghost use Rattle.rme_draw_picture.specs.Pages.{SomeTextPut};
 
@@ -15,7 +15,7 @@ use rme_line_io::Sink;
 /// From the top of a row to its bar.
 pub const BAR: u64 = 12;
 
-/// How high a bar is.
+/// The height of a bar.
 pub const BAR_HEIGHT: u64 = 24;
 
 /// From the top of a row to the words below its bar.
@@ -47,7 +47,7 @@ pub fn name_of(phase: DrawnPhase) -> &'static str {
     }
 }
 
-/// Where a bar is, the top of its row, its first column, and how many it has; and how it looks.
+/// The position of a bar, by the top of its row, its first column and its number of columns; and its style.
 #[derive(Clone, Copy)]
 struct Bar {
     top: u64,
@@ -58,7 +58,7 @@ struct Bar {
     dashes: &'static str,
 }
 
-/// The texts of a bar: `tip` is shown where the pointer is on the bar; in it stands the long text, or else the short
+/// The texts of a bar: `tip` is shown while the pointer is on the bar; the bar has the long text, or else the short
 /// one, if there is room.
 #[derive(Clone, Copy)]
 struct BarTexts<'a> {
@@ -89,7 +89,7 @@ fn put_bar<W: Sink>(page: &mut Page, writer: &mut W, sheet: &Sheet, bar: Bar, te
     }
 }
 
-/// Puts the box of a bar, and begins what is told of it.
+/// Puts the box of a bar, and begins its tooltip.
 fn put_box<W: Sink>(page: &mut Page, writer: &mut W, bar: Bar, at: Point, width: u64)
     ensures { SomeTextPut W.contents W.took page.old writer.old page.new writer.new }
 {
@@ -115,7 +115,7 @@ fn put_box<W: Sink>(page: &mut Page, writer: &mut W, bar: Bar, at: Point, width:
     );
 }
 
-/// Puts a text that stands in a bar.
+/// Puts a text into a bar.
 #[tactic(auto, using(crate::proofs::Putting::puts_more))]
 fn put_centred<W: Sink>(page: &mut Page, writer: &mut W, middle: Point, text: &[Piece])
     ensures { SomeTextPut W.contents W.took page.old writer.old page.new writer.new }
@@ -205,7 +205,7 @@ fn short_name_of(phase: DrawnPhase) -> &'static str {
     }
 }
 
-/// Puts a stretch of a lock with one owner. One who is down is drawn paler, with a dashed edge.
+/// Puts a hold of a lock. If the owner is down, the bar is paler and has a dashed edge.
 pub fn put_hold<W: Sink>(page: &mut Page, writer: &mut W, sheet: &Sheet, strip: &Strip, hold: &Hold)
     ensures { SomeTextPut W.contents W.took page.old writer.old page.new writer.new }
 {
@@ -234,7 +234,7 @@ pub fn put_hold<W: Sink>(page: &mut Page, writer: &mut W, sheet: &Sheet, strip: 
     );
 }
 
-/// The bar of a stretch of a lock.
+/// The bar of a hold.
 fn bar_of_hold(sheet: &Sheet, hold: &Hold, column: u64, count: u64) -> Bar {
     Bar {
         top: sheet.lock(hold.lock),
@@ -258,7 +258,7 @@ fn owner_colour(owner: u32) -> &'static str {
     }
 }
 
-/// What makes an edge dashed.
+/// The attribute of a dashed edge.
 fn dashes_if(is_dashed: bool) -> &'static str {
     if is_dashed {
         " stroke-dasharray=\"5 3\" fill-opacity=\"0.6\""
@@ -281,7 +281,7 @@ pub fn lock_waited_for<'a>(drawing: &'a Drawing, stay: &DrawnStay) -> &'a str {
     }
 }
 
-/// Puts what a line told of a worker: a sign on its bar, and the words below.
+/// Puts an event of a worker: a sign on its bar, and the words below.
 #[tactic(auto, using(crate::proofs::Putting::puts_more))]
 pub fn put_mark<W: Sink>(page: &mut Page, writer: &mut W, sheet: &Sheet, strip: &Strip, mark: &Mark)
     ensures { SomeTextPut W.contents W.took page.old writer.old page.new writer.new }
@@ -289,15 +289,15 @@ pub fn put_mark<W: Sink>(page: &mut Page, writer: &mut W, sheet: &Sheet, strip: 
     let x = sheet.x(strip.column(mark.line));
     let top = top_of_worker(u64::from(mark.worker));
     let at = Point { x, y: top };
-    put_sign(page, writer, at.below(BAR), mark.told);
-    put_words(page, writer, at.below(WORDS), mark.told);
+    put_sign(page, writer, at.below(BAR), mark.kind);
+    put_words(page, writer, at.below(WORDS), mark.kind);
 }
 
-/// Puts the words for what was told.
-fn put_words<W: Sink>(page: &mut Page, writer: &mut W, at: Point, told: MarkKind)
+/// Puts the words for an event.
+fn put_words<W: Sink>(page: &mut Page, writer: &mut W, at: Point, kind: MarkKind)
     ensures { SomeTextPut W.contents W.took page.old writer.old page.new writer.new }
 {
-    let (words, number) = words_of_mark(told);
+    let (words, number) = words_of_mark(kind);
     page.put(
         writer,
         &[
@@ -306,7 +306,7 @@ fn put_words<W: Sink>(page: &mut Page, writer: &mut W, at: Point, told: MarkKind
             Text("\" y=\""),
             Number(at.y),
             Text("\" text-anchor=\"middle\" fill=\""),
-            Text(ink_of(told)),
+            Text(ink_of(kind)),
             Text("\">"),
             Text(words),
             number_or_nothing(number),
@@ -322,17 +322,17 @@ fn number_or_nothing(number: Option<u32>) -> Piece<'static> {
     }
 }
 
-/// The colour of the words for what was told.
-fn ink_of(told: MarkKind) -> &'static str {
-    match told {
+/// The colour of the words for an event.
+fn ink_of(kind: MarkKind) -> &'static str {
+    match kind {
         MarkKind::Crash => "#b03030",
         MarkKind::Restart => "#6a3fa0",
         _ => "#333333",
     }
 }
 
-/// Puts the sign of what was told: a cross for a crash, a triangle for a restart, and else a short line.
-fn put_sign<W: Sink>(page: &mut Page, writer: &mut W, at: Point, told: MarkKind)
+/// Puts the sign of an event: a cross for a crash, a triangle for a restart, and a short line for any other.
+fn put_sign<W: Sink>(page: &mut Page, writer: &mut W, at: Point, kind: MarkKind)
     ensures { SomeTextPut W.contents W.took page.old writer.old page.new writer.new }
 {
     page.put(
@@ -343,15 +343,15 @@ fn put_sign<W: Sink>(page: &mut Page, writer: &mut W, at: Point, told: MarkKind)
             Text(" "),
             Number(at.y),
             Text(")\" d=\""),
-            Text(shape_of(told)),
+            Text(shape_of(kind)),
             Text("/>\n"),
         ],
     );
 }
 
-/// The shape of a sign, and how it is drawn.
-fn shape_of(told: MarkKind) -> &'static str {
-    match told {
+/// The shape of a sign, and its style.
+fn shape_of(kind: MarkKind) -> &'static str {
+    match kind {
         MarkKind::Crash => "M-7 5 L7 19 M7 5 L-7 19\" stroke=\"#b03030\" stroke-width=\"3.5\"",
         MarkKind::Restart => "M0 4 L8 19 L-8 19 Z\" fill=\"#6a3fa0\"",
         _ => "M0 20 V28\" stroke=\"#555555\"",

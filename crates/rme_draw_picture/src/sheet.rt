@@ -1,50 +1,50 @@
-//! Where things are on the sheet. Lengths are in units of the picture, about a pixel each.
+//! The layout of the sheet. Lengths are in units of the picture, about a pixel each.
 
 use crate::drawing::Drawing;
 use crate::entries::entry_lines;
 use crate::piece::{Piece, digits_of, length_of};
 use std::alloc::{AllocError, Global};
 
-/// The height of what stands above the rows: the title, the legend and the numbers of lines.
+/// The height of what is above the rows: the title, the legend and the numbers of lines.
 pub const HEAD: u64 = 128;
 
 /// The height of a worker's row.
 pub const WORKER_ROW: u64 = 62;
 
-/// The height of a lock's row without what its entries say.
+/// The height of a lock's row without its entries.
 const LOCK_ROW: u64 = 52;
 
 /// The height of a line of text.
 pub const TEXT_LINE: u64 = 14;
 
-/// How wide the picture is at least, so that its legend has room.
+/// The least width of the picture, so that its legend has room.
 const LEAST_WIDTH: u64 = 980;
 
-/// A column is so wide beside the digits of the numbers in it.
+/// The width of a column without the digits of the numbers in it.
 const COLUMN: u64 = 62;
 
-/// A letter of a row's name is so wide.
+/// The width of a character of a row's name.
 const NAME_LETTER: u64 = 9;
 
-/// Room behind the last column, for the text of an entry there.
+/// Room after the last column, for the text of an entry there.
 const BEHIND: u64 = 64;
 
-/// About the width of any other letter.
+/// About the width of any other character.
 const LETTER: u64 = 7;
 
-/// No other letter is wider.
+/// No other character is wider.
 const WIDEST_LETTER: u64 = 11;
 
-/// Above the numbers of lines there is so much room between a strip and the one before.
+/// The room above the numbers of lines of each strip after the first.
 const GAP: u64 = 12;
 
-/// From here on a strip is drawn anew below the last.
+/// Each later strip repeats what the first has below this height: the numbers of lines, and the rows.
 const STRIP_TOP: u64 = 100;
 
-/// A strip is so wide at most: common viewers refuse a picture of more than 32,767 pixels.
+/// The greatest width of a strip: common viewers refuse a picture of more than 32,767 pixels.
 const STRIP_WIDTH: u64 = 30_000;
 
-/// A place on the sheet.
+/// A position on the sheet.
 #[derive(Clone, Copy)]
 pub struct Point {
     pub x: u64,
@@ -52,7 +52,7 @@ pub struct Point {
 }
 
 impl Point {
-    /// The place this far below.
+    /// The position this far below.
     pub fn below(self, distance: u64) -> Point {
         Point {
             x: self.x,
@@ -61,22 +61,22 @@ impl Point {
     }
 }
 
-/// Where the columns and the rows of a drawing are. A long one is cut into strips, one below the other.
+/// The positions of a drawing's columns and rows. A long drawing is cut into strips, one below the other.
 #[derive(Drop)]
 pub struct Sheet {
     left: u64,
     column: u64,
     pub width: u64,
-    /// How many lines a strip has.
+    /// The number of lines in a strip.
     pub lines: u64,
     /// The top of each lock's row; a lock that nobody used has none.
     pub locks: Vec<Option<u64>>,
-    /// Where the last row of a strip ends.
+    /// The lower end of the last row of a strip.
     pub bottom: u64,
 }
 
 impl Sheet {
-    /// The sheet of all that was seen.
+    /// The sheet of a drawing.
     pub fn of(alloc: Global, drawing: &Drawing) -> Result<Sheet, AllocError> {
         let used = used_locks(alloc, drawing)?;
         let left = longest_name(drawing, used.as_slice())
@@ -103,7 +103,7 @@ impl Sheet {
         Ok(sheet)
     }
 
-    /// Gives each lock that was used a row, with room for what its entries say.
+    /// Gives each lock that was used a row, with room for its entries.
     fn place_locks(
         &mut self,
         alloc: Global,
@@ -125,14 +125,14 @@ impl Sheet {
         Ok(())
     }
 
-    /// The height of the picture with so many strips.
+    /// The height of the picture with `strips` strips.
     pub fn height(&self, strips: u64) -> u64 {
         self.top(strips.saturating_sub(1))
             .saturating_add(self.bottom)
             .saturating_add(GAP)
     }
 
-    /// How far below the first strip the strip after so many others is.
+    /// The distance from the first strip down to the one after `strips` strips.
     pub fn top(&self, strips: u64) -> u64 {
         let height = self.bottom.saturating_sub(STRIP_TOP).saturating_add(GAP);
         strips.saturating_mul(height)
@@ -145,7 +145,7 @@ impl Sheet {
             .saturating_sub(self.column / 2)
     }
 
-    /// How wide so many columns are.
+    /// The width of `count` columns.
     pub fn columns(&self, count: u64) -> u64 {
         count.saturating_mul(self.column)
     }
@@ -175,7 +175,7 @@ pub fn top_of_worker(worker: u64) -> u64 {
     worker.saturating_mul(WORKER_ROW).saturating_add(HEAD)
 }
 
-/// How many letters the longest name of a row has.
+/// The number of characters of the longest name of a row.
 fn longest_name(drawing: &Drawing, used: &[bool]) -> u64 {
     let mut longest = "worker 000".len();
     for (name, is_used) in drawing.names.iter().zip(used) {
@@ -199,7 +199,7 @@ fn used_locks(alloc: Global, drawing: &Drawing) -> Result<Vec<bool>, AllocError>
     Ok(used)
 }
 
-/// For each lock, how many lines of text its entries need.
+/// For each lock, the greatest number of lines of its entries' texts.
 fn most_lines(alloc: Global, drawing: &Drawing) -> Result<Vec<u64>, AllocError> {
     let mut lines = vec![in alloc; 0u64; drawing.names.len()]?;
     for finish in &drawing.finishes {

@@ -1,9 +1,9 @@
-//! The strips of a picture: stretches of the transcript that are drawn one below the other.
+//! The strips of a picture: parts of the transcript, which are drawn one below the other.
 
 use crate::drawing::{Drawing, DrawnStay, Hold};
 use std::alloc::{AllocError, Global};
 
-/// The lines from `first` to `last`, and what was seen in them, by its places in the drawing.
+/// The lines from `first` to `last`, and what happened in them, by its indices in the drawing.
 #[derive(Drop)]
 pub struct Strip {
     pub first: u64,
@@ -20,7 +20,7 @@ impl Strip {
         line.saturating_sub(self.first).saturating_add(1)
     }
 
-    /// What this strip has of the lines from one to another: the column of the first, and how many they are.
+    /// The part of some lines that is in this strip: the column of the first, and their number.
     pub fn part(&self, from: u64, to: u64) -> (u64, u64) {
         let first = from.max(self.first);
         let end = to.min(self.last.saturating_add(1));
@@ -28,7 +28,7 @@ impl Strip {
     }
 }
 
-/// What was seen, in strips of so many lines, in order. A stay and a hold stand in each strip that they reach into.
+/// A drawing in strips of `lines` lines, in order. A stay or a hold is in each strip into which it reaches.
 pub fn strips_of(alloc: Global, drawing: &Drawing, lines: u64) -> Result<Vec<Strip>, AllocError> {
     let mut strips = empty_strips(alloc, drawing.line, lines)?;
     for (index, stay) in drawing.stays.iter().enumerate() {
@@ -41,7 +41,7 @@ pub fn strips_of(alloc: Global, drawing: &Drawing, lines: u64) -> Result<Vec<Str
     Ok(strips)
 }
 
-/// Strips of so many lines each, up to the last line, with nothing in them.
+/// Empty strips of `lines` lines each, up to the last line.
 fn empty_strips(alloc: Global, last: u64, lines: u64) -> Result<Vec<Strip>, AllocError> {
     let mut strips = Vec::new(alloc);
     for place in 0..=place_of(last, lines) {
@@ -58,12 +58,12 @@ fn empty_strips(alloc: Global, last: u64, lines: u64) -> Result<Vec<Strip>, Allo
     Ok(strips)
 }
 
-/// In which strip a line is, from 0.
+/// The number of the strip with a line, from 0.
 fn place_of(line: u64, lines: u64) -> u64 {
     line.saturating_sub(1) / lines.max(1)
 }
 
-/// Adds a stay to each strip that it reaches into.
+/// Adds a stay to each strip into which it reaches.
 fn add_stay(
     strips: &mut [Strip],
     index: usize,
@@ -79,7 +79,7 @@ fn add_stay(
     Ok(())
 }
 
-/// Adds a hold to each strip that it reaches into.
+/// Adds a hold to each strip into which it reaches.
 fn add_hold(strips: &mut [Strip], index: usize, hold: &Hold, lines: u64) -> Result<(), AllocError> {
     let last = place_of(hold.to.saturating_sub(1), lines);
     for place in place_of(hold.from, lines)..=last {
@@ -90,7 +90,7 @@ fn add_hold(strips: &mut [Strip], index: usize, hold: &Hold, lines: u64) -> Resu
     Ok(())
 }
 
-/// Adds what was told and what was finished, each to the strip of its line.
+/// Adds the marks and the finished sections, each to the strip of its line.
 fn add_marks(strips: &mut [Strip], drawing: &Drawing, lines: u64) -> Result<(), AllocError> {
     for (index, mark) in drawing.marks.iter().enumerate() {
         if let Some(strip) = strips.get_mut(place_of(mark.line, lines) as usize) {

@@ -26,10 +26,10 @@ const PHASES: [DrawnPhase; 7] = [
     DrawnPhase::Down,
 ];
 
-/// The names of rows are written again after so many columns.
+/// The names of rows are written again after this number of columns.
 const NAMES_EVERY: u64 = 20;
 
-/// Puts the picture of a drawing. What takes memory comes first, so that after an error nothing was put.
+/// Puts the picture of a drawing. What allocates comes first, so that after an error nothing was put.
 pub fn put_svg<W: Sink>(
     alloc: Global,
     drawing: &Drawing,
@@ -68,7 +68,7 @@ fn put_picture<W: Sink>(
     page.put(writer, &[Text("</g>\n</svg>\n")]);
 }
 
-/// Puts what stands in a strip.
+/// Puts the contents of a strip.
 fn put_strip<W: Sink>(
     page: &mut Page,
     writer: &mut W,
@@ -84,7 +84,7 @@ fn put_strip<W: Sink>(
     put_rows(page, writer, sheet, drawing, strip);
 }
 
-/// Begins a strip below so many others; the first one is begun with the picture.
+/// Begins a strip after `before` others; the first one is begun with the picture.
 #[tactic(auto, using(crate::proofs::Putting::puts_more, crate::proofs::Putting::puts_none))]
 fn put_group<W: Sink>(page: &mut Page, writer: &mut W, sheet: &Sheet, before: u64)
     ensures { SomeTextPut W.contents W.took page.old writer.old page.new writer.new }
@@ -102,7 +102,7 @@ fn put_group<W: Sink>(page: &mut Page, writer: &mut W, sheet: &Sheet, before: u6
     }
 }
 
-/// Puts the opening of the picture, its title and its ground, which is white on any page.
+/// Puts the start of the picture, its title and its background, which is white on any page.
 fn put_head<W: Sink>(page: &mut Page, writer: &mut W, sheet: &Sheet, drawing: &Drawing, strips: u64)
     ensures { SomeTextPut W.contents W.took page.old writer.old page.new writer.new }
 {
@@ -125,7 +125,7 @@ fn put_head<W: Sink>(page: &mut Page, writer: &mut W, sheet: &Sheet, drawing: &D
     page.put(writer, &[Text("</text>\n")]);
 }
 
-/// Begins a picture so wide and so high, and its title.
+/// Begins a picture of this width and height, and its title.
 fn put_opening<W: Sink>(page: &mut Page, writer: &mut W, width: u64, height: u64)
     ensures { SomeTextPut W.contents W.took page.old writer.old page.new writer.new }
 {
@@ -147,7 +147,7 @@ fn put_opening<W: Sink>(page: &mut Page, writer: &mut W, width: u64, height: u64
     );
 }
 
-/// Puts what the picture shows.
+/// Puts a description of the picture.
 fn put_title<W: Sink>(page: &mut Page, writer: &mut W, drawing: &Drawing)
     ensures { SomeTextPut W.contents W.took page.old writer.old page.new writer.new }
 {
@@ -172,7 +172,7 @@ fn put_title<W: Sink>(page: &mut Page, writer: &mut W, drawing: &Drawing)
     );
 }
 
-/// What ends the name of so many things.
+/// The ending of the noun after a number.
 fn plural_of(count: u64) -> &'static str {
     if count == 1 { "" } else { "s" }
 }
@@ -205,8 +205,8 @@ fn put_legend<W: Sink>(page: &mut Page, writer: &mut W)
     }
 }
 
-/// What the signs and the columns mean. It is no constant: what one holds is known wherever its module is used, and a
-/// long text is dear there.
+/// The meaning of the signs and the columns. It is a function, not a constant: the value of a constant is known to each
+/// proof in the modules that use it, and a long text is costly there.
 fn signs() -> &'static str {
     r##"<path d="M17 66 L29 78 M29 66 L17 78" stroke="#b03030" stroke-width="3"/>
 <text x="38" y="76" fill="#333333">crash</text>
@@ -294,14 +294,14 @@ fn put_locks<W: Sink>(
     }
 }
 
-/// The top of a row of a strip, and how many columns it has.
+/// The top of a row of a strip, and its number of columns.
 #[derive(Clone, Copy)]
 struct RowExtent {
     top: u64,
     columns: u64,
 }
 
-/// Puts the name of a row, at the left and again and again along it, where it has room.
+/// Puts the name of a row, at its left end and again along it, where there is room.
 #[tactic(auto, using(crate::proofs::Putting::puts_more))]
 fn put_name<W: Sink>(page: &mut Page, writer: &mut W, sheet: &Sheet, row: RowExtent, name: &[Piece])
     ensures { SomeTextPut W.contents W.took page.old writer.old page.new writer.new }
@@ -351,7 +351,7 @@ fn put_name_again<W: Sink>(page: &mut Page, writer: &mut W, at: Point, name: &[P
     page.put(writer, &[Text("</text>\n")]);
 }
 
-/// Puts what was seen in a strip.
+/// Puts the rows of a strip.
 #[tactic(auto, using(crate::proofs::Putting::puts_more))]
 fn put_rows<W: Sink>(
     page: &mut Page,

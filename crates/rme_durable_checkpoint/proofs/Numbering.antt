@@ -43,12 +43,12 @@ module _ (history : List Entry) (worker asked number : ℕ) (slate last : Job) (
   numbered_by None true some = some refl
   numbered_by None false some = outside private
 
-pub sight_numbered : (seen : WorldView) (worker : ℕ) → HasNumber (worker_session seen worker)
-sight_numbered seen worker =
+pub session_numbered : (seen : WorldView) (worker : ℕ) → HasNumber (worker_session seen worker)
+session_numbered seen worker =
     let own = world_worker_words seen worker in
     let some : is_pending own ≡ true → 0 < own.begun = λ pending. (let less = ltb-true own.done own.begun pending in omega (arith, less)) in
     numbered_by seen.history worker own.begun own.begun (slate_job own) (last_entry_job (last_entry_of_worker seen.history worker)) (world_privates seen worker) (lock_owned_by_worker seen.shape (world_memory seen) worker) (is_pending own) some
 
 pub view_numbered : (seen : WorldView) (seat : Option ℕ) (planned : PlannedCrash) → HasNumber (worker_view seen seat planned).session
 view_numbered seen None planned = tt
-view_numbered seen (Some worker) planned = sight_numbered seen worker
+view_numbered seen (Some worker) planned = session_numbered seen worker

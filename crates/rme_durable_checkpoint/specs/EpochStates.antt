@@ -16,12 +16,19 @@ pub record EpochState : Type 0 where
   pub lines : List ℕ
   pub base : Base
 
+-- An executor, and one of its sessions.
+pub record ExecutorSession : Type 0 where
+  pub executor : ExecutorState
+  pub session : SessionState
+
+abbrev pub executor_session : ExecutorState → SessionState → ExecutorSession
+executor_session executor session = record { executor = executor; session = session }
+
 -- A session executed an order with one try, as its client sees it over all epochs: by the definition that every session
 -- server meets.
-abbrev pub SessionStepAcrossCheckpoints : Base → ExecutorState → SessionState → Order → ExecutorState → SessionState
-    → SessionReply → Type 0
-SessionStepAcrossCheckpoints base before old its after now answer =
+abbrev pub SessionStepAcrossCheckpoints : Base → ExecutorSession → Order → ExecutorSession → SessionReply → Type 0
+SessionStepAcrossCheckpoints base old its now answer =
     (made : ℕ)
-    × SessionStepWithin (client_sizes (numbers_for base (executor_session_view before old).session its)
-    before.world.shape) made (client_view base (executor_session_view before old)) (with_tries 1 its)
-    (client_view base (executor_session_view after now)) answer
+    × SessionStepWithin (client_sizes (numbers_for base (executor_session_view old.executor old.session).session its)
+    old.executor.world.shape) made (client_view base (executor_session_view old.executor old.session))
+    (with_tries 1 its) (client_view base (executor_session_view now.executor now.session)) answer

@@ -132,11 +132,11 @@ fn checkpoint_lines(
 ) -> Result<String, CheckpointFailed> {
     let shape = old.executor().world().shape();
     let mut draft = CheckpointBuilder::new(alloc, names, shape)?;
-    let keepers = set_cells(alloc, &mut draft, shape, rows)?;
+    let sections_made = set_cells(alloc, &mut draft, shape, rows)?;
     restore_jobs(&mut draft, old.executor().world(), JobProgress::Inside)?;
     restore_jobs(&mut draft, old.executor().world(), JobProgress::Waiting)?;
     crash_free_workers(&mut draft, old.executor())?;
-    let header = next_header(alloc, old, keepers.as_slice())?;
+    let header = next_header(alloc, old, sections_made.as_slice())?;
     let mut lines = String::new(alloc);
     match push_first_lines(&mut lines, names, &header, old.executor().world()) {
         Ok(()) => {}

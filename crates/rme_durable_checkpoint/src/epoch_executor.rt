@@ -70,7 +70,7 @@ impl EpochExecutor {
     ghost use Rattle.rme_session_protocol.specs.Attempts.{with_tries};
     ghost use Rattle.rme_session_protocol.specs.ClientReplies.{reply_of_client};
     ghost use Rattle.rme_session_protocol.specs.SessionSteps.{SessionStep};
-    ghost use Rattle.rme_durable_checkpoint.specs.EpochStates.{SessionStepAcrossCheckpoints};
+    ghost use Rattle.rme_durable_checkpoint.specs.EpochStates.{SessionStepAcrossCheckpoints, executor_session};
     ghost use Rattle.rme_durable_checkpoint.specs.ClientValues.{client_session};
     ghost use Rattle.rme_durable_checkpoint.specs.LoggedStates.{LoggedStep, logged_state};
     ghost use Rattle.rme_durable_checkpoint.specs.ImmediateReplies.{immediate_reply};
@@ -145,8 +145,9 @@ impl EpochExecutor {
         session: &mut SessionState,
         order: &Order,
     ) -> Result<ClientAnswer, ApplyError>
-        ensures obeys { IfOk result (λ answered. SessionStepAcrossCheckpoints self.old.base self.old.executor session.old
-            order.now self.new.executor session.new (reply_of_client answered.reply)) }
+        ensures obeys { IfOk result (λ answered. SessionStepAcrossCheckpoints self.old.base
+            (executor_session self.old.executor session.old) order.now
+            (executor_session self.new.executor session.new) (reply_of_client answered.reply)) }
         ensures written { OnOk result (LoggedStep names.now (logged_state self.old.executor self.old.lines)
             (logged_state self.new.executor self.new.lines)) }
         ensures base { self.new.base ≡ self.old.base }
@@ -161,7 +162,7 @@ impl EpochExecutor {
             });
         }
         let numbers = self.base.numbers_for(&view, order);
-        let executed = self.execute_in_epoch(names, session, &epoch_order(numbers, order))?;
+        let executed = self.execute_in_epoch(names, session, &view, &epoch_order(numbers, order))?;
         match self.base.client_reply(numbers, executed.reply) {
             Some(reply) => Ok(ClientAnswer {
                 reply,
@@ -188,13 +189,15 @@ impl EpochExecutor {
         }
     }
 
-    /// Executes an order with the numbers of this epoch, and logs its event batch.
+    /// Executes an order with the numbers of this epoch, of a session with this view, and logs its event batch.
     fn execute_in_epoch(
         &mut self,
         names: &Names,
         session: &mut SessionState,
+        view: &Session,
         order: &Order,
     ) -> Result<EpochAnswer, ApplyError>
+        requires view { view.now ≡ (executor_session_view self.old.executor session.old).session }
         ensures obeys { IfOk result (λ executed. SessionStep self.old.executor.world.shape
             (executor_session_view self.old.executor session.old) (with_tries 1 order.now)
             (executor_session_view self.new.executor session.new) executed.reply) }
@@ -210,7 +213,7 @@ impl EpochExecutor {
         if self.lines.reserve(ROOM).is_err() {
             return Err(ApplyError::NoMemory);
         }
-        let done = match self.executor.execute(session, order) {
+        let done = match self.executor.execute(session, view, order) {
             Ok(done) => done,
             Err(_) => return Err(ApplyError::NoMemory),
         };

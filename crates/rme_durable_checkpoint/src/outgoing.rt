@@ -14,7 +14,7 @@ use std::alloc::Global;
 pub(crate) fn next_header(
     alloc: Global,
     old: &EpochExecutor,
-    keepers: &[u32],
+    sections_made: &[u32],
 ) -> Result<LogHeader, CheckpointFailed> {
     let world = old.executor().world();
     let Ok(mut header) = LogHeader::first(alloc, world.shape()) else {
@@ -24,7 +24,7 @@ pub(crate) fn next_header(
         return Err(CheckpointFailed);
     };
     header.epoch = epoch;
-    set_places(&mut header, old, keepers)?;
+    set_places(&mut header, old, sections_made)?;
     set_workers(alloc, &mut header, old)?;
     Ok(header)
 }
@@ -33,19 +33,19 @@ pub(crate) fn next_header(
 fn set_places(
     header: &mut LogHeader,
     old: &EpochExecutor,
-    keepers: &[u32],
+    sections_made: &[u32],
 ) -> Result<(), CheckpointFailed> {
     let sections = Sections::of(old.executor().world());
     let mut lock: u32 = 0;
     for place in header.places.as_mut_slice() {
-        let keepers = keepers.get(lock as usize).copied().unwrap_or(0);
+        let made = sections_made.get(lock as usize).copied().unwrap_or(0);
         let Some(next) = old.base().sections_before(lock, sections.at(lock)) else {
             return Err(CheckpointFailed);
         };
         let Ok(next) = i64::try_from(next) else {
             return Err(CheckpointFailed);
         };
-        *place = next.saturating_sub(i64::from(keepers));
+        *place = next.saturating_sub(i64::from(made));
         lock = lock.saturating_add(1);
     }
     Ok(())

@@ -5,7 +5,7 @@ ghost use Rattle.std.specs.Prelude.{◌≤◌, IfOk};
 use crate::checkpoint_builder::{CheckpointBuilder, CheckpointFailed, JobProgress};
 use rme_script::{Job, Op, Row, Script};
 use rme_words::Shape;
-use std::alloc::{AllocError, Global};
+use std::alloc::Global;
 
 /// The largest number of cells that a job of the checkpoint worker sets.
 pub const MOST_SET: u32 = 8;
@@ -22,8 +22,10 @@ pub(crate) fn set_cells(
     let mut counts = Vec::new(alloc);
     let mut lock: u32 = 0;
     for row in rows {
-        let low = set_cells_from(alloc, draft, keeper, lock, row, 0)?;
-        let high = set_cells_from(alloc, draft, keeper, lock, row, MOST_SET)?;
+        let low = operations_of(alloc, row, 0)?;
+        let high = operations_of(alloc, row, MOST_SET)?;
+        let low = set_cells_of(draft, keeper, lock, &low)?;
+        let high = set_cells_of(draft, keeper, lock, &high)?;
         if counts.push(low + high).is_err() {
             return Err(CheckpointFailed);
         }
@@ -32,35 +34,30 @@ pub(crate) fn set_cells(
     Ok(counts)
 }
 
-/// Sets up to `MOST_SET` cells of a lock, from this one on, and answers the number of sections that this took.
-fn set_cells_from(
-    alloc: Global,
+/// Sets cells of a lock by these operations, and answers the number of sections that this took.
+fn set_cells_of(
     draft: &mut CheckpointBuilder<'_>,
     keeper: u32,
     lock: u32,
-    row: &Row,
-    from: u32,
+    operations: &[Op],
 ) -> Result<u32, CheckpointFailed>
     ensures { IfOk result (λ made. made ≤ 1) }
 {
-    let Ok(operations) = operations_of(alloc, row, from) else {
-        return Err(CheckpointFailed);
-    };
     if operations.is_empty() {
         return Ok(0);
     }
-    let script = Script::of(operations.as_slice());
+    let script = Script::of(operations);
     draft.submit_job(keeper, &Job { lock, script }, JobProgress::Done)?;
     Ok(1)
 }
 
-/// The operations that set the nonzero cells, from this one on.
-fn operations_of(alloc: Global, row: &Row, from: u32) -> Result<Vec<Op>, AllocError> {
+/// The operations that set the nonzero cells, from this one on: at most `MOST_SET`.
+fn operations_of(alloc: Global, row: &Row, from: u32) -> Result<Vec<Op>, CheckpointFailed> {
     let mut operations = Vec::new(alloc);
     for cell in from..row.len().min(from.saturating_add(MOST_SET)) {
         let value = row.get(cell);
-        if value != 0 {
-            operations.push(Op::Set(cell, value))?;
+        if value != 0 && operations.push(Op::Set(cell, value)).is_err() {
+            return Err(CheckpointFailed);
         }
     }
     Ok(operations)

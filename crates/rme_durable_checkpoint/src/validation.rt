@@ -35,7 +35,8 @@ pub(crate) fn is_checkpoint_same(before: &ComparedState<'_>, after: &ComparedSta
         after.now.executor.now.world.history }
     requires holders { after.now.executor.now.holders ≡ before.now.executor.now.holders }
     ensures { IsTrue result
-        → spec.CheckpointShowsSame before.now.base.now before.now.executor.now after.now.base.now after.now.executor.now }
+        → spec.CheckpointShowsSame before.now.base.now before.now.executor.now
+        after.now.base.now after.now.executor.now }
 {
     let (one, other) = (before.executor.world(), after.executor.world());
     if !same_sizes(one, other) {

@@ -36,8 +36,8 @@ falls : (worker : ℕ) (fell : Bool) → all_asked_events (crash_commands worker
 falls worker true = refl
 falls worker false = refl
 
-pub deed_asks : (batch : EventBatch) → all_asked_events (batch_commands batch) ≡ batch_events batch
-deed_asks batch =
+pub batch_asks : (batch : EventBatch) → all_asked_events (batch_commands batch) ≡ batch_events batch
+batch_asks batch =
     asked_then (start_commands batch.worker batch.begins) (step_commands batch.worker batch.steps ++ crash_commands batch.worker batch.falls)
     ∙ ap (λ (b : List Event). b ++ all_asked_events (step_commands batch.worker batch.steps ++ crash_commands batch.worker batch.falls)) (begins batch.worker batch.begins)
     ∙ ap (λ (r : List Event). start_events batch.worker batch.begins ++ r) (asked_then (step_commands batch.worker batch.steps) (crash_commands batch.worker batch.falls)

@@ -35,7 +35,7 @@ falls_on names first now next privates worker private found falls wrote = record
       (writes_then names (crash_commands worker (is_some private)) (crash_commands_from (worker + 1) (drop (worker + 1) privates)) now next after wrote rest));
 }
 
--- A worker's private state tells whether it is up.
+-- A worker has a private state only while it is up.
 pub known_fall : (privates : List (Option Private)) (worker : ℕ) (known : Option Private) (place : Option (Option Private)) → slice_get privates worker ≡ place → worker < length privates → known ≡ private_if_up place
     → (private : Option Private) × (slice_get privates worker ≡ Some private) × (is_some known ≡ is_some private)
 known_fall privates worker known None at within is = absurd (none-some _ (sym at ∙ slice_get-get_or privates worker None within))

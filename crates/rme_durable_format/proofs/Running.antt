@@ -47,8 +47,8 @@ abbrev IsSteps : ℕ → ℕ → WorldView → WorldView → Type 0
 IsSteps most worker old new = (steps : ℕ) × (steps ≤ most) × AppliesEvents old (replicate steps (event.Step worker)) new
 
 module _ (most worker : ℕ) (wanted : Option Until) (notes : List Note) (outcome : Result WalkEnd Refusal) (old new : TalliedWorld) where
-  by_end : (note : Note) (mid : TalliedWorld) (after : Option WalkEnd) → TalliedStep old worker (Ok note) mid → walks.WalkAfterNote (walks.WalkStepSequence most mid worker wanted) mid note after notes outcome new
-      → ((more : List Note) → walks.WalkStepSequence most mid worker wanted more outcome new → IsSteps most worker mid.world new.world) → IsSteps (suc most) worker old.world new.world
+  by_end : (note : Note) (mid : TalliedWorld) (after : Option WalkEnd) → TalliedStep old worker (Ok note) mid → walks.WalkAfterNote (walks.WalkStepSequence most mid worker wanted) mid note after (walks.walk_outcome notes outcome new)
+      → ((more : List Note) → walks.WalkStepSequence most mid worker wanted (walks.walk_outcome more outcome new) → IsSteps most worker mid.world new.world) → IsSteps (suc most) worker old.world new.world
   by_end note mid (Some ended) stepped went rest = (1, omega arith, subst (λ (t : TalliedWorld). AppliesEvents old.world (event.Step worker ∷ []) t.world) (sym went.2) (step_happens old mid worker note stepped))
   by_end note mid None stepped went rest =
       let others = rest went.0 went.1 in
@@ -58,20 +58,20 @@ module _ (most worker : ℕ) (wanted : Option Until) (notes : List Note) (outcom
         happens_then (event.Step worker ∷ []) (replicate others.0 (event.Step worker)) old.world mid.world new.world (step_happens old mid worker note stepped) others.2,
       )
 
-  by_result : (end : WalkEnd) → outcome ≡ Ok end → (result : Result Note Refusal) (mid : TalliedWorld) → TalliedStep old worker result mid → walks.WalkAfterStep (walks.WalkStepSequence most mid worker wanted) mid worker wanted result notes outcome new
-      → ((more : List Note) → walks.WalkStepSequence most mid worker wanted more outcome new → IsSteps most worker mid.world new.world) → IsSteps (suc most) worker old.world new.world
+  by_result : (end : WalkEnd) → outcome ≡ Ok end → (result : Result Note Refusal) (mid : TalliedWorld) → TalliedStep old worker result mid → walks.WalkAfterStep (walks.WalkStepSequence most mid worker wanted) mid worker wanted result (walks.walk_outcome notes outcome new)
+      → ((more : List Note) → walks.WalkStepSequence most mid worker wanted (walks.walk_outcome more outcome new) → IsSteps most worker mid.world new.world) → IsSteps (suc most) worker old.world new.world
   by_result end ok (Ok note) mid stepped follows rest = by_end note mid (walks.walk_end_after wanted note follows.0) stepped follows.2 rest
   by_result end ok (Err refusal) mid stepped follows rest = absurd (let q : Err refusal ≡ Ok end = sym follows.1 ∙ ok in cc)
 
 -- A walk that was not refused is a number of steps.
-walk_happens : (most worker : ℕ) (wanted : Option Until) (notes : List Note) (outcome : Result WalkEnd Refusal) (end : WalkEnd) (old new : TalliedWorld) → walks.WalkStepSequence most old worker wanted notes outcome new → outcome ≡ Ok end
+walk_happens : (most worker : ℕ) (wanted : Option Until) (notes : List Note) (outcome : Result WalkEnd Refusal) (end : WalkEnd) (old new : TalliedWorld) → walks.WalkStepSequence most old worker wanted (walks.walk_outcome notes outcome new) → outcome ≡ Ok end
     → IsSteps most worker old.world new.world
 unfolding walks.WalkStepSequence
 walk_happens zero worker wanted notes outcome end old new goes ok = (0, omega arith, subst (λ (t : TalliedWorld). AppliesEvents old.world [] t.world) (sym goes.2) (nothing_happens old.world))
 walk_happens (suc most) worker wanted notes outcome end old new goes ok =
     by_result most worker wanted notes outcome old new end ok goes.0 goes.1 goes.2 goes.3 (λ more rest. walk_happens most worker wanted more outcome end goes.1 new rest ok)
 
-walk_done : (old new : TalliedWorld) (walk : Walk) (notes : List Note) (outcome : Result WalkEnd Refusal) (told : Reply) → walks.WalkStepSequence walk.max old walk.worker walk.until notes outcome new
+walk_done : (old new : TalliedWorld) (walk : Walk) (notes : List Note) (outcome : Result WalkEnd Refusal) (told : Reply) → walks.WalkStepSequence walk.max old walk.worker walk.until (walks.walk_outcome notes outcome new)
     → told ≡ reply_of_call reply.Walked (walks.walk_result outcome notes) → reply_refusal told ≡ None → IsSteps walk.max walk.worker old.world new.world
 walk_done old new walk notes (Ok end) told goes is none = walk_happens walk.max walk.worker walk.until notes (Ok end) end old new goes refl
 walk_done old new walk notes (Err refusal) told goes is none = absurd (no_refusal reply.Walked refusal told is none)

@@ -20,7 +20,7 @@ pub fn event_batches()
     ensures { (batch : EventBatch) → all_asked_events (batch_commands batch) ≡ batch_events batch }
 {}
 
-/// A command that changes a world and is not refused stands for events of it, each with its whole contract.
+/// A command that changes a world and is not refused is a list of its events, each with its whole contract.
 pub fn commands()
     ensures { (old new : TalliedWorld) (command : Command) (reply : Reply) → changes_world command ≡ true
         → reply_refusal reply ≡ None → CommandEffect old command reply new

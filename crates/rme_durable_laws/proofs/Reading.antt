@@ -21,7 +21,7 @@ use Rattle.rme_wire.specs.declared.request.Request.TheVariants.{World}
 use Rattle.rme_line_engine.specs.CommandEffects.{CommandEffect}
 use Rattle.rme_line_engine.specs.Lines.{CommandEffectIn, RequestEffect}
 use Rattle.rme_line_engine.specs.EngineStates.{EngineState, reply_of_call}
-use Rattle.rme_line_engine.specs.WorldWalks.{WalkStepSequence, walk_result}
+use Rattle.rme_line_engine.specs.WorldWalks.{WalkStepSequence, walk_result, walk_outcome}
 use Rattle.rme_line_engine.specs.declared.tallied.TalliedWorld.{TalliedWorld}
 use Rattle.rme_session_world.specs.EventBatches.{AppliesEvents}
 use Rattle.rme_durable_format.specs.BatchCommands.{all_asked_events, asked_events}
@@ -54,9 +54,9 @@ module _ (old one : TalliedWorld) (seen new : WorldView) (answers : List Answer)
       all_happen events answers same.0 seen old.world new one.world alike all same.1
 
   by_walk : (walk : TheWalk) (result : Result Walked Refusal) (notes : List Note) (outcome : Result WalkEnd Refusal) → walk.until ≡ None → EventListContract seen (replicate walk.max (event.Step walk.worker)) answers new
-      → WalkStepSequence walk.max old walk.worker walk.until notes outcome one → result ≡ walk_result outcome notes → says ≡ reply_of_call reply.Walked result → AreWorldsAlike new one.world
+      → WalkStepSequence walk.max old walk.worker walk.until (walk_outcome notes outcome one) → result ≡ walk_result outcome notes → says ≡ reply_of_call reply.Walked result → AreWorldsAlike new one.world
   by_walk walk result notes (Ok ended) plain all walks is told =
-      let P : Option Until → Type 0 = λ u. WalkStepSequence walk.max old walk.worker u notes (Ok ended) one in
+      let P : Option Until → Type 0 = λ u. WalkStepSequence walk.max old walk.worker u (walk_outcome notes (Ok ended) one) in
       walk_written walk.max walk.worker answers seen new old one notes (Ok ended) ended refl alike all (subst P plain walks)
   by_walk walk result notes (Err why) plain all walks is told = not_refused says why (told ∙ ap (reply_of_call reply.Walked) is) taken
 

@@ -76,7 +76,7 @@ impl<L: LogStore, J: LogTag> DurableUpTo<L, J> {
         true
     }
 
-    /// Whether at each of a number of looks a thread is writing and this position is not yet durable.
+    /// Whether at each of `TURNS` checks a thread is writing and this position is not yet durable.
     fn stays_behind(&self, end: &LogPosition<L, J>) -> bool {
         for _ in 0..TURNS {
             if self.is_durable(end) || !self.is_writing.load(Ordering::SeqCst) {

@@ -134,7 +134,7 @@ impl<L: LogStore, J: LogTag> GroupCommit<L, J> {
         taken: Option<PendingBatch<L, J>>,
     ) {
         let Some(taken) = taken else {
-            let _ledger = held.fail();
+            let _failed_store = held.fail();
             return self.fail(rt);
         };
         let kept = held.append(&taken);
@@ -164,7 +164,7 @@ impl<L: LogStore, J: LogTag> GroupCommit<L, J> {
         let mut back = self.back.lock(rt);
         back.spare = spare;
         // The store is dropped last, after all threads can see that the log has failed.
-        let _ledger = match kept {
+        let _failed_store = match kept {
             // Meanwhile an event could not be written as a line.
             Ok(held) if self.is_failed() => Some(held.fail()),
             Ok(held) => {

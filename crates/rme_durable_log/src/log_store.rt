@@ -20,8 +20,8 @@ pub trait LogStore: Drop {
         ensures replaced { OnOk result (ReplacesBytes (holds self.old) bytes.now (holds self.new)) }
         ensures same { OnErr result (holds self.new ≡ holds self.old) };
 
-    /// Whether storing lines takes no longer than waking another thread for it: then whoever appends lines stores them
-    /// at once.
+    /// Whether storing lines takes no longer than waking another thread for it: then the thread that appends lines
+    /// stores them at once.
     fn is_quick(&self) -> bool;
 
     /// An event could not be written as a line.

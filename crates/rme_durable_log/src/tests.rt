@@ -69,9 +69,9 @@ impl<J: LogTag> Model for LineSource<J> {
 
     ghost Value = { List ℕ };
 
-    ghost view = { λ desk. string_bytes desk.lines };
+    ghost view = { λ source. string_bytes source.lines };
 
-    ghost invariant = { λ desk. IfSome desk.appender (λ appender. appender.waits ≡ string_bytes desk.lines) };
+    ghost invariant = { λ source. IfSome source.appender (λ appender. appender.waits ≡ string_bytes source.lines) };
 }
 
 impl<J: LogTag> PendingLines<Pages, J> for LineSource<J> {
@@ -96,9 +96,9 @@ impl<J: LogTag> LineSource<J> {
         if !appender.append(line.as_bytes()) {
             return None;
         }
-        let told = appender.position();
+        let position = appender.position();
         self.appender = Some(appender);
-        Some(told)
+        Some(position)
     }
 
     /// Replaces all bytes of the store.
@@ -115,20 +115,20 @@ impl<J: LogTag> LineSource<J> {
 }
 
 /// Appends a line and commits it.
-fn say<J: LogTag, R: Wait>(
+fn append_and_commit<J: LogTag, R: Wait>(
     rt: &R,
-    desk: &Mutex<LineSource<J>>,
+    source: &Mutex<LineSource<J>>,
     commits: &GroupCommit<Pages, J>,
     line: &str,
 ) -> bool {
-    let told = desk.lock(rt).write(line);
-    match told {
-        Some(told) => commits.commit(rt, desk, &told).is_ok(),
+    let position = source.lock(rt).write(line);
+    match position {
+        Some(position) => commits.commit(rt, source, &position).is_ok(),
         None => false,
     }
 }
 
-/// The final contents of the store, and the failures that it was told of.
+/// The final contents of the store, and the number of reported failures.
 fn end<J: LogTag, R: Wait>(rt: &R, commits: &GroupCommit<Pages, J>) -> Option<Pages> {
     let (held, spare) = commits.take_writer(rt)?;
     drop(spare);
@@ -154,14 +154,14 @@ fn kept_by_two<J: LogTag + Send + Sync, R: Threads + Wait + Abort + Sync>(
     requires { opened ≡ J.book }
 {
     let (appender, commits) = opened.split::<J>(alloc);
-    let desk = Mutex::new(LineSource {
+    let source = Mutex::new(LineSource {
         lines: String::new(alloc),
         appender: Some(appender),
     });
     let (one, two) = join(
         rt,
-        || say(rt, &desk, &commits, "one\n"),
-        || say(rt, &desk, &commits, "two\n"),
+        || append_and_commit(rt, &source, &commits, "one\n"),
+        || append_and_commit(rt, &source, &commits, "two\n"),
     );
     assert!(rt; one && two);
     let pages = end(rt, &commits).ok_or("kept")?;
@@ -190,15 +190,15 @@ fn replaced<J: LogTag, R: Wait + Abort>(
     requires { opened ≡ J.book }
 {
     let (appender, commits) = opened.split::<J>(alloc);
-    let desk = Mutex::new(LineSource {
+    let source = Mutex::new(LineSource {
         lines: String::new(alloc),
         appender: Some(appender),
     });
-    assert!(rt; say(rt, &desk, &commits, "one\n"));
+    assert!(rt; append_and_commit(rt, &source, &commits, "one\n"));
     let (held, spare) = commits.take_writer(rt).ok_or("taken")?;
-    let held = desk.lock(rt).replace(held, b"all\n").ok_or("replaced")?;
+    let held = source.lock(rt).replace(held, b"all\n").ok_or("replaced")?;
     commits.return_writer(rt, spare, Ok(held));
-    assert!(rt; say(rt, &desk, &commits, "two\n"));
+    assert!(rt; append_and_commit(rt, &source, &commits, "two\n"));
     let pages = end(rt, &commits).ok_or("kept")?;
     assert!(rt; pages.has("all\ntwo\n"));
     Ok(())
@@ -223,20 +223,20 @@ fn broken<J: LogTag, R: Wait + Abort>(
     requires { opened ≡ J.book }
 {
     let (appender, commits) = opened.split::<J>(alloc);
-    let desk = Mutex::new(LineSource {
+    let source = Mutex::new(LineSource {
         lines: String::new(alloc),
         appender: Some(appender),
     });
-    let told = desk.lock(rt).write("one\n").ok_or("told")?;
+    let position = source.lock(rt).write("one\n").ok_or("appended")?;
     commits.fail(rt);
     assert!(rt; commits.is_failed());
-    assert!(rt; commits.commit(rt, &desk, &told).is_err());
+    assert!(rt; commits.commit(rt, &source, &position).is_err());
     assert!(rt; commits.take_writer(rt).is_none());
     Ok(())
 }
 
 #[test]
-fn who_tells_keeps_at_once(rt: HostRuntime) -> Result<(), Fail> {
+fn a_quick_store_is_written_at_once(rt: HostRuntime) -> Result<(), Fail> {
     let pages = Pages {
         alloc: rt.alloc(),
         bytes: Vec::new(rt.alloc()),
@@ -254,16 +254,16 @@ fn kept_at_once<J: LogTag, R: Wait + Abort>(
     requires { opened ≡ J.book }
 {
     let (appender, commits) = opened.split::<J>(alloc);
-    let desk = Mutex::new(LineSource {
+    let source = Mutex::new(LineSource {
         lines: String::new(alloc),
         appender: Some(appender),
     });
-    let mut front = desk.lock(rt);
-    let told = front.write("one\n").ok_or("told")?;
-    commits.commit_inline(rt, &mut *front, &told);
+    let mut front = source.lock(rt);
+    let position = front.write("one\n").ok_or("appended")?;
+    commits.commit_inline(rt, &mut *front, &position);
     assert!(rt; front.lines.is_empty());
     drop(front);
-    assert!(rt; commits.commit(rt, &desk, &told).is_ok());
+    assert!(rt; commits.commit(rt, &source, &position).is_ok());
     let pages = end(rt, &commits).ok_or("kept")?;
     assert!(rt; pages.has("one\n"));
     Ok(())

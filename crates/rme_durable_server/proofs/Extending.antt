@@ -3,12 +3,11 @@ use Rattle.std.proofs.Common.{◌≡◌, ◌+◌, ℕ, List, zero, suc, true, re
 use Rattle.std.specs.Prelude.{IfOk, OnOk, Option, Result, Ok, Err}
 use Rattle.rme_session_server.specs.OrderRuns.{IsReplyOfTries}
 use Rattle.rme_session_server.specs.SessionAnswers.{MayContinueOrder}
-use Rattle.rme_session_server.specs.declared.attempt_error.AnswerError.TheVariants as error
 use Rattle.rme_session_protocol.specs.declared.order.Order.TheVariants.{Attach}
 use Rattle.rme_session_protocol.specs.SessionLines.{session_reply_line}
 use Rattle.rme_session_world.specs.ExecutorStates.{ExecutorState}
 use Rattle.rme_session_world.specs.declared.executor.SessionState.{SessionState}
-use Rattle.rme_durable_checkpoint.specs.EpochStates.{SessionStepAcrossCheckpoints}
+use Rattle.rme_durable_checkpoint.specs.EpochStates.{SessionStepAcrossCheckpoints, executor_session}
 use Rattle.rme_durable_checkpoint.specs.LoggedStates.{LoggedStep, logged_state}
 use Rattle.rme_durable_checkpoint.specs.declared.epoch_base.Base.{Base}
 use Rattle.rme_durable_checkpoint.specs.declared.apply_error.ApplyError.{ApplyError}
@@ -22,11 +21,11 @@ use mathlib.Core.List.{IsPrefix}
 use Rattle.rme_durable_log.specs.Logs.{StoreHadAllLines, StoreHadLines, IsAppended}
 use Rattle.rme_durable_log.specs.declared.log_entry.LogEntry.{LogEntry}
 use Rattle.rme_durable_log.proofs.Fronts.{prefix_trans}
-use Rattle.rme_durable_server.specs.DurableAnswers.{DurableLineReply, IsAnswerUnfinished, DurableOrder, DurableAttempts, DurableAttempt, DurableTries, asks_checkpoint_worker}
+use Rattle.rme_durable_server.specs.DurableAnswers.{DurableLineReply, IsAnswerUnfinished, DurableOrder, DurableAttempts, DurableAttempt, DurableTries, asks_checkpoint_worker, client_terms}
 
 -- An order that was obeyed in some epoch was tried.
 pub tries_by : {L : Type 0} (result : Result L ApplyError) (reply : L → SessionReply) (end : L → List LogEntry) (names : List (List ℕ)) (base : Base) (before after : ExecutorState) (waited lines : List ℕ) (old now : SessionState) (its : Order)
-    → IfOk result (λ acted. SessionStepAcrossCheckpoints base before old its after now (reply acted)) → OnOk result (LoggedStep names (logged_state before waited) (logged_state after lines)) → IfOk result (λ acted. IsAppended (end acted) lines)
+    → IfOk result (λ acted. SessionStepAcrossCheckpoints base (executor_session before old) its (executor_session after now) (reply acted)) → OnOk result (LoggedStep names (logged_state before waited) (logged_state after lines)) → IfOk result (λ acted. IsAppended (end acted) lines)
     → IfOk result (λ acted. DurableAttempt (IsAppended (end acted)) names old its now (reply acted))
 tries_by (Ok acted) reply end names base before after waited lines old now its obeys written told = record {
   base = base;
@@ -40,7 +39,7 @@ tries_by (Ok acted) reply end names base before after waited lines old now its o
 }
 tries_by (Err why) reply end names base before after waited lines old now its obeys written told = tt
 
--- What was told by some moment was told by each later one.
+-- What was appended by some moment was appended by each later one.
 pub told_later : (log later : List LogEntry) → IsPrefix log later → (lines : List ℕ) → IsAppended log lines → IsAppended later lines
 told_later log later pre lines told = record {
   start = told.start;
@@ -63,7 +62,7 @@ module _ (known knows : List ℕ → Type 0) (so : (lines : List ℕ) → known 
     known = so tries.lines tries.known;
   }
 
-  serves_so : (more : ℕ) (old : SessionState) (its : Order) (now : SessionState) (answer : SessionReply) → DurableAttempts known names more old its now answer → DurableAttempts knows names more old its now answer
+  serves_so : (more : ℕ) (old : SessionState) (its : Order) (now : SessionState) (answer : SessionReply) → DurableAttempts (DurableAttempt known names) more old its now answer → DurableAttempts (DurableAttempt knows names) more old its now answer
   serves_so zero old its now answer tries = tries_so old its now answer tries
   serves_so (suc more) old its now answer (mid, first, last, serves, can, tries, so) = (
     mid,
@@ -85,36 +84,36 @@ unfinished its first may = inl may
 
 -- One try more.
 pub retried : (names : List (List ℕ)) (its next : Order) (old mid now : SessionState) (first last told : SessionReply) (so_far by_next later : List LogEntry) (tries : ℕ) → MayContinueOrder its first → next ≡ retry_order its
-    → DurableAttempt (IsAppended by_next) names mid next now last → IsPrefix so_far later → IsPrefix by_next later → told ≡ merged_reply first last → DurableTries (IsAppended so_far) names tries old its mid first
-    → DurableTries (IsAppended later) names (tries + 1) old its now told
+    → DurableAttempt (IsAppended by_next) names mid next now last → IsPrefix so_far later → IsPrefix by_next later → told ≡ merged_reply first last → DurableTries (DurableAttempt (IsAppended so_far) names) tries old its mid first
+    → DurableTries (DurableAttempt (IsAppended later) names) (tries + 1) old its now told
 retried names its next old mid now first last told so_far by_next later zero may is attempt longer long so executed = absurd executed
 retried names its next old mid now first last told so_far by_next later (suc more) may is attempt longer long so executed =
     let before = serves_so (IsAppended so_far) (IsAppended later) (told_later so_far later longer) names more old its mid first executed in
     let tried = tries_so (IsAppended by_next) (IsAppended later) (told_later by_next later long) names mid next now last attempt in
     let one : suc (suc more) ≡ suc more + 1 = omega arith in
-    subst (λ (tries : ℕ). DurableTries (IsAppended later) names tries old its now told) one
+    subst (λ (tries : ℕ). DurableTries (DurableAttempt (IsAppended later) names) tries old its now told) one
     (mid, first, last, before, unfinished its first may, subst (λ (o : Order). DurableAttempt (IsAppended later) names mid o now last) is tried, so)
 
 order_of_tries : {R : Type 0} (known : R → List ℕ → Type 0) (names : List (List ℕ)) (old : SessionState) (its : Order) (now : SessionState) (says : R → SessionReply) (stops : ℕ → R → Type 0) (reply : R)
-    → IsReplyOfTries (λ (tries : ℕ). λ (r : R). DurableTries (known r) names tries old its now (says r)) stops reply → DurableOrder (known reply) names old its now (says reply)
+    → IsReplyOfTries (λ (tries : ℕ). λ (r : R). DurableTries (DurableAttempt (known r) names) tries old its now (says r)) stops reply → DurableOrder (known reply) names old its now (says reply)
 order_of_tries known names old its now says stops reply (zero, some, executed, may_stop) = absurd executed
 order_of_tries known names old its now says stops reply (suc more, some, executed, may_stop) = (more, executed)
 
 pub order_at : {R E : Type 0} (replied : Result R E) (reply : R) (known : R → List ℕ → Type 0) (says : R → SessionReply) (stops : ℕ → R → Type 0) (names : List (List ℕ)) (old : SessionState) (its : Order) (now : SessionState)
-    → replied ≡ Ok reply → IfOk replied (IsReplyOfTries (λ (tries : ℕ). λ (r : R). DurableTries (known r) names tries old its now (says r)) stops) → DurableOrder (known reply) names old its now (says reply)
+    → replied ≡ Ok reply → IfOk replied (IsReplyOfTries (λ (tries : ℕ). λ (r : R). DurableTries (DurableAttempt (known r) names) tries old its now (says r)) stops) → DurableOrder (known reply) names old its now (says reply)
 order_at {R} replied reply known says stops names old its now is executed =
-    let P : R → Type 0 = IsReplyOfTries (λ (tries : ℕ). λ (r : R). DurableTries (known r) names tries old its now (says r)) stops in
+    let P : R → Type 0 = IsReplyOfTries (λ (tries : ℕ). λ (r : R). DurableTries (DurableAttempt (known r) names) tries old its now (says r)) stops in
     order_of_tries known names old its now says stops reply (IfOk-at_ok P is executed)
 
--- The answer to an order, by its reply, once the log had all that was told.
+-- The answer to an order, by its reply, once the log had all that was appended.
 pub says_it : {A E X : Type 0} (result : Result A E) (holds : X → Option (List ℕ)) (clients : ℕ) (names : List (List ℕ)) (told : List LogEntry) (old : SessionState) (its : Order) (reply : SessionReply) (bytes : List ℕ) (now : SessionState)
     → DurableOrder (IsAppended told) names old its now reply → OnOk result (bytes ≡ session_reply_line names reply) → OnOk result (StoreHadAllLines holds told)
-    → OnOk result (DurableLineReply holds clients names old (Ok its) bytes now)
+    → OnOk result (DurableLineReply holds (client_terms clients names) old (Ok its) bytes now)
 says_it (Ok value) holds clients names told old its reply bytes now served says had = (reply, inr (served_so (IsAppended told) (StoreHadLines holds) had names old its now reply served), says)
 says_it (Err error) holds clients names told old its reply bytes now served says had = says
 
--- The answer to who asks for the keeper.
+-- The answer to an order that asks for the checkpoint worker.
 pub refuses_it : {A E X : Type 0} (result : Result A E) (holds : X → Option (List ℕ)) (clients : ℕ) (names : List (List ℕ)) (old : SessionState) (its : Order) (bytes : List ℕ) (now : SessionState) → asks_checkpoint_worker clients its ≡ true → now ≡ old
-    → OnOk result (bytes ≡ session_reply_line names (Refused NoWorker)) → OnOk result (DurableLineReply holds clients names old (Ok its) bytes now)
+    → OnOk result (bytes ≡ session_reply_line names (Refused NoWorker)) → OnOk result (DurableLineReply holds (client_terms clients names) old (Ok its) bytes now)
 refuses_it (Ok value) holds clients names old its bytes now is same says = (Refused NoWorker, inl (is, refl, same), says)
 refuses_it (Err error) holds clients names old its bytes now is same says = says

@@ -3,7 +3,7 @@ use Rattle.std.specs.Prelude.{◌≡◌, ◌⊎◌, ℕ, zero, suc, nat_le, Bool
 use Rattle.rme_session_world.specs.ExecutorStates.{ExecutorState}
 use Rattle.rme_session_world.specs.declared.executor.SessionState.{SessionState}
 use Rattle.rme_line_io.specs.Pieces.{InputLine}
-use Rattle.rme_durable_checkpoint.specs.EpochStates.{SessionStepAcrossCheckpoints}
+use Rattle.rme_durable_checkpoint.specs.EpochStates.{SessionStepAcrossCheckpoints, executor_session}
 use Rattle.rme_durable_checkpoint.specs.LoggedStates.{LoggedStep, logged_state}
 use Rattle.rme_durable_checkpoint.specs.declared.epoch_base.Base.{Base}
 use Rattle.rme_durable_log.specs.Logs.{StoreHadLines}
@@ -27,7 +27,7 @@ pub record DurableAttempt (knows : List ℕ → Type 0) (names : List (List ℕ)
   pub base : Base
   pub before : ExecutorState
   pub after : ExecutorState
-  pub obeys : SessionStepAcrossCheckpoints base before old its after now answer
+  pub obeys : SessionStepAcrossCheckpoints base (executor_session before old) its (executor_session after now) answer
   pub waited : List ℕ
   pub lines : List ℕ
   pub written : LoggedStep names (logged_state before waited) (logged_state after lines)
@@ -38,35 +38,44 @@ abbrev pub IsAnswerUnfinished : SessionReply → Type 0
 IsAnswerUnfinished first = (is_still_waiting first ≡ true) ⊎ (first ≡ Refused Taken)
 
 -- An order is executed by one try, and by this number of further tries; between tries other sessions may act.
-abbrev pub DurableAttempts : (List ℕ → Type 0) → List (List ℕ) → ℕ → SessionState → Order → SessionState → SessionReply
-    → Type 0
-DurableAttempts known names zero old its now answer = DurableAttempt known names old its now answer
-DurableAttempts known names (suc more) old its now answer =
+abbrev pub DurableAttempts : (SessionState → Order → SessionState → SessionReply → Type 0) → ℕ → SessionState → Order
+    → SessionState → SessionReply → Type 0
+DurableAttempts attempt zero old its now answer = attempt old its now answer
+DurableAttempts attempt (suc more) old its now answer =
     (mid : SessionState) × (first : SessionReply) × (last : SessionReply)
-    × DurableAttempts known names more old its mid first × IsAnswerUnfinished first
-    × DurableAttempt known names mid (retry_order its) now last × (answer ≡ merged_reply first last)
+    × DurableAttempts attempt more old its mid first × IsAnswerUnfinished first
+    × attempt mid (retry_order its) now last × (answer ≡ merged_reply first last)
 
 abbrev pub DurableOrder : (List ℕ → Type 0) → List (List ℕ) → SessionState → Order → SessionState → SessionReply
     → Type 0
-DurableOrder known names old its now answer = (more : ℕ) × DurableAttempts known names more old its now answer
+DurableOrder known names old its now answer =
+    (more : ℕ) × DurableAttempts (DurableAttempt known names) more old its now answer
 
 -- An order is executed by this number of tries.
-abbrev pub DurableTries : (List ℕ → Type 0) → List (List ℕ) → ℕ → SessionState → Order → SessionState → SessionReply
-    → Type 0
-DurableTries known names zero old its now answer = ⊥
-DurableTries known names (suc more) old its now answer = DurableAttempts known names more old its now answer
+abbrev pub DurableTries : (SessionState → Order → SessionState → SessionReply → Type 0) → ℕ → SessionState → Order
+    → SessionState → SessionReply → Type 0
+DurableTries attempt zero old its now answer = ⊥
+DurableTries attempt (suc more) old its now answer = DurableAttempts attempt more old its now answer
 
 -- An order that would attach the checkpoint worker. The workers below `clients` can be attached.
 abbrev pub asks_checkpoint_worker : ℕ → Order → Bool
 asks_checkpoint_worker clients (Attach asked) = nat_le clients asked.worker
 asks_checkpoint_worker clients its = false
 
+-- What the answers of a durable server depend on: the number of workers that clients can attach, and the lock names.
+pub record ClientTerms : Type 0 where
+  pub clients : ℕ
+  pub names : List (List ℕ)
+
+abbrev pub client_terms : ℕ → List (List ℕ) → ClientTerms
+client_terms clients names = record { clients = clients; names = names }
+
 -- An order that would attach the checkpoint worker is refused as if there were no such worker.
-abbrev pub DurableOrderEffect : (List ℕ → Type 0) → ℕ → List (List ℕ) → SessionState → Order → SessionState
-    → SessionReply → Type 0
-DurableOrderEffect known clients names old its now answer =
-    ((asks_checkpoint_worker clients its ≡ true) × (answer ≡ Refused NoWorker) × (now ≡ old))
-    ⊎ DurableOrder known names old its now answer
+abbrev pub DurableOrderEffect : (List ℕ → Type 0) → ClientTerms → SessionState → Order → SessionState → SessionReply
+    → Type 0
+DurableOrderEffect known terms old its now answer =
+    ((asks_checkpoint_worker terms.clients its ≡ true) × (answer ≡ Refused NoWorker) × (now ≡ old))
+    ⊎ DurableOrder known terms.names old its now answer
 
 -- A session has no worker before its first line.
 abbrev pub IsSessionBegun : Option SessionState → SessionState → Type 0
@@ -77,19 +86,19 @@ IsSessionBegun (Some old) stand = stand ≡ old
 -- which all lines pending after the try were in the store, those of the try at their end. A line that is no order is
 -- answered by its look-up, of which nothing is said here, or by why it is refused. Without an order the session is
 -- unchanged.
-abbrev pub DurableLineReply : {X : Type 0} → (X → Option (List ℕ)) → ℕ → List (List ℕ) → SessionState
-    → Result Order Refusal → List ℕ → SessionState → Type 0
-DurableLineReply holds clients names old (Ok its) bytes now =
-    (reply : SessionReply) × DurableOrderEffect (StoreHadLines holds) clients names old its now reply
-    × (bytes ≡ session_reply_line names reply)
-DurableLineReply holds clients names old (Err BadLine) bytes now = now ≡ old
-DurableLineReply holds clients names old (Err why) bytes now =
-    (now ≡ old) × (bytes ≡ session_reply_line names (Refused why))
+abbrev pub DurableLineReply : {X : Type 0} → (X → Option (List ℕ)) → ClientTerms → SessionState → Result Order Refusal
+    → List ℕ → SessionState → Type 0
+DurableLineReply holds terms old (Ok its) bytes now =
+    (reply : SessionReply) × DurableOrderEffect (StoreHadLines holds) terms old its now reply
+    × (bytes ≡ session_reply_line terms.names reply)
+DurableLineReply holds terms old (Err BadLine) bytes now = now ≡ old
+DurableLineReply holds terms old (Err why) bytes now =
+    (now ≡ old) × (bytes ≡ session_reply_line terms.names (Refused why))
 
-pub record DurableLineAnswer {X : Type 0} (holds : X → Option (List ℕ)) (clients : ℕ) (names : List (List ℕ))
+pub record DurableLineAnswer {X : Type 0} (holds : X → Option (List ℕ)) (terms : ClientTerms)
     (old : Option SessionState) (line : InputLine) (bytes : List ℕ) (now : Option SessionState) : Type 0 where
   pub start : SessionState
   pub end : SessionState
   pub begun : IsSessionBegun old start
   pub is : now ≡ Some end
-  pub answers : DurableLineReply holds clients names start (parsed_order names service_numbers line) bytes end
+  pub answers : DurableLineReply holds terms start (parsed_order terms.names service_numbers line) bytes end

@@ -1,7 +1,7 @@
 //! The durable server as a backend of sessions.
 
 ghost use Rattle.std.specs.Prelude.{◌≡◌, [], IfErr, OnOk, string_bytes, Ok};
-ghost use Rattle.rme_durable_server.specs.DurableAnswers.{DurableLineReply};
+ghost use Rattle.rme_durable_server.specs.DurableAnswers.{DurableLineReply, client_terms};
 ghost use Rattle.rme_line_io.specs.BufferedWrites.{BufferedWrite};
 ghost use Rattle.rme_line_io.specs.StreamEvents.{LastWriteFailed, WritesMade};
 ghost use Rattle.rme_session_server.specs.SessionAnswers.{AnswerFailure};
@@ -11,9 +11,11 @@ use crate::durable_server::DurableServer;
 use crate::lookup::{SessionLookup, parse_lookup};
 use rme_durable_log::{LogStore, LogTag};
 use rme_session_protocol::{SERVICE_NUMBERS, SessionReply};
-use rme_session_server::{AnswerError, Backend, Buffers, Client, CloseHandle, OrderRun};
+use rme_session_server::{
+    AnswerError, Backend, Buffers, Client, CloseHandle, OrderRequest, OrderRun,
+};
 use rme_session_world::SessionState;
-use rme_wire::{Cut, Names, Sink};
+use rme_wire::{Names, Sink};
 use rme_words::Refusal;
 use std::alloc::Global;
 use std::sync::Wait;
@@ -23,7 +25,7 @@ use std::time::Clock;
 /// answer depends on are durable. A session whose lines can't be logged ends without an answer, and with it the server.
 impl<L: LogStore, H: CloseHandle, J: LogTag> Backend for DurableServer<L, H, J> {
     ghost use Rattle.std.specs.Prelude.{⊤, None};
-    ghost use Rattle.rme_durable_server.specs.DurableAnswers.{DurableLineAnswer};
+    ghost use Rattle.rme_durable_server.specs.DurableAnswers.{DurableLineAnswer, client_terms};
 
     /// `None` before its first line.
     type Stand = Option<SessionState>;
@@ -36,7 +38,7 @@ impl<L: LogStore, H: CloseHandle, J: LogTag> Backend for DurableServer<L, H, J> 
 
     ghost nobody = { λ _. None };
 
-    ghost answers = { λ kept _. DurableLineAnswer L.holds kept.clients kept.names };
+    ghost answers = { λ kept _. DurableLineAnswer L.holds (client_terms kept.clients kept.names) };
 
     fn alloc(&self) -> Global {
         self.alloc
@@ -59,21 +61,19 @@ impl<L: LogStore, H: CloseHandle, J: LogTag> Backend for DurableServer<L, H, J> 
         &self,
         rt: &R,
         stand: Option<SessionState>,
-        cut: Cut,
         buffers: &mut Buffers,
         writer: &mut O,
         client: &C,
     ) -> (Option<SessionState>, Result<(), AnswerError>) {
         let stand = self.session_or_new(stand);
-        let order = match buffers.parse_order(cut, &self.names, SERVICE_NUMBERS) {
+        let order = match buffers.parse_order(&self.names, SERVICE_NUMBERS) {
             Ok(Ok(order)) => order,
             Ok(Err(why)) => return (Some(stand), self.answer_non_order(rt, why, buffers)),
             Err(_) => return (Some(stand), Err(AnswerError::NoMemory)),
         };
         let run = OrderRun {
             backend: self,
-            client,
-            order,
+            request: OrderRequest { client, order },
         };
         let (stand, answered) = answer_order(rt, stand, &run, buffers, writer);
         (Some(stand), answered)
@@ -89,7 +89,7 @@ impl<L: LogStore, H: CloseHandle, J: LogTag> Backend for DurableServer<L, H, J> 
 impl<L: LogStore, H: CloseHandle, J: LogTag> DurableServer<L, H, J> {
     ghost use Rattle.std.specs.Prelude.{◌≡◌, ◌≢◌, IfErr, OnOk, string_bytes, Err};
     ghost use Rattle.rme_session_world.specs.declared.executor.SessionState.{SessionState as Session};
-    ghost use Rattle.rme_durable_server.specs.DurableAnswers.{DurableLineReply, IsSessionBegun};
+    ghost use Rattle.rme_durable_server.specs.DurableAnswers.{DurableLineReply, IsSessionBegun, client_terms};
     ghost use Rattle.rme_durable_log.specs.Logs.{StoreHadAllLines};
     ghost use Rattle.rme_session_protocol.specs.SessionLines.{session_reply_line};
     ghost use Rattle.rme_session_protocol.specs.ClientReplies.{reply_of_client};
@@ -121,8 +121,8 @@ impl<L: LogStore, H: CloseHandle, J: LogTag> DurableServer<L, H, J> {
         buffers: &mut Buffers,
     ) -> Result<(), AnswerError>
         ensures answers { OnOk result ((stand : Session)
-            → DurableLineReply L.holds self.now.clients self.now.names stand (Err why) (string_bytes buffers.new.text)
-            stand) }
+            → DurableLineReply L.holds (client_terms self.now.clients self.now.names) stand (Err why)
+            (string_bytes buffers.new.text) stand) }
         ensures same { buffers.new.exchange ≡ buffers.old.exchange }
         ensures err { IfErr result (λ why. why ≢ AnswerError.WriteFailed) }
     {
@@ -187,8 +187,9 @@ fn answer_order<
     buffers: &mut Buffers,
     writer: &mut O,
 ) -> (SessionState, Result<(), AnswerError>)
-    ensures answers { OnOk result.1 (DurableLineReply L.holds run.now.backend.now.clients
-        run.now.backend.now.names session (Ok run.now.order) (string_bytes buffers.new.text) result.0) }
+    ensures answers { OnOk result.1 (DurableLineReply L.holds
+        (client_terms run.now.backend.now.clients run.now.backend.now.names) session (Ok run.now.request.order)
+        (string_bytes buffers.new.text) result.0) }
     ensures gathers { OnOk result.1 (BufferedWrite (O.contents writer.old) buffers.old.exchange.pending []
         (O.contents writer.new) buffers.new.exchange.pending) }
     ensures err { IfErr result.1 (λ why. AnswerFailure why (O.contents writer.old) buffers.old.exchange.pending
@@ -198,7 +199,7 @@ fn answer_order<
         → LastWriteFailed (O.took writer.old) (O.took writer.new)) }
 {
     let server = run.backend;
-    if server.asks_checkpoint_worker(&run.order) {
+    if server.asks_checkpoint_worker(&run.request.order) {
         let refused = SessionReply::Refused(Refusal::NoWorker);
         return (session, buffers.write_reply(&server.names, refused));
     }

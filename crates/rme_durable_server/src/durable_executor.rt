@@ -40,7 +40,7 @@ impl<L: LogStore, J: LogTag> Model for DurableExecutor<L, J> {
 
 impl<L: LogStore, J: LogTag> DurableExecutor<L, J> {
     ghost use Rattle.std.specs.Prelude.{◌≡◌, [], IfOk, OnOk};
-    ghost use Rattle.rme_durable_checkpoint.specs.EpochStates.{SessionStepAcrossCheckpoints};
+    ghost use Rattle.rme_durable_checkpoint.specs.EpochStates.{SessionStepAcrossCheckpoints, executor_session};
     ghost use Rattle.rme_durable_checkpoint.specs.LoggedStates.{LoggedStep, logged_state};
     ghost use Rattle.rme_durable_log.specs.Logs.{IsAppended};
     ghost use Rattle.rme_session_protocol.specs.ClientReplies.{reply_of_client};
@@ -91,11 +91,12 @@ impl<L: LogStore, J: LogTag> DurableExecutor<L, J> {
     pub(crate) fn execute(
         &mut self,
         names: &Names,
-        stand: &mut SessionState,
+        session: &mut SessionState,
         order: &Order,
     ) -> Result<DurableReply<L, J>, ApplyError>
-        ensures obeys { IfOk result (λ obeyed. SessionStepAcrossCheckpoints self.old.base self.old.executor stand.old
-            order.now self.new.executor stand.new (reply_of_client obeyed.answered.reply)) }
+        ensures obeys { IfOk result (λ obeyed. SessionStepAcrossCheckpoints self.old.base
+            (executor_session self.old.executor session.old) order.now (executor_session self.new.executor session.new)
+            (reply_of_client obeyed.answered.reply)) }
         ensures written { OnOk result (LoggedStep names.now (logged_state self.old.executor self.old.lines)
             (logged_state self.new.executor self.new.lines)) }
         ensures told { IfOk result (λ obeyed. IsAppended obeyed.end self.new.lines) }
@@ -105,7 +106,7 @@ impl<L: LogStore, J: LogTag> DurableExecutor<L, J> {
         };
         let mut appender = appender;
         let before = self.executor.lines().len();
-        let answered = match self.executor.execute(names, stand, order) {
+        let answered = match self.executor.execute(names, session, order) {
             Ok(answered) => answered,
             Err(ApplyError::NoMemory) => {
                 self.appender = Some(appender);
@@ -126,14 +127,14 @@ impl<L: LogStore, J: LogTag> DurableExecutor<L, J> {
     pub(crate) fn detach_session(
         &mut self,
         names: &Names,
-        stand: &mut SessionState,
+        session: &mut SessionState,
     ) -> Result<LogPosition<L, J>, ApplyError> {
         let Some(appender) = self.appender.take() else {
             return Err(ApplyError::NotLogged);
         };
         let mut appender = appender;
         let before = self.executor.lines().len();
-        let Ok(()) = self.executor.detach_session(names, stand) else {
+        let Ok(()) = self.executor.detach_session(names, session) else {
             return Err(ApplyError::NotLogged);
         };
         if !append_new_lines(&mut appender, &self.executor, before) {

@@ -86,22 +86,22 @@ impl<L: LogStore, H: CloseHandle, J: LogTag> DurableServer<L, H, J> {
     pub(crate) fn execute_once<R: Wait + Clock, C: Client<Handle = H>>(
         &self,
         rt: &R,
-        stand: &mut SessionState,
+        session: &mut SessionState,
         order: &Order,
         client: &C,
     ) -> Result<DurableReply<L, J>, ApplyError>
-        ensures { IfOk result (λ obeyed. DurableAttempt (IsAppended obeyed.end) self.now.names stand.old order.now
-            stand.new (reply_of_client obeyed.answered.reply)) }
+        ensures { IfOk result (λ obeyed. DurableAttempt (IsAppended obeyed.end) self.now.names session.old order.now
+            session.new (reply_of_client obeyed.answered.reply)) }
     {
         if self.due.is_seen_due() {
             self.checkpoint(rt, None);
         }
-        let mut tried = *stand;
+        let mut tried = *session;
         let acted = self.execute_in_epoch(rt, &mut tried, order, client);
-        if has_spent_jobs(&acted) && self.checkpoint(rt, stand.worker) {
-            return self.execute_in_epoch(rt, stand, order, client);
+        if has_spent_jobs(&acted) && self.checkpoint(rt, session.worker) {
+            return self.execute_in_epoch(rt, session, order, client);
         }
-        *stand = tried;
+        *session = tried;
         acted
     }
 
@@ -109,17 +109,17 @@ impl<L: LogStore, H: CloseHandle, J: LogTag> DurableServer<L, H, J> {
     fn execute_in_epoch<R: Wait, C: Client<Handle = H>>(
         &self,
         rt: &R,
-        stand: &mut SessionState,
+        session: &mut SessionState,
         order: &Order,
         client: &C,
     ) -> Result<DurableReply<L, J>, ApplyError>
-        ensures { IfOk result (λ obeyed. DurableAttempt (IsAppended obeyed.end) self.now.names stand.old order.now
-            stand.new (reply_of_client obeyed.answered.reply)) }
+        ensures { IfOk result (λ obeyed. DurableAttempt (IsAppended obeyed.end) self.now.names session.old order.now
+            session.new (reply_of_client obeyed.answered.reply)) }
     {
-        let had = stand.worker.is_some();
-        let claim = self.registry.claim_worker(rt, order_worker(stand, order));
-        let acted = self.execute_and_commit(rt, stand, order);
-        update_claim(claim, client, had, stand.worker.is_some());
+        let had = session.worker.is_some();
+        let claim = self.registry.claim_worker(rt, order_worker(session, order));
+        let acted = self.execute_and_commit(rt, session, order);
+        update_claim(claim, client, had, session.worker.is_some());
         if let Ok(obeyed) = &acted {
             self.registry.notify_reply(rt, obeyed.answered.reply);
         }
@@ -130,14 +130,14 @@ impl<L: LogStore, H: CloseHandle, J: LogTag> DurableServer<L, H, J> {
     fn execute_and_commit<R: Wait>(
         &self,
         rt: &R,
-        stand: &mut SessionState,
+        session: &mut SessionState,
         order: &Order,
     ) -> Result<DurableReply<L, J>, ApplyError>
-        ensures { IfOk result (λ obeyed. DurableAttempt (IsAppended obeyed.end) self.now.names stand.old order.now
-            stand.new (reply_of_client obeyed.answered.reply)) }
+        ensures { IfOk result (λ obeyed. DurableAttempt (IsAppended obeyed.end) self.now.names session.old order.now
+            session.new (reply_of_client obeyed.answered.reply)) }
     {
         let mut executor = lock_with_spin(rt, &self.executor);
-        let acted = executor.execute(&self.names, stand, order);
+        let acted = executor.execute(&self.names, session, order);
         self.observe(&executor);
         if let Ok(obeyed) = &acted {
             self.commits.commit_inline(rt, &mut *executor, &obeyed.end);
@@ -155,11 +155,11 @@ impl<L: LogStore, H: CloseHandle, J: LogTag> DurableServer<L, H, J> {
     }
 
     /// Detaches the worker of a session that ends.
-    pub(crate) fn detach_session<R: Wait>(&self, rt: &R, stand: SessionState) {
-        let mut stand = stand;
-        let claim = self.registry.claim_worker(rt, stand.worker);
+    pub(crate) fn detach_session<R: Wait>(&self, rt: &R, session: SessionState) {
+        let mut session = session;
+        let claim = self.registry.claim_worker(rt, session.worker);
         let mut executor = lock_with_spin(rt, &self.executor);
-        let gone = executor.detach_session(&self.names, &mut stand);
+        let gone = executor.detach_session(&self.names, &mut session);
         self.observe(&executor);
         drop(executor);
         if let Some(mut claim) = claim {
@@ -222,8 +222,8 @@ fn has_spent_jobs<L: LogStore, J: LogTag>(acted: &Result<DurableReply<L, J>, App
 }
 
 /// The worker that an order concerns, if any.
-fn order_worker(stand: &SessionState, order: &Order) -> Option<u32> {
-    match (stand.worker, order) {
+fn order_worker(session: &SessionState, order: &Order) -> Option<u32> {
+    match (session.worker, order) {
         (Some(worker), _) => Some(worker),
         (None, Order::Attach(asked)) => Some(asked.worker),
         (None, _) => None,

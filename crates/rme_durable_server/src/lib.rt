@@ -1,12 +1,12 @@
 //! A durable server: sessions over one world, whose events are logged to a file.
 //!
 //! The sessions share one world. An order is a batch of events of the world, applied under one lock, and it is answered
-//! once the lines of the batch are in the log. One session commits the lines of all sessions that wait (group commit). A
-//! session begins a new epoch where a checkpoint is due. The crate stands on rme_durable_checkpoint, whose executor
-//! applies the orders and logs them, on rme_durable_log, which appends and commits the lines, and on rme_session_server,
-//! whose `session` and `serve` it is a backend of. Those above use `recover`, which reads a file, and `DurableServer`,
-//! which is that backend. Begin with `durable_executor.rt` and `durable_server.rt`, then `order_attempts.rt`, where an
-//! order is tried, and `checkpoints.rt`.
+//! once the lines of the batch are in the log. One session commits the lines of all sessions that wait (group commit).
+//! A session begins a new epoch where a checkpoint is due. The crate stands on rme_durable_checkpoint, whose executor
+//! applies the orders and logs them, on rme_durable_log, which appends and commits the lines, and on
+//! rme_session_server, whose `session` and `serve` it is a backend of. Those above use `recover`, which reads a file,
+//! and `DurableServer`, which is that backend. Begin with `durable_executor.rt` and `durable_server.rt`, then
+//! `order_attempts.rt`, where an order is tried, and `checkpoints.rt`.
 #![tactic(auto)]
 
 mod backend;

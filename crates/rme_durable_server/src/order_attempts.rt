@@ -13,7 +13,7 @@ use rme_session_protocol::{
     ClientReply, Order, is_client_waiting, merge_client_replies, retry_order,
 };
 use rme_session_server::{
-    AttemptError, Client, CloseHandle, FirstReply, OrderAttempts, SessionRegistry,
+    AttemptError, Client, CloseHandle, FirstReply, OrderAttempts, OrderRequest, SessionRegistry,
 };
 use rme_session_world::SessionState;
 use rme_words::Refusal;
@@ -25,7 +25,7 @@ use std::time::Clock;
 impl<L: LogStore, H: CloseHandle, J: LogTag> OrderAttempts for DurableServer<L, H, J> {
     ghost use Rattle.std.specs.Prelude.{⊤};
     ghost use Rattle.rme_durable_log.specs.Logs.{IsAppended};
-    ghost use Rattle.rme_durable_server.specs.DurableAnswers.{DurableTries};
+    ghost use Rattle.rme_durable_server.specs.DurableAnswers.{DurableTries, DurableAttempt};
     ghost use Rattle.rme_session_protocol.specs.ClientReplies.{reply_of_client};
 
     type Session = SessionState;
@@ -40,7 +40,8 @@ impl<L: LogStore, H: CloseHandle, J: LogTag> OrderAttempts for DurableServer<L, 
 
     ghost says = { λ reply. reply_of_client reply.answered.reply };
 
-    ghost executes = { λ server tries old its now reply. DurableTries (IsAppended reply.end) server.names tries old its now
+    ghost executes = { λ server tries old its now reply.
+        DurableTries (DurableAttempt (IsAppended reply.end) server.names) tries old its now
         (reply_of_client reply.answered.reply) };
 
     fn registry(&self) -> &SessionRegistry<H> {
@@ -63,15 +64,14 @@ impl<L: LogStore, H: CloseHandle, J: LogTag> OrderAttempts for DurableServer<L, 
         &self,
         rt: &R,
         session: SessionState,
-        order: &Order,
+        request: &OrderRequest<'_, C>,
         _is_hurried: bool,
-        client: &C,
     ) -> (
         SessionState,
         Result<FirstReply<DurableReply<L, J>>, AttemptError>,
     ) {
         let mut session = session;
-        match self.execute_or_fail(rt, &mut session, order, client) {
+        match self.execute_or_fail(rt, &mut session, &request.order, request.client) {
             Ok(reply) => (session, Ok(FirstReply { reply, tries: 1 })),
             Err(why) => (session, Err(why)),
         }
@@ -81,12 +81,12 @@ impl<L: LogStore, H: CloseHandle, J: LogTag> OrderAttempts for DurableServer<L, 
         &self,
         rt: &R,
         session: SessionState,
-        order: &Order,
+        request: &OrderRequest<'_, C>,
         reply: DurableReply<L, J>,
-        client: &C,
     ) -> (SessionState, Result<DurableReply<L, J>, AttemptError>) {
         let mut session = session;
-        match self.execute_or_fail(rt, &mut session, &retry_order(*order), client) {
+        let order = retry_order(request.order);
+        match self.execute_or_fail(rt, &mut session, &order, request.client) {
             Ok(last) => (session, Ok(merge_durable_replies(reply, last))),
             Err(why) => (session, Err(why)),
         }

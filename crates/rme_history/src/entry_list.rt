@@ -141,7 +141,8 @@ impl EntryList {
     pub fn push(&mut self, receipt: Receipt, script: &Script)
         requires room { length self.old.entries < self.old.room }
         requires few { script.now.n ≤ 8 }
-        ensures entries { self.new.entries ≡ self.old.entries ++ record { receipt = receipt; script = script.now } ∷ [] }
+        ensures entries { self.new.entries ≡ self.old.entries
+            ++ record { receipt = receipt; script = script.now } ∷ [] }
         ensures room { self.new.room ≡ self.old.room }
     {
         let head = EntryHead {

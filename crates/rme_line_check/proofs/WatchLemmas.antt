@@ -25,10 +25,10 @@ unfolding LinesObservations
 shown_all sees names machine left watcher none = ([], [], lines_none left none, refl, refl)
 
 -- the observations of a line's event are those of the lines from it on
-shows_on : (line : InputLine) (names : List (List ℕ)) (shape : Shape) (state : MachineState) (lines : List InputLine) (sights : List CheckObservation)
-    → LineObservations (λ new later. LinesObservations names shape new lines later) shape state (event_read names line) sights → LinesObservations names shape state (line ∷ lines) sights
+shows_on : (line : InputLine) (names : List (List ℕ)) (shape : Shape) (state : MachineState) (lines : List InputLine) (observations : List CheckObservation)
+    → LineObservations (λ new later. LinesObservations names shape new lines later) shape state (event_read names line) observations → LinesObservations names shape state (line ∷ lines) observations
 unfolding LinesObservations
-shows_on line names shape state lines sights shows = shows
+shows_on line names shape state lines observations shows = shows
 
 -- a line at which the check ends has no observation
 abbrev pub Ends : LineFinding → Type 0
@@ -55,14 +55,14 @@ shown_end sees names old new left later line found before after ends cuts is sho
       line ∷ some.0,
       [],
       lines_more left later line some.0 cuts some.1,
-      shows_on line names old.shape old.state some.0 [] (shows_none (event_read names line) (λ state sights. LinesObservations names old.shape state some.0 sights) old new found ends is),
+      shows_on line names old.shape old.state some.0 [] (shows_none (event_read names line) (λ state observations. LinesObservations names old.shape state some.0 observations) old new found ends is),
       kept sees (event_read names line) new found before after ends shown,
     )
 
 -- the machine made the step of a line, which was observed, and the others are observed after it
 shows_step : {V : Type 0} (sees : V → CheckObservation → V → Type 0) (event : Option EventLine) (rest : MachineState → List CheckObservation → Type 0) (old new : MachineView) (before mid after : V) (later : List CheckObservation) → OptionalEventFinding event old Step new
     → ObserverSeesLine sees event new Step before mid → rest new.state later → ObserverSees sees mid later after
-    → (sights : List CheckObservation) × LineObservations rest old.shape old.state event sights × ObserverSees sees before sights after
+    → (observations : List CheckObservation) × LineObservations rest old.shape old.state event observations × ObserverSees sees before observations after
 shows_step sees None rest old new before mid after later is shown more taken = absurd (let bad : Step ≡ NoEvent = is.0 in cc)
 shows_step {V = V} sees (Some line) rest old new before mid after later is shown more taken =
     let same : machine_view_in old.shape new.state ≡ new = ap (λ (s : Shape). machine_view_in s new.state) (sym is.1) in
@@ -74,10 +74,10 @@ shows_step {V = V} sees (Some line) rest old new before mid after later is shown
 
 pub shown_step : {V : Type 0} (sees : V → CheckObservation → V → Type 0) (names : List (List ℕ)) (old new : MachineView) (left later : Option (List ℕ)) (line : InputLine) (before mid after : V) → FirstLineCut left later line
     → IsLineFinding names old line Step new → ObserverSeesLine sees (event_read names line) new Step before mid → ObserverSeesRemaining sees names new later mid after → ObserverSeesRemaining sees names old left before after
-shown_step sees names old new left later line before mid after cuts found shown (lines, sights, are, shows, taken) =
-    let P : Shape → Type 0 = λ s. LinesObservations names s new.state lines sights in
+shown_step sees names old new left later line before mid after cuts found shown (lines, observations, are, shows, taken) =
+    let P : Shape → Type 0 = λ s. LinesObservations names s new.state lines observations in
     let more = subst P (same_shape (event_read names line) old new found) shows in
-    let all = shows_step sees (event_read names line) (λ state later. LinesObservations names old.shape state lines later) old new before mid after sights found shown more taken in
+    let all = shows_step sees (event_read names line) (λ state later. LinesObservations names old.shape state lines later) old new before mid after observations found shown more taken in
     (line ∷ lines, all.0, lines_more left later line lines cuts are, shows_on line names old.shape old.state lines all.0 all.1, all.2)
 
 -- ---- the loop
@@ -103,14 +103,14 @@ shown_closed sees input later line watcher cuts closed =
 -- the opening of the first line was observed, and then the lines after it
 pub shown_opened : {V : Type 0} (sees : V → CheckObservation → V → Type 0) (input later : Option (List ℕ)) (line : InputLine) (judge : Judge) (before mid after : V) → FirstLineCut input later line → IsJudgeOfLine line (Some judge)
     → sees before (begins judge.names judge.machine) mid → ObserverSeesRemaining sees judge.names judge.machine later mid after → ObserverSeesInput sees input before after
-shown_opened {V = V} sees input later line judge before mid after cuts (opens, state) seen (lines, sights, are, shows, taken) =
+shown_opened {V = V} sees input later line judge before mid after cuts (opens, state) seen (lines, observations, are, shows, taken) =
     let first = judge.machine.shape in
-    let P : MachineState → Type 0 = λ s. LinesObservations judge.names first s lines sights in
+    let P : MachineState → Type 0 = λ s. LinesObservations judge.names first s lines observations in
     let Q : MachineState → Type 0 = λ s. sees before (begins judge.names (machine_view_in first s)) mid in (
       line ∷ lines,
-      begins judge.names (machine_view_in first (opening_state first)) ∷ sights,
+      begins judge.names (machine_view_in first (opening_state first)) ∷ observations,
       lines_more input later line lines cuts are,
-      (Some (judge.names, first), opens, (sights, subst P state shows, refl)),
+      (Some (judge.names, first), opens, (observations, subst P state shows, refl)),
       (mid, subst Q state seen, taken),
     )
 

@@ -19,57 +19,58 @@ machine_view_in shape state = record { shape = shape; state = state }
 -- a step that was made is an observation, followed by those of the later lines
 abbrev pub StepObservations : (MachineState → List CheckObservation → Type 0) → Shape → EventLine → Bool → MachineState
     → List CheckObservation → Type 0
-StepObservations rest shape line true new sights =
-    (later : List CheckObservation) × rest new later × (sights ≡ takes line (machine_view_in shape new) ∷ later)
-StepObservations rest shape line false new sights = sights ≡ []
+StepObservations rest shape line true new observations =
+    (later : List CheckObservation) × rest new later × (observations ≡ takes line (machine_view_in shape new) ∷ later)
+StepObservations rest shape line false new observations = observations ≡ []
 
 -- there are no observations from the first line on that is no event line or whose step the machine does not have
 abbrev pub LineObservations : (MachineState → List CheckObservation → Type 0) → Shape → MachineState → Option EventLine
     → List CheckObservation → Type 0
-LineObservations rest shape old None sights = sights ≡ []
-LineObservations rest shape old (Some line) sights =
+LineObservations rest shape old None observations = observations ≡ []
+LineObservations rest shape old (Some line) observations =
     (admitted : Bool) × (new : MachineState) × LineAdmitted shape line admitted old new
-    × StepObservations rest shape line admitted new sights
+    × StepObservations rest shape line admitted new observations
 
 -- the observations of the lines from this one on
 unfoldable pub LinesObservations : List (List ℕ) → Shape → MachineState → List InputLine → List CheckObservation
     → Type 0
-LinesObservations names shape old [] sights = sights ≡ []
-LinesObservations names shape old (line ∷ lines) sights =
+LinesObservations names shape old [] observations = observations ≡ []
+LinesObservations names shape old (line ∷ lines) observations =
     LineObservations (λ new later. LinesObservations names shape new lines later) shape old (event_read names line)
-    sights
+    observations
 
 -- the observations after the first line, from its opening
 abbrev pub ObservationsAfterOpening : Option (List (List ℕ) × Shape) → List InputLine → List CheckObservation → Type 0
-ObservationsAfterOpening None lines sights = sights ≡ []
-ObservationsAfterOpening (Some (names, shape)) lines sights =
+ObservationsAfterOpening None lines observations = observations ≡ []
+ObservationsAfterOpening (Some (names, shape)) lines observations =
     (later : List CheckObservation) × LinesObservations names shape (opening_state shape) lines later
-    × (sights ≡ begins names (machine_view_in shape (opening_state shape)) ∷ later)
+    × (observations ≡ begins names (machine_view_in shape (opening_state shape)) ∷ later)
 
 -- THE OBSERVATIONS OF A TRANSCRIPT
 abbrev pub TranscriptObservations : List InputLine → List CheckObservation → Type 0
-TranscriptObservations [] sights = sights ≡ []
-TranscriptObservations (line ∷ lines) sights =
+TranscriptObservations [] observations = observations ≡ []
+TranscriptObservations (line ∷ lines) observations =
     (opened : Option (List (List ℕ) × Shape)) × FirstLineOpens line opened
-    × ObservationsAfterOpening opened lines sights
+    × ObservationsAfterOpening opened lines observations
 
 -- an observer with this relation saw these observations in order, and nothing else changed it
 abbrev pub ObserverSees : {V : Type 0} → (V → CheckObservation → V → Type 0) → V → List CheckObservation → V → Type 0
 ObserverSees sees old [] new = new ≡ old
-ObserverSees {V = V} sees old (sight ∷ sights) new = (mid : V) × sees old sight mid × ObserverSees sees mid sights new
+ObserverSees {V = V} sees old (observation ∷ observations) new =
+    (mid : V) × sees old observation mid × ObserverSees sees mid observations new
 
 -- an observer saw the observations of all lines of an input
 abbrev pub ObserverSeesInput : {V : Type 0} → (V → CheckObservation → V → Type 0) → Option (List ℕ) → V → V → Type 0
 ObserverSeesInput sees input old new =
-    (lines : List InputLine) × (sights : List CheckObservation) × AreInputLines input lines
-    × TranscriptObservations lines sights × ObserverSees sees old sights new
+    (lines : List InputLine) × (observations : List CheckObservation) × AreInputLines input lines
+    × TranscriptObservations lines observations × ObserverSees sees old observations new
 
 -- the same for the lines that remain after an opening
 abbrev pub ObserverSeesRemaining : {V : Type 0} → (V → CheckObservation → V → Type 0) → List (List ℕ) → MachineView
     → Option (List ℕ) → V → V → Type 0
 ObserverSeesRemaining sees names machine left old new =
-    (lines : List InputLine) × (sights : List CheckObservation) × AreInputLines left lines
-    × LinesObservations names machine.shape machine.state lines sights × ObserverSees sees old sights new
+    (lines : List InputLine) × (observations : List CheckObservation) × AreInputLines left lines
+    × LinesObservations names machine.shape machine.state lines observations × ObserverSees sees old observations new
 
 -- a line is observed if the machine made its step, with the machine afterwards
 abbrev pub ObserverSeesFinding : {V : Type 0} → (V → CheckObservation → V → Type 0) → EventLine → MachineView

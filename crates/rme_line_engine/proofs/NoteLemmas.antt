@@ -24,7 +24,7 @@ use Rattle.rme_program.specs.declared.stage.Redo.TheVariants.{LoadMask, LoadShad
 use Rattle.rme_program.specs.declared.stage.Departure.{Departure}
 use Rattle.rme_program.specs.declared.stage.Departure.TheVariants.{LoadExitTurn, StoreExitTurn, Clear, WithdrawPlace, WithdrawAt, WithdrawReply, WithdrawDone}
 use Rattle.rme_program.specs.Masks.{first_cell, mask_of}
-use Rattle.rme_program.specs.Steps.{after_ascent, outcome_at, after_departure, after_log, after_other_node, after_recovery, after_redo, after_slate, cell_stage_from, clear_stage, cleared_note, copy_stage_from, private_after, reentry_stage, script_stage, shadow_stage_from, slate_stage}
+use Rattle.rme_program.specs.Steps.{after_ascent, outcome_at, after_departure, after_log, after_other_node, after_recovery, after_redo, after_slate, cell_stage_from, clear_stage, cleared_note, copy_stage_from, private_after, reentry_stage, script_stage, shadow_stage_from, slate_stage, logging_section}
 use Rattle.rme_script.specs.Eval.{eval_of}
 use Rattle.rme_script.specs.Programs.{Program}
 use Rattle.rme_script.specs.Slates.{script_from_words}
@@ -128,7 +128,7 @@ module _ (shape : Shape) where
   shadows_few visit named row reply (Some cell) = omega arith
   shadows_few visit named row reply None = omega arith
 
-  cells_few : (lock turn : ℕ) (script : Program) (named : ℕ) (row : List ℕ) (cell : Option ℕ) → most_notes shape (cell_stage_from shape lock turn script named row cell) ≤ 3
+  cells_few : (lock turn : ℕ) (script : Program) (named : ℕ) (row : List ℕ) (cell : Option ℕ) → most_notes shape (cell_stage_from shape (logging_section lock turn script named) row cell) ≤ 3
   cells_few lock turn script named row (Some cell) = omega arith
   cells_few lock turn script named row None =
       shadows_few record { lock = lock; turn = turn; parity = Even script.n named } named (eval_of script.ops row).row (eval_of script.ops row).reply (first_cell named 0 shape.cells)

@@ -32,7 +32,7 @@ use Rattle.rme_line_engine.specs.Laws.{OpenTallyIsComplete}
 use Rattle.rme_line_engine.specs.Lines.{LineAnswer, CommandEffectIn, LoadOutcome, RequestEffect, OpenOutcome, OpenEffect, LineReply}
 use Rattle.rme_line_engine.specs.EngineStates.{EngineState}
 use Rattle.rme_line_engine.specs.Tallies.{TallyIsComplete, TallySeesPhases, TalliedStep, empty_tally, phase_steps_of}
-use Rattle.rme_line_engine.specs.WorldWalks.{WalkAfterStep, WalkAfterNote, WalkStepSequence, walk_end_after}
+use Rattle.rme_line_engine.specs.WorldWalks.{WalkOutcome, WalkAfterStep, WalkAfterNote, WalkStepSequence, walk_end_after, walk_outcome}
 use Rattle.rme_line_engine.proofs.Seeing.{begun_seen, loaded_seen, none_seen, opening_seen, same_seen, step_phases, step_seen}
 
 abbrev HasSeenIn : TalliedWorld → Type 0
@@ -76,17 +76,17 @@ sees_phases old new worker note has s = stepped_phases old new worker note has s
 
 -- ---- a walk
 
-goes_kept : (rest : List Note → Result WalkEnd Refusal → TalliedWorld → Type 0) (mid new : TalliedWorld) (note : Note) (end : Option WalkEnd) (notes : List Note) (walked : Result WalkEnd Refusal) → HasSeenIn mid
-    → ((more : List Note) → rest more walked new → HasSeenIn new) → WalkAfterNote rest mid note end notes walked new → HasSeenIn new
+goes_kept : (rest : WalkOutcome → Type 0) (mid new : TalliedWorld) (note : Note) (end : Option WalkEnd) (notes : List Note) (walked : Result WalkEnd Refusal) → HasSeenIn mid
+    → ((more : List Note) → rest (walk_outcome more walked new) → HasSeenIn new) → WalkAfterNote rest mid note end (walk_outcome notes walked new) → HasSeenIn new
 goes_kept rest mid new note (Some end) notes walked has later (shown, ended, same) = kept_in mid new same has
 goes_kept rest mid new note None notes walked has later (more, follows, shown) = later more follows
 
-follows_kept : (rest : List Note → Result WalkEnd Refusal → TalliedWorld → Type 0) (mid new : TalliedWorld) (worker : ℕ) (wanted : Option Until) (result : Result Note Refusal) (notes : List Note) (walked : Result WalkEnd Refusal)
-    → HasSeenIn mid → ((more : List Note) → rest more walked new → HasSeenIn new) → WalkAfterStep rest mid worker wanted result notes walked new → HasSeenIn new
+follows_kept : (rest : WalkOutcome → Type 0) (mid new : TalliedWorld) (worker : ℕ) (wanted : Option Until) (result : Result Note Refusal) (notes : List Note) (walked : Result WalkEnd Refusal)
+    → HasSeenIn mid → ((more : List Note) → rest (walk_outcome more walked new) → HasSeenIn new) → WalkAfterStep rest mid worker wanted result (walk_outcome notes walked new) → HasSeenIn new
 follows_kept rest mid new worker wanted (Ok note) notes walked has later (ready, shows, goes) = goes_kept rest mid new note (walk_end_after wanted note ready) notes walked has later goes
 follows_kept rest mid new worker wanted (Err refusal) notes walked has later (none, ended, same) = kept_in mid new same has
 
-walks_kept : (most : ℕ) (old new : TalliedWorld) (worker : ℕ) (wanted : Option Until) (notes : List Note) (walked : Result WalkEnd Refusal) → HasSeenIn old → WalkStepSequence most old worker wanted notes walked new → HasSeenIn new
+walks_kept : (most : ℕ) (old new : TalliedWorld) (worker : ℕ) (wanted : Option Until) (notes : List Note) (walked : Result WalkEnd Refusal) → HasSeenIn old → WalkStepSequence most old worker wanted (walk_outcome notes walked new) → HasSeenIn new
 unfolding WalkStepSequence
 walks_kept zero old new worker wanted notes walked has (none, ended, same) = kept_in old new same has
 walks_kept (suc most) old new worker wanted notes walked has (result, mid, stepped, follows) =

@@ -61,30 +61,38 @@ walk_end_after wanted note ready =
     if meets_until wanted (until_kind note) then Some end.Until else
     (if is_true ready then Some end.Ready else (if is_blocked note then Some end.Blocked else None))
 
+-- how a walk ended: its notes, why it ended or was refused, and the world after it
+pub record WalkOutcome : Type 0 where
+  pub notes : List Note
+  pub end : Result WalkEnd Refusal
+  pub world : TalliedWorld
+
+abbrev pub walk_outcome : List Note → Result WalkEnd Refusal → TalliedWorld → WalkOutcome
+walk_outcome notes end world = record { notes = notes; end = end; world = world }
+
 -- a step with this note ended the walk, or the rest of the walk follows
-abbrev pub WalkAfterNote : (List Note → Result WalkEnd Refusal → TalliedWorld → Type 0) → TalliedWorld → Note
-    → Option WalkEnd → List Note → Result WalkEnd Refusal → TalliedWorld → Type 0
-WalkAfterNote rest mid note (Some end) notes outcome new =
-    (notes ≡ walk_notes_of note) × (outcome ≡ Ok end) × (new ≡ mid)
-WalkAfterNote rest mid note None notes outcome new =
-    (more : List Note) × rest more outcome new × (notes ≡ walk_notes_of note ++ more)
+abbrev pub WalkAfterNote : (WalkOutcome → Type 0) → TalliedWorld → Note → Option WalkEnd → WalkOutcome → Type 0
+WalkAfterNote rest mid note (Some end) walked =
+    (walked.notes ≡ walk_notes_of note) × (walked.end ≡ Ok end) × (walked.world ≡ mid)
+WalkAfterNote rest mid note None walked =
+    (more : List Note) × rest (walk_outcome more walked.end walked.world) × (walked.notes ≡ walk_notes_of note ++ more)
 
 -- the continuation after a step: a refusal ends the walk
-abbrev pub WalkAfterStep : (List Note → Result WalkEnd Refusal → TalliedWorld → Type 0) → TalliedWorld → ℕ
-    → Option Until → Result Note Refusal → List Note → Result WalkEnd Refusal → TalliedWorld → Type 0
-WalkAfterStep rest mid worker wanted (Ok note) notes outcome new =
+abbrev pub WalkAfterStep : (WalkOutcome → Type 0) → TalliedWorld → ℕ → Option Until → Result Note Refusal → WalkOutcome
+    → Type 0
+WalkAfterStep rest mid worker wanted (Ok note) walked =
     (ready : Result Bool Refusal) × ReadyContract mid.world worker ready
-    × WalkAfterNote rest mid note (walk_end_after wanted note ready) notes outcome new
-WalkAfterStep rest mid worker wanted (Err refusal) notes outcome new =
-    (notes ≡ []) × (outcome ≡ Err refusal) × (new ≡ mid)
+    × WalkAfterNote rest mid note (walk_end_after wanted note ready) walked
+WalkAfterStep rest mid worker wanted (Err refusal) walked =
+    (walked.notes ≡ []) × (walked.end ≡ Err refusal) × (walked.world ≡ mid)
 
--- a walk of at most this number of steps: its notes, and why it ended or was refused
-unfoldable pub WalkStepSequence : ℕ → TalliedWorld → ℕ → Option Until → List Note → Result WalkEnd Refusal
-    → TalliedWorld → Type 0
-WalkStepSequence zero old worker wanted notes outcome new = (notes ≡ []) × (outcome ≡ Ok end.Max) × (new ≡ old)
-WalkStepSequence (suc most) old worker wanted notes outcome new =
+-- a walk of at most this number of steps
+unfoldable pub WalkStepSequence : ℕ → TalliedWorld → ℕ → Option Until → WalkOutcome → Type 0
+WalkStepSequence zero old worker wanted walked =
+    (walked.notes ≡ []) × (walked.end ≡ Ok end.Max) × (walked.world ≡ old)
+WalkStepSequence (suc most) old worker wanted walked =
     (result : Result Note Refusal) × (mid : TalliedWorld) × TalliedStep old worker result mid
-    × WalkAfterStep (WalkStepSequence most mid worker wanted) mid worker wanted result notes outcome new
+    × WalkAfterStep (WalkStepSequence most mid worker wanted) mid worker wanted result walked
 
 -- the answer of a walk
 abbrev pub walk_result : Result WalkEnd Refusal → List Note → Result Walked Refusal
@@ -95,4 +103,5 @@ walk_result (Err refusal) notes = Err refusal
 abbrev pub WalkEffect : TalliedWorld → Walk → Result Walked Refusal → TalliedWorld → Type 0
 WalkEffect old walk result new =
     (notes : List Note) × (outcome : Result WalkEnd Refusal)
-    × WalkStepSequence walk.max old walk.worker walk.until notes outcome new × (result ≡ walk_result outcome notes)
+    × WalkStepSequence walk.max old walk.worker walk.until (walk_outcome notes outcome new)
+    × (result ≡ walk_result outcome notes)

@@ -1,13 +1,13 @@
 //! Answering lines until none is left.
 
-ghost use Rattle.std.specs.Prelude.{◌≡◌, ◌≢◌, ◌≤◌, ◌<◌, [], IfOk, IfErr, OnOk, true, false, string_bytes};
-ghost use Rattle.rme_line_io.specs.Readers.{ReadFailure, ReaderEnded, BufferWrittenSince, LastReadFailed, SomeReadsMade, ReadsMadeAt, NothingRead, bytes_left, reader_has_ended, most_lines, reads_left};
+ghost use Rattle.std.specs.Prelude.{◌≡◌, ◌<◌, [], IfOk, IfErr, OnOk, true, false, string_bytes};
+ghost use Rattle.rme_line_io.specs.Readers.{ReaderEnded, BufferWrittenSince, bytes_left, most_lines};
+ghost use Rattle.rme_line_io.specs.StreamCalls.{CallReads, CallWrites};
 ghost use Rattle.rme_line_engine.specs.Engines.{engine_state_of};
 ghost use Rattle.rme_line_engine.specs.Lines.{LineAnswerBytes};
 ghost use Rattle.rme_line_engine.specs.Outputs.{LineOutputBytes};
 ghost use Rattle.rme_line_engine.specs.Transcripts.{LineTranscriptBytes};
-ghost use Rattle.rme_line_io.specs.LineRuns.{AnswersArePrompt, LineRunStepFails, LineRunStep, RunWritesAll, RunWritesFirst, RunWritesTo};
-ghost use Rattle.rme_line_io.specs.StreamEvents.{LastWriteFailed, WritesMade};
+ghost use Rattle.rme_line_io.specs.LineRuns.{AnswersArePrompt, LineRunStepFails, LineRunStep, RunWritesAll, RunWritesFirst, RunWritesTo, run_moment, stream_moment};
 ghost use Rattle.rme_line_engine.specs.EngineStates.{nothing_open};
 
 use crate::engine::{Engine, LineOutput};
@@ -32,21 +32,16 @@ pub fn run_lines<R: Source + Drop, W: Sink>(
     lines: &mut LineReader<R>,
     writer: &mut W,
 ) -> Result<(), EngineFault>
-    ensures ok { OnOk result (RunWritesAll LineAnswerBytes nothing_open (bytes_left R.remaining lines.old)
-        (W.contents writer.old) (W.contents writer.new)) }
+    ensures ok { OnOk result (RunWritesAll LineAnswerBytes nothing_open
+        (stream_moment R.remaining lines.old (W.contents writer.old)) (W.contents writer.new)) }
     ensures err { IfErr result (λ fault. RunWritesFirst LineAnswerBytes nothing_open fault
-        (bytes_left R.remaining lines.old) (bytes_left R.remaining lines.new)
-        (W.contents writer.old) (W.contents writer.new)) }
+        (stream_moment R.remaining lines.old (W.contents writer.old))
+        (stream_moment R.remaining lines.new (W.contents writer.new))) }
     ensures end { OnOk result (ReaderEnded lines.new) }
-    ensures ended { ReaderEnded lines.old → NothingRead lines.old lines.new }
-    ensures failed { IfErr result (λ fault. fault ≡ EngineFault.ReadFailed → ReadFailure lines.old lines.new) }
-    ensures prompt { ReadsMadeAt R.moments lines.old lines.new
-        (AnswersArePrompt LineAnswerBytes nothing_open (bytes_left R.remaining lines.old) (W.contents writer.old)) }
-    ensures reads { SomeReadsMade R.gave lines.old lines.new }
-    ensures read_broke { IfErr result (λ fault. fault ≡ EngineFault.ReadFailed
-        → LastReadFailed R.gave lines.old lines.new) }
-    ensures write_broke { IfErr result (λ fault. fault ≡ EngineFault.WriteFailed
-        → LastWriteFailed (W.took writer.old) (W.took writer.new)) }
+    ensures reads { CallReads R.gave R.moments lines.old lines.new
+        (AnswersArePrompt LineAnswerBytes nothing_open
+        (stream_moment R.remaining lines.old (W.contents writer.old))) result }
+    ensures writes { CallWrites (W.took writer.old) (W.took writer.new) result }
 {
     run_from_empty(alloc, LineOutput::Answers, lines, writer)
 }
@@ -62,21 +57,16 @@ pub fn transcript_lines<R: Source + Drop, W: Sink>(
     lines: &mut LineReader<R>,
     writer: &mut W,
 ) -> Result<(), EngineFault>
-    ensures ok { OnOk result (RunWritesAll LineTranscriptBytes nothing_open (bytes_left R.remaining lines.old)
-        (W.contents writer.old) (W.contents writer.new)) }
+    ensures ok { OnOk result (RunWritesAll LineTranscriptBytes nothing_open
+        (stream_moment R.remaining lines.old (W.contents writer.old)) (W.contents writer.new)) }
     ensures err { IfErr result (λ fault. RunWritesFirst LineTranscriptBytes nothing_open fault
-        (bytes_left R.remaining lines.old) (bytes_left R.remaining lines.new)
-        (W.contents writer.old) (W.contents writer.new)) }
+        (stream_moment R.remaining lines.old (W.contents writer.old))
+        (stream_moment R.remaining lines.new (W.contents writer.new))) }
     ensures end { OnOk result (ReaderEnded lines.new) }
-    ensures ended { ReaderEnded lines.old → NothingRead lines.old lines.new }
-    ensures failed { IfErr result (λ fault. fault ≡ EngineFault.ReadFailed → ReadFailure lines.old lines.new) }
-    ensures prompt { ReadsMadeAt R.moments lines.old lines.new
-        (AnswersArePrompt LineTranscriptBytes nothing_open (bytes_left R.remaining lines.old) (W.contents writer.old)) }
-    ensures reads { SomeReadsMade R.gave lines.old lines.new }
-    ensures read_broke { IfErr result (λ fault. fault ≡ EngineFault.ReadFailed
-        → LastReadFailed R.gave lines.old lines.new) }
-    ensures write_broke { IfErr result (λ fault. fault ≡ EngineFault.WriteFailed
-        → LastWriteFailed (W.took writer.old) (W.took writer.new)) }
+    ensures reads { CallReads R.gave R.moments lines.old lines.new
+        (AnswersArePrompt LineTranscriptBytes nothing_open
+        (stream_moment R.remaining lines.old (W.contents writer.old))) result }
+    ensures writes { CallWrites (W.took writer.old) (W.took writer.new) result }
 {
     run_from_empty(alloc, LineOutput::Transcript, lines, writer)
 }
@@ -92,21 +82,16 @@ pub fn answer_lines<R: Source + Drop, W: Sink>(
     writer: &mut W,
 ) -> Result<(), EngineFault>
     ensures ok { OnOk result (RunWritesTo LineAnswerBytes (engine_state_of engine.old)
-        (bytes_left R.remaining lines.old) (W.contents writer.old) (W.contents writer.new) (engine_state_of engine.new)) }
+        (stream_moment R.remaining lines.old (W.contents writer.old)) (W.contents writer.new)
+        (engine_state_of engine.new)) }
     ensures err { IfErr result (λ fault. RunWritesFirst LineAnswerBytes (engine_state_of engine.old) fault
-        (bytes_left R.remaining lines.old) (bytes_left R.remaining lines.new)
-        (W.contents writer.old) (W.contents writer.new)) }
+        (stream_moment R.remaining lines.old (W.contents writer.old))
+        (stream_moment R.remaining lines.new (W.contents writer.new))) }
     ensures end { OnOk result (ReaderEnded lines.new) }
-    ensures ended { ReaderEnded lines.old → NothingRead lines.old lines.new }
-    ensures failed { IfErr result (λ fault. fault ≡ EngineFault.ReadFailed → ReadFailure lines.old lines.new) }
-    ensures prompt { ReadsMadeAt R.moments lines.old lines.new
-        (AnswersArePrompt LineAnswerBytes (engine_state_of engine.old) (bytes_left R.remaining lines.old)
-        (W.contents writer.old)) }
-    ensures reads { SomeReadsMade R.gave lines.old lines.new }
-    ensures read_broke { IfErr result (λ fault. fault ≡ EngineFault.ReadFailed
-        → LastReadFailed R.gave lines.old lines.new) }
-    ensures write_broke { IfErr result (λ fault. fault ≡ EngineFault.WriteFailed
-        → LastWriteFailed (W.took writer.old) (W.took writer.new)) }
+    ensures reads { CallReads R.gave R.moments lines.old lines.new
+        (AnswersArePrompt LineAnswerBytes (engine_state_of engine.old)
+        (stream_moment R.remaining lines.old (W.contents writer.old))) result }
+    ensures writes { CallWrites (W.took writer.old) (W.took writer.new) result }
 {
     run_engine(LineOutput::Answers, engine, lines, writer)
 }
@@ -118,22 +103,16 @@ fn run_from_empty<R: Source + Drop, W: Sink>(
     lines: &mut LineReader<R>,
     writer: &mut W,
 ) -> Result<(), EngineFault>
-    ensures ok { OnOk result (RunWritesAll (LineOutputBytes output) nothing_open (bytes_left R.remaining lines.old)
-        (W.contents writer.old) (W.contents writer.new)) }
+    ensures ok { OnOk result (RunWritesAll (LineOutputBytes output) nothing_open
+        (stream_moment R.remaining lines.old (W.contents writer.old)) (W.contents writer.new)) }
     ensures err { IfErr result (λ fault. RunWritesFirst (LineOutputBytes output) nothing_open fault
-        (bytes_left R.remaining lines.old) (bytes_left R.remaining lines.new)
-        (W.contents writer.old) (W.contents writer.new)) }
+        (stream_moment R.remaining lines.old (W.contents writer.old))
+        (stream_moment R.remaining lines.new (W.contents writer.new))) }
     ensures end { OnOk result (ReaderEnded lines.new) }
-    ensures ended { ReaderEnded lines.old → NothingRead lines.old lines.new }
-    ensures failed { IfErr result (λ fault. fault ≡ EngineFault.ReadFailed → ReadFailure lines.old lines.new) }
-    ensures prompt { ReadsMadeAt R.moments lines.old lines.new
-        (AnswersArePrompt (LineOutputBytes output) nothing_open (bytes_left R.remaining lines.old)
-        (W.contents writer.old)) }
-    ensures reads { SomeReadsMade R.gave lines.old lines.new }
-    ensures read_broke { IfErr result (λ fault. fault ≡ EngineFault.ReadFailed
-        → LastReadFailed R.gave lines.old lines.new) }
-    ensures write_broke { IfErr result (λ fault. fault ≡ EngineFault.WriteFailed
-        → LastWriteFailed (W.took writer.old) (W.took writer.new)) }
+    ensures reads { CallReads R.gave R.moments lines.old lines.new
+        (AnswersArePrompt (LineOutputBytes output) nothing_open
+        (stream_moment R.remaining lines.old (W.contents writer.old))) result }
+    ensures writes { CallWrites (W.took writer.old) (W.took writer.new) result }
 {
     let Ok(mut engine) = Engine::new(alloc) else {
         return Err(EngineFault::NoMemory);
@@ -149,21 +128,16 @@ fn run_engine<R: Source + Drop, W: Sink>(
     writer: &mut W,
 ) -> Result<(), EngineFault>
     ensures ok { OnOk result (RunWritesTo (LineOutputBytes output) (engine_state_of engine.old)
-        (bytes_left R.remaining lines.old) (W.contents writer.old) (W.contents writer.new) (engine_state_of engine.new)) }
+        (stream_moment R.remaining lines.old (W.contents writer.old)) (W.contents writer.new)
+        (engine_state_of engine.new)) }
     ensures err { IfErr result (λ fault. RunWritesFirst (LineOutputBytes output) (engine_state_of engine.old) fault
-        (bytes_left R.remaining lines.old) (bytes_left R.remaining lines.new)
-        (W.contents writer.old) (W.contents writer.new)) }
+        (stream_moment R.remaining lines.old (W.contents writer.old))
+        (stream_moment R.remaining lines.new (W.contents writer.new))) }
     ensures end { OnOk result (ReaderEnded lines.new) }
-    ensures ended { ReaderEnded lines.old → NothingRead lines.old lines.new }
-    ensures failed { IfErr result (λ fault. fault ≡ EngineFault.ReadFailed → ReadFailure lines.old lines.new) }
-    ensures prompt { ReadsMadeAt R.moments lines.old lines.new
-        (AnswersArePrompt (LineOutputBytes output) (engine_state_of engine.old) (bytes_left R.remaining lines.old)
-        (W.contents writer.old)) }
-    ensures reads { SomeReadsMade R.gave lines.old lines.new }
-    ensures read_broke { IfErr result (λ fault. fault ≡ EngineFault.ReadFailed
-        → LastReadFailed R.gave lines.old lines.new) }
-    ensures write_broke { IfErr result (λ fault. fault ≡ EngineFault.WriteFailed
-        → LastWriteFailed (W.took writer.old) (W.took writer.new)) }
+    ensures reads { CallReads R.gave R.moments lines.old lines.new
+        (AnswersArePrompt (LineOutputBytes output) (engine_state_of engine.old)
+        (stream_moment R.remaining lines.old (W.contents writer.old))) result }
+    ensures writes { CallWrites (W.took writer.old) (W.took writer.new) result }
 {
     let Ok(text) = String::with_capacity(engine.alloc, REFUSAL_ROOM) else {
         return Err(EngineFault::NoMemory);
@@ -199,26 +173,19 @@ fn process_next_line<R: Source + Drop, W: Sink>(
     buffers: &mut RunBuffers,
     writer: &mut W,
 ) -> Result<bool, EngineFault>
-    ensures ok { IfOk result (LineRunStep (LineOutputBytes output) (bytes_left R.remaining lines.old)
-        (bytes_left R.remaining lines.new) (reader_has_ended lines.new) (engine_state_of engine.old)
+    ensures ok { IfOk result (LineRunStep (LineOutputBytes output) (engine_state_of engine.old)
         (engine_state_of engine.new)
-        (W.contents writer.old) buffers.old.exchange.pending (W.contents writer.new) buffers.new.exchange.pending) }
-    ensures err { IfErr result (λ fault. LineRunStepFails (LineOutputBytes output) fault
-        (bytes_left R.remaining lines.old) (bytes_left R.remaining lines.new) (engine_state_of engine.old)
-        (W.contents writer.old) buffers.old.exchange.pending (W.contents writer.new) buffers.new.exchange.pending) }
+        (run_moment R.remaining lines.old (W.contents writer.old) buffers.old.exchange.pending)
+        (run_moment R.remaining lines.new (W.contents writer.new) buffers.new.exchange.pending)) }
+    ensures err { IfErr result (λ fault. LineRunStepFails (LineOutputBytes output) fault (engine_state_of engine.old)
+        (run_moment R.remaining lines.old (W.contents writer.old) buffers.old.exchange.pending)
+        (run_moment R.remaining lines.new (W.contents writer.new) buffers.new.exchange.pending)) }
     ensures fewer { IfOk result (λ more. more ≡ true → most_lines lines.new < most_lines lines.old) }
     ensures end { IfOk result (λ more. more ≡ false → ReaderEnded lines.new) }
-    ensures ended { ReaderEnded lines.old → NothingRead lines.old lines.new }
-    ensures fewer_reads { reads_left lines.new ≤ reads_left lines.old }
-    ensures failed { IfErr result (λ fault. fault ≡ EngineFault.ReadFailed → ReadFailure lines.old lines.new) }
-    ensures reads { SomeReadsMade R.gave lines.old lines.new }
-    ensures prompt { ReadsMadeAt R.moments lines.old lines.new
-        (BufferWrittenSince (bytes_left R.remaining lines.old) (W.contents writer.old) buffers.old.exchange.pending) }
-    ensures writes { WritesMade (W.took writer.old) (W.took writer.new) }
-    ensures read_broke { IfErr result (λ fault. fault ≡ EngineFault.ReadFailed
-        → LastReadFailed R.gave lines.old lines.new) }
-    ensures write_broke { IfErr result (λ fault. fault ≡ EngineFault.WriteFailed
-        → LastWriteFailed (W.took writer.old) (W.took writer.new)) }
+    ensures reads { CallReads R.gave R.moments lines.old lines.new
+        (BufferWrittenSince (bytes_left R.remaining lines.old) (W.contents writer.old) buffers.old.exchange.pending)
+        result }
+    ensures writes { CallWrites (W.took writer.old) (W.took writer.new) result }
 {
     let RunBuffers { exchange, text } = buffers;
     let cut = match exchange.next_line(lines, writer) {

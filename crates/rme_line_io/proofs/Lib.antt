@@ -4,5 +4,6 @@ pub mod ReaderLemmas
 pub mod RunLemmas
 pub mod TrafficLemmas
 pub mod MomentLemmas
+pub mod CallLemmas
 pub mod NameLemmas
 pub mod ListLemmas

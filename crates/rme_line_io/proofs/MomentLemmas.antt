@@ -6,8 +6,8 @@ use Rattle.std.specs.Io.KnownBytes.{Appends, Keeps}
 use Rattle.rme_line_io.specs.declared.lines.LineReader.{LineReader}
 use Rattle.rme_line_io.specs.Pieces.{InputLine, PieceTaken}
 use Rattle.rme_line_io.specs.Readers.{BufferWrittenSince, NoNewlineSince, ReadsMadeAt, NothingRead, ChunkConsumed}
-use Rattle.rme_line_io.specs.LineRuns.{AnswersArePrompt}
-use Rattle.rme_line_io.specs.StreamEvents.{ListGrows, ReadMoment}
+use Rattle.rme_line_io.specs.LineRuns.{AnswersArePrompt, RunMoment}
+use Rattle.rme_line_io.specs.StreamEvents.{ListGrows, StreamMoment}
 use Rattle.rme_line_io.proofs.PieceLemmas.{IsPiece-append, Saw}
 use Rattle.rme_line_io.proofs.RunLemmas.{SoFar, prompt_at}
 use Rattle.rme_line_io.proofs.TrafficLemmas.{grows_more, grows_none}
@@ -26,23 +26,23 @@ kept_piece None later last k t = tt
 kept_piece (Some bytes) None last k t = absurd k
 kept_piece (Some bytes) (Some more) last k t = let P : List ℕ → Type 0 = λ l. PieceTaken (Some l) last in subst P k t
 
-module _ {R : Type 0} (moments : R → Option (List ReadMoment)) where
-  pub read_same : (old new : LineReader R) (Is : ReadMoment → Type 0) → new.reader ≡ old.reader → ReadsMadeAt moments old new Is
+module _ {R : Type 0} (moments : R → Option (List StreamMoment)) where
+  pub read_same : (old new : LineReader R) (Is : StreamMoment → Type 0) → new.reader ≡ old.reader → ReadsMadeAt moments old new Is
   read_same old new Is same =
       let P : R → Type 0 = λ r. ListGrows (moments old.reader) (moments r) [] in ([], subst P (sym same) (grows_none (moments old.reader)), All-nil Is)
 
-  pub read_none : (lines : LineReader R) (Is : ReadMoment → Type 0) → ReadsMadeAt moments lines lines Is
+  pub read_none : (lines : LineReader R) (Is : StreamMoment → Type 0) → ReadsMadeAt moments lines lines Is
   read_none lines Is = read_same lines lines Is refl
 
-  pub read_more : (old mid new : LineReader R) (Is : ReadMoment → Type 0) → ReadsMadeAt moments old mid Is → ReadsMadeAt moments mid new Is → ReadsMadeAt moments old new Is
+  pub read_more : (old mid new : LineReader R) (Is : StreamMoment → Type 0) → ReadsMadeAt moments old mid Is → ReadsMadeAt moments mid new Is → ReadsMadeAt moments old new Is
   read_more old mid new Is (made, g, all) (more, h, others) =
       (made ++ more, grows_more (moments old.reader) (moments mid.reader) (moments new.reader) made more g h, All-append Is made more all others)
 
-  read_as : (old new : LineReader R) (Is Of : ReadMoment → Type 0) → ((moment : ReadMoment) → Is moment → Of moment) → ReadsMadeAt moments old new Is → ReadsMadeAt moments old new Of
+  read_as : (old new : LineReader R) (Is Of : StreamMoment → Type 0) → ((moment : StreamMoment) → Is moment → Of moment) → ReadsMadeAt moments old new Is → ReadsMadeAt moments old new Of
   read_as old new Is Of so (made, g, all) = (made, g, λ k d lt. so _ (all k d lt))
 
   -- bytes of the chunk are taken after reads
-  pub read_on : (old mid new : LineReader R) (Is : ReadMoment → Type 0) → ReadsMadeAt moments old mid Is → ChunkConsumed mid new → ReadsMadeAt moments old new Is
+  pub read_on : (old mid new : LineReader R) (Is : StreamMoment → Type 0) → ReadsMadeAt moments old mid Is → ChunkConsumed mid new → ReadsMadeAt moments old new Is
   read_on old mid new Is made on = read_more old mid new Is made (read_same mid new Is on.reader)
 
   -- further reads within a line, of which this part was seen
@@ -61,13 +61,13 @@ module _ {R : Type 0} (moments : R → Option (List ReadMoment)) where
 
   module _ {S : Type 0} (has : S → InputLine → List ℕ → S → Type 0) where
     -- the reads of one iteration: none once a read gave no byte
-    pub prompt_turn : (input before left held : Option (List ℕ)) (first at : S) (kept : List ℕ) (old now new : LineReader R) → ReadsMadeAt moments old now (AnswersArePrompt has first input before)
-        → SoFar has first input before left now.ended at held kept → (now.ended ≡ true → NothingRead now new) → ReadsMadeAt moments now new (BufferWrittenSince left held kept)
-        → ReadsMadeAt moments old new (AnswersArePrompt has first input before)
-    prompt_turn input before left held first at kept old now new made so ended more =
-        elim (cases_Bool now.ended) [
-          | inl is ↦ read_more old now new (AnswersArePrompt has first input before) made (read_same now new (AnswersArePrompt has first input before) (ended is).reader)
+    pub prompt_turn : (first : S) (start : StreamMoment) (now : S) (at : RunMoment) → SoFar has first start now at → (old mid new : LineReader R) → ReadsMadeAt moments old mid (AnswersArePrompt has first start)
+        → mid.ended ≡ at.ended → (mid.ended ≡ true → NothingRead mid new) → ReadsMadeAt moments mid new (BufferWrittenSince at.left at.held at.pending)
+        → ReadsMadeAt moments old new (AnswersArePrompt has first start)
+    prompt_turn first start now at so old mid new made same ended more =
+        elim (cases_Bool mid.ended) [
+          | inl is ↦ read_more old mid new (AnswersArePrompt has first start) made (read_same mid new (AnswersArePrompt has first start) (ended is).reader)
           | inr going ↦
-              read_more old now new (AnswersArePrompt has first input before) made
-              (read_as now new (BufferWrittenSince left held kept) (AnswersArePrompt has first input before) (λ moment is. prompt_at has input before left held now.ended first at kept so going moment is) more)
+              read_more old mid new (AnswersArePrompt has first start) made
+              (read_as mid new (BufferWrittenSince at.left at.held at.pending) (AnswersArePrompt has first start) (λ moment is. prompt_at has first start now at so (sym same ∙ going) moment is) more)
         ]

@@ -14,11 +14,11 @@ use Rattle.rme_line_io.specs.Pieces.{InputLine, PieceTaken, WholeLineTaken, line
 use Rattle.rme_line_io.specs.BufferedWrites.{WritesPrefix, BufferedWrite}
 use Rattle.rme_line_io.specs.declared.lines.LineReader.{LineReader}
 use Rattle.rme_line_io.specs.Readers.{ReadFailure, BufferWrittenSince, NothingRead, most_lines}
-use Rattle.rme_line_io.specs.StreamEvents.{ReadMoment}
+use Rattle.rme_line_io.specs.StreamEvents.{StreamMoment}
 use Rattle.rme_line_io.proofs.PutLemmas.{front_after, gathered_front, gathered_put}
 use Rattle.rme_line_io.proofs.ReaderLemmas.{CameOn, came_no_more, came_to_fail}
 use Rattle.rme_line_io.proofs.PieceLemmas.{lines_ended, lines_none, lines_piece, whole_lines_ended, whole_lines_piece}
-use Rattle.rme_line_io.specs.LineRuns.{LinesReadButLast, AreInputLines, InputBeginsWith, FirstLineCut, RunEndsOnFault, NoLineLeft, AnswersArePrompt, LineRun, FaultBeforeLine, AtMostOneLineTaken, LineRunStepFails, LineRunStep, LinesWereRead, RunWritesFirst, RunWritesTo, all_bytes}
+use Rattle.rme_line_io.specs.LineRuns.{LinesReadButLast, AreInputLines, InputBeginsWith, FirstLineCut, RunEndsOnFault, NoLineLeft, AnswersArePrompt, LineRun, FaultBeforeLine, AtMostOneLineTaken, LineRunStepFails, LineRunStep, LinesWereRead, RunMoment, RunWritesFirst, RunWritesTo, all_bytes}
 
 -- ---- the lines of the input
 
@@ -180,35 +180,28 @@ module _ {S : Type 0} (has : S → InputLine → List ℕ → S → Type 0) wher
   run_on old mid new (l ∷ lines) more (a ∷ all) others (next, first, run) rest = (next, first, run_on next mid new lines more all others run rest)
 
   -- the bytes of the earlier lines were written, except the buffered ones; the other lines are left
-  pub record SoFar (first : S) (input before left : Option (List ℕ)) (ended : Bool) (now : S) (held : Option (List ℕ)) (kept : List ℕ) : Type 0 where
+  pub record SoFar (first : S) (start : StreamMoment) (now : S) (at : RunMoment) : Type 0 where
     pub lines : List InputLine
     pub all : List (List ℕ)
     pub run : LineRun has first lines all now
     pub front : List ℕ
-    pub put : Appends before held front
-    pub rest : front ++ kept ≡ all_bytes all
-    pub of : LeftOf input left lines
-    pub off : ended ≡ false → ReadOff input left lines
-    pub end : ended ≡ true → IsAtEnd left
+    pub put : Appends start.held at.held front
+    pub rest : front ++ at.pending ≡ all_bytes all
+    pub of : LeftOf start.left at.left lines
+    pub off : at.ended ≡ false → ReadOff start.left at.left lines
+    pub end : at.ended ≡ true → IsAtEnd at.left
 
-  pub so_far_first : (input held : Option (List ℕ)) (ended : Bool) (first now : S) (kept : List ℕ) → now ≡ first → kept ≡ []
-      → (ended ≡ true → IsAtEnd input) → SoFar first input held input ended now held kept
-  so_far_first input held ended first now kept e none end =
-      record { lines = []; all = []; run = e; front = []; put = Appends-nil held; rest = none; of = left_first input; off = λ _. off_first input; end = end }
-
-  pub so_far_more : (input before left later held holds : Option (List ℕ)) (ended ends : Bool) (first now new : S) (kept keeps : List ℕ) → SoFar first input before left ended now held kept
-      → (ended ≡ true → ends ≡ true) → LineRunStep has left later ends now new held kept holds keeps true → (ends ≡ true → IsAtEnd later)
-      → SoFar first input before later ends new holds keeps
-  so_far_more input before left later held holds ended ends first now new kept keeps so stays (line, bytes, cuts, had, gathers, whole) end = record {
-    lines = so.lines ++ line ∷ [];
-    all = so.all ++ bytes ∷ [];
-    run = run_on first now new so.lines (line ∷ []) so.all (bytes ∷ []) so.run (new, had, refl);
-    front = so.front ++ gathers.front;
-    put = Appends-trans before held holds so.front gathers.front so.put gathers.put;
-    rest = append_assoc so.front gathers.front keeps ∙ ap (λ l. so.front ++ l) (sym gathers.rest) ∙ sym (append_assoc so.front kept bytes) ∙ ap (λ l. l ++ bytes) so.rest
-        ∙ sym (all_bytes-append so.all (bytes ∷ []) ∙ ap (λ l. all_bytes so.all ++ l) (append-nil bytes));
-    of = left_more input left later so.lines line so.of cuts;
-    off = λ going. off_more input left later so.lines line (so.off (still ended ends stays going)) cuts (whole going);
+  pub so_far_first : (start : StreamMoment) (ended : Bool) (first now : S) (pending : List ℕ) → now ≡ first → pending ≡ [] → (ended ≡ true → IsAtEnd start.left)
+      → SoFar first start now record { left = start.left; ended = ended; held = start.held; pending = pending }
+  so_far_first start ended first now pending e none end = record {
+    lines = [];
+    all = [];
+    run = e;
+    front = [];
+    put = Appends-nil start.held;
+    rest = none;
+    of = left_first start.left;
+    off = λ _. off_first start.left;
     end = end;
   }
 
@@ -217,100 +210,111 @@ module _ {S : Type 0} (has : S → InputLine → List ℕ → S → Type 0) wher
   all_put before held holds front kept all put e more =
       let P : List ℕ → Type 0 = λ l. Appends before holds l in subst P e (Appends-trans before held holds front kept put more)
 
-  -- a read that is made then comes after the bytes of all lines that were taken
-  pub prompt_at : (input before left held : Option (List ℕ)) (ended : Bool) (first now : S) (kept : List ℕ) → SoFar first input before left ended now held kept → ended ≡ false
-      → (moment : ReadMoment) → BufferWrittenSince left held kept moment → AnswersArePrompt has first input before moment
-  prompt_at input before left held ended first now kept so going moment (piece, put) = (
-    so.lines,
-    so.all,
-    now,
-    so.run,
-    off_failed input left moment.left so.lines (so.off going) piece,
-    all_put before held moment.held so.front kept (all_bytes so.all) so.put so.rest put,
-  )
+  module _ (first : S) (start : StreamMoment) (now : S) (at : RunMoment) (so : SoFar first start now at) where
+    pub so_far_more : (new : S) (next : RunMoment) → (at.ended ≡ true → next.ended ≡ true) → LineRunStep has now new at next true → (next.ended ≡ true → IsAtEnd next.left) → SoFar first start new next
+    so_far_more new next stays (line, bytes, cuts, had, gathers, whole) end = record {
+      lines = so.lines ++ line ∷ [];
+      all = so.all ++ bytes ∷ [];
+      run = run_on first now new so.lines (line ∷ []) so.all (bytes ∷ []) so.run (new, had, refl);
+      front = so.front ++ gathers.front;
+      put = Appends-trans start.held at.held next.held so.front gathers.front so.put gathers.put;
+      rest = append_assoc so.front gathers.front next.pending ∙ ap (λ l. so.front ++ l) (sym gathers.rest) ∙ sym (append_assoc so.front at.pending bytes) ∙ ap (λ l. l ++ bytes) so.rest
+          ∙ sym (all_bytes-append so.all (bytes ∷ []) ∙ ap (λ l. all_bytes so.all ++ l) (append-nil bytes));
+      of = left_more start.left at.left next.left so.lines line so.of cuts;
+      off = λ going. off_more start.left at.left next.left so.lines line (so.off (still at.ended next.ended stays going)) cuts (whole going);
+      end = end;
+    }
 
-  pub finished : (input before left later held holds : Option (List ℕ)) (ended ends : Bool) (first now new : S) (kept keeps : List ℕ) → SoFar first input before left ended now held kept
-      → LineRunStep has left later ends now new held kept holds keeps false → RunWritesTo has first input before holds new
-  finished input before left later held holds ended ends first now new kept keeps so (none, more, same) =
-      let P : S → Type 0 = λ last. LineRun has first so.lines so.all last in
-      (so.lines, so.all, subst P (sym same) so.run, left_none input left so.lines so.of none, all_put before held holds so.front kept (all_bytes so.all) so.put so.rest more)
+    whole_put : (holds : Option (List ℕ)) → Appends at.held holds at.pending → Appends start.held holds (all_bytes so.all)
+    whole_put holds more = all_put start.held at.held holds so.front at.pending (all_bytes so.all) so.put so.rest more
 
-  wanting : (input before left later held : Option (List ℕ)) (ended : Bool) (first now : S) (kept : List ℕ) (so : SoFar first input before left ended now held kept) → AtMostOneLineTaken left later
-      → LinesReadButLast input later so.lines
-  wanting input before left later held ended first now kept so one =
-      elim (cases_Bool ended) [
-        | inl is ↦ end_wanting input left later so.lines so.of (so.end is) one
-        | inr not ↦ off_wanting input left later so.lines (so.off not) one
-      ]
+    -- a read that is made then comes after the bytes of all lines that were taken
+    pub prompt_at : at.ended ≡ false → (moment : StreamMoment) → BufferWrittenSince at.left at.held at.pending moment → AnswersArePrompt has first start moment
+    prompt_at going moment (piece, put) =
+        (so.lines, so.all, now, so.run, off_failed start.left at.left moment.left so.lines (so.off going) piece, whole_put moment.held put)
 
-  -- the first lines were taken, and their bytes, or a prefix of them, were written
-  spilt_first : (input before left later held holds : Option (List ℕ)) (ended : Bool) (first now : S) (kept : List ℕ) → SoFar first input before left ended now held kept → AtMostOneLineTaken left later
-      → Appends held holds kept → RunWritesFirst has first NoMemory input later before holds
-  spilt_first input before left later held holds ended first now kept so one more =
-      let put = all_put before held holds so.front kept (all_bytes so.all) so.put so.rest more in
-      (so.lines, so.all, now, so.run, (left_begins input left so.lines so.of, wanting input before left later held ended first now kept so one, put))
+    pub finished : (new : S) (next : RunMoment) → LineRunStep has now new at next false → RunWritesTo has first start next.held new
+    finished new next (none, more, same) =
+        let P : S → Type 0 = λ last. LineRun has first so.lines so.all last in
+        (so.lines, so.all, subst P (sym same) so.run, left_none start.left at.left so.lines so.of none, whole_put next.held more)
 
-  front_first : (input before left held holds : Option (List ℕ)) (ended : Bool) (first now new : S) (kept : List ℕ) (taken : List InputLine) (all : List (List ℕ))
-      → SoFar first input before left ended now held kept → LineRun has now taken all new → InputBeginsWith left taken → WritesPrefix held holds (kept ++ all_bytes all)
-      → (last : Option (List ℕ)) → RunWritesFirst has first WriteFailed input last before holds
-  front_first input before left held holds ended first now new kept taken all so run begins front last =
-      let e : so.front ++ (kept ++ all_bytes all) ≡ all_bytes (so.all ++ all) =
-      sym (append_assoc so.front kept (all_bytes all)) ∙ ap (λ l. l ++ all_bytes all) so.rest ∙ sym (all_bytes-append so.all all) in (
-        so.lines ++ taken,
-        so.all ++ all,
-        new,
-        run_on first now new so.lines taken so.all all so.run run,
-        (left_begins_more input left so.lines taken so.of begins, front_after before held holds so.front (kept ++ all_bytes all) (all_bytes (so.all ++ all)) so.put front e),
-      )
+    wanting : (later : Option (List ℕ)) → AtMostOneLineTaken at.left later → LinesReadButLast start.left later so.lines
+    wanting later one =
+        elim (cases_Bool at.ended) [
+          | inl is ↦ end_wanting start.left at.left later so.lines so.of (so.end is) one
+          | inr not ↦ off_wanting start.left at.left later so.lines (so.off not) one
+        ]
 
-  failed_still : (fault last : EngineFault) (input before left later held holds : Option (List ℕ)) (first : S) → last ≡ fault → RunWritesFirst has first fault input later before holds
-      → RunWritesFirst has first last input later before holds
-  failed_still fault last input before left later held holds first same writes = let P : EngineFault → Type 0 = λ f. RunWritesFirst has first f input later before holds in subst P (sym same) writes
+    -- the first lines were taken, and their bytes, or a prefix of them, were written
+    spilt_first : (end : StreamMoment) → AtMostOneLineTaken at.left end.left → Appends at.held end.held at.pending → RunWritesFirst has first NoMemory start end
+    spilt_first end one more = (so.lines, so.all, now, so.run, (left_begins start.left at.left so.lines so.of, wanting end.left one, whole_put end.held more))
 
-  module _ (input before left later held mid holds : Option (List ℕ)) (ended : Bool) (first now : S) (kept keeps : List ℕ) (so : SoFar first input before left ended now held kept) where
-    put_last : holds ≡ mid → Appends held mid kept → Appends held holds kept
-    put_last same put = let P : Option (List ℕ) → Type 0 = λ h. Appends held h kept in subst P (sym same) put
+    front_first : (end : StreamMoment) (new : S) (taken : List InputLine) (all : List (List ℕ)) → LineRun has now taken all new → InputBeginsWith at.left taken
+        → WritesPrefix at.held end.held (at.pending ++ all_bytes all) → RunWritesFirst has first WriteFailed start end
+    front_first end new taken all run begins front =
+        let e : so.front ++ (at.pending ++ all_bytes all) ≡ all_bytes (so.all ++ all) =
+        sym (append_assoc so.front at.pending (all_bytes all)) ∙ ap (λ l. l ++ all_bytes all) so.rest ∙ sym (all_bytes-append so.all all) in (
+          so.lines ++ taken,
+          so.all ++ all,
+          new,
+          run_on first now new so.lines taken so.all all so.run run,
+          (
+            left_begins_more start.left at.left so.lines taken so.of begins,
+            front_after start.held at.held end.held so.front (at.pending ++ all_bytes all) (all_bytes (so.all ++ all)) so.put front e,
+          ),
+        )
+
+    failed_still : (fault last : EngineFault) (end : StreamMoment) → last ≡ fault → RunWritesFirst has first fault start end → RunWritesFirst has first last start end
+    failed_still fault last end same writes = let P : EngineFault → Type 0 = λ f. RunWritesFirst has first f start end in subst P (sym same) writes
 
     -- an iteration failed, and the run ended
-    pub failed : (fault last : EngineFault) → (fault ≡ ReadFailed → ended ≡ false) → LineRunStepFails has fault left later now held kept mid keeps → RunEndsOnFault fault mid keeps holds last
-        → RunWritesFirst has first last input later before holds
-    failed ReadFailed last going (piece, put) (same, still_held) =
-        failed_still ReadFailed last input before left later held holds first same
-        (so.lines, so.all, now, so.run, (off_failed input left later so.lines (so.off (going refl)) piece, all_put before held holds so.front kept (all_bytes so.all) so.put so.rest (put_last still_held put)))
-    failed NoMemory NoMemory going (one, gathers) put = spilt_first input before left later held holds ended first now kept so one (gathered_put held mid holds kept keeps gathers put)
-    failed NoMemory WriteFailed going (one, gathers) front =
-        let P : List ℕ → Type 0 = λ l. WritesPrefix held holds l in
-        front_first input before left held holds ended first now now kept [] [] so refl (begins_none left) (subst P (sym (append-nil kept)) (gathered_front held mid holds kept keeps gathers front)) later
-    failed NoMemory ReadFailed going gathers never = absurd never
-    failed WriteFailed last going (taken, all, new, run, begins, front) (same, still_held) =
-        let P : Option (List ℕ) → Type 0 = λ h. WritesPrefix held h (kept ++ all_bytes all) in
-        failed_still WriteFailed last input before left later held holds first same
-        (front_first input before left held holds ended first now new kept taken all so run begins (subst P (sym still_held) front) later)
+    pub failed : (next : RunMoment) (holds : Option (List ℕ)) (fault last : EngineFault) → (fault ≡ ReadFailed → at.ended ≡ false) → LineRunStepFails has fault now at next
+        → RunEndsOnFault fault next.held next.pending holds last → RunWritesFirst has first last start record { left = next.left; held = holds }
+    failed next holds ReadFailed last going (piece, put) (same, still_held) =
+        let P : Option (List ℕ) → Type 0 = λ h. Appends at.held h at.pending in
+        failed_still ReadFailed last record { left = next.left; held = holds } same
+        (so.lines, so.all, now, so.run, (off_failed start.left at.left next.left so.lines (so.off (going refl)) piece, whole_put holds (subst P (sym still_held) put)))
+    failed next holds NoMemory NoMemory going (one, gathers) put =
+        spilt_first record { left = next.left; held = holds } one (gathered_put at.held next.held holds at.pending next.pending gathers put)
+    failed next holds NoMemory WriteFailed going (one, gathers) front =
+        let P : List ℕ → Type 0 = λ l. WritesPrefix at.held holds l in
+        front_first record { left = next.left; held = holds } now [] [] refl (begins_none at.left) (subst P (sym (append-nil at.pending)) (gathered_front at.held next.held holds at.pending next.pending gathers front))
+    failed next holds NoMemory ReadFailed going gathers never = absurd never
+    failed next holds WriteFailed last going (taken, all, new, run, begins, front) (same, still_held) =
+        let P : Option (List ℕ) → Type 0 = λ h. WritesPrefix at.held h (at.pending ++ all_bytes all) in
+        failed_still WriteFailed last record { left = next.left; held = holds } same
+        (front_first record { left = next.left; held = holds } new taken all run begins (subst P (sym still_held) front))
 
   -- memory was refused before the first line
-  pub failed_first : (first : S) (input held : Option (List ℕ)) → RunWritesFirst has first NoMemory input input held held
-  failed_first first input held = ([], [], first, refl, (begins_none input, none_wanting input, Appends-nil held))
+  pub failed_first : (first : S) (start : StreamMoment) → RunWritesFirst has first NoMemory start start
+  failed_first first start = ([], [], first, refl, (begins_none start.left, none_wanting start.left, Appends-nil start.held))
 
-  -- no line could be read
-  pub spilt : (fault : EngineFault) (left later held holds : Option (List ℕ)) (old : S) (kept keeps : List ℕ) → FaultBeforeLine fault left later held kept holds keeps
-      → LineRunStepFails has fault left later old held kept holds keeps
-  spilt ReadFailed left later held holds old kept keeps s = s
-  spilt NoMemory left later held holds old kept keeps (piece, gathers) = (piece_one left later piece, gathers)
-  spilt WriteFailed left later held holds old kept keeps s =
-      let P : List ℕ → Type 0 = λ l. WritesPrefix held holds l in ([], [], old, refl, begins_none left, subst P (sym (append-nil kept)) s)
+  module _ (old : S) (before after : RunMoment) where
+    -- no line could be read
+    pub spilt : (fault : EngineFault) → FaultBeforeLine fault before after → LineRunStepFails has fault old before after
+    spilt ReadFailed s = s
+    spilt NoMemory (piece, gathers) = (piece_one before.left after.left piece, gathers)
+    spilt WriteFailed s =
+        let P : List ℕ → Type 0 = λ l. WritesPrefix before.held after.held l in ([], [], old, refl, begins_none before.left, subst P (sym (append-nil before.pending)) s)
 
-  -- memory for the answer to the line was refused
-  pub told_failed : (left later held holds : Option (List ℕ)) (ended : Bool) (old : S) (line : InputLine) (kept keeps : List ℕ) → FirstLineCut left later line → (ended ≡ false → WholeLineTaken left later)
-      → (ended ≡ true → IsAtEnd later) → BufferedWrite held kept [] holds keeps → LineRunStepFails has NoMemory left later old held kept holds keeps
-  told_failed left later held holds ended old line kept keeps cuts whole end gathers = (one_cut left later line ended cuts whole end, gathers)
+    -- memory for the answer to the line was refused
+    pub told_failed : (ended : Bool) (line : InputLine) → FirstLineCut before.left after.left line → (ended ≡ false → WholeLineTaken before.left after.left) → (ended ≡ true → IsAtEnd after.left)
+        → BufferedWrite before.held before.pending [] after.held after.pending → LineRunStepFails has NoMemory old before after
+    told_failed ended line cuts whole end gathers = (one_cut before.left after.left line ended cuts whole end, gathers)
 
-  -- the line's bytes could not be written
-  pub put_failed : (left later held mid holds : Option (List ℕ)) (old new : S) (line : InputLine) (kept keeps bytes last : List ℕ) → FirstLineCut left later line → has old line bytes new
-      → BufferedWrite held kept [] mid keeps → WritesPrefix mid holds (keeps ++ bytes) → LineRunStepFails has WriteFailed left later old held kept holds last
-  put_failed left later held mid holds old new line kept keeps bytes last cuts had gathers front =
-      let e : gathers.front ++ (keeps ++ bytes) ≡ kept ++ (bytes ++ []) =
-      sym (append_assoc gathers.front keeps bytes) ∙ ap (λ l. l ++ bytes) (sym gathers.rest ∙ append-nil kept) ∙ ap (λ l. kept ++ l) (sym (append-nil bytes)) in
-      (line ∷ [], bytes ∷ [], new, (new, had, refl), begins_off left later line cuts, front_after held mid holds gathers.front (keeps ++ bytes) (kept ++ (bytes ++ [])) gathers.put front e)
+    -- the line's bytes could not be written
+    pub put_failed : (mid : Option (List ℕ)) (new : S) (line : InputLine) (keeps bytes : List ℕ) → FirstLineCut before.left after.left line → has old line bytes new
+        → BufferedWrite before.held before.pending [] mid keeps → WritesPrefix mid after.held (keeps ++ bytes) → LineRunStepFails has WriteFailed old before after
+    put_failed mid new line keeps bytes cuts had gathers front =
+        let e : gathers.front ++ (keeps ++ bytes) ≡ before.pending ++ (bytes ++ []) =
+        sym (append_assoc gathers.front keeps bytes) ∙ ap (λ l. l ++ bytes) (sym gathers.rest ∙ append-nil before.pending) ∙ ap (λ l. before.pending ++ l) (sym (append-nil bytes)) in (
+          line ∷ [],
+          bytes ∷ [],
+          new,
+          (new, had, refl),
+          begins_off before.left after.left line cuts,
+          front_after before.held mid after.held gathers.front (keeps ++ bytes) (before.pending ++ (bytes ++ [])) gathers.put front e,
+        )
 
 -- ---- the reader
 

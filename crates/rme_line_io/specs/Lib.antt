@@ -4,5 +4,6 @@ pub mod BufferedWrites
 pub mod Pieces
 pub mod Cuts
 pub mod Readers
+pub mod StreamCalls
 pub mod LineRuns
 pub mod Names

@@ -6,7 +6,24 @@ use Rattle.rme_line_io.specs.declared.fault.EngineFault.{EngineFault}
 use Rattle.rme_line_io.specs.declared.fault.EngineFault.TheVariants.{ReadFailed, WriteFailed, NoMemory}
 use Rattle.rme_line_io.specs.Pieces.{InputLine, PieceTaken, WholeLineTaken, lines_of, whole_lines_of}
 use Rattle.rme_line_io.specs.BufferedWrites.{WritesPrefix, BufferedWrite}
-use Rattle.rme_line_io.specs.StreamEvents.{ReadMoment}
+use Rattle.rme_line_io.specs.Readers.{bytes_left, reader_has_ended}
+use Rattle.rme_line_io.specs.declared.lines.LineReader.{LineReader}
+use Rattle.rme_line_io.specs.StreamEvents.{StreamMoment}
+
+-- the moment of a reader of lines and of a writer with these contents
+abbrev pub stream_moment : {R : Type 0} → (R → Option (List ℕ)) → LineReader R → Option (List ℕ) → StreamMoment
+stream_moment remaining lines held = record { left = bytes_left remaining lines; held = held }
+
+-- a moment of a run: also whether the reader has ended, and the bytes that are buffered for the writer
+pub record RunMoment : Type 0 where
+  pub left : Option (List ℕ)
+  pub ended : Bool
+  pub held : Option (List ℕ)
+  pub pending : List ℕ
+
+abbrev pub run_moment : {R : Type 0} → (R → Option (List ℕ)) → LineReader R → Option (List ℕ) → List ℕ → RunMoment
+run_moment remaining lines held pending = record
+    { left = bytes_left remaining lines; ended = reader_has_ended lines; held = held; pending = pending }
 
 -- each line has its bytes, in the state that the line before left
 abbrev pub LineRun : {S : Type 0} → (S → InputLine → List ℕ → S → Type 0) → S → List InputLine → List (List ℕ) → S
@@ -46,42 +63,41 @@ LinesReadButLast (Some bytes) (Some left) lines =
     (read : List ℕ) × (last : List InputLine) × (bytes ≡ read ++ left) × (lines_of read ≡ lines ++ last)
     × (length last ≤ 1)
 
--- all lines of the input were taken, and their bytes were written; the last of them left this state
-abbrev pub RunWritesTo : {S : Type 0} → (S → InputLine → List ℕ → S → Type 0) → S → Option (List ℕ) → Option (List ℕ)
-    → Option (List ℕ) → S → Type 0
-RunWritesTo has first input before after last =
-    (lines : List InputLine) × (all : List (List ℕ)) × LineRun has first lines all last × AreInputLines input lines
-    × Appends before after (all_bytes all)
+-- all lines left at the first moment were taken, and the writer has received their bytes; the last line left this state
+abbrev pub RunWritesTo : {S : Type 0} → (S → InputLine → List ℕ → S → Type 0) → S → StreamMoment → Option (List ℕ) → S
+    → Type 0
+RunWritesTo has first start held last =
+    (lines : List InputLine) × (all : List (List ℕ)) × LineRun has first lines all last
+    × AreInputLines start.left lines × Appends start.held held (all_bytes all)
 
-abbrev pub RunWritesAll : {S : Type 0} → (S → InputLine → List ℕ → S → Type 0) → S → Option (List ℕ) → Option (List ℕ)
-    → Option (List ℕ) → Type 0
-RunWritesAll {S = S} has first input before after = (last : S) × RunWritesTo has first input before after last
+abbrev pub RunWritesAll : {S : Type 0} → (S → InputLine → List ℕ → S → Type 0) → S → StreamMoment → Option (List ℕ)
+    → Type 0
+RunWritesAll {S = S} has first start held = (last : S) × RunWritesTo has first start held last
 
 -- the lines that were taken when a run ended with a fault, and what was written by then. If the reader failed: the
 -- lines whose newlines were read, and all their bytes. If memory was refused: the lines before the one that needed it,
 -- and all their bytes. If the writer failed: a prefix of their bytes
-abbrev pub RunFailedAfter : EngineFault → Option (List ℕ) → Option (List ℕ) → List InputLine → Option (List ℕ)
-    → Option (List ℕ) → List ℕ → Type 0
-RunFailedAfter ReadFailed input left lines before after bytes =
-    LinesWereRead input left lines × Appends before after bytes
-RunFailedAfter NoMemory input left lines before after bytes =
-    InputBeginsWith input lines × LinesReadButLast input left lines × Appends before after bytes
-RunFailedAfter WriteFailed input left lines before after bytes =
-    InputBeginsWith input lines × WritesPrefix before after bytes
+abbrev pub RunFailedAfter : EngineFault → StreamMoment → StreamMoment → List InputLine → List ℕ → Type 0
+RunFailedAfter ReadFailed start end lines bytes =
+    LinesWereRead start.left end.left lines × Appends start.held end.held bytes
+RunFailedAfter NoMemory start end lines bytes =
+    InputBeginsWith start.left lines × LinesReadButLast start.left end.left lines × Appends start.held end.held bytes
+RunFailedAfter WriteFailed start end lines bytes =
+    InputBeginsWith start.left lines × WritesPrefix start.held end.held bytes
 
 -- the first lines of the input were taken, and then the run ended with a fault
-abbrev pub RunWritesFirst : {S : Type 0} → (S → InputLine → List ℕ → S → Type 0) → S → EngineFault → Option (List ℕ)
-    → Option (List ℕ) → Option (List ℕ) → Option (List ℕ) → Type 0
-RunWritesFirst {S = S} has first fault input left before after =
+abbrev pub RunWritesFirst : {S : Type 0} → (S → InputLine → List ℕ → S → Type 0) → S → EngineFault → StreamMoment
+    → StreamMoment → Type 0
+RunWritesFirst {S = S} has first fault start end =
     (lines : List InputLine) × (all : List (List ℕ)) × (last : S) × LineRun has first lines all last
-    × RunFailedAfter fault input left lines before after (all_bytes all)
+    × RunFailedAfter fault start end lines (all_bytes all)
 
 -- at this moment exactly the bytes of all lines whose newlines were read are written
-abbrev pub AnswersArePrompt : {S : Type 0} → (S → InputLine → List ℕ → S → Type 0) → S → Option (List ℕ)
-    → Option (List ℕ) → ReadMoment → Type 0
-AnswersArePrompt {S = S} has first input before moment =
+abbrev pub AnswersArePrompt : {S : Type 0} → (S → InputLine → List ℕ → S → Type 0) → S → StreamMoment → StreamMoment
+    → Type 0
+AnswersArePrompt {S = S} has first start moment =
     (lines : List InputLine) × (all : List (List ℕ)) × (last : S) × LineRun has first lines all last
-    × LinesWereRead input moment.left lines × Appends before moment.held (all_bytes all)
+    × LinesWereRead start.left moment.left lines × Appends start.held moment.held (all_bytes all)
 
 -- ---- one iteration: a line is taken and its bytes are buffered
 
@@ -98,13 +114,14 @@ NoLineLeft (Some bytes) = lines_of bytes ≡ []
 
 -- an iteration that took a line and buffered its bytes; or one that found no line, wrote the whole buffer and changed
 -- no other state. A line was taken with its newline while the reader has not ended
-abbrev pub LineRunStep : {S : Type 0} → (S → InputLine → List ℕ → S → Type 0) → Option (List ℕ) → Option (List ℕ) → Bool
-    → S → S → Option (List ℕ) → List ℕ → Option (List ℕ) → List ℕ → Bool → Type 0
-LineRunStep has left later ended old new held kept holds keeps true =
-    (line : InputLine) × (bytes : List ℕ) × FirstLineCut left later line × has old line bytes new
-    × BufferedWrite held kept bytes holds keeps × (ended ≡ false → WholeLineTaken left later)
-LineRunStep has left later ended old new held kept holds keeps false =
-    NoLineLeft left × Appends held holds kept × (new ≡ old)
+abbrev pub LineRunStep : {S : Type 0} → (S → InputLine → List ℕ → S → Type 0) → S → S → RunMoment → RunMoment → Bool
+    → Type 0
+LineRunStep has old new before after true =
+    (line : InputLine) × (bytes : List ℕ) × FirstLineCut before.left after.left line × has old line bytes new
+    × BufferedWrite before.held before.pending bytes after.held after.pending
+    × (after.ended ≡ false → WholeLineTaken before.left after.left)
+LineRunStep has old new before after false =
+    NoLineLeft before.left × Appends before.held after.held before.pending × (new ≡ old)
 
 -- the bytes of at most one line were taken, all of it or a part
 abbrev pub AtMostOneLineTaken : Option (List ℕ) → Option (List ℕ) → Type 0
@@ -115,23 +132,24 @@ AtMostOneLineTaken (Some before) (Some after) =
 
 -- what is taken and written if no line could be read: after refused memory, bytes that were not written are still
 -- buffered
-abbrev pub FaultBeforeLine : EngineFault → Option (List ℕ) → Option (List ℕ) → Option (List ℕ) → List ℕ
-    → Option (List ℕ) → List ℕ → Type 0
-FaultBeforeLine ReadFailed left later held kept holds keeps = PieceTaken left later × Appends held holds kept
-FaultBeforeLine NoMemory left later held kept holds keeps =
-    PieceTaken left later × BufferedWrite held kept [] holds keeps
-FaultBeforeLine WriteFailed left later held kept holds keeps = WritesPrefix held holds kept
+abbrev pub FaultBeforeLine : EngineFault → RunMoment → RunMoment → Type 0
+FaultBeforeLine ReadFailed before after =
+    PieceTaken before.left after.left × Appends before.held after.held before.pending
+FaultBeforeLine NoMemory before after =
+    PieceTaken before.left after.left × BufferedWrite before.held before.pending [] after.held after.pending
+FaultBeforeLine WriteFailed before after = WritesPrefix before.held after.held before.pending
 
 -- an iteration that failed: if memory was refused, perhaps after a line was taken, of which nothing is buffered; if the
 -- writer failed, perhaps after a line was taken and its bytes were written in part
-abbrev pub LineRunStepFails : {S : Type 0} → (S → InputLine → List ℕ → S → Type 0) → EngineFault → Option (List ℕ)
-    → Option (List ℕ) → S → Option (List ℕ) → List ℕ → Option (List ℕ) → List ℕ → Type 0
-LineRunStepFails has ReadFailed left later old held kept holds keeps = PieceTaken left later × Appends held holds kept
-LineRunStepFails has NoMemory left later old held kept holds keeps =
-    AtMostOneLineTaken left later × BufferedWrite held kept [] holds keeps
-LineRunStepFails {S = S} has WriteFailed left later old held kept holds keeps =
+abbrev pub LineRunStepFails : {S : Type 0} → (S → InputLine → List ℕ → S → Type 0) → EngineFault → S → RunMoment
+    → RunMoment → Type 0
+LineRunStepFails has ReadFailed old before after =
+    PieceTaken before.left after.left × Appends before.held after.held before.pending
+LineRunStepFails has NoMemory old before after =
+    AtMostOneLineTaken before.left after.left × BufferedWrite before.held before.pending [] after.held after.pending
+LineRunStepFails {S = S} has WriteFailed old before after =
     (taken : List InputLine) × (all : List (List ℕ)) × (new : S) × LineRun has old taken all new
-    × InputBeginsWith left taken × WritesPrefix held holds (kept ++ all_bytes all)
+    × InputBeginsWith before.left taken × WritesPrefix before.held after.held (before.pending ++ all_bytes all)
 
 -- the end of a run after a fault, with the last write: if memory was refused, the whole buffer
 abbrev pub RunEndsOnFault : EngineFault → Option (List ℕ) → List ℕ → Option (List ℕ) → EngineFault → Type 0

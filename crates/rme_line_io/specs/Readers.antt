@@ -3,7 +3,7 @@ use Rattle.std.specs.Prelude.{◌≡◌, ℕ, ◌+◌, ◌-◌, ◌*◌, ◌<◌
 use Rattle.std.specs.Io.KnownBytes.{Appends, prepend_known}
 use Rattle.rme_line_io.specs.Pieces.{PieceTaken}
 use Rattle.rme_line_io.specs.declared.lines.LineReader.{LineReader}
-use Rattle.rme_line_io.specs.StreamEvents.{StreamEvent, ListGrows, LastEventBroke, ReadMoment, ReadsUntilEnd}
+use Rattle.rme_line_io.specs.StreamEvents.{StreamEvent, ListGrows, LastEventBroke, StreamMoment, ReadsUntilEnd}
 
 -- the bytes that will be read, if they are known: none once a read gave no byte
 abbrev pub unread_bytes : Bool → Option (List ℕ) → Option (List ℕ)
@@ -74,15 +74,15 @@ LastReadFailed gave old new =
 -- ---- the moments of reads
 
 -- each read was made at such a moment
-abbrev pub ReadsMadeAt : {R : Type 0} → (R → Option (List ReadMoment)) → LineReader R → LineReader R
-    → (ReadMoment → Type 0) → Type 0
+abbrev pub ReadsMadeAt : {R : Type 0} → (R → Option (List StreamMoment)) → LineReader R → LineReader R
+    → (StreamMoment → Type 0) → Type 0
 ReadsMadeAt moments old new Is =
-    (made : List ReadMoment) × ListGrows (moments old.reader) (moments new.reader) made × All Is made
+    (made : List StreamMoment) × ListGrows (moments old.reader) (moments new.reader) made × All Is made
 
 -- no newline was read since these bytes were left, and the writer has these contents
-abbrev pub NoNewlineSince : Option (List ℕ) → Option (List ℕ) → ReadMoment → Type 0
+abbrev pub NoNewlineSince : Option (List ℕ) → Option (List ℕ) → StreamMoment → Type 0
 NoNewlineSince left held moment = PieceTaken left moment.left × (moment.held ≡ held)
 
 -- no newline was read since these bytes were left, and the whole buffer is written
-abbrev pub BufferWrittenSince : Option (List ℕ) → Option (List ℕ) → List ℕ → ReadMoment → Type 0
+abbrev pub BufferWrittenSince : Option (List ℕ) → Option (List ℕ) → List ℕ → StreamMoment → Type 0
 BufferWrittenSince left held kept moment = PieceTaken left moment.left × Appends held moment.held kept

@@ -17,8 +17,8 @@ read_event count buffer = if count == 0 then at_end else moved (take count buffe
 abbrev pub write_event : ℕ → List ℕ → StreamEvent
 write_event count buffer = if count == 0 then broke else moved (take count buffer)
 
--- the moment of a read: the bytes that were left to read, and the contents of the writer, each if known
-pub record ReadMoment : Type 0 where
+-- a moment of a reader and a writer: the bytes left to read, and the contents of the writer, each if known
+pub record StreamMoment : Type 0 where
   pub left : Option (List ℕ)
   pub held : Option (List ℕ)
 

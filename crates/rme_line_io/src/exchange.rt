@@ -25,8 +25,9 @@ impl Exchange {
     ghost use Rattle.rme_line_io.specs.Pieces.{WholeLineTaken};
     ghost use Rattle.rme_line_io.specs.BufferedWrites.{WritesPrefix, BufferedWrite};
     ghost use Rattle.rme_line_io.specs.StreamEvents.{LastWriteFailed, WritesMade};
-    ghost use Rattle.rme_line_io.specs.Readers.{ReadFailure, ReaderEnded, BufferWrittenSince, LastReadFailed, SomeReadsMade, ReadsMadeAt, NothingRead, bytes_left, reader_has_ended, most_lines, reads_left};
-    ghost use Rattle.rme_line_io.specs.LineRuns.{RunEndsOnFault, FaultBeforeLine};
+    ghost use Rattle.rme_line_io.specs.Readers.{ReaderEnded, BufferWrittenSince, bytes_left, reader_has_ended, most_lines};
+    ghost use Rattle.rme_line_io.specs.StreamCalls.{CallReads, CallWrites};
+    ghost use Rattle.rme_line_io.specs.LineRuns.{RunEndsOnFault, FaultBeforeLine, run_moment};
 
     /// No line was taken, and no answer is buffered.
     pub fn new(alloc: Global) -> Result<Exchange, AllocError>
@@ -53,8 +54,8 @@ impl Exchange {
         !self.pending.is_empty()
     }
 
-    /// Takes the next line. If no whole line is at hand, all buffered answers are written before the reader is read, so
-    /// that a client that waits for its answers has them.
+    /// Takes the next line. If no whole line is buffered, all buffered answers are written before the reader is read,
+    /// so that a client that waits for its answers has them.
     ///
     /// After `ReadFailed` all answers were written, and after `WriteFailed` a prefix of them; after `NoMemory` answers
     /// that were not written are still buffered.
@@ -71,22 +72,14 @@ impl Exchange {
             self.new.pending) }
         ensures none_kept { IfOk result (λ cut. cut ≡ Cut.End
             → Appends (W.contents writer.old) (W.contents writer.new) self.old.pending) }
-        ensures err { IfErr result (λ fault. FaultBeforeLine fault (bytes_left R.remaining lines.old)
-            (bytes_left R.remaining lines.new)
-            (W.contents writer.old) self.old.pending (W.contents writer.new) self.new.pending) }
+        ensures err { IfErr result (λ fault. FaultBeforeLine fault
+            (run_moment R.remaining lines.old (W.contents writer.old) self.old.pending)
+            (run_moment R.remaining lines.new (W.contents writer.new) self.new.pending)) }
         ensures fewer { IfOk result (λ cut. cut ≢ Cut.End → most_lines lines.new < most_lines lines.old) }
         ensures end { IfOk result (λ cut. cut ≡ Cut.End → ReaderEnded lines.new) }
-        ensures ended { ReaderEnded lines.old → NothingRead lines.old lines.new }
-        ensures reads { reads_left lines.new ≤ reads_left lines.old }
-        ensures failed { IfErr result (λ fault. fault ≡ EngineFault.ReadFailed → ReadFailure lines.old lines.new) }
-        ensures asks { SomeReadsMade R.gave lines.old lines.new }
-        ensures prompt { ReadsMadeAt R.moments lines.old lines.new
-            (BufferWrittenSince (bytes_left R.remaining lines.old) (W.contents writer.old) self.old.pending) }
-        ensures read_broke { IfErr result (λ fault. fault ≡ EngineFault.ReadFailed
-            → LastReadFailed R.gave lines.old lines.new) }
-        ensures writes { WritesMade (W.took writer.old) (W.took writer.new) }
-        ensures write_broke { IfErr result (λ fault. fault ≡ EngineFault.WriteFailed
-            → LastWriteFailed (W.took writer.old) (W.took writer.new)) }
+        ensures reads { CallReads R.gave R.moments lines.old lines.new
+            (BufferWrittenSince (bytes_left R.remaining lines.old) (W.contents writer.old) self.old.pending) result }
+        ensures writes { CallWrites (W.took writer.old) (W.took writer.new) result }
     {
         match lines.take_line(&mut self.line) {
             Ok(Some(cut)) => return Ok(cut),
@@ -129,7 +122,8 @@ impl Exchange {
 
     /// The fault that ends the exchange: after refused memory the buffered answers are still written, which may fail.
     pub fn give_up<W: Sink>(&mut self, fault: EngineFault, writer: &mut W) -> EngineFault
-        ensures gives_up { RunEndsOnFault fault (W.contents writer.old) self.old.pending (W.contents writer.new) result }
+        ensures gives_up { RunEndsOnFault fault (W.contents writer.old) self.old.pending (W.contents writer.new)
+            result }
         ensures writes { WritesMade (W.took writer.old) (W.took writer.new) }
         ensures broke { fault ≢ EngineFault.WriteFailed → result ≡ EngineFault.WriteFailed
             → LastWriteFailed (W.took writer.old) (W.took writer.new) }

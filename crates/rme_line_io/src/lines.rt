@@ -133,7 +133,7 @@ impl<R: Source + Drop> LineReader<R> {
 
     /// Cuts the next line off the bytes that were already read, and copies it as `next_line` does. Nothing is read.
     ///
-    /// `None` if no whole line is at hand: the reader has to be read for more, or is at its end. An error means that
+    /// `None` if no whole line is buffered: the reader has to be read for more, or is at its end. An error means that
     /// memory for the line's copy was refused; the line is then not taken.
     pub fn take_line(&mut self, line: &mut Vec<u8>) -> Result<Option<Cut>, AllocError>
         ensures cut { IfOk result (λ taken. IfSome taken
@@ -181,7 +181,8 @@ impl<R: Source + Drop> LineReader<R> {
         ensures asks { SomeReadsMade R.gave self.old self.new }
         ensures shown { ReadsMadeAt R.moments self.old self.new
             (NoNewlineSince (bytes_left R.remaining self.old) (W.contents writer.now)) }
-        ensures broke { IfErr result (λ fault. fault ≡ EngineFault.ReadFailed → LastReadFailed R.gave self.old self.new) }
+        ensures broke { IfErr result (λ fault. fault ≡ EngineFault.ReadFailed
+            → LastReadFailed R.gave self.old self.new) }
     {
         line.clear();
         loop {

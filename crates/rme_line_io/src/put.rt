@@ -27,11 +27,8 @@ pub fn put_all<W: Sink>(writer: &mut W, bytes: &[u8]) -> Result<(), EngineFault>
         match writer.write_some(&bytes[at..]) {
             Ok(0) => return Err(EngineFault::WriteFailed),
             Ok(count) => at += count,
-            Err(error) => {
-                if !is_interrupted(&error) {
-                    return Err(EngineFault::WriteFailed);
-                }
-            }
+            Err(error) if is_interrupted(&error) => {}
+            Err(_) => return Err(EngineFault::WriteFailed),
         }
     }
     Err(EngineFault::WriteFailed)

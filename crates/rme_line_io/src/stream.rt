@@ -4,7 +4,7 @@ ghost use Rattle.std.specs.Prelude.{◌≡◌, ◌≢◌, ℕ, List, [], ◌∷�
 ghost use Rattle.std.specs.IoError.{error_kind};
 ghost use Rattle.std.specs.Io.{ReadsAtMost, WritesAtMost};
 ghost use Rattle.std.specs.Io.KnownBytes.{ReadConsumes, WriteAppends};
-ghost use Rattle.rme_line_io.specs.StreamEvents.{StreamEvent, ListGrows, ReadMoment, broke, interrupted, read_event, write_event};
+ghost use Rattle.rme_line_io.specs.StreamEvents.{StreamEvent, ListGrows, StreamMoment, broke, interrupted, read_event, write_event};
 
 use std::io::{Error, ErrorKind, Read, Result, Write};
 
@@ -19,7 +19,7 @@ pub trait Source {
     ghost gave: { Self → Option (List StreamEvent) };
 
     // The moments of the reads so far, in order, if the source records them.
-    ghost moments: { Self → Option (List ReadMoment) };
+    ghost moments: { Self → Option (List StreamMoment) };
 
     /// Makes one read, as `Read::read` does. The writer of the answers is passed so that its contents can be recorded
     /// with each read.
@@ -28,7 +28,8 @@ pub trait Source {
         ensures bytes { ReadConsumes (remaining self.old) (remaining self.new) result buf.new }
         ensures shown { ListGrows (moments self.old) (moments self.new)
             (record { left = remaining self.old; held = W.contents writer.now } ∷ []) }
-        ensures moved { IfOk result (λ count. ListGrows (gave self.old) (gave self.new) (read_event count buf.new ∷ [])) }
+        ensures moved { IfOk result (λ count. ListGrows (gave self.old) (gave self.new)
+            (read_event count buf.new ∷ [])) }
         ensures interrupted { IfErr result (λ error. error_kind error ≡ ErrorKind.Interrupted
             → ListGrows (gave self.old) (gave self.new) (interrupted ∷ [])) }
         ensures broke { IfErr result (λ error. error_kind error ≢ ErrorKind.Interrupted

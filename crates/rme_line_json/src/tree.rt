@@ -50,7 +50,8 @@ pub fn read_tree<'a>(alloc: Global, reader: &mut Reader<'a>, depth: usize) -> Op
 /// The values up to the closing bracket of a list, each at most this deep.
 #[cycle(tree)]
 fn read_items<'a>(alloc: Global, reader: &mut Reader<'a>, depth: usize) -> Option<Vec<Value<'a>>>
-    ensures items { IfSome result (λ values. TokensBeginWithItems depth reader.old (items_view values.items) reader.new) }
+    ensures items { IfSome result (λ values. TokensBeginWithItems depth reader.old
+        (items_view values.items) reader.new) }
     ensures shorter { OnSome result (length reader.new < length reader.old) }
 {
     let mut found = Vec::new(alloc);

@@ -66,7 +66,8 @@ abbrev pub report_text : TallyReport → List ℕ
 report_text r =
     codes "{\"enter\":" ++ (decimal r.enter ++
     (codes ",\"exit\":" ++ (decimal r.exit ++ (codes ",\"ok\":\"report\",\"post\":" ++ (decimal r.post
-    ++ (codes ",\"recover\":" ++ (decimal r.recover ++ (codes ",\"section\":" ++ (decimal r.section ++ codes "}")))))))))
+    ++ (codes ",\"recover\":" ++ (decimal r.recover
+    ++ (codes ",\"section\":" ++ (decimal r.section ++ codes "}")))))))))
 
 abbrev pub image_text : List ℕ → List ℕ
 image_text bytes = codes "{\"image\":\"" ++ (hex_text bytes ++ codes "\",\"ok\":\"save\"}")

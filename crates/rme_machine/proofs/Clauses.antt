@@ -94,10 +94,10 @@ account_of s own held es w numbers slate entries = record {
 -- The same for one lock.
 module _ (s : Shape) (lock : LockWords) (es : List Entry) (l : ℕ) (legal : HistoryIsLegal s es) where
   -- What the invariant says of a lock with an owner, by whether the owner's job is pending.
-  owned : (u : ℕ) (own : WorkerWords) (pending : Bool) → is_pending own ≡ pending → OwnedLockInvariant s lock es l u own (is_pending own) → OwnedLockInvariant s lock es l u own pending
+  owned : (u : ℕ) (own : WorkerWords) (pending : Bool) → is_pending own ≡ pending → OwnedLockInvariant s lock es l record { worker = u; words = own } (is_pending own) → OwnedLockInvariant s lock es l record { worker = u; words = own } pending
   owned u own pending is stands = rw is at stands
 
-  turn_owned : (u : ℕ) (own : WorkerWords) → OwnedLockInvariant s lock es l u own (is_pending own)
+  turn_owned : (u : ℕ) (own : WorkerWords) → OwnedLockInvariant s lock es l record { worker = u; words = own } (is_pending own)
       → (own.done < own.begun → (lock.turn ≡ 2 * place_of es l) ⊎ (lock.turn ≡ 2 * place_of es l + 1))
       × (own.done ≡ own.begun → ((lock.turn + 1 ≡ 2 * place_of es l) ⊎ (lock.turn ≡ 2 * place_of es l)) × ((last : Entry) × IsOwnersLastEntry es l u own.done last))
   turn_owned u own stands = (
@@ -105,7 +105,7 @@ module _ (s : Shape) (lock : LockWords) (es : List Entry) (l : ℕ) (legal : His
       | inl settled ↦ inl settled.turn
       | inr logged ↦ inr logged.turn
     ]),
-    (λ same. let past : OwnedLockInvariant s lock es l u own false = owned u own false (past_same own same) stands in (
+    (λ same. let past : OwnedLockInvariant s lock es l record { worker = u; words = own } false = owned u own false (past_same own same) stands in (
       elim past.2 [
         | inl settled ↦ inr settled.turn
         | inr over ↦ inl over.turn
@@ -141,20 +141,20 @@ module _ (s : Shape) (lock : LockWords) (es : List Entry) (l : ℕ) (legal : His
       ) in
       (last, both.0, both.1)
 
-  shadow_owned : (u : ℕ) (own : WorkerWords) → OwnedLockInvariant s lock es l u own (is_pending own) → ShadowClause s lock es l own
+  shadow_owned : (u : ℕ) (own : WorkerWords) → OwnedLockInvariant s lock es l record { worker = u; words = own } (is_pending own) → ShadowClause s lock es l own
   shadow_owned u own stands q odd = (
     (λ less. elim (owned u own true (pending_less own less) stands) [
       | inl settled ↦ absurd (omega (arith, odd, settled.turn))
       | inr logged ↦ shadow_now own q odd logged
     ]),
-    (λ same. let past : OwnedLockInvariant s lock es l u own false = owned u own false (past_same own same) stands in
+    (λ same. let past : OwnedLockInvariant s lock es l record { worker = u; words = own } false = owned u own false (past_same own same) stands in
         elim past.2 [
           | inl settled ↦ absurd (omega (arith, odd, settled.turn))
           | inr over ↦ shadow_then past.0 q odd past.1.found over
         ]),
   )
 
-  cells_owned : (u : ℕ) (own : WorkerWords) → OwnedLockInvariant s lock es l u own (is_pending own) → CellsClause s lock es l own
+  cells_owned : (u : ℕ) (own : WorkerWords) → OwnedLockInvariant s lock es l record { worker = u; words = own } (is_pending own) → CellsClause s lock es l own
   cells_owned u own stands = record {
     copying = λ less odd. elim (owned u own true (pending_less own less) stands) [
       | inl settled ↦ absurd (omega (arith, odd, settled.turn))
@@ -164,13 +164,13 @@ module _ (s : Shape) (lock : LockWords) (es : List Entry) (l : ℕ) (legal : His
     settled = λ even. any (is_pending own) stands even;
   }
     where
-      past : OwnedLockInvariant s lock es l u own false → lock.cells ≡ lock_row s es l
+      past : OwnedLockInvariant s lock es l record { worker = u; words = own } false → lock.cells ≡ lock_row s es l
       past stands = elim stands.2 [
         | inl settled ↦ settled.cells
         | inr over ↦ over.cells
       ]
 
-      any : (pending : Bool) → OwnedLockInvariant s lock es l u own pending → lock.turn ≢ 2 * place_of es l + 1 → lock.cells ≡ lock_row s es l
+      any : (pending : Bool) → OwnedLockInvariant s lock es l record { worker = u; words = own } pending → lock.turn ≢ 2 * place_of es l + 1 → lock.cells ≡ lock_row s es l
       any true stands even = elim stands [
         | inl settled ↦ settled.cells
         | inr logged ↦ absurd (even logged.turn)
@@ -215,7 +215,7 @@ module _ (s : Shape) (lock : LockWords) (es : List Entry) (l : ℕ) (legal : His
   owned_of : (u : ℕ) (own : WorkerWords) → own.done ≤ own.begun
       → (own.done < own.begun → (lock.turn ≡ 2 * place_of es l) ⊎ (lock.turn ≡ 2 * place_of es l + 1))
       × (own.done ≡ own.begun → ((lock.turn + 1 ≡ 2 * place_of es l) ⊎ (lock.turn ≡ 2 * place_of es l)) × ((last : Entry) × IsOwnersLastEntry es l u own.done last))
-      → ShadowClause s lock es l own → CellsClause s lock es l own → (pending : Bool) → is_pending own ≡ pending → OwnedLockInvariant s lock es l u own pending
+      → ShadowClause s lock es l own → CellsClause s lock es l own → (pending : Bool) → is_pending own ≡ pending → OwnedLockInvariant s lock es l record { worker = u; words = own } pending
   owned_of u own few turn shadow cells true is =
       let less : own.done < own.begun = ltb-true own.done own.begun is in
       elim (turn.0 less) [

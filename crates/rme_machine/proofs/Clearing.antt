@@ -23,7 +23,7 @@ use Rattle.rme_machine.specs.AbstractState.{Privates, lock_owned_by_worker, last
 use Rattle.rme_machine.specs.Knowledge.{PrivateInvariant, IsDoneAt}
 use Rattle.rme_machine.specs.Invariant.{Invariant, LockInvariant}
 use Rattle.rme_machine.specs.Changes.{PrivateChange, history_after}
-use Rattle.rme_machine.specs.Laws.{RefinementStep}
+use Rattle.rme_machine.specs.Laws.{RefinementStep, concrete_state}
 use Rattle.rme_machine.proofs.Moves.{NodeMove, clear_move}
 use Rattle.rme_machine.proofs.Kept.{node_kept}
 use Rattle.rme_machine.proofs.Shows.{Frame, node_frame, owned_at, owned_site, owned_below, holds_one, shown_owns}
@@ -112,7 +112,7 @@ module _ (s : Shape) (mem mem' : Address → ℕ) (privs privs' : Privates) (es 
   owned_then = owned_site s mem' privs' es w lock kept worker (ap current_lock (move.owns w) ∙ site) (omega (arith, move.self, level))
 
   -- A node below the root: the abstract state is unchanged.
-  step_below : suc k ≢ s.height → RefinementStep s mem mem' privs privs' es es w Still
+  step_below : suc k ≢ s.height → RefinementStep s (concrete_state mem privs es) (concrete_state mem' privs' es) w Still
   step_below below =
       let owned_before : lock_owned_by_worker s mem w ≡ None =
       owned_below s mem privs es w lock fact worker is_lock (omega (arith, past.holds)) (omega (arith, past.holds, below, level)) in
@@ -126,7 +126,7 @@ module _ (s : Shape) (mem mem' : Address → ℕ) (privs privs' : Privates) (es 
       (owned_then ∙ sym owned_before) (move.owns w) refl refl refl refl was became.at (rw owned_before refl) (clear_outside w b lock k)
 
   -- The root: the lock becomes free.
-  step_top : suc k ≡ s.height → RefinementStep s mem mem' privs privs' es es w (Leave lock)
+  step_top : suc k ≡ s.height → RefinementStep s (concrete_state mem privs es) (concrete_state mem' privs' es) w (Leave lock)
   step_top top =
       let some : 0 < (worker_words mem w).begun = omega (arith, past.some, past.known) in
       let end : IsEnded es w lock = ended s mem privs es w lock fact worker is_lock (past.holds ∙ top) past.past some past.site in
@@ -150,7 +150,7 @@ module _ (s : Shape) (mem mem' : Address → ℕ) (privs privs' : Privates) (es 
         ),
       )
 
-  step_clear : RefinementStep s mem mem' privs privs' es (history_after es mem w (cleared_note s lock (suc k))) w (act_of_note (cleared_note s lock (suc k)))
+  step_clear : RefinementStep s (concrete_state mem privs es) (concrete_state mem' privs' (history_after es mem w (cleared_note s lock (suc k)))) w (act_of_note (cleared_note s lock (suc k)))
   step_clear =
       elim (cases_eq (suc k) s.height) [
         | inl top ↦ rw (eq-eqb (suc k) s.height top) (step_top top)
@@ -164,10 +164,10 @@ module _ (s : Shape) (mem mem' : Address → ℕ) (privs privs' : Privates) (es 
 pub clear : (s : Shape) (mem mem' : Address → ℕ) (privs privs' : Privates) (es : List Entry) (w b lock level : ℕ) → Invariant s mem privs es → w < s.workers
     → privs w ≡ Some (leaver w b (Clear lock level)) → StoreEffect mem mem' (Node lock (node s.leaves w level)) 0
     → PrivateChange privs privs' w (Some (cleared w b lock (level - 1)))
-    → RefinementStep s mem mem' privs privs' es (history_after es mem w (cleared_note s lock level)) w (act_of_note (cleared_note s lock level))
+    → RefinementStep s (concrete_state mem privs es) (concrete_state mem' privs' (history_after es mem w (cleared_note s lock level))) w (act_of_note (cleared_note s lock level))
 clear s mem mem' privs privs' es w b lock level fact worker was wrote became =
     let fits : PrivateInvariant s (worker_words mem w) (held_levels_in s mem w) (lock_words s mem) w (leaver w b (Clear lock level)) = fact.fits w _ worker was in
     let P : ℕ → Type 0 = λ n. privs w ≡ Some (leaver w b (Clear lock n)) → StoreEffect mem mem' (Node lock (node s.leaves w n)) 0
-    → RefinementStep s mem mem' privs privs' es (history_after es mem w (cleared_note s lock n)) w (act_of_note (cleared_note s lock n)) in
+    → RefinementStep s (concrete_state mem privs es) (concrete_state mem' privs' (history_after es mem w (cleared_note s lock n))) w (act_of_note (cleared_note s lock n)) in
     subst P (let e : suc (level - 1) ≡ level = omega (arith, fits.shaped.stage.1) in e)
     (λ was wrote. step_clear s mem mem' privs privs' es w b lock (level - 1) fact worker was wrote became) was wrote

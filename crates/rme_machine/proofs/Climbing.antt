@@ -30,7 +30,7 @@ use Rattle.rme_machine.specs.AbstractState.{Privates, lock_owned_by_worker, last
 use Rattle.rme_machine.specs.Knowledge.{PrivateInvariant, IsPendingAt}
 use Rattle.rme_machine.specs.Invariant.{Invariant, IsSettledLock, LockInvariant, OwnedLockInvariant}
 use Rattle.rme_machine.specs.Changes.{PrivateChange, history_after}
-use Rattle.rme_machine.specs.Laws.{RefinementStep}
+use Rattle.rme_machine.specs.Laws.{RefinementStep, concrete_state}
 use Rattle.rme_machine.proofs.Moves.{NodeMove, take_move}
 use Rattle.rme_machine.proofs.Kept.{node_kept}
 use Rattle.rme_machine.proofs.Shows.{owned_at, owned_site, load_frame, node_frame, shown_owner, shown_still, shown_owns}
@@ -74,7 +74,7 @@ module _ (s : Shape) (mem mem' : Address → ℕ) (privs privs' : Privates) (es 
   shows_waiting = shown_as s mem privs es w None true b _ owns_none at.pending at.known was
 
   -- Another worker holds the node: nothing changes.
-  blocked : PrivateChange privs privs' w (Some (climber w b ascent)) → RefinementStep s mem mem privs privs' es es w act.Wait
+  blocked : PrivateChange privs privs' w (Some (climber w b ascent)) → RefinementStep s (concrete_state mem privs es) (concrete_state mem privs' es) w act.Wait
   blocked became = (
     load_fact s mem privs privs' es w (climber w b ascent) (climber w b ascent) fact worker was became fits,
     does_as s act.Wait mem privs es w _ _ worker shows_waiting (
@@ -122,7 +122,7 @@ module _ (s : Shape) (mem mem' : Address → ℕ) (privs privs' : Privates) (es 
       ]
 
   climbs : NodeMove s mem mem' ascent.lock w (ascent.held + 1) → ascent.held + 1 ≢ s.height
-      → PrivateChange privs privs' w (Some (climber w b record { lock = ascent.lock; held = ascent.held + 1 })) → RefinementStep s mem mem' privs privs' es es w act.Still
+      → PrivateChange privs privs' w (Some (climber w b record { lock = ascent.lock; held = ascent.held + 1 })) → RefinementStep s (concrete_state mem privs es) (concrete_state mem' privs' es) w act.Still
   climbs move below became = (
     fact_after,
     does_as s act.Still mem privs es w _ _ worker shows_waiting (
@@ -160,7 +160,7 @@ module _ (s : Shape) (mem mem' : Address → ℕ) (privs privs' : Privates) (es 
       root_free s mem ascent.lock w ascent.held worker (omega arith) (subst P (omega arith) free)
 
   enters : NodeMove s mem mem' ascent.lock w (ascent.held + 1) → ascent.held + 1 ≡ s.height → mem (Node ascent.lock (node s.leaves w (ascent.held + 1))) ≡ 0
-      → PrivateChange privs privs' w (Some record { worker = w; begun = b; stage = Logging (LoadTurn ascent.lock) }) → RefinementStep s mem mem' privs privs' es es w (act.Take ascent.lock)
+      → PrivateChange privs privs' w (Some record { worker = w; begun = b; stage = Logging (LoadTurn ascent.lock) }) → RefinementStep s (concrete_state mem privs es) (concrete_state mem' privs' es) w (act.Take ascent.lock)
   enters move top free became = (
     fact_after,
     does_as s (act.Take ascent.lock) mem privs es w _ _ worker shows_waiting (
@@ -186,7 +186,7 @@ module _ (s : Shape) (mem mem' : Address → ℕ) (privs privs' : Privates) (es 
 
       stands : LockInvariant s (lock_words s mem ascent.lock) es ascent.lock (Some w) (worker_words mem)
       stands =
-          (let P : Bool → Type 0 = λ pending. OwnedLockInvariant s (lock_words s mem ascent.lock) es ascent.lock w (worker_words mem w) pending in
+          (let P : Bool → Type 0 = λ pending. OwnedLockInvariant s (lock_words s mem ascent.lock) es ascent.lock record { worker = w; words = worker_words mem w } pending in
           subst P (sym at.pending) (inl settled))
 
       fact_after : Invariant s mem' privs' es
@@ -218,7 +218,7 @@ climbing_by : (s : Shape) (mem mem' : Address → ℕ) (privs privs' : Privates)
     → (let after : Stage × Note = if free then (if top then (Logging (LoadTurn ascent.lock), Entered ascent.lock)
     else (Climbing record { lock = ascent.lock; held = ascent.held + 1 }, Quiet)) else (Climbing ascent, Blocked) in
     PrivateChange privs privs' w (Some record { worker = w; begun = b; stage = after.0 })
-    → RefinementStep s mem mem' privs privs' es (history_after es mem w after.1) w (act_of_note after.1))
+    → RefinementStep s (concrete_state mem privs es) (concrete_state mem' privs' (history_after es mem w after.1)) w (act_of_note after.1))
 climbing_by s mem mem' privs privs' es w b ascent found fact worker was true true test whole did became =
     let free : mem (Node ascent.lock (node s.leaves w (ascent.held + 1))) ≡ 0 = sym did.0 ∙ eqb-true _ _ test in
     enters s mem mem' privs privs' es w b ascent fact worker was
@@ -228,7 +228,7 @@ climbing_by s mem mem' privs privs' es w b ascent found fact worker was true fal
     climbs s mem mem' privs privs' es w b ascent fact worker was
     (moved s mem mem' privs privs' es w b ascent fact worker was free (did.1 (eqb-true _ _ test))) (eqb-false _ _ whole) became
 climbing_by s mem mem' privs privs' es w b ascent found fact worker was false top test whole did became =
-    let P : (Address → ℕ) → Type 0 = λ new. RefinementStep s mem new privs privs' es es w act.Wait in
+    let P : (Address → ℕ) → Type 0 = λ new. RefinementStep s (concrete_state mem privs es) (concrete_state new privs' es) w act.Wait in
     subst P (sym (did.2 (eqb-false _ _ test))) (blocked s mem mem' privs privs' es w b ascent fact worker was became)
 
 -- The law of the steps of Enter.
@@ -236,7 +236,7 @@ pub climbing : (s : Shape) (mem mem' : Address → ℕ) (privs privs' : Privates
     → Invariant s mem privs es → w < s.workers → privs w ≡ Some record { worker = w; begun = b; stage = Climbing ascent }
     → ActionEffect mem mem' (private_action s record { worker = w; begun = b; stage = Climbing ascent }) found
     → PrivateChange privs privs' w (Some (private_after s record { worker = w; begun = b; stage = Climbing ascent } found))
-    → RefinementStep s mem mem' privs privs' es (history_after es mem w (note_after s record { worker = w; begun = b; stage = Climbing ascent } found)) w
+    → RefinementStep s (concrete_state mem privs es) (concrete_state mem' privs' (history_after es mem w (note_after s record { worker = w; begun = b; stage = Climbing ascent } found))) w
     (act_of_note (note_after s record { worker = w; begun = b; stage = Climbing ascent } found))
 climbing s mem mem' privs privs' es w b ascent found fact worker was did became =
     climbing_by s mem mem' privs privs' es w b ascent found fact worker was _ _ refl refl did became

@@ -27,7 +27,7 @@ use Rattle.rme_machine.specs.Knowledge.{ListsAgreeBelow, IsOddTurn, RedoKnowledg
 use Rattle.rme_machine.specs.Invariant.{Invariant, IsLoggedLock}
 use Rattle.rme_machine.specs.AbstractState.{Privates, act_of_note}
 use Rattle.rme_machine.specs.Changes.{PrivateChange, history_after}
-use Rattle.rme_machine.specs.Laws.{RefinementStep}
+use Rattle.rme_machine.specs.Laws.{RefinementStep, concrete_state}
 use Rattle.rme_machine.proofs.Moves.{OwnMove, reply_move, place_move, at_move, cell_move, cells_long, shadow_read}
 use Rattle.rme_machine.proofs.Masking.{next_some, same_start, same_next, same_all, same_stored}
 use Rattle.rme_machine.proofs.Owning.{Owner, Inside, copies, stands_odd, with_receipt, quiet_load, quiet_lock, quiet_own}
@@ -95,9 +95,9 @@ module _ (s : Shape) (mem mem' : Address → ℕ) (privs privs' : Privates) (es 
       → privs w ≡ Some record { worker = w; begun = b; stage = Copying redo } → (found ≡ mem address) × (mem' ≡ mem)
       → PrivateChange privs privs' w (Some record { worker = w; begun = b; stage = stage })
       → Inside s (worker_words mem w) (held_levels_in s mem w) (lock_words s mem) w b stage
-      → RefinementStep s mem mem' privs privs' es es w Still
+      → RefinementStep s (concrete_state mem privs es) (concrete_state mem' privs' es) w Still
   load redo stage address found fact known was did became next =
-      subst (λ (m : Address → ℕ). RefinementStep s mem m privs privs' es es w Still) (sym did.1)
+      subst (λ (m : Address → ℕ). RefinementStep s (concrete_state mem privs es) (concrete_state m privs' es) w Still) (sym did.1)
       (quiet_load s mem privs privs' es w b (redo_lock redo) record { worker = w; begun = b; stage = Copying redo } stage fact known.owner was refl became next)
 
   -- A store into a word of the receipt.
@@ -105,7 +105,7 @@ module _ (s : Shape) (mem mem' : Address → ℕ) (privs privs' : Privates) (es 
       → privs w ≡ Some record { worker = w; begun = b; stage = Copying redo } → OwnMove s mem mem' w (with_receipt (worker_words mem w) reply place at)
       → PrivateChange privs privs' w (Some record { worker = w; begun = b; stage = Copying next }) → redo_lock next ≡ redo_lock redo → IsRedoStage s next
       → RedoKnowledge s (with_receipt (worker_words mem w) reply place at) (lock_words s mem (redo_lock next)) next
-      → RefinementStep s mem mem' privs privs' es es w Still
+      → RefinementStep s (concrete_state mem privs es) (concrete_state mem' privs' es) w Still
   store redo next reply place at fact known was move became same shaped knows =
       let own : WorkerWords = with_receipt (worker_words mem w) reply place at in
       let owner : Owner s own (held_levels_in s mem w) w b (redo_lock next) = record {
@@ -126,7 +126,7 @@ module _ (s : Shape) (mem mem' : Address → ℕ) (privs privs' : Privates) (es 
       → privs w ≡ Some record { worker = w; begun = b; stage = Copying (StoreCell visit mask cell value) }
       → ActionEffect mem mem' (private_action s record { worker = w; begun = b; stage = Copying (StoreCell visit mask cell value) }) found
       → PrivateChange privs privs' w (Some record { worker = w; begun = b; stage = copy_stage_from visit mask (first_cell mask (cell + 1) s.cells) })
-      → RefinementStep s mem mem' privs privs' es es w Still
+      → RefinementStep s (concrete_state mem privs es) (concrete_state mem' privs' es) w Still
   store_cell visit mask cell value found fact known was did became =
       let lock : LockWords = lock_words s mem visit.lock in
       let new : LockWords = record lock { cells = slice_set lock.cells cell value } in
@@ -146,7 +146,7 @@ pub copying : (s : Shape) (mem mem' : Address → ℕ) (privs privs' : Privates)
     → w < s.workers → privs w ≡ Some record { worker = w; begun = b; stage = Copying redo }
     → ActionEffect mem mem' (private_action s record { worker = w; begun = b; stage = Copying redo }) found
     → PrivateChange privs privs' w (Some (private_after s record { worker = w; begun = b; stage = Copying redo } found))
-    → RefinementStep s mem mem' privs privs' es (history_after es mem w (note_after s record { worker = w; begun = b; stage = Copying redo } found)) w
+    → RefinementStep s (concrete_state mem privs es) (concrete_state mem' privs' (history_after es mem w (note_after s record { worker = w; begun = b; stage = Copying redo } found))) w
     (act_of_note (note_after s record { worker = w; begun = b; stage = Copying redo } found))
 copying s mem mem' privs privs' es w b (LoadMask visit) found fact worker was did became =
     let known : Knowing s mem w b (LoadMask visit) = knowing s mem privs es w b (LoadMask visit) fact worker was in

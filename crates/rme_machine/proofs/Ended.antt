@@ -34,7 +34,7 @@ pub ended : (s : Shape) (mem : Address → ℕ) (privs : Privates) (es : List En
     → IsEnded es w l
 ended s mem privs es w l fact worker lock holds past some site =
     let account : WorkerInvariant s (worker_words mem w) (held_levels_in s mem w) es w = fact.accounts w worker in
-    let stands : OwnedLockInvariant s (lock_words s mem l) es l w (worker_words mem w) false =
+    let stands : OwnedLockInvariant s (lock_words s mem l) es l record { worker = w; words = worker_words mem w } false =
     rw past at (rw (owner_of s mem l w worker holds) at (fact.stands l lock)) in
     elim (cases_eq (worker_words mem w).place withdrawn_place) [
       | inl gone ↦

@@ -21,7 +21,7 @@ use Rattle.rme_machine.specs.AbstractState.{Privates}
 use Rattle.rme_machine.specs.Knowledge.{PrivateInvariant, IsDoneAt}
 use Rattle.rme_machine.specs.Invariant.{Invariant, OwnedLockInvariant, IsSettledLock}
 use Rattle.rme_machine.specs.Changes.{PrivateChange}
-use Rattle.rme_machine.specs.Laws.{RefinementStep}
+use Rattle.rme_machine.specs.Laws.{RefinementStep, concrete_state}
 use Rattle.rme_machine.proofs.Moves.{LockMove, turn_move}
 use Rattle.rme_machine.proofs.Kept.{owner_of, private_kept, lock_kept}
 use Rattle.rme_machine.proofs.Shows.{load_frame, lock_frame, owned_at}
@@ -34,7 +34,7 @@ leaver w b departure = record { worker = w; begun = b; stage = Leaving departure
 -- Another private state at the same memory.
 pub knows_more : (s : Shape) (mem : Address → ℕ) (privs privs' : Privates) (es : List Entry) (w b : ℕ) (old new : Departure) → Invariant s mem privs es → w < s.workers
     → privs w ≡ Some (leaver w b old) → PrivateChange privs privs' w (Some (leaver w b new)) → PrivateInvariant s (worker_words mem w) (held_levels_in s mem w) (lock_words s mem) w (leaver w b new)
-    → RefinementStep s mem mem privs privs' es es w Still
+    → RefinementStep s (concrete_state mem privs es) (concrete_state mem privs' es) w Still
 knows_more s mem privs privs' es w b old new fact worker was became fits =
     let kept : Invariant s mem privs' es =
     private_kept s mem privs privs' es w (Some (leaver w b new)) fact became
@@ -45,7 +45,7 @@ knows_more s mem privs privs' es w b old new fact worker was became fits =
 pub load_exit_turn : (s : Shape) (mem : Address → ℕ) (privs privs' : Privates) (es : List Entry) (w b lock found : ℕ) → Invariant s mem privs es → w < s.workers
     → privs w ≡ Some (leaver w b (LoadExitTurn lock)) → found ≡ mem (Turn lock)
     → PrivateChange privs privs' w (Some record { worker = w; begun = b; stage = exit_stage s lock found })
-    → RefinementStep s mem mem privs privs' es es w Still
+    → RefinementStep s (concrete_state mem privs es) (concrete_state mem privs' es) w Still
 load_exit_turn s mem privs privs' es w b lock found fact worker was is became =
     let fits : PrivateInvariant s (worker_words mem w) (held_levels_in s mem w) (lock_words s mem) w (leaver w b (LoadExitTurn lock)) = fact.fits w _ worker was in
     elim (cases_Bool (found % 2 == 0)) [
@@ -66,15 +66,15 @@ load_exit_turn s mem privs privs' es w b lock found fact worker was is became =
     ]
 
 -- A finished owner's lock, by whether its turn is even.
-pub even_settled : (s : Shape) (lock : LockWords) (es : List Entry) (l w : ℕ) (own : WorkerWords) → OwnedLockInvariant s lock es l w own false → lock.turn % 2 ≡ 0
+pub even_settled : (s : Shape) (lock : LockWords) (es : List Entry) (l w : ℕ) (own : WorkerWords) → OwnedLockInvariant s lock es l record { worker = w; words = own } false → lock.turn % 2 ≡ 0
     → IsSettledLock lock (lock_row s es l) (place_of es l)
 even_settled s lock es l w own stands even = elim stands.2 [
   | inl settled ↦ settled
   | inr over ↦ absurd (omega (arith, over.turn, even))
 ]
 
-odd_over : (s : Shape) (lock : LockWords) (es : List Entry) (l w turn : ℕ) (own : WorkerWords) → OwnedLockInvariant s lock es l w own false → lock.turn ≡ turn → turn % 2 ≡ 1
-    → OwnedLockInvariant s record lock { turn = turn + 1 } es l w own false
+odd_over : (s : Shape) (lock : LockWords) (es : List Entry) (l w turn : ℕ) (own : WorkerWords) → OwnedLockInvariant s lock es l record { worker = w; words = own } false → lock.turn ≡ turn → turn % 2 ≡ 1
+    → OwnedLockInvariant s record lock { turn = turn + 1 } es l record { worker = w; words = own } false
 odd_over s lock es l w turn own stands is odd = elim stands.2 [
   | inl settled ↦ absurd (omega (arith, settled.turn, is, odd))
   | inr over ↦ (stands.0, stands.1, inl (record { turn = omega (arith, over.turn, is); cells = over.cells }))
@@ -82,13 +82,13 @@ odd_over s lock es l w turn own stands is odd = elim stands.2 [
 
 -- The lock of an owner whose job is finished.
 pub owner_stands : (s : Shape) (mem : Address → ℕ) (privs : Privates) (es : List Entry) (w l : ℕ) → Invariant s mem privs es → w < s.workers → l < s.locks
-    → held_levels_in s mem w l ≡ s.height → is_pending (worker_words mem w) ≡ false → OwnedLockInvariant s (lock_words s mem l) es l w (worker_words mem w) false
+    → held_levels_in s mem w l ≡ s.height → is_pending (worker_words mem w) ≡ false → OwnedLockInvariant s (lock_words s mem l) es l record { worker = w; words = worker_words mem w } false
 owner_stands s mem privs es w l fact worker lock holds past = rw past at (rw (owner_of s mem l w worker holds) at (fact.stands l lock))
 
 pub store_exit_turn : (s : Shape) (mem mem' : Address → ℕ) (privs privs' : Privates) (es : List Entry) (w b lock turn : ℕ) → Invariant s mem privs es → w < s.workers
     → privs w ≡ Some (leaver w b (StoreExitTurn lock turn)) → StoreEffect mem mem' (Turn lock) (turn + 1)
     → PrivateChange privs privs' w (Some (leaver w b (Clear lock s.height)))
-    → RefinementStep s mem mem' privs privs' es es w Still
+    → RefinementStep s (concrete_state mem privs es) (concrete_state mem' privs' es) w Still
 store_exit_turn s mem mem' privs privs' es w b lock turn fact worker was wrote became =
     let fits : PrivateInvariant s (worker_words mem w) (held_levels_in s mem w) (lock_words s mem) w (leaver w b (StoreExitTurn lock turn)) = fact.fits w _ worker was in
     let past : IsDoneAt (worker_words mem w) (held_levels_in s mem w) b lock s.height = fits.knows.0 in
@@ -100,7 +100,7 @@ store_exit_turn s mem mem' privs privs' es w b lock turn fact worker was wrote b
       shaped = record { worker = worker; begun = fits.shaped.begun; stage = (fits.shaped.stage, s.counted.tree.some_level, omega arith) };
       knows = (past, λ top. omega (arith, ap (λ (words : LockWords). words.turn) is, fits.knows.2));
     } in
-    let stands : OwnedLockInvariant s new es lock w (worker_words mem w) (is_pending (worker_words mem w)) =
+    let stands : OwnedLockInvariant s new es lock record { worker = w; words = worker_words mem w } (is_pending (worker_words mem w)) =
     rw past.past (odd_over s (lock_words s mem lock) es lock w turn (worker_words mem w)
     (owner_stands s mem privs es w lock fact worker fits.shaped.stage past.holds past.past) fits.knows.1 fits.knows.2) in
     let kept : Invariant s mem' privs' es =

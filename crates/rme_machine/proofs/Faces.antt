@@ -14,7 +14,7 @@ use Rattle.rme_machine.specs.Machine.{MachineState, WorkerState, ActEffect, Mach
 use Rattle.rme_machine.specs.Views.{WorkerWords, worker_words, is_pending, slate_job}
 use Rattle.rme_machine.specs.AbstractState.{Privates, lock_owned_by_worker, last_entry_job, is_in_section_or_exit, stance_outside, abstract_stance, abstract_entered, abstract_worker, abstract_state}
 use Rattle.rme_machine.specs.Invariant.{Invariant}
-use Rattle.rme_machine.specs.Laws.{RefinementStep}
+use Rattle.rme_machine.specs.Laws.{RefinementStep, concrete_state}
 use Rattle.rme_machine.proofs.Shows.{Frame, shown_me, shown_still}
 
 -- The abstract state of a worker, from its parts.
@@ -66,7 +66,7 @@ pub quiet : (s : Shape) (mem mem' : Address → ℕ) (privs privs' : Privates) (
     → lock_owned_by_worker s mem' w ≡ lock_owned_by_worker s mem w → worker_words mem' w ≡ new → is_pending new ≡ is_pending (worker_words mem w)
     → new.begun ≡ (worker_words mem w).begun → slate_job new ≡ slate_job (worker_words mem w) → new.done ≡ (worker_words mem w).done
     → privs w ≡ Some p → privs' w ≡ Some p' → abstract_entered (lock_owned_by_worker s mem w) (Some p') ≡ abstract_entered (lock_owned_by_worker s mem w) (Some p) → stance_outside (Some p') ≡ stance_outside (Some p)
-    → RefinementStep s mem mem' privs privs' es es w Still
+    → RefinementStep s (concrete_state mem privs es) (concrete_state mem' privs' es) w Still
 quiet s mem mem' privs privs' es w p p' new worker fact frame owners owned own pending begun slate done was is entered outside =
     let number : (worker_words mem' w).begun ≡ (worker_words mem w).begun = ap (λ (own : WorkerWords). own.begun) own ∙ begun in
     let finished : (worker_words mem' w).done ≡ (worker_words mem w).done = ap (λ (own : WorkerWords). own.done) own ∙ done in

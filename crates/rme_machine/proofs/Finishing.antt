@@ -31,7 +31,7 @@ use Rattle.rme_machine.specs.Knowledge.{PrivateInvariant, ListsAgreeBelow, RedoK
 use Rattle.rme_machine.specs.Invariant.{Invariant, WorkerInvariant, IsLastReceiptWords, IsLoggedLock, IsFinishedLock, OwnedLockInvariant}
 use Rattle.rme_machine.specs.AbstractState.{Privates, abstract_state, abstract_worker, lock_owned_by_worker, abstract_worker_by, is_in_section_or_exit, last_entry_job}
 use Rattle.rme_machine.specs.Changes.{PrivateChange}
-use Rattle.rme_machine.specs.Laws.{RefinementStep}
+use Rattle.rme_machine.specs.Laws.{RefinementStep, concrete_state}
 use Rattle.rme_machine.proofs.Moves.{OwnMove, done_move, cells_long}
 use Rattle.rme_machine.proofs.Kept.{finish_kept}
 use Rattle.rme_machine.proofs.Shows.{Frame, owned_at, own_frame, entry_frame, shown_me, shown_finishes}
@@ -141,11 +141,10 @@ module _ (s : Shape) (mem : Address → ℕ) (privs : Privates) (es : List Entry
       (row_same (replicate s.cells 0) es (entry_of (worker_words mem w) w b visit reply) visit.lock refl)
       (place_same es (entry_of (worker_words mem w) w b visit reply) visit.lock refl)
 
-  stands : OwnedLockInvariant s (lock_words s mem visit.lock) (es ++ entry_of (worker_words mem w) w b visit reply ∷ []) visit.lock w
-      record (worker_words mem w) { done = b } (is_pending record (worker_words mem w) { done = b })
+  stands : OwnedLockInvariant s (lock_words s mem visit.lock) (es ++ entry_of (worker_words mem w) w b visit reply ∷ []) visit.lock record { worker = w; words = record (worker_words mem w) { done = b } } (is_pending record (worker_words mem w) { done = b })
   stands =
       let e : Entry = entry_of (worker_words mem w) w b visit reply in
-      let P : Bool → Type 0 = λ t. OwnedLockInvariant s (lock_words s mem visit.lock) (es ++ e ∷ []) visit.lock w record (worker_words mem w) { done = b } t in
+      let P : Bool → Type 0 = λ t. OwnedLockInvariant s (lock_words s mem visit.lock) (es ++ e ∷ []) visit.lock record { worker = w; words = record (worker_words mem w) { done = b } } t in
       let finished : P false = (e, record { found = last_at_same es e visit.lock refl; by = refl; under = refl }, inr over) in
       subst P (sym past) finished
 
@@ -208,8 +207,7 @@ pub store_done : (s : Shape) (mem mem' : Address → ℕ) (privs privs' : Privat
     → RedoKnowledge s (worker_words mem w) (lock_words s mem visit.lock) (StoreDone visit mask reply)
     → privs w ≡ Some record { worker = w; begun = b; stage = Copying (StoreDone visit mask reply) } → StoreEffect mem mem' (Done w) b
     → PrivateChange privs privs' w (Some record { worker = w; begun = b; stage = Leaving (LoadExitTurn visit.lock) })
-    → RefinementStep s mem mem' privs privs' es
-    (es ++ record { receipt = record { worker = w; lock = visit.lock; number = b; place = visit.turn / 2; reply = reply }; script = (slate_job (worker_words mem w)).script } ∷ [])
+    → RefinementStep s (concrete_state mem privs es) (concrete_state mem' privs' (es ++ record { receipt = record { worker = w; lock = visit.lock; number = b; place = visit.turn / 2; reply = reply }; script = (slate_job (worker_words mem w)).script } ∷ []))
     w (Finish record { worker = w; lock = visit.lock; number = b; place = visit.turn / 2; reply = reply })
 store_done s mem mem' privs privs' es w b visit mask reply fact owner knows was wrote became =
     let own : WorkerWords = worker_words mem w in

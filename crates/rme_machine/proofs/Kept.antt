@@ -135,7 +135,7 @@ stands_same s lock lock' es l owner owner' owns owns' lock_is owner_is_same owns
     of_owner : (o : Option ℕ) → ((u : ℕ) → o ≡ Some u → owns' u ≡ owns u) → LockInvariant s lock es l o owns → LockInvariant s lock es l o owns'
     of_owner None same stands = stands
     of_owner (Some u) same stands =
-        let R : WorkerWords → Type 0 = λ own. OwnedLockInvariant s lock es l u own (is_pending own) in subst R (sym (same u refl)) stands
+        let R : WorkerWords → Type 0 = λ own. OwnedLockInvariant s lock es l record { worker = u; words = own } (is_pending own) in subst R (sym (same u refl)) stands
 
 -- The private state of worker `w` is the new one, and that of every other worker is unchanged.
 fits_each : (s : Shape) (mem mem' : Address → ℕ) (privs privs' : Privates) (w : ℕ) (p : Option Private) → PrivateChange privs privs' w p
@@ -192,9 +192,9 @@ module _ (s : Shape) (mem mem' : Address → ℕ) (privs privs' : Privates) (es 
 
   -- A lock that `w` owns, and one that it does not own.
   own_stands_own : (es' : List Entry) (l : ℕ) → held_levels_in s mem w l ≡ s.height
-      → OwnedLockInvariant s (lock_words s mem l) es' l w new (is_pending new) → LockInvariant s (lock_words s mem' l) es' l (owner_in s mem' l) (worker_words mem')
+      → OwnedLockInvariant s (lock_words s mem l) es' l record { worker = w; words = new } (is_pending new) → LockInvariant s (lock_words s mem' l) es' l (owner_in s mem' l) (worker_words mem')
   own_stands_own es' l holds stands =
-      let P : WorkerWords → Type 0 = λ own. OwnedLockInvariant s (lock_words s mem l) es' l w own (is_pending own) in
+      let P : WorkerWords → Type 0 = λ own. OwnedLockInvariant s (lock_words s mem l) es' l record { worker = w; words = own } (is_pending own) in
       stands_same s _ _ es' l (Some w) _ (worker_words mem') (worker_words mem') (move.locks l) (move.trees.owner l ∙ owner_of s mem l w worker holds) (λ u _. refl)
       (subst P (sym move.own) stands)
 
@@ -206,7 +206,7 @@ module _ (s : Shape) (mem mem' : Address → ℕ) (privs privs' : Privates) (es 
 
   pub own_kept : WorkerInvariant s new (held_levels_in s mem w) es w
       → ((q : Private) → p ≡ Some q → PrivateInvariant s new (held_levels_in s mem w) (lock_words s mem) w q)
-      → ((l : ℕ) → l < s.locks → held_levels_in s mem w l ≡ s.height → OwnedLockInvariant s (lock_words s mem l) es l w new (is_pending new))
+      → ((l : ℕ) → l < s.locks → held_levels_in s mem w l ≡ s.height → OwnedLockInvariant s (lock_words s mem l) es l record { worker = w; words = new } (is_pending new))
       → Invariant s mem' privs' es
   own_kept account fits stands = record {
     rooted = λ l lock. move.trees.rooted l (fact.rooted l lock);
@@ -253,7 +253,7 @@ module _ (s : Shape) (lock : LockWords) (es : List Entry) (k : ℕ) (e : Entry) 
       let R : ℕ → Type 0 = λ place. P (lock_row s es k) place in
       subst Q (sym (row_other _ es e k off)) (subst R (sym (place_other es e k off)) was)
 
-  owned_grown : (u : ℕ) (own : WorkerWords) (pending : Bool) → OwnedLockInvariant s lock es k u own pending → OwnedLockInvariant s lock (es ++ e ∷ []) k u own pending
+  owned_grown : (u : ℕ) (own : WorkerWords) (pending : Bool) → OwnedLockInvariant s lock es k record { worker = u; words = own } pending → OwnedLockInvariant s lock (es ++ e ∷ []) k record { worker = u; words = own } pending
   owned_grown u own true stands = grown (λ row place. IsSettledLock lock row place ⊎ IsLoggedLock s lock row place (slate_job own).script) stands
   owned_grown u own false stands = (
     stands.0,
@@ -271,7 +271,7 @@ pub finish_kept : (s : Shape) (mem mem' : Address → ℕ) (privs privs' : Priva
     → e.receipt.worker ≡ w → e.receipt.lock ≡ l → IsLegalNextEntry s es e
     → WorkerInvariant s new (held_levels_in s mem w) (es ++ e ∷ []) w
     → ((q : Private) → p ≡ Some q → PrivateInvariant s new (held_levels_in s mem w) (lock_words s mem) w q)
-    → OwnedLockInvariant s (lock_words s mem l) (es ++ e ∷ []) l w new (is_pending new)
+    → OwnedLockInvariant s (lock_words s mem l) (es ++ e ∷ []) l record { worker = w; words = new } (is_pending new)
     → Invariant s mem' privs' (es ++ e ∷ [])
 finish_kept s mem mem' privs privs' es w l p new e fact worker lock holds move became by at due account fits stands = record {
   rooted = λ k is_lock. move.trees.rooted k (fact.rooted k is_lock);
@@ -316,7 +316,7 @@ module _ (s : Shape) (mem mem' : Address → ℕ) (privs privs' : Privates) (es 
       subst Q (sym (move.owns w)) (fits_same s _ _ _ _ _ w q (move.trees.held w) (λ k _. refl) (fits q is (lock_words s mem') move.lock)))
 
   pub lock_kept : ((q : Private) → p ≡ Some q → (locks : ℕ → LockWords) → locks l ≡ new → PrivateInvariant s (worker_words mem w) (held_levels_in s mem w) locks w q)
-      → OwnedLockInvariant s new es l w (worker_words mem w) (is_pending (worker_words mem w))
+      → OwnedLockInvariant s new es l record { worker = w; words = worker_words mem w } (is_pending (worker_words mem w))
       → Invariant s mem' privs' es
   lock_kept fits stands = record {
     rooted = λ k is_lock. move.trees.rooted k (fact.rooted k is_lock);

@@ -16,7 +16,7 @@ use Rattle.rme_machine.specs.AbstractState.{Privates, act_of_note}
 use Rattle.rme_machine.specs.Knowledge.{PrivateInvariant}
 use Rattle.rme_machine.specs.Invariant.{Invariant}
 use Rattle.rme_machine.specs.Changes.{PrivateChange, history_after}
-use Rattle.rme_machine.specs.Laws.{RefinementStep}
+use Rattle.rme_machine.specs.Laws.{RefinementStep, concrete_state}
 use Rattle.rme_machine.proofs.Moves.{place_move, at_move, reply_move, done_move}
 use Rattle.rme_machine.proofs.Exits.{leaver, load_exit_turn, store_exit_turn}
 use Rattle.rme_machine.proofs.Clearing.{clear}
@@ -26,10 +26,10 @@ pub leaving : (s : Shape) (mem mem' : Address → ℕ) (privs privs' : Privates)
     → Invariant s mem privs es → w < s.workers → privs w ≡ Some record { worker = w; begun = b; stage = Leaving departure }
     → ActionEffect mem mem' (private_action s record { worker = w; begun = b; stage = Leaving departure }) found
     → PrivateChange privs privs' w (Some (private_after s record { worker = w; begun = b; stage = Leaving departure } found))
-    → RefinementStep s mem mem' privs privs' es (history_after es mem w (note_after s record { worker = w; begun = b; stage = Leaving departure } found)) w
+    → RefinementStep s (concrete_state mem privs es) (concrete_state mem' privs' (history_after es mem w (note_after s record { worker = w; begun = b; stage = Leaving departure } found))) w
     (act_of_note (note_after s record { worker = w; begun = b; stage = Leaving departure } found))
 leaving s mem mem' privs privs' es w b (LoadExitTurn lock) found fact worker was did became =
-    let P : (Address → ℕ) → Type 0 = λ m. RefinementStep s mem m privs privs' es es w Still in
+    let P : (Address → ℕ) → Type 0 = λ m. RefinementStep s (concrete_state mem privs es) (concrete_state m privs' es) w Still in
     subst P (sym did.1) (load_exit_turn s mem privs privs' es w b lock found fact worker was did.0 became)
 leaving s mem mem' privs privs' es w b (StoreExitTurn lock turn) found fact worker was did became =
     store_exit_turn s mem mem' privs privs' es w b lock turn fact worker was did became

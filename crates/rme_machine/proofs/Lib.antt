@@ -38,3 +38,4 @@ pub mod Tables
 pub mod Returning
 pub mod Books
 pub mod Faithful
+pub mod Knowing

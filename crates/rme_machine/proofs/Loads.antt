@@ -15,7 +15,7 @@ use Rattle.rme_machine.specs.AbstractState.{Privates, lock_owned_by_worker, last
 use Rattle.rme_machine.specs.Knowledge.{PrivateInvariant}
 use Rattle.rme_machine.specs.Invariant.{Invariant}
 use Rattle.rme_machine.specs.Changes.{PrivateChange}
-use Rattle.rme_machine.specs.Laws.{RefinementStep}
+use Rattle.rme_machine.specs.Laws.{RefinementStep, concrete_state}
 use Rattle.rme_machine.proofs.Kept.{private_kept}
 use Rattle.rme_machine.proofs.Shows.{load_frame, shown_moves}
 use Rattle.rme_machine.proofs.Faces.{shown_as, does_as, entered_same, quiet}
@@ -29,14 +29,14 @@ module _ (s : Shape) (mem : Address → ℕ) (privs privs' : Privates) (es : Lis
 
   -- The abstract state of the worker is unchanged.
   pub still_load : PrivateInvariant s (worker_words mem w) (held_levels_in s mem w) (lock_words s mem) w q → is_in_section_or_exit (Some q) ≡ is_in_section_or_exit (Some p)
-      → stance_outside (Some q) ≡ stance_outside (Some p) → RefinementStep s mem mem privs privs' es es w act.Still
+      → stance_outside (Some q) ≡ stance_outside (Some p) → RefinementStep s (concrete_state mem privs es) (concrete_state mem privs' es) w act.Still
   still_load fits inside outside =
       quiet s mem mem privs privs' es w p q (worker_words mem w) worker (load_fact fits) (load_frame s mem privs privs' es w (Some q) became) (λ l lock. refl)
       refl refl refl refl refl refl was became.at (entered_same _ (Some p) (Some q) inside) outside
 
   -- If it owns no lock it may also enter Exit.
   pub still_outside : lock_owned_by_worker s mem w ≡ None → PrivateInvariant s (worker_words mem w) (held_levels_in s mem w) (lock_words s mem) w q
-      → stance_outside (Some q) ≡ stance_outside (Some p) → RefinementStep s mem mem privs privs' es es w act.Still
+      → stance_outside (Some q) ≡ stance_outside (Some p) → RefinementStep s (concrete_state mem privs es) (concrete_state mem privs' es) w act.Still
   still_outside owned fits outside =
       quiet s mem mem privs privs' es w p q (worker_words mem w) worker (load_fact fits) (load_frame s mem privs privs' es w (Some q) became) (λ l lock. refl)
       refl refl refl refl refl refl was became.at (rw owned refl) outside
@@ -47,7 +47,7 @@ module _ (s : Shape) (mem : Address → ℕ) (privs privs' : Privates) (es : Lis
       → IsInSectionOf (abstract_stance (Some l) pending (worker_words mem w).begun (slate_job (worker_words mem w)) (last_entry_job (last_entry_of_worker es w)) (Some p)) l
       → abstract_stance (Some l) pending (worker_words mem w).begun (slate_job (worker_words mem w)) (last_entry_job (last_entry_of_worker es w)) (Some q)
       ≡ abstract_stance (Some l) pending (worker_words mem w).begun (slate_job (worker_words mem w)) (last_entry_job (last_entry_of_worker es w)) (Some p)
-      → RefinementStep s mem mem privs privs' es es w (act.Reenter l)
+      → RefinementStep s (concrete_state mem privs es) (concrete_state mem privs' es) w (act.Reenter l)
   reenter_load l pending owned is fits outside inside stays same = (
     load_fact fits,
     does_as s _ mem privs es w _ _ worker (shown_as s mem privs es w (Some l) pending _ (Some p) owned is refl was) (

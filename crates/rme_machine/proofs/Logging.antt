@@ -30,7 +30,7 @@ use Rattle.rme_program.specs.declared.stage.Parity.TheVariants.{Even, Odd}
 use Rattle.rme_program.specs.Masks.{mask_of, first_cell}
 use Rattle.rme_program.specs.ActionEffects.{ActionEffect}
 use Rattle.rme_program.specs.Conditions.{IsLogStage}
-use Rattle.rme_program.specs.Steps.{private_action, private_after, note_after, shadow_stage_from, run_stage, cell_stage_from, slate_stage, turn_stage}
+use Rattle.rme_program.specs.Steps.{private_action, private_after, note_after, shadow_stage_from, run_stage, cell_stage_from, slate_stage, turn_stage, logging_section}
 use Rattle.rme_machine.specs.declared.label.Act.TheVariants.{Still}
 use Rattle.rme_machine.specs.Histories.{place_of, lock_row}
 use Rattle.rme_machine.specs.Views.{WorkerWords, LockWords, worker_words, lock_words, slate_script, slate_job}
@@ -38,7 +38,7 @@ use Rattle.rme_machine.specs.Knowledge.{ListsAgreeBelow, IsEvenTurn, ScriptHasRu
 use Rattle.rme_machine.specs.Invariant.{Invariant, IsSettledLock, IsLoggedLock}
 use Rattle.rme_machine.specs.AbstractState.{Privates, act_of_note}
 use Rattle.rme_machine.specs.Changes.{PrivateChange, history_after}
-use Rattle.rme_machine.specs.Laws.{RefinementStep}
+use Rattle.rme_machine.specs.Laws.{RefinementStep, concrete_state}
 use Rattle.rme_machine.proofs.Moves.{LockMove, turn_move, shadow_move, shadow_reply_move, mask_move, cells_long, shadows_long, slate_long, cell_read, slate_read}
 use Rattle.rme_machine.proofs.Masking.{next_some, same_start, same_next, same_all, same_stored}
 use Rattle.rme_machine.proofs.Scripts.{IsPosted, posted, script_same, words_more, left_same}
@@ -61,7 +61,7 @@ module _ (s : Shape) (own : WorkerWords) (held : ℕ → ℕ) (locks : ℕ → L
   -- The named cells are loaded, and the script is run.
   goes_run : (l turn named : ℕ) (script : Program) (row : List ℕ) → Owner s own held w b l → locks l ≡ lock → IsEvenTurn lock turn → length lock.cells ≡ s.cells
       → slate_script own ≡ Some script → named ≡ mask_of script.ops → length row ≡ s.cells → ListsAgreeBelow named s.cells row lock.cells
-      → Inside s own held locks w b (run_stage s l turn script named row)
+      → Inside s own held locks w b (run_stage s (logging_section l turn script named) row)
   goes_run l turn named script row owner is even long slate mask long_row same =
       let visit : Visit = record { lock = l; turn = turn; parity = Even script.n named } in
       let run : ScriptHasRun own lock visit named = record { even = even; script = script; slate = slate; mask = mask; parity = refl } in
@@ -73,7 +73,7 @@ module _ (s : Shape) (own : WorkerWords) (held : ℕ → ℕ) (locks : ℕ → L
   -- The named cells below a cell are loaded.
   goes_cells : (l turn named from : ℕ) (script : Program) (row : List ℕ) (found : Option ℕ) → Owner s own held w b l → locks l ≡ lock → IsEvenTurn lock turn → length lock.cells ≡ s.cells
       → slate_script own ≡ Some script → IsScript s.cells script → named ≡ mask_of script.ops → length row ≡ s.cells → ListsAgreeBelow named from row lock.cells
-      → first_cell named from s.cells ≡ found → Inside s own held locks w b (cell_stage_from s l turn script named row found)
+      → first_cell named from s.cells ≡ found → Inside s own held locks w b (cell_stage_from s (logging_section l turn script named) row found)
   goes_cells l turn named from script row (Some c) owner is even long slate shaped mask long_row same next =
       logs s own held locks w b (LoadCells l turn script named row c) lock owner (owner.lock, (next_some named from s.cells c next).below, long_row, shaped) is
       (even, slate, mask, (next_some named from s.cells c next).set, same_next named from s.cells c row lock.cells next same)
@@ -152,9 +152,9 @@ module _ (s : Shape) (mem mem' : Address → ℕ) (privs privs' : Privates) (es 
       → privs w ≡ Some record { worker = w; begun = b; stage = Logging log } → (found ≡ mem address) × (mem' ≡ mem)
       → PrivateChange privs privs' w (Some record { worker = w; begun = b; stage = stage })
       → Inside s (worker_words mem w) (held_levels_in s mem w) (lock_words s mem) w b stage
-      → RefinementStep s mem mem' privs privs' es es w Still
+      → RefinementStep s (concrete_state mem privs es) (concrete_state mem' privs' es) w Still
   load log stage address found fact known was did became next =
-      subst (λ (m : Address → ℕ). RefinementStep s mem m privs privs' es es w Still) (sym did.1)
+      subst (λ (m : Address → ℕ). RefinementStep s (concrete_state mem privs es) (concrete_state m privs' es) w Still) (sym did.1)
       (quiet_load s mem privs privs' es w b (log_lock log) record { worker = w; begun = b; stage = Logging log } stage fact known.owner was refl became next)
 
   store : (log : Log) (stage : Stage) (new : LockWords) → Invariant s mem privs es → Knowing s mem w b log
@@ -163,7 +163,7 @@ module _ (s : Shape) (mem mem' : Address → ℕ) (privs privs' : Privates) (es 
       → ((locks : ℕ → LockWords) → locks (log_lock log) ≡ new → Inside s (worker_words mem w) (held_levels_in s mem w) locks w b stage)
       → IsSettledLock new (lock_row s es (log_lock log)) (place_of es (log_lock log))
       ⊎ IsLoggedLock s new (lock_row s es (log_lock log)) (place_of es (log_lock log)) (slate_job (worker_words mem w)).script
-      → RefinementStep s mem mem' privs privs' es es w Still
+      → RefinementStep s (concrete_state mem privs es) (concrete_state mem' privs' es) w Still
   store log stage new fact known was move became next stands =
       quiet_lock s mem mem' privs privs' es w b (log_lock log) record { worker = w; begun = b; stage = Logging log } stage new fact known.owner was refl became move next stands
 
@@ -183,7 +183,7 @@ module _ (s : Shape) (mem mem' : Address → ℕ) (privs privs' : Privates) (es 
   store_turn : (visit : Visit) → Invariant s mem privs es → Knowing s mem w b (StoreTurn visit)
       → privs w ≡ Some record { worker = w; begun = b; stage = Logging (StoreTurn visit) } → StoreEffect mem mem' (Turn visit.lock) (visit.turn + 1)
       → PrivateChange privs privs' w (Some record { worker = w; begun = b; stage = Copying (LoadMask visit) })
-      → RefinementStep s mem mem' privs privs' es es w Still
+      → RefinementStep s (concrete_state mem privs es) (concrete_state mem' privs' es) w Still
   store_turn visit fact known was wrote became =
       let own : WorkerWords = worker_words mem w in
       let lock : LockWords = lock_words s mem visit.lock in
@@ -209,7 +209,7 @@ pub logging : (s : Shape) (mem mem' : Address → ℕ) (privs privs' : Privates)
     → w < s.workers → privs w ≡ Some record { worker = w; begun = b; stage = Logging log }
     → ActionEffect mem mem' (private_action s record { worker = w; begun = b; stage = Logging log }) found
     → PrivateChange privs privs' w (Some (private_after s record { worker = w; begun = b; stage = Logging log } found))
-    → RefinementStep s mem mem' privs privs' es (history_after es mem w (note_after s record { worker = w; begun = b; stage = Logging log } found)) w
+    → RefinementStep s (concrete_state mem privs es) (concrete_state mem' privs' (history_after es mem w (note_after s record { worker = w; begun = b; stage = Logging log } found))) w
     (act_of_note (note_after s record { worker = w; begun = b; stage = Logging log } found))
 logging s mem mem' privs privs' es w b (LoadTurn l) found fact worker was did became =
     let known : Knowing s mem w b (LoadTurn l) = knowing s mem privs es w b (LoadTurn l) fact worker was in
@@ -241,7 +241,7 @@ logging s mem mem' privs privs' es w b (LoadCells l turn script named row cell) 
     let below = known.shaped.1 in
     let long = known.shaped.2 in
     load s mem mem' privs privs' es w b (LoadCells l turn script named row cell)
-    (cell_stage_from s l turn script named (slice_set row cell found) (first_cell named (cell + 1) s.cells)) (Cell l cell) found fact known was did became
+    (cell_stage_from s (logging_section l turn script named) (slice_set row cell found) (first_cell named (cell + 1) s.cells)) (Cell l cell) found fact known was did became
     (goes_cells s (worker_words mem w) (held_levels_in s mem w) (lock_words s mem) w b lock l turn named (cell + 1) script (slice_set row cell found) (first_cell named (cell + 1) s.cells)
     known.owner refl known.knows.0 (cells_long s mem l) known.knows.1 known.shaped.3 known.knows.2 (length-set row cell found ∙ long)
     (same_stored named cell found row lock.cells (omega (arith, below, long)) (did.0 ∙ cell_read s mem l cell below) known.knows.4) refl)

@@ -12,7 +12,7 @@ use Rattle.rme_program.specs.Steps.{private_action, private_after, note_after}
 use Rattle.rme_machine.specs.AbstractState.{Privates, act_of_note}
 use Rattle.rme_machine.specs.Invariant.{Invariant}
 use Rattle.rme_machine.specs.Changes.{PrivateChange, history_after}
-use Rattle.rme_machine.specs.Laws.{RefinementStep, StepLaw}
+use Rattle.rme_machine.specs.Laws.{RefinementStep, StepLaw, concrete_state}
 use Rattle.rme_machine.proofs.Recovering.{recovering}
 use Rattle.rme_machine.proofs.Posting.{posting}
 use Rattle.rme_machine.proofs.Climbing.{climbing}
@@ -23,7 +23,7 @@ use Rattle.rme_machine.proofs.Leaving.{leaving}
 -- The law for a private state of this worker at this stage.
 StageLaw : Shape → (Address → ℕ) → (Address → ℕ) → Privates → Privates → List Entry → ℕ → ℕ → Private → Type 0
 StageLaw s mem mem' privs privs' es w found p = privs w ≡ Some p → ActionEffect mem mem' (private_action s p) found → PrivateChange privs privs' w (Some (private_after s p found))
-    → RefinementStep s mem mem' privs privs' es (history_after es mem w (note_after s p found)) w (act_of_note (note_after s p found))
+    → RefinementStep s (concrete_state mem privs es) (concrete_state mem' privs' (history_after es mem w (note_after s p found))) w (act_of_note (note_after s p found))
 
 by_stage : (s : Shape) (mem mem' : Address → ℕ) (privs privs' : Privates) (es : List Entry) (w b found : ℕ) (stage : Stage)
     → Invariant s mem privs es → w < s.workers → stage ≢ Resting → StageLaw s mem mem' privs privs' es w found record { worker = w; begun = b; stage = stage }

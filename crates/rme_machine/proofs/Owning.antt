@@ -23,7 +23,7 @@ use Rattle.rme_machine.specs.Knowledge.{PrivateInvariant, IsPendingAt, LogKnowle
 use Rattle.rme_machine.specs.Invariant.{Invariant, WorkerInvariant, LockInvariant, OwnedLockInvariant, SlateHasJob, IsSettledLock, IsLoggedLock}
 use Rattle.rme_machine.specs.AbstractState.{Privates, abstract_worker, lock_owned_by_worker, abstract_worker_by, is_in_section_or_exit, last_entry_job}
 use Rattle.rme_machine.specs.Changes.{PrivateChange}
-use Rattle.rme_machine.specs.Laws.{RefinementStep}
+use Rattle.rme_machine.specs.Laws.{RefinementStep, concrete_state}
 use Rattle.rme_machine.proofs.Moves.{OwnMove, LockMove}
 use Rattle.rme_machine.proofs.Kept.{owner_of, private_kept, own_kept, lock_kept}
 use Rattle.rme_machine.proofs.Shows.{Frame, owned_at, load_frame, own_frame, lock_frame, shown_me, shown_still}
@@ -68,7 +68,7 @@ stands_pending : (s : Shape) (mem : Address → ℕ) (privs : Privates) (es : Li
     → IsSettledLock (lock_words s mem l) (lock_row s es l) (place_of es l)
     ⊎ IsLoggedLock s (lock_words s mem l) (lock_row s es l) (place_of es l) (slate_job (worker_words mem w)).script
 stands_pending s mem privs es w l fact worker lock holds pending =
-    subst (λ (t : Bool). OwnedLockInvariant s (lock_words s mem l) es l w (worker_words mem w) t) pending
+    subst (λ (t : Bool). OwnedLockInvariant s (lock_words s mem l) es l record { worker = w; words = worker_words mem w } t) pending
     (subst (λ (o : Option ℕ). LockInvariant s (lock_words s mem l) es l o (worker_words mem)) (owner_of s mem l w worker holds) (fact.stands l lock))
 
 pub stands_inside : (s : Shape) (mem : Address → ℕ) (privs : Privates) (es : List Entry) (w b l : ℕ) → Invariant s mem privs es
@@ -110,7 +110,7 @@ module _ (s : Shape) (mem mem' : Address → ℕ) (privs privs' : Privates) (es 
       → ((k : ℕ) → owner_in s mem' k ≡ owner_in s mem k) → lock_owned_by_worker s mem' w ≡ lock_owned_by_worker s mem w
       → is_pending (worker_words mem' w) ≡ true → (worker_words mem' w).begun ≡ (worker_words mem w).begun
       → (worker_words mem' w).done ≡ (worker_words mem w).done → slate_job (worker_words mem' w) ≡ slate_job (worker_words mem w)
-      → RefinementStep s mem mem' privs privs' es es w Still
+      → RefinementStep s (concrete_state mem privs es) (concrete_state mem' privs' es) w Still
   still fact kept frame owner was inside became inside' owners owned pending begun done job =
       let last : Job = last_entry_job (last_entry_of_worker es w) in
       let withdrawn : List ℕ = withdrawn_numbers es w (worker_words mem w).done in
@@ -142,7 +142,7 @@ pub quiet_load : (s : Shape) (mem : Address → ℕ) (privs privs' : Privates) (
     → Invariant s mem privs es → Owner s (worker_words mem w) (held_levels_in s mem w) w b l → privs w ≡ Some p → is_in_section_or_exit (Some p) ≡ true
     → PrivateChange privs privs' w (Some record { worker = w; begun = b; stage = stage })
     → Inside s (worker_words mem w) (held_levels_in s mem w) (lock_words s mem) w b stage
-    → RefinementStep s mem mem privs privs' es es w Still
+    → RefinementStep s (concrete_state mem privs es) (concrete_state mem privs' es) w Still
 quiet_load s mem privs privs' es w b l p stage fact owner was inside became next =
     let new : Private = record { worker = w; begun = b; stage = stage } in
     let kept : Invariant s mem privs' es = private_kept s mem privs privs' es w (Some new) fact became
@@ -156,11 +156,11 @@ pub quiet_lock : (s : Shape) (mem mem' : Address → ℕ) (privs privs' : Privat
     → PrivateChange privs privs' w (Some record { worker = w; begun = b; stage = stage }) → LockMove s mem mem' l new
     → ((locks : ℕ → LockWords) → locks l ≡ new → Inside s (worker_words mem w) (held_levels_in s mem w) locks w b stage)
     → IsSettledLock new (lock_row s es l) (place_of es l) ⊎ IsLoggedLock s new (lock_row s es l) (place_of es l) (slate_job (worker_words mem w)).script
-    → RefinementStep s mem mem' privs privs' es es w Still
+    → RefinementStep s (concrete_state mem privs es) (concrete_state mem' privs' es) w Still
 quiet_lock s mem mem' privs privs' es w b l p stage new fact owner was inside became move next stands =
     let own : WorkerWords = worker_words mem w in
     let later : Private = record { worker = w; begun = b; stage = stage } in
-    let owned : OwnedLockInvariant s new es l w own (is_pending own) = subst (λ (t : Bool). OwnedLockInvariant s new es l w own t) (sym owner.at.pending) stands in
+    let owned : OwnedLockInvariant s new es l record { worker = w; words = own } (is_pending own) = subst (λ (t : Bool). OwnedLockInvariant s new es l record { worker = w; words = own } t) (sym owner.at.pending) stands in
     let kept : Invariant s mem' privs' es = lock_kept s mem mem' privs privs' es w l (Some later) new fact owner.worker owner.lock owner.at.holds move became
     (λ q same locks at. subst (λ (r : Private). PrivateInvariant s own (held_levels_in s mem w) locks w r) (same_Some later q same) (next locks at).fits) owned in
     let words : worker_words mem' w ≡ own = move.owns w in
@@ -200,13 +200,13 @@ pub quiet_own : (s : Shape) (mem mem' : Address → ℕ) (privs privs' : Private
     → PrivateChange privs privs' w (Some record { worker = w; begun = b; stage = stage })
     → OwnMove s mem mem' w (with_receipt (worker_words mem w) reply place at)
     → Inside s (with_receipt (worker_words mem w) reply place at) (held_levels_in s mem w) (lock_words s mem) w b stage
-    → RefinementStep s mem mem' privs privs' es es w Still
+    → RefinementStep s (concrete_state mem privs es) (concrete_state mem' privs' es) w Still
 quiet_own s mem mem' privs privs' es w b l p stage reply place at fact owner was inside became move next =
     let own : WorkerWords = worker_words mem w in
     let new : WorkerWords = with_receipt own reply place at in
     let later : Private = record { worker = w; begun = b; stage = stage } in
-    let stands : (k : ℕ) → k < s.locks → held_levels_in s mem w k ≡ s.height → OwnedLockInvariant s (lock_words s mem k) es k w new (is_pending new) = λ k lock holds.
-    subst (λ (t : Bool). OwnedLockInvariant s (lock_words s mem k) es k w new t) (sym owner.at.pending)
+    let stands : (k : ℕ) → k < s.locks → held_levels_in s mem w k ≡ s.height → OwnedLockInvariant s (lock_words s mem k) es k record { worker = w; words = new } (is_pending new) = λ k lock holds.
+    subst (λ (t : Bool). OwnedLockInvariant s (lock_words s mem k) es k record { worker = w; words = new } t) (sym owner.at.pending)
     (stands_pending s mem privs es w k fact owner.worker lock holds owner.at.pending) in
     let kept : Invariant s mem' privs' es = own_kept s mem mem' privs privs' es w (Some later) new fact owner.worker move became
     (account_pending s own (held_levels_in s mem w) es w reply place at owner.at.pending (fact.accounts w owner.worker))

@@ -35,7 +35,7 @@ use Rattle.rme_machine.specs.AbstractState.{Privates, lock_owned_by_worker, last
 use Rattle.rme_machine.specs.Knowledge.{PrivateInvariant, IsIdleWorker, SlateIsStored}
 use Rattle.rme_machine.specs.Invariant.{Invariant, WorkerInvariant, SlateHasJob, IsWithdrawnNumber, IsLastReceiptWords}
 use Rattle.rme_machine.specs.Changes.{PrivateChange, history_after}
-use Rattle.rme_machine.specs.Laws.{RefinementStep}
+use Rattle.rme_machine.specs.Laws.{RefinementStep, concrete_state}
 use Rattle.rme_machine.proofs.Moves.{OwnMove, begun_move, slate_lock_move, slate_len_move, slate_word_move, slate_long}
 use Rattle.rme_machine.proofs.Kept.{own_kept}
 use Rattle.rme_machine.proofs.Shows.{owned_none, own_frame, shown_still, shown_moves}
@@ -125,7 +125,7 @@ module _ (s : Shape) (mem mem' : Address → ℕ) (privs privs' : Privates) (es 
   -- A store of the slate is quiet.
   slate_stored : (lock len : ℕ) (words : List ℕ) → OwnMove s mem mem' w (with_slate (worker_words mem w) lock len words)
       → SlateIsStored (with_slate (worker_words mem w) lock len words) record { job = slate.job; stored = slate.stored + 1 } → slate.stored < 2 + 3 * slate.job.script.n
-      → PrivateChange privs privs' w (Some (poster w b record { job = slate.job; stored = slate.stored + 1 })) → RefinementStep s mem mem' privs privs' es es w act.Still
+      → PrivateChange privs privs' w (Some (poster w b record { job = slate.job; stored = slate.stored + 1 })) → RefinementStep s (concrete_state mem privs es) (concrete_state mem' privs' es) w act.Still
   slate_stored lock len words move slated more became = (
     own_fact (with_slate (worker_words mem w) lock len words) _ move became (slate_account s _ _ es w b (fact.accounts w worker) idle lock len words)
         record {
@@ -166,7 +166,7 @@ module _ (s : Shape) (mem mem' : Address → ℕ) (privs privs' : Privates) (es 
   -- The store of `begun` asks for the lock.
   begun_stored : StoreEffect mem mem' (Begun w) (b + 1) → slate.stored ≡ 2 + 3 * slate.job.script.n
       → PrivateChange privs privs' w (Some record { worker = w; begun = b + 1; stage = Climbing record { lock = slate.job.lock; held = 0 } })
-      → RefinementStep s mem mem' privs privs' es es w (act.Ask (b + 1))
+      → RefinementStep s (concrete_state mem privs es) (concrete_state mem' privs' es) w (act.Ask (b + 1))
   begun_stored wrote all became = (
     own_fact (record (worker_words mem w) { begun = b + 1 }) _ move became (begun_account s _ _ es w b (fact.accounts w worker) idle fits.shaped.stage.0 has)
         record {
@@ -209,20 +209,20 @@ module _ (s : Shape) (mem mem' : Address → ℕ) (privs privs' : Privates) (es 
           (slate_is_job all)
 
   lock_stored : StoreEffect mem mem' (SlateLock w) slate.job.lock → slate.stored ≡ 0
-      → PrivateChange privs privs' w (Some (poster w b record { job = slate.job; stored = slate.stored + 1 })) → RefinementStep s mem mem' privs privs' es es w act.Still
+      → PrivateChange privs privs' w (Some (poster w b record { job = slate.job; stored = slate.stored + 1 })) → RefinementStep s (concrete_state mem privs es) (concrete_state mem' privs' es) w act.Still
   lock_stored wrote first became =
       slate_stored slate.job.lock (worker_words mem w).slate_len (worker_words mem w).slate (slate_lock_move s mem mem' w slate.job.lock wrote)
       record { lock = λ _. refl; len = λ two. absurd (omega arith); words = rw first refl } (omega arith) became
 
   len_stored : StoreEffect mem mem' (SlateLen w) slate.job.script.n → slate.stored ≡ 1
-      → PrivateChange privs privs' w (Some (poster w b record { job = slate.job; stored = slate.stored + 1 })) → RefinementStep s mem mem' privs privs' es es w act.Still
+      → PrivateChange privs privs' w (Some (poster w b record { job = slate.job; stored = slate.stored + 1 })) → RefinementStep s (concrete_state mem privs es) (concrete_state mem' privs' es) w act.Still
   len_stored wrote second became =
       slate_stored (worker_words mem w).slate_lock slate.job.script.n (worker_words mem w).slate (slate_len_move s mem mem' w slate.job.script.n wrote)
       record { lock = λ _. (let slated : SlateIsStored (worker_words mem w) slate = fits.knows.1 in slated.lock (omega arith)); len = λ _. refl; words = rw second refl } (omega arith) became
 
   word_is_stored : (i : ℕ) → i + 2 ≡ slate.stored → slate.stored < 2 + 3 * slate.job.script.n
       → StoreEffect mem mem' (SlateWord w (i / 3) (i % 3)) (slice_index (slate_of slate.job.script.ops) i)
-      → PrivateChange privs privs' w (Some (poster w b record { job = slate.job; stored = slate.stored + 1 })) → RefinementStep s mem mem' privs privs' es es w act.Still
+      → PrivateChange privs privs' w (Some (poster w b record { job = slate.job; stored = slate.stored + 1 })) → RefinementStep s (concrete_state mem privs es) (concrete_state mem' privs' es) w act.Still
   word_is_stored i here more wrote became =
       slate_stored (worker_words mem w).slate_lock (worker_words mem w).slate_len (slice_set (worker_words mem w).slate i (slice_index (slate_of slate.job.script.ops) i))
       (slate_word_move s mem mem' w _ i within wrote)
@@ -262,7 +262,7 @@ posting_by : (s : Shape) (mem mem' : Address → ℕ) (privs privs' : Privates) 
     else if more then Store (SlateWord w ((slate.stored - 2) / 3) ((slate.stored - 2) % 3)) (slice_index (slate_of slate.job.script.ops) (slate.stored - 2))
     else Store (Begun w) (b + 1)) found
     → PrivateChange privs privs' w (Some record { worker = w; begun = if all then b + 1 else b; stage = (after_store b slate all).0 })
-    → RefinementStep s mem mem' privs privs' es (history_after es mem w (after_store b slate all).1) w (act_of_note (after_store b slate all).1)
+    → RefinementStep s (concrete_state mem privs es) (concrete_state mem' privs' (history_after es mem w (after_store b slate all).1)) w (act_of_note (after_store b slate all).1)
 posting_by s mem mem' privs privs' es w b slate found fact worker was true one more false t1 t2 t3 t4 wrote became =
     lock_stored s mem mem' privs privs' es w b slate fact worker was wrote (eqb-true _ _ t1) became
 posting_by s mem mem' privs privs' es w b slate found fact worker was true one more true t1 t2 t3 t4 wrote became =
@@ -286,7 +286,7 @@ pub posting : (s : Shape) (mem mem' : Address → ℕ) (privs privs' : Privates)
     → Invariant s mem privs es → w < s.workers → privs w ≡ Some record { worker = w; begun = b; stage = Posting slate }
     → ActionEffect mem mem' (private_action s record { worker = w; begun = b; stage = Posting slate }) found
     → PrivateChange privs privs' w (Some (private_after s record { worker = w; begun = b; stage = Posting slate } found))
-    → RefinementStep s mem mem' privs privs' es (history_after es mem w (note_after s record { worker = w; begun = b; stage = Posting slate } found)) w
+    → RefinementStep s (concrete_state mem privs es) (concrete_state mem' privs' (history_after es mem w (note_after s record { worker = w; begun = b; stage = Posting slate } found))) w
     (act_of_note (note_after s record { worker = w; begun = b; stage = Posting slate } found))
 posting s mem mem' privs privs' es w b slate found fact worker was did became =
     posting_by s mem mem' privs privs' es w b slate found fact worker was _ _ _ _ refl refl refl refl did became

@@ -27,7 +27,7 @@ use Rattle.rme_machine.specs.AbstractState.{Privates, lock_owned_by_worker, act_
 use Rattle.rme_machine.specs.Knowledge.{PrivateInvariant, RecoveryKnowledge, IsIdleWorker}
 use Rattle.rme_machine.specs.Invariant.{Invariant}
 use Rattle.rme_machine.specs.Changes.{PrivateChange, history_after}
-use Rattle.rme_machine.specs.Laws.{RefinementStep}
+use Rattle.rme_machine.specs.Laws.{RefinementStep, concrete_state}
 use Rattle.rme_machine.proofs.Shows.{owned_at, owned_site, holds_none}
 use Rattle.rme_machine.proofs.Loads.{still_load, still_outside, reenter_load}
 use Rattle.rme_machine.proofs.Standing.{site_small, finished_lock}
@@ -56,7 +56,7 @@ level_stops s mem w l k less holds other =
 -- The common parameters of every stage: the worker, its knowledge, and its private states before and after.
 module _ (s : Shape) (mem : Address → ℕ) (privs privs' : Privates) (es : List Entry) (w b found : ℕ) (fact : Invariant s mem privs es) (worker : w < s.workers) where
   load_begun : privs w ≡ Some (recovering_private w b LoadBegun) → found ≡ mem (Begun w) → PrivateChange privs privs' w (Some (recovering_private w found LoadDone))
-      → RefinementStep s mem mem privs privs' es es w act.Still
+      → RefinementStep s (concrete_state mem privs es) (concrete_state mem privs' es) w act.Still
   load_begun was is became =
       still_load s mem privs privs' es w (recovering_private w b LoadBegun) (recovering_private w found LoadDone) fact worker was became
       record { is = refl; shaped = record { worker = worker; begun = omega (arith, is, (fact.accounts w worker).few); stage = tt }; knows = sym is } refl refl
@@ -65,7 +65,7 @@ module _ (s : Shape) (mem : Address → ℕ) (privs privs' : Privates) (es : Lis
       → (worker_words mem w).begun ≡ b → b ≤ s.jobs
       → (let after : Stage × Note = if none then (Resting, Ready) else (Recovering (LoadLock (nat_lt found b)), Quiet) in
       PrivateChange privs privs' w (Some record { worker = w; begun = b; stage = after.0 })
-      → RefinementStep s mem mem privs privs' es (history_after es mem w after.1) w (act_of_note after.1))
+      → RefinementStep s (concrete_state mem privs es) (concrete_state mem privs' (history_after es mem w after.1)) w (act_of_note after.1))
   load_done true test was is known few became =
       still_load s mem privs privs' es w (recovering_private w b LoadDone) record { worker = w; begun = b; stage = Resting } fact worker was became
       record { is = refl; shaped = record { worker = worker; begun = few; stage = tt }; knows = idle } refl refl
@@ -86,7 +86,7 @@ module _ (s : Shape) (mem : Address → ℕ) (privs privs' : Privates) (es : Lis
   load_lock : (pending : Bool) → privs w ≡ Some (recovering_private w b (LoadLock pending)) → found ≡ current_lock (worker_words mem w)
       → (worker_words mem w).begun ≡ b → 0 < b → is_pending (worker_words mem w) ≡ pending → b ≤ s.jobs
       → PrivateChange privs privs' w (Some (recovering_private w b (LoadPath pending found 0)))
-      → RefinementStep s mem mem privs privs' es es w act.Still
+      → RefinementStep s (concrete_state mem privs es) (concrete_state mem privs' es) w act.Still
   load_lock pending was is known some found_pending few became =
       still_load s mem privs privs' es w (recovering_private w b (LoadLock pending)) (recovering_private w b (LoadPath pending found 0)) fact worker was became
       record {
@@ -106,7 +106,7 @@ module _ (s : Shape) (mem : Address → ℕ) (privs privs' : Privates) (es : Lis
   -- One more node is the worker's, and it is not the last.
   path_more : (pending : Bool) → is_pending (worker_words mem w) ≡ pending → privs w ≡ Some (recovering_private w b (LoadPath pending l k))
       → k + 1 ≤ held_levels_in s mem w l → k + 1 ≢ s.height
-      → PrivateChange privs privs' w (Some (recovering_private w b (LoadPath pending l (k + 1)))) → RefinementStep s mem mem privs privs' es es w act.Still
+      → PrivateChange privs privs' w (Some (recovering_private w b (LoadPath pending l (k + 1)))) → RefinementStep s (concrete_state mem privs es) (concrete_state mem privs' es) w act.Still
   path_more pending is was holds below became =
       still_load s mem privs privs' es w (recovering_private w b (LoadPath pending l k)) (recovering_private w b (LoadPath pending l (k + 1))) fact worker was became
       record {
@@ -118,7 +118,7 @@ module _ (s : Shape) (mem : Address → ℕ) (privs privs' : Privates) (es : Lis
 
   -- The last node is the worker's: it owns the lock, and continues its section or its exit.
   path_section : is_pending (worker_words mem w) ≡ true → privs w ≡ Some (recovering_private w b (LoadPath true l k)) → held_levels_in s mem w l ≡ s.height
-      → PrivateChange privs privs' w (Some record { worker = w; begun = b; stage = Logging (LoadTurn l) }) → RefinementStep s mem mem privs privs' es es w (act.Reenter l)
+      → PrivateChange privs privs' w (Some record { worker = w; begun = b; stage = Logging (LoadTurn l) }) → RefinementStep s (concrete_state mem privs es) (concrete_state mem privs' es) w (act.Reenter l)
   path_section is was holds became =
       let owned : lock_owned_by_worker s mem w ≡ Some l = owned_at s mem privs es w l fact worker lock holds in
       let slate : (worker_words mem w).slate_lock ≡ l = rw is at site in
@@ -132,7 +132,7 @@ module _ (s : Shape) (mem : Address → ℕ) (privs privs' : Privates) (es : Lis
       refl refl slate refl
 
   path_exit : is_pending (worker_words mem w) ≡ false → privs w ≡ Some (recovering_private w b (LoadPath false l k)) → held_levels_in s mem w l ≡ s.height
-      → PrivateChange privs privs' w (Some record { worker = w; begun = b; stage = Leaving (LoadExitTurn l) }) → RefinementStep s mem mem privs privs' es es w (act.Reenter l)
+      → PrivateChange privs privs' w (Some record { worker = w; begun = b; stage = Leaving (LoadExitTurn l) }) → RefinementStep s (concrete_state mem privs es) (concrete_state mem privs' es) w (act.Reenter l)
   path_exit is was holds became =
       let owned : lock_owned_by_worker s mem w ≡ Some l = owned_at s mem privs es w l fact worker lock holds in
       let at : (worker_words mem w).at ≡ l = rw is at site in
@@ -147,7 +147,7 @@ module _ (s : Shape) (mem : Address → ℕ) (privs privs' : Privates) (es : Lis
 
   -- The next node is not the worker's: it continues its ascent or its exit, or it is ready.
   path_climbs : is_pending (worker_words mem w) ≡ true → privs w ≡ Some (recovering_private w b (LoadPath true l k)) → held_levels_in s mem w l ≡ k
-      → PrivateChange privs privs' w (Some record { worker = w; begun = b; stage = Climbing record { lock = l; held = k } }) → RefinementStep s mem mem privs privs' es es w act.Still
+      → PrivateChange privs privs' w (Some record { worker = w; begun = b; stage = Climbing record { lock = l; held = k } }) → RefinementStep s (concrete_state mem privs es) (concrete_state mem privs' es) w act.Still
   path_climbs is was holds became =
       still_load s mem privs privs' es w (recovering_private w b (LoadPath true l k)) record { worker = w; begun = b; stage = Climbing record { lock = l; held = k } }
       fact worker was became
@@ -159,7 +159,7 @@ module _ (s : Shape) (mem : Address → ℕ) (privs privs' : Privates) (es : Lis
       refl refl
 
   path_clears : is_pending (worker_words mem w) ≡ false → privs w ≡ Some (recovering_private w b (LoadPath false l k)) → held_levels_in s mem w l ≡ k → k ≢ 0
-      → PrivateChange privs privs' w (Some record { worker = w; begun = b; stage = Leaving (Clear l k) }) → RefinementStep s mem mem privs privs' es es w act.Still
+      → PrivateChange privs privs' w (Some record { worker = w; begun = b; stage = Leaving (Clear l k) }) → RefinementStep s (concrete_state mem privs es) (concrete_state mem privs' es) w act.Still
   path_clears is was holds nodes became =
       still_outside s mem privs privs' es w (recovering_private w b (LoadPath false l k)) record { worker = w; begun = b; stage = Leaving (Clear l k) } fact worker was
       became (owned_site s mem privs es w l fact worker site (omega arith))
@@ -171,7 +171,7 @@ module _ (s : Shape) (mem : Address → ℕ) (privs privs' : Privates) (es : Lis
       refl
 
   path_rests : is_pending (worker_words mem w) ≡ false → privs w ≡ Some (recovering_private w b (LoadPath false l k)) → held_levels_in s mem w l ≡ 0
-      → PrivateChange privs privs' w (Some record { worker = w; begun = b; stage = Resting }) → RefinementStep s mem mem privs privs' es es w act.Still
+      → PrivateChange privs privs' w (Some record { worker = w; begun = b; stage = Resting }) → RefinementStep s (concrete_state mem privs es) (concrete_state mem privs' es) w act.Still
   path_rests is was holds became =
       still_load s mem privs privs' es w (recovering_private w b (LoadPath false l k)) record { worker = w; begun = b; stage = Resting } fact worker was became
       record {
@@ -190,7 +190,7 @@ module _ (s : Shape) (mem : Address → ℕ) (privs privs' : Privates) (es : Lis
       → (let after : Stage × Note = if mine then (if whole then (Logging (LoadTurn l), Reentered l) else (Recovering (LoadPath true l (k + 1)), Quiet))
       else (Climbing record { lock = l; held = k }, Quiet) in
       PrivateChange privs privs' w (Some record { worker = w; begun = b; stage = after.0 })
-      → RefinementStep s mem mem privs privs' es (history_after es mem w after.1) w (act_of_note after.1))
+      → RefinementStep s (concrete_state mem privs es) (concrete_state mem privs' (history_after es mem w after.1)) w (act_of_note after.1))
   path_pending true true test top was knows became =
       path_section s mem privs privs' es w b l k fact worker knows.0 knows.1 knows.3 few lock less knows.2 was
       (omega (arith, eqb-true _ _ top, level_more s mem w l k less knows.4 (sym is ∙ eqb-true _ _ test), held_within (lock_nodes mem l) s.leaves w s.height)) became
@@ -207,7 +207,7 @@ module _ (s : Shape) (mem : Address → ℕ) (privs privs' : Privates) (es : Lis
       → (let after : Stage × Note = if mine then (if whole then (Leaving (LoadExitTurn l), Reentered l) else (Recovering (LoadPath false l (k + 1)), Quiet))
       else (if none then (Resting, Ready) else (Leaving (Clear l k), Quiet)) in
       PrivateChange privs privs' w (Some record { worker = w; begun = b; stage = after.0 })
-      → RefinementStep s mem mem privs privs' es (history_after es mem w after.1) w (act_of_note after.1))
+      → RefinementStep s (concrete_state mem privs es) (concrete_state mem privs' (history_after es mem w after.1)) w (act_of_note after.1))
   path_past true true none test top low was knows became =
       path_exit s mem privs privs' es w b l k fact worker knows.0 knows.1 knows.3 few lock less knows.2 was
       (omega (arith, eqb-true _ _ top, level_more s mem w l k less knows.4 (sym is ∙ eqb-true _ _ test), held_within (lock_nodes mem l) s.leaves w s.height)) became
@@ -225,7 +225,7 @@ module _ (s : Shape) (mem : Address → ℕ) (privs privs' : Privates) (es : Lis
 recovering_here : (s : Shape) (mem : Address → ℕ) (privs privs' : Privates) (es : List Entry) (w b : ℕ) (recovery : Recovery) (found : ℕ) → Invariant s mem privs es
     → w < s.workers → privs w ≡ Some (recovering_private w b recovery) → found ≡ mem (action_address (private_action s (recovering_private w b recovery)))
     → PrivateChange privs privs' w (Some (private_after s (recovering_private w b recovery) found))
-    → RefinementStep s mem mem privs privs' es (history_after es mem w (note_after s (recovering_private w b recovery) found)) w
+    → RefinementStep s (concrete_state mem privs es) (concrete_state mem privs' (history_after es mem w (note_after s (recovering_private w b recovery) found))) w
     (act_of_note (note_after s (recovering_private w b recovery) found))
 recovering_here s mem privs privs' es w b LoadBegun found fact worker was is became = load_begun s mem privs privs' es w b found fact worker was is became
 recovering_here s mem privs privs' es w b LoadDone found fact worker was is became =
@@ -258,10 +258,10 @@ pub recovering : (s : Shape) (mem mem' : Address → ℕ) (privs privs' : Privat
     → Invariant s mem privs es → w < s.workers → privs w ≡ Some record { worker = w; begun = b; stage = Recovering recovery }
     → ActionEffect mem mem' (private_action s record { worker = w; begun = b; stage = Recovering recovery }) found
     → PrivateChange privs privs' w (Some (private_after s record { worker = w; begun = b; stage = Recovering recovery } found))
-    → RefinementStep s mem mem' privs privs' es (history_after es mem w (note_after s record { worker = w; begun = b; stage = Recovering recovery } found)) w
+    → RefinementStep s (concrete_state mem privs es) (concrete_state mem' privs' (history_after es mem w (note_after s record { worker = w; begun = b; stage = Recovering recovery } found))) w
     (act_of_note (note_after s record { worker = w; begun = b; stage = Recovering recovery } found))
 recovering s mem mem' privs privs' es w b recovery found fact worker was did became =
     let loads : (found ≡ mem (action_address (private_action s (recovering_private w b recovery)))) × (mem' ≡ mem) = recovery_loads s mem mem' w b recovery found did in
-    let P : (Address → ℕ) → Type 0 = λ new. RefinementStep s mem new privs privs' es (history_after es mem w (note_after s (recovering_private w b recovery) found)) w
+    let P : (Address → ℕ) → Type 0 = λ new. RefinementStep s (concrete_state mem privs es) (concrete_state new privs' (history_after es mem w (note_after s (recovering_private w b recovery) found))) w
     (act_of_note (note_after s (recovering_private w b recovery) found)) in
     subst P (sym loads.1) (recovering_here s mem privs privs' es w b recovery found fact worker was loads.0 became)

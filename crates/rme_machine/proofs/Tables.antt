@@ -52,7 +52,7 @@ module _ (s : Shape) (mem : Address → ℕ) (privs : Privates) (es : List Entry
   abbrev Shows : Option JobStance → Type 0
   Shows stance = CellsByStance s es lock stance (lock_words s mem lock).cells
 
-  owned_cells : (w : ℕ) (pending : Bool) (last : Job) → OwnedLockInvariant s (lock_words s mem lock) es lock w (worker_words mem w) pending
+  owned_cells : (w : ℕ) (pending : Bool) (last : Job) → OwnedLockInvariant s (lock_words s mem lock) es lock record { worker = w; words = worker_words mem w } pending
       → Shows (Some (abstract_state.abstract_stance (Some lock) pending (worker_words mem w).begun (slate_job (worker_words mem w)) last (privs w)))
   owned_cells w true last stands = elim stands [
     | inl settled ↦ (length-map-range_with_len _ 0 s.cells, λ c within. inl (ap (λ (xs : List ℕ). slice_index xs c) settled.cells))

@@ -35,7 +35,7 @@ turn_most : (s : Shape) (mem : Address → ℕ) (privs : Privates) (es : List En
     → (lock_words s mem l).turn ≤ 2 * place_of es l + 1
 turn_most s mem privs es l fact lock = stood (owner_in s mem l) (fact.stands l lock)
   where
-    owned : (u : ℕ) (own : WorkerWords) (pending : Bool) → OwnedLockInvariant s (lock_words s mem l) es l u own pending → (lock_words s mem l).turn ≤ 2 * place_of es l + 1
+    owned : (u : ℕ) (own : WorkerWords) (pending : Bool) → OwnedLockInvariant s (lock_words s mem l) es l record { worker = u; words = own } pending → (lock_words s mem l).turn ≤ 2 * place_of es l + 1
     owned u own true stands = elim stands [
       | inl settled ↦ omega (arith, settled.turn)
       | inr logged ↦ omega (arith, logged.turn)

@@ -19,7 +19,7 @@ use Rattle.rme_machine.specs.AbstractState.{Privates, lock_owned_by_worker, last
 use Rattle.rme_machine.specs.Knowledge.{PrivateInvariant, IsPendingAt}
 use Rattle.rme_machine.specs.Invariant.{Invariant, WorkerInvariant, SlateHasJob}
 use Rattle.rme_machine.specs.Changes.{PrivateChange}
-use Rattle.rme_machine.specs.Laws.{RefinementStep}
+use Rattle.rme_machine.specs.Laws.{RefinementStep, concrete_state}
 use Rattle.rme_machine.proofs.Moves.{OwnMove}
 use Rattle.rme_machine.proofs.Kept.{own_kept}
 use Rattle.rme_machine.proofs.Shows.{own_frame, owned_site, shown_moves}
@@ -80,7 +80,7 @@ module _ (s : Shape) (mem mem' : Address → ℕ) (privs privs' : Privates) (es 
   pub store_receipt : (new : Departure) (reply place at : ℕ) → OwnMove s mem mem' w record (worker_words mem w) { reply = reply; place = place; at = at }
       → PrivateChange privs privs' w (Some (leaver w b new))
       → PrivateInvariant s record (worker_words mem w) { reply = reply; place = place; at = at } (held_levels_in s mem w) (lock_words s mem) w (leaver w b new)
-      → RefinementStep s mem mem' privs privs' es es w Still
+      → RefinementStep s (concrete_state mem privs es) (concrete_state mem' privs' es) w Still
   store_receipt new reply place lock' move became fits =
       let own : WorkerWords = record (worker_words mem w) { reply = reply; place = place; at = lock' } in
       let kept : Invariant s mem' privs' es =
@@ -152,7 +152,7 @@ module _ (s : Shape) (mem mem' : Address → ℕ) (privs privs' : Privates) (es 
     owned_then : lock_owned_by_worker s mem' w ≡ None
     owned_then = owned_site s mem' privs' es w lock kept worker (ap current_lock move.own ∙ rw past there) (omega (arith, move.trees.held w lock, at.holds, less))
 
-    pub step_done : RefinementStep s mem mem' privs privs' es es w (Withdraw b)
+    pub step_done : RefinementStep s (concrete_state mem privs es) (concrete_state mem' privs' es) w (Withdraw b)
     step_done =
         let before : abstract_worker s mem privs es w ≡ face None true b (slate_job (worker_words mem w)) (last_entry_job (last_entry_of_worker es w)) (Some (leaver w b old))
         (withdrawn_numbers es w (worker_words mem w).done) =

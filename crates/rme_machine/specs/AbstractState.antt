@@ -90,7 +90,7 @@ abstract_state shape memory privates history = record {
   history = history;
 }
 
--- The machine step that a note stands for.
+-- The machine step of a note.
 abbrev pub act_of_note : Note → Act
 act_of_note Quiet = act.Still
 act_of_note (Asked k) = act.Ask k

@@ -1,5 +1,8 @@
 -- Further laws: consequences of the invariant, and the effect of each step on entries and drafts. Each is the contract
--- of a function of the module `laws`.
+-- of a function of the module `laws`, and none uses another: a reader can stop after the one wanted. In
+-- order: the preconditions of `next` and `after`; owners and cells; the owner of a section, and its number of steps;
+-- bounded re-entry; the entries and the draft of a worker; its place in the step table; held nodes; crash stability;
+-- and the clauses of an image.
 use Rattle.std.specs.Prelude.{suc, Bool, true, false, not, ◌≡◌, ◌≢◌, ℕ, ◌+◌, ◌<◌, ◌≤◌, ◌==◌, if◌then◌else◌, List, [], ◌∷◌, ◌++◌, slice_get, Option, Some, None}
 use Rattle.rme_words.specs.declared.shape.Shape.{Shape}
 use Rattle.rme_words.specs.declared.address.Address.{Address}

@@ -57,13 +57,18 @@ pub record IsOwnersLastEntry (history : List Entry) (lock worker done : ℕ) (la
   pub by : last.receipt.worker ≡ worker
   pub under : last.receipt.number ≡ done
 
+-- The owner of a lock: the worker, and its words.
+pub record LockOwner : Type 0 where
+  pub worker : ℕ
+  pub words : WorkerWords
+
 -- A lock with this owner: the owner is inside while its job is pending, and otherwise has finished.
-abbrev pub OwnedLockInvariant : Shape → LockWords → List Entry → ℕ → ℕ → WorkerWords → Bool → Type 0
-OwnedLockInvariant shape lock history number worker own true =
+abbrev pub OwnedLockInvariant : Shape → LockWords → List Entry → ℕ → LockOwner → Bool → Type 0
+OwnedLockInvariant shape lock history number owner true =
     IsSettledLock lock (lock_row shape history number) (place_of history number)
-    ⊎ IsLoggedLock shape lock (lock_row shape history number) (place_of history number) (slate_job own).script
-OwnedLockInvariant shape lock history number worker own false =
-    (last : Entry) × IsOwnersLastEntry history number worker own.done last
+    ⊎ IsLoggedLock shape lock (lock_row shape history number) (place_of history number) (slate_job owner.words).script
+OwnedLockInvariant shape lock history number owner false =
+    (last : Entry) × IsOwnersLastEntry history number owner.worker owner.words.done last
     × (IsSettledLock lock (lock_row shape history number) (place_of history number)
     ⊎ IsFinishedLock shape lock (lock_row shape history number) (place_of history number) last)
 
@@ -71,7 +76,8 @@ abbrev pub LockInvariant : Shape → LockWords → List Entry → ℕ → Option
 LockInvariant shape lock history number None owns =
     IsSettledLock lock (lock_row shape history number) (place_of history number)
 LockInvariant shape lock history number (Some worker) owns =
-    OwnedLockInvariant shape lock history number worker (owns worker) (is_pending (owns worker))
+    OwnedLockInvariant shape lock history number record { worker = worker; words = owns worker }
+    (is_pending (owns worker))
 
 -- `numbers`, `slate` and `entries`, for one worker.
 

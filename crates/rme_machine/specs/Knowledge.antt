@@ -1,5 +1,8 @@
 -- The private invariant: what a private state records of its worker's own words, of the nodes that it counts as held,
--- and (while its worker owns the lock) of the lock's words, agrees with those words.
+-- and (while its worker owns the lock) of the lock's words, agrees with those words. The invariant is the last
+-- definition, `PrivateInvariant`, over `StageKnowledge`: a reader can begin there, and stop. All definitions before
+-- them are the cases of `StageKnowledge`, by stage: those of a section, of an idle worker, of Post, of Recover and of
+-- Exit.
 use Rattle.std.specs.Prelude.{◌≡◌, ℕ, ◌+◌, ◌-◌, ◌*◌, ◌/◌, ◌%◌, ◌<◌, ◌≤◌, true, false, List, length, slice_index, take, Some}
 use Rattle.rme_words.specs.declared.shape.Shape.{Shape}
 use Rattle.rme_script.specs.Cells.{mask_has_cell}

@@ -1,4 +1,4 @@
--- `event_label`: the machine step that an event and its answer stand for.
+-- `event_label`: the machine step of an event and its answer.
 use Rattle.std.specs.Prelude.{Option, Some, None}
 use Rattle.rme_program.specs.declared.event.Event.{Event}
 use Rattle.rme_program.specs.declared.event.Event.TheVariants as event

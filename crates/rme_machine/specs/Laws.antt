@@ -18,12 +18,21 @@ use Rattle.rme_machine.specs.AbstractState.{Privates, abstract_state, act_of_not
 use Rattle.rme_machine.specs.Invariant.{Invariant}
 use Rattle.rme_machine.specs.Changes.{PrivateChange, history_after}
 
--- The invariant is preserved, and the abstract state makes the machine's step.
-abbrev pub RefinementStep : Shape → (Address → ℕ) → (Address → ℕ) → Privates → Privates → List Entry → List Entry → ℕ
-    → Act → Type 0
-RefinementStep shape old new before after history later worker act =
-    Invariant shape new after later
-    × MachineStep shape act (abstract_state shape old before history) worker (abstract_state shape new after later)
+-- A state of the service: its memory, the private states of its workers, and its history.
+pub record ConcreteState : Type 0 where
+  pub memory : Address → ℕ
+  pub privates : Privates
+  pub history : List Entry
+
+abbrev pub concrete_state : (Address → ℕ) → Privates → List Entry → ConcreteState
+concrete_state memory privates history = record { memory = memory; privates = privates; history = history }
+
+-- The invariant holds after the step, and the abstract state makes the machine's step.
+abbrev pub RefinementStep : Shape → ConcreteState → ConcreteState → ℕ → Act → Type 0
+RefinementStep shape old new worker act =
+    Invariant shape new.memory new.privates new.history
+    × MachineStep shape act (abstract_state shape old.memory old.privates old.history) worker
+    (abstract_state shape new.memory new.privates new.history)
 
 -- Each own step of a worker, of every kind, preserves the invariant and is the machine step of its note.
 abbrev pub StepLaw : Type 0
@@ -34,8 +43,8 @@ StepLaw =
     → private.stage ≢ Resting
     → ActionEffect old new (private_action shape private) found
     → PrivateChange before after worker (Some (private_after shape private found))
-    → RefinementStep shape old new before after history
-    (history_after history old worker (note_after shape private found)) worker
+    → RefinementStep shape (concrete_state old before history)
+    (concrete_state new after (history_after history old worker (note_after shape private found))) worker
     (act_of_note (note_after shape private found))
 
 -- The value that a step finds is one that the worker accepts.
@@ -56,7 +65,8 @@ SubmitLaw =
     → private.stage ≡ Resting
     → private.begun < shape.jobs → IsJob shape job
     → PrivateChange before after worker (Some (submitted_private private job))
-    → RefinementStep shape memory memory before after history history worker (Hand (private.begun + 1) job)
+    → RefinementStep shape (concrete_state memory before history) (concrete_state memory after history) worker
+    (Hand (private.begun + 1) job)
 
 abbrev pub CrashLaw : Type 0
 CrashLaw =
@@ -64,13 +74,13 @@ CrashLaw =
     (private : Private)
     → Invariant shape memory before history → worker < shape.workers → before worker ≡ Some private
     → PrivateChange before after worker None
-    → RefinementStep shape memory memory before after history history worker Crash
+    → RefinementStep shape (concrete_state memory before history) (concrete_state memory after history) worker Crash
 
 abbrev pub RestartLaw : Type 0
 RestartLaw = (shape : Shape) (memory : Address → ℕ) (before after : Privates) (history : List Entry) (worker : ℕ)
     → Invariant shape memory before history → worker < shape.workers → before worker ≡ None
     → PrivateChange before after worker (Some (restarted_private worker))
-    → RefinementStep shape memory memory before after history history worker Restart
+    → RefinementStep shape (concrete_state memory before history) (concrete_state memory after history) worker Restart
 
 abbrev pub WithdrawLaw : Type 0
 WithdrawLaw =
@@ -79,7 +89,7 @@ WithdrawLaw =
     → Invariant shape memory before history → worker < shape.workers → before worker ≡ Some private
     → private.stage ≡ Climbing ascent
     → PrivateChange before after worker (Some (withdrawing_private private))
-    → RefinementStep shape memory memory before after history history worker Wait
+    → RefinementStep shape (concrete_state memory before history) (concrete_state memory after history) worker Wait
 
 -- The invariant holds initially, and the abstract state is the machine's initial state.
 abbrev pub OpeningLaw : Type 0

@@ -6,6 +6,7 @@
 
 ghost use Rattle.rme_machine.specs.Theorems.{ExclusionLaw, ReentryLaw, OnceLaw, FaithfulLaw};
 ghost use Rattle.rme_machine.specs.Laws.{StepLaw, ValidLoadLaw, SubmitLaw, CrashLaw, RestartLaw, WithdrawLaw, OpeningLaw};
+ghost use Rattle.rme_machine.specs.KnownSections.{KnownSectionLaw};
 ghost use Rattle.rme_machine.specs.FurtherLaws.{PrivateOfShapeLaw, TablesLaw, SectionOwnerLaw, SectionStepsLaw, BoundedReentryLaw, WorkerEntriesLaw, DraftLaw, RowLaw, HeldNodeLaw, CrashedKnowledgeLaw, ReadyHoldsNoNodeLaw, ClausesLaw};
 
 /// Each own step of a worker, of every kind and whatever value it finds, preserves the invariant and is the machine
@@ -82,6 +83,12 @@ pub fn worker_entries_law()
 /// The job that a worker is busy with is the last one submitted to it (lemma `draft_law`).
 pub fn draft_law()
     ensures { DraftLaw }
+{}
+
+/// The number of finished sections of its lock, which a worker inside may know, is changed by no step of another
+/// worker, and by no own step, crash or restart before the worker finishes (lemma `knowing`).
+pub fn known_section_law()
+    ensures { KnownSectionLaw }
 {}
 
 /// Each worker that is up and not ready is at a place of a row of the step table, where its next action is the row's,

@@ -28,7 +28,7 @@ use Rattle.rme_process_abi.proofs.Telling.{Goes, Steps, Ends}
 
 -- ---- a post
 
--- A worker that posts this job, so many of whose stores are made.
+-- A worker that posts this job, with this number of its stores made.
 abbrev pub posting : ℕ → ℕ → Job → ℕ → Private
 posting worker begun job stored = private_at_stage worker begun (Posting record { job = job; stored = stored })
 
@@ -44,7 +44,7 @@ module _ (shape : Shape) (worker begun : ℕ) (job : Job) where
   posts_begun =
       rw (ne_eqb (2 + 3 * job.script.n) 0 (λ e. omega (arith, e)), ne_eqb (2 + 3 * job.script.n) 1 (λ e. omega (arith, e)), le-ltb (2 + 3 * job.script.n) (2 + 3 * job.script.n) (omega arith)) refl
 
-  -- Before the last store a post goes on, and says nothing.
+  -- Before the last store a post continues, without a note.
   post_goes : (stored value : ℕ) → stored < 2 + 3 * job.script.n → private_after shape (posting worker begun job stored) value ≡ posting worker begun job (stored + 1)
   post_goes stored value below = rw (ne_eqb stored (2 + 3 * job.script.n) (λ e. omega (arith, e, below))) refl
 

@@ -19,7 +19,7 @@ use Rattle.rme_program.specs.declared.stage.Log.TheVariants.{LoadTurn, LoadLen, 
 use Rattle.rme_program.specs.declared.stage.Redo.TheVariants.{LoadMask}
 use Rattle.rme_program.specs.declared.stage.Departure.TheVariants.{LoadExitTurn, StoreExitTurn, Clear}
 use Rattle.rme_program.specs.Conditions.{IsPrivate, IsStage}
-use Rattle.rme_program.specs.Steps.{private_after, script_stage, cell_stage_from, run_stage, shadow_stage_from, finish_outcome, clear_stage}
+use Rattle.rme_program.specs.Steps.{private_after, script_stage, cell_stage_from, run_stage, shadow_stage_from, finish_outcome, clear_stage, logging_section}
 use Rattle.rme_process_abi.specs.declared.expected_slate.ExpectedSlate.{ExpectedSlate}
 use Rattle.rme_process_abi.specs.declared.flat.BatchOutcome.{BatchOutcome}
 use Rattle.rme_process_abi.specs.Runs.{private_at_stage, climbing_private, ValuesLeadTo, QuietStepsLeadTo, NotesWritten, FastForward, noted}
@@ -156,13 +156,13 @@ module _ (shape : Shape) (guess : ExpectedSlate) (lock : ℕ) (values : List ℕ
         let P : ℕ → Type 0 = λ j. HasRead j in
         subst P more (next_read k (omega (arith, few)) (has_read k (omega (arith, few))))
 
-    pub slate_taken : ValuesLeadTo shape start (take (2 + 3 * count) values) [] (private_at_stage worker begun (cell_stage_from shape lock turn guess.script guess.named (replicate shape.cells 0) (first_cell guess.named 0 shape.cells)))
+    pub slate_taken : ValuesLeadTo shape start (take (2 + 3 * count) values) [] (private_at_stage worker begun (cell_stage_from shape (logging_section lock turn guess.script guess.named) (replicate shape.cells 0) (first_cell guess.named 0 shape.cells)))
     slate_taken =
         let read : HasRead (3 * count) = has_read (3 * count) (omega arith) in
         let both : 3 * count + 2 ≡ 2 + 3 * count = omega arith in
         let there : Private = private_at_stage worker begun (script_stage shape lock turn (Some guess.script)) in
         let P : ℕ → Type 0 = λ j. ValuesLeadTo shape start (take j values) [] there in
-        let M : ℕ → Type 0 = λ m. ValuesLeadTo shape start (take (2 + 3 * count) values) [] (private_at_stage worker begun (cell_stage_from shape lock turn guess.script m (replicate shape.cells 0) (first_cell m 0 shape.cells))) in
+        let M : ℕ → Type 0 = λ m. ValuesLeadTo shape start (take (2 + 3 * count) values) [] (private_at_stage worker begun (cell_stage_from shape (logging_section lock turn guess.script m) (replicate shape.cells 0) (first_cell m 0 shape.cells))) in
         subst M (sym is.named) (subst P both (takes_there shape start (take (3 * count + 2) values) [] read.mid there
         (slate_known shape worker begun lock turn count guess.words guess.script is.script.few is.slate is.script (3 * count) read.mid refl read.reads) read.takes))
 
@@ -172,15 +172,15 @@ module _ (shape : Shape) (lock turn n named : ℕ) (script : Program) (row out :
   abbrev visit : ℕ → Visit
   visit k = record { lock = lock; turn = turn; parity = Even k named }
 
-  ran : shadow_stage_from (visit n) named out reply (first_cell named 0 shape.cells) ≡ run_stage shape lock turn script named row
+  ran : shadow_stage_from (visit n) named out reply (first_cell named 0 shape.cells) ≡ run_stage shape (logging_section lock turn script named) row
   ran =
       ap (λ (k : ℕ). shadow_stage_from (visit k) named out reply (first_cell named 0 shape.cells)) counted
       ∙ ap (λ (r : RunResult). shadow_stage_from (visit script.n) named r.row r.reply (first_cell named 0 shape.cells)) (sym is)
 
-  pub ran_none : first_cell named 0 shape.cells ≡ None → Logging (StoreShadowReply (visit n) named reply) ≡ run_stage shape lock turn script named row
+  pub ran_none : first_cell named 0 shape.cells ≡ None → Logging (StoreShadowReply (visit n) named reply) ≡ run_stage shape (logging_section lock turn script named) row
   ran_none none = ap (λ (o : Option ℕ). shadow_stage_from (visit n) named out reply o) (sym none) ∙ ran
 
-  pub ran_some : (cell : ℕ) → first_cell named 0 shape.cells ≡ Some cell → Logging (StoreShadows (visit n) named out reply cell) ≡ run_stage shape lock turn script named row
+  pub ran_some : (cell : ℕ) → first_cell named 0 shape.cells ≡ Some cell → Logging (StoreShadows (visit n) named out reply cell) ≡ run_stage shape (logging_section lock turn script named) row
   ran_some cell some = ap (λ (o : Option ℕ). shadow_stage_from (visit n) named out reply o) (sym some) ∙ ran
 
 -- What a worker knows that is about to store a shadow word, the reply aside; of any other it is `other`.

@@ -19,7 +19,7 @@ use Rattle.rme_program.specs.declared.stage.Stage.TheVariants.{Logging, Copying}
 use Rattle.rme_program.specs.declared.stage.Log.TheVariants.{StoreShadows}
 use Rattle.rme_program.specs.declared.stage.Redo.TheVariants.{LoadMask}
 use Rattle.rme_program.specs.declared.stage.Visit.{Visit}
-use Rattle.rme_program.specs.Steps.{shadow_stage_from, copy_stage_from, cell_stage_from}
+use Rattle.rme_program.specs.Steps.{shadow_stage_from, copy_stage_from, cell_stage_from, logging_section}
 use Rattle.rme_process_abi.specs.Runs.{QuietStepsLeadTo, ValuesLeadTo, NotesWritten, FastForward, OneValueTaken, SomeValuesTaken, noted, private_at_stage}
 use Rattle.rme_process_abi.proofs.Telling.{Goes}
 
@@ -193,8 +193,8 @@ pub record FindsCopies (shape : Shape) (named from : ℕ) (values : List ℕ) (c
   pub from_within : from ≤ shape.cells
 
 pub record ReadsCells (shape : Shape) (named from : ℕ) (before : List ℕ) (values : List ℕ) (count : ℕ) (row : List ℕ) : Type 0 where
-  pub takes : (worker begun lock turn : ℕ) (script : Program) → ValuesLeadTo shape (private_at_stage worker begun (cell_stage_from shape lock turn script named before (first_cell named 0 shape.cells))) (take count values) []
-      (private_at_stage worker begun (cell_stage_from shape lock turn script named row (first_cell named from shape.cells)))
+  pub takes : (worker begun lock turn : ℕ) (script : Program) → ValuesLeadTo shape (private_at_stage worker begun (cell_stage_from shape (logging_section lock turn script named) before (first_cell named 0 shape.cells))) (take count values) []
+      (private_at_stage worker begun (cell_stage_from shape (logging_section lock turn script named) row (first_cell named from shape.cells)))
   pub within : count ≤ length values
   pub from_within : from ≤ shape.cells
   pub whole : length row ≡ shape.cells

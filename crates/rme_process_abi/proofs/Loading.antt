@@ -22,7 +22,7 @@ use Rattle.rme_program.specs.declared.stage.Stage.TheVariants.{Logging, Copying}
 use Rattle.rme_program.specs.declared.stage.Log.TheVariants.{LoadTurn, LoadLen, LoadSlate, LoadCells}
 use Rattle.rme_program.specs.declared.stage.Redo.TheVariants.{LoadMask}
 use Rattle.rme_program.specs.declared.stage.Parity.TheVariants.{Odd}
-use Rattle.rme_program.specs.Steps.{slate_stage, script_stage, cell_stage_from, run_stage}
+use Rattle.rme_program.specs.Steps.{slate_stage, script_stage, cell_stage_from, run_stage, logging_section}
 use Rattle.rme_process_abi.specs.declared.flat.FlatAction.{FlatAction}
 use Rattle.rme_process_abi.specs.Flat.{flat_load, flat_expecting_load, flat_even_load}
 use Rattle.rme_process_abi.specs.declared.flat.Batch.{Batch}
@@ -136,16 +136,16 @@ module _ (shape : Shape) (worker begun lock : ℕ) where
 
   module _ (turn : ℕ) (script : Program) (named : ℕ) where
     pub cell_goes : (row : List ℕ) (from cell value : ℕ) → first_cell named from shape.cells ≡ Some cell
-        → Goes shape (private_at_stage worker begun (cell_stage_from shape lock turn script named row (first_cell named from shape.cells))) value
-        Quiet (λ p. p ≡ private_at_stage worker begun (cell_stage_from shape lock turn script named (slice_set row cell value) (first_cell named (cell + 1) shape.cells)))
+        → Goes shape (private_at_stage worker begun (cell_stage_from shape (logging_section lock turn script named) row (first_cell named from shape.cells))) value
+        Quiet (λ p. p ≡ private_at_stage worker begun (cell_stage_from shape (logging_section lock turn script named) (slice_set row cell value) (first_cell named (cell + 1) shape.cells)))
     cell_goes row from cell value is =
-        let P : Option ℕ → Type 0 = λ o. Goes shape (private_at_stage worker begun (cell_stage_from shape lock turn script named row o)) value
-        Quiet (λ p. p ≡ private_at_stage worker begun (cell_stage_from shape lock turn script named (slice_set row cell value) (first_cell named (cell + 1) shape.cells))) in
+        let P : Option ℕ → Type 0 = λ o. Goes shape (private_at_stage worker begun (cell_stage_from shape (logging_section lock turn script named) row o)) value
+        Quiet (λ p. p ≡ private_at_stage worker begun (cell_stage_from shape (logging_section lock turn script named) (slice_set row cell value) (first_cell named (cell + 1) shape.cells))) in
         subst P (sym is) record { takes = tt; says = refl; next = refl }
 
     pub cells_known : (row : List ℕ) (from : ℕ) → first_cell named from shape.cells ≡ None
-        → private_at_stage worker begun (cell_stage_from shape lock turn script named row (first_cell named from shape.cells)) ≡ private_at_stage worker begun (run_stage shape lock turn script named row)
-    cells_known row from is = ap (λ (o : Option ℕ). private_at_stage worker begun (cell_stage_from shape lock turn script named row o)) is
+        → private_at_stage worker begun (cell_stage_from shape (logging_section lock turn script named) row (first_cell named from shape.cells)) ≡ private_at_stage worker begun (run_stage shape (logging_section lock turn script named) row)
+    cells_known row from is = ap (λ (o : Option ℕ). private_at_stage worker begun (cell_stage_from shape (logging_section lock turn script named) row o)) is
 
   pub loads_cells : (turn named cell : ℕ) (script : Program) (p : Private) → named ≡ mask_of script.ops → first_cell named 0 shape.cells ≡ Some cell
       → p ≡ private_at_stage worker begun (script_stage shape lock turn (Some script)) → IsLoadingCells lock named cell p
@@ -156,7 +156,7 @@ module _ (shape : Shape) (worker begun lock : ℕ) where
         turn = turn;
         script = script;
         row = replicate shape.cells 0;
-        here = ap (λ (q : Private). q.stage) here ∙ ap (λ (o : Option ℕ). cell_stage_from shape lock turn script (mask_of script.ops) (replicate shape.cells 0) o) from
+        here = ap (λ (q : Private). q.stage) here ∙ ap (λ (o : Option ℕ). cell_stage_from shape (logging_section lock turn script (mask_of script.ops)) (replicate shape.cells 0) o) from
             ∙ ap (λ (m : ℕ). Logging (LoadCells lock turn script m (replicate shape.cells 0) cell)) (sym is);
       }
 
@@ -181,7 +181,7 @@ module _ (shape : Shape) (lock named cell : ℕ) (p : Private) (loads : IsLoadin
             turn = loads.turn;
             script = loads.script;
             row = slice_set loads.row cell value;
-            here = ap (λ (o : Option ℕ). cell_stage_from shape lock loads.turn loads.script named (slice_set loads.row cell value) o) is;
+            here = ap (λ (o : Option ℕ). cell_stage_from shape (logging_section lock loads.turn loads.script named) (slice_set loads.row cell value) o) is;
           };
         };
       }

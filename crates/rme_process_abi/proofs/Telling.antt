@@ -1,4 +1,4 @@
--- One more action behind others.
+-- One more action after others.
 use Rattle.std.proofs.Common.{◌≡◌, ◌≢◌, inl, ℕ, ◌≤◌, ◌+◌, ◌-◌, ◌*◌, ◌/◌, ◌%◌, nat_lt, true, false, List, [], ◌∷◌, ◌++◌, refl, sym, ap, subst, ◌∙◌}
 use Rattle.std.specs.Prelude.{Bool, ◌==◌, if◌then◌else◌, slice_index, take}
 use Rattle.std.proofs.Common.{append-nil, append_assoc}
@@ -32,7 +32,8 @@ pub record Goes (shape : Shape) (private : Private) (value : ℕ) (note : Note) 
   pub says : note_after shape private value ≡ note
   pub next : Next (private_after shape private value)
 
--- The action is the worker's; where the batch goes on behind it, the step says this and the worker is as `Next` says.
+-- The action is the worker's; where the batch continues after it, the step has this note, and the worker is as `Next`
+-- says.
 pub record Steps (shape : Shape) (private : Private) (action : FlatAction) (note : Note) (Next : Private → Type 0) : Type 0 where
   pub busy : private.stage ≢ Resting
   pub does : ActionMatches shape action (private_action shape private)
@@ -162,11 +163,11 @@ does_flat shape (Swap address from to) zero = (zero, refl)
 pub plain_does : (shape : Shape) (private : Private) → ActionMatches shape (flat_action shape (private_action shape private)) (private_action shape private)
 plain_does shape private = does_flat shape (private_action shape private) (from_zero shape private.worker private.begun private.stage)
 
--- Several actions behind others are one, and the rest behind it.
+-- Several actions after others are one, and the rest after it.
 pub more_told : (before : List FlatAction) (one : FlatAction) (rest : List FlatAction) → before ++ one ∷ rest ≡ (before ++ one ∷ []) ++ rest
 more_told before one rest = sym (append_assoc before (one ∷ []) rest)
 
--- A worker makes its store, and goes on.
+-- A worker makes its store, and continues.
 pub store_steps : (shape : Shape) (private now : Private) → IsStore (private_action shape private) → private.stage ≢ Resting → now ≡ private_after shape private 0 → note_after shape private 0 ≡ Quiet
     → Steps shape private (flat_action shape (private_action shape private)) Quiet (λ p. p ≡ now)
 store_steps shape private now store busy is quiet =
@@ -183,7 +184,7 @@ store_steps shape private now store busy is quiet =
       };
     }
 
--- The loop over stores: the last of the actions told is the store that `ahead` makes.
+-- The loop over stores: the last action of the batch is the store that `ahead` makes.
 pub record TellsStores (shape : Shape) (until : ℕ) (start ahead : Private) (batch : Batch) : Type 0 where
   pub private : IsPrivate shape ahead
   pub store : IsStore (private_action shape ahead)

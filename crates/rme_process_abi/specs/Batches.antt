@@ -1,4 +1,4 @@
--- Which actions a batch tells: those of a worker's next own steps, one after another, for as long as the batch goes on.
+-- The actions of a batch: those of a worker's next own steps, in order, while the batch continues.
 use Rattle.std.specs.Prelude.{◌≡◌, ◌≢◌, ◌⊎◌, ◌<◌, ◌%◌, ◌^◌, ℕ, zero, suc, List, [], ◌∷◌, take}
 use Rattle.rme_words.specs.declared.shape.Shape.{Shape}
 use Rattle.rme_words.specs.Words.{word_number}
@@ -13,32 +13,32 @@ use Rattle.rme_process_abi.specs.declared.flat.FlatAction.{FlatAction}
 use Rattle.rme_process_abi.specs.declared.flat.Batch.{Batch}
 use Rattle.rme_process_abi.specs.Flat.{flat_action, flat_note}
 
--- The actions of a batch that count.
+-- The first `count` actions of a batch.
 abbrev pub batch_actions : Batch → List FlatAction
 batch_actions batch = take batch.count batch.actions
 
--- A load is plain, or is expected to find something.
+-- A load is plain, or has an expected value.
 abbrev pub IsLoadKind : ℕ → Type 0
 IsLoadKind kind = (kind ≡ 1) ⊎ ((kind ≡ 4) ⊎ (kind ≡ 5))
 
--- What C does is the operation of a step, on the same word. A swap is one from 0.
+-- The action of C is the operation of a step, on the same word. A swap is one from 0.
 abbrev pub ActionMatches : Shape → FlatAction → Action → Type 0
 ActionMatches shape flat (Load address) = IsLoadKind flat.kind × (flat.word ≡ word_number shape address)
 ActionMatches shape flat (Store address value) = flat ≡ flat_action shape (Store address value)
 ActionMatches shape flat (Swap address from to) = (from ≡ 0) × (flat ≡ flat_action shape (Swap address from to))
 
--- A batch goes on behind an action that found this: a swap that put its value, a load that found what it expected.
+-- A batch continues after an action that found this: a swap that stored its value, a load that found what it expected.
 pub record BatchContinues (action : FlatAction) (found : ℕ) : Type 0 where
   pub swapped : action.kind ≡ 3 → found ≡ 0
   pub expected : action.kind ≡ 4 → found ≡ action.value
   pub even : action.kind ≡ 5 → (found < 2 ^ 32) × (found % 2 ≡ 0)
 
--- It is this kind of note, and no quiet one.
+-- The note has this kind, and is not quiet.
 abbrev pub IsNoteKind : ℕ → ℕ → Type 0
 IsNoteKind until zero = ⊥
 IsNoteKind until (suc kind) = until ≡ suc kind
 
--- A batch ends at the latest with a step that says something of this kind.
+-- A batch ends at the latest with a step whose note has this kind.
 abbrev pub NoteEndsBatch : ℕ → Note → Type 0
 NoteEndsBatch until note = IsNoteKind until (flat_note note).kind
 
@@ -46,9 +46,9 @@ abbrev pub IfMoreActions : List FlatAction → Type 0 → Type 0
 IfMoreActions [] it = Unit {0}
 IfMoreActions (action ∷ rest) it = it
 
--- The actions are those of the next own steps of a worker that knows this. Where the batch goes on behind a step, the
--- value found is one that the step may take, so that nothing is done behind one that no world can have; and the step
--- says nothing of the kind behind which the batch is to end.
+-- The actions are those of the next own steps of a worker with this private state. Where the batch continues after a
+-- step, the step may accept the value that it found, so that no action follows a value that no world can have; and the
+-- step's note is not of the kind that ends the batch.
 abbrev pub Predicts : Shape → ℕ → Private → List FlatAction → Type 0
 Predicts shape until private [] = Unit {0}
 Predicts shape until private (action ∷ rest) =

@@ -1,4 +1,4 @@
--- What each call answers, and what it leaves.
+-- The answer and the effect of each call.
 use Rattle.std.specs.Prelude.{◌≡◌, ◌≢◌, ◌⊎◌, ℕ, ◌+◌, ◌≤◌, ◌==◌, List, take, Option, Some, None, Result, Ok, Err, if◌then◌else◌}
 use Rattle.rme_words.specs.declared.refusal.Refusal.{Refusal}
 use Rattle.rme_words.specs.Refusals.{refusal_code}
@@ -21,11 +21,11 @@ abbrev pub optional_code : Option Refusal → ℕ
 optional_code None = 0
 optional_code (Some refusal) = refusal_code refusal
 
--- A batch that is outstanding comes first.
+-- The refusal of an outstanding batch comes first.
 abbrev pub unless_batch_out : ℕ → Option Refusal → ℕ
 unless_batch_out told refusal = if told == 0 then optional_code refusal else 102
 
--- NEXT: a batch of at least one action, which foretells the worker's next own steps. A refusal changes nothing.
+-- NEXT: a batch of at least one action, which predicts the worker's next own steps. A refusal changes nothing.
 pub record AbiNextCall (old : CoreWorker) (until : ℕ) (given : Batch) (result : ℕ) (new : CoreWorker) (batch : Batch) :
     Type 0 where
   pub answer : result ≡ unless_batch_out old.told (stage_step_refusal old.private.stage)
@@ -42,13 +42,13 @@ pub record AfterState : Type 0 where
 abbrev pub after_state : CoreWorker → BatchOutcome → AfterState
 after_state worker outcome = record { worker = worker; outcome = outcome }
 
--- The values that came back are the first of a batch that is outstanding.
+-- The values are those of the first `count` actions of an outstanding batch.
 pub record AnswersBatch (old : CoreWorker) (count : ℕ) : Type 0 where
   pub some : 1 ≤ count
   pub few : count ≤ old.told
 
--- The values are taken whole (0), or one of them is damage and those before it are taken (100), or they answer no batch
--- and nothing changes (101). What the steps said is written down, and where the worker is then.
+-- 0: all values are accepted. 100: one of them is damaged, and those before it are accepted. 101: no batch of at least
+-- this count is outstanding, and nothing changes. The outcome has the steps' notes, and where the worker then is.
 pub record AbiAfterCall (old : AfterState) (batch : Batch) (count result : ℕ) (new : AfterState) : Type 0 where
   pub answers : (result ≡ 0) ⊎ ((result ≡ 100) ⊎ (result ≡ 101))
   pub answered : result ≢ 101
@@ -75,7 +75,7 @@ pub record SubmitState : Type 0 where
 abbrev pub submit_state : CoreWorker → ℕ → SubmitState
 submit_state worker number = record { worker = worker; number = number }
 
--- A job as C hands it over: its lock, how many operations its script has, and the words of its slate.
+-- A job as C passes it: its lock, the number of its script's operations, and the words of its slate.
 pub record SubmittedSlate : Type 0 where
   pub lock : ℕ
   pub operations : ℕ
@@ -97,7 +97,7 @@ AbiSubmitCall old slate result new =
     let script = script_from_words slate.operations slate.words in
     AbiSubmitJobCall old (handed_job_of old.worker.shape old.worker.private slate.lock script) result new
 
--- WITHDRAW: the worker gives its job up. A refusal changes nothing.
+-- WITHDRAW: the worker gives up its job. A refusal changes nothing.
 pub record AbiWithdrawCall (old : CoreWorker) (result : ℕ) (new : CoreWorker) : Type 0 where
   pub answer : result ≡ unless_batch_out old.told (stage_withdraw_refusal old.private.stage)
   pub withdraws : result ≡ 0 → WorkerKnows new old.shape (withdrawing_private old.private) 0

@@ -1,4 +1,4 @@
--- What crosses to C as plain numbers: actions, notes, and where a worker is.
+-- Actions, notes and stances as the plain numbers that C reads and writes.
 use Rattle.std.specs.Prelude.{ℕ}
 use Rattle.rme_words.specs.declared.shape.Shape.{Shape}
 use Rattle.rme_words.specs.Words.{word_number}
@@ -23,7 +23,7 @@ use Rattle.rme_process_abi.specs.declared.flat.FlatAction.{FlatAction}
 use Rattle.rme_process_abi.specs.declared.flat.FlatNote.{FlatNote}
 use Rattle.rme_process_abi.specs.declared.flat.FlatStance.{FlatStance}
 
--- A plain load, a load that is expected to find this, and one that is expected to find an even number below 2^32.
+-- A plain load, a load that expects this value, and one that expects an even number below 2^32.
 abbrev pub flat_load : ℕ → FlatAction
 flat_load word_number = record { kind = 1; word = word_number; value = 0 }
 
@@ -36,11 +36,11 @@ flat_even_load word_number = record { kind = 5; word = word_number; value = 0 }
 abbrev pub flat_store : ℕ → ℕ → FlatAction
 flat_store word_number value = record { kind = 2; word = word_number; value = value }
 
--- A swap of a word that should have 0, as all of them are.
+-- A swap from 0, as each swap is.
 abbrev pub flat_swap : ℕ → ℕ → FlatAction
 flat_swap word_number value = record { kind = 3; word = word_number; value = value }
 
--- The plain form of an action, on the word by its number among the words of the shape.
+-- An action as plain numbers, on the word by its number among the shape's words.
 abbrev pub flat_action : Shape → Action → FlatAction
 flat_action shape (Load address) = flat_load (word_number shape address)
 flat_action shape (Store address value) = flat_store (word_number shape address) value
@@ -52,7 +52,7 @@ flat_lock_note kind lock = record { kind = kind; worker = 0; lock = lock; number
 abbrev pub flat_number_note : ℕ → ℕ → FlatNote
 flat_number_note kind number = record { kind = kind; worker = 0; lock = 0; number = number; place = 0; reply = 0 }
 
--- A note by its kind; what it does not say is 0.
+-- A note by its kind; the numbers that this kind lacks are 0.
 abbrev pub flat_note : Note → FlatNote
 flat_note Quiet = flat_number_note 0 0
 flat_note (Asked number) = flat_number_note 1 number
@@ -81,7 +81,7 @@ phase_number phase.Section = 3
 phase_number phase.Exit = 4
 phase_number phase.Ready = 5
 
--- The lock that a worker is at.
+-- The lock at which a worker is.
 abbrev pub stage_lock_of_log : Log → ℕ
 stage_lock_of_log (LoadTurn lock) = lock
 stage_lock_of_log (LoadLen lock turn) = lock
@@ -111,7 +111,7 @@ stage_lock_of_departure (WithdrawAt lock held) = lock
 stage_lock_of_departure (WithdrawReply lock held) = lock
 stage_lock_of_departure (WithdrawDone lock held) = lock
 
--- A worker that is ready is at no lock, and one that recovers learns its lock on the way.
+-- A ready worker is at no lock, and a recovering one has not read its lock yet.
 abbrev pub no_lock : ℕ
 no_lock = 4294967295
 

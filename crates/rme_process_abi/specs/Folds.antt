@@ -1,4 +1,4 @@
--- What the values of several own steps, one after another, make of a worker, and what these steps say.
+-- The effect of the values of several own steps, in order, on a worker, and the notes of these steps.
 use Rattle.std.specs.Prelude.{◌≡◌, ℕ, ◌<◌, List, [], ◌∷◌, length, take, map, slice_index}
 use Rattle.rme_words.specs.declared.shape.Shape.{Shape}
 use Rattle.rme_program.specs.declared.note.Note.{Note}
@@ -10,12 +10,12 @@ use Rattle.rme_process_abi.specs.declared.flat.FlatNote.{FlatNote}
 use Rattle.rme_process_abi.specs.declared.flat.BatchOutcome.{BatchOutcome}
 use Rattle.rme_process_abi.specs.Flat.{flat_note}
 
--- What a worker knows after its steps found these values.
+-- The worker's private state after its steps found these values.
 unfoldable pub private_after_values : Shape → Private → List ℕ → Private
 private_after_values shape private [] = private
 private_after_values shape private (value ∷ rest) = private_after_values shape (private_after shape private value) rest
 
--- A note before others, where it says something.
+-- A note before others, unless it is quiet.
 abbrev pub prepend_note : Note → List Note → List Note
 prepend_note Quiet rest = rest
 prepend_note (Asked number) rest = Asked number ∷ rest
@@ -27,33 +27,33 @@ prepend_note (Left lock) rest = Left lock ∷ rest
 prepend_note Ready rest = Ready ∷ rest
 prepend_note (Withdrew number) rest = Withdrew number ∷ rest
 
--- What these steps say, in order.
+-- The notes of these steps, in order.
 unfoldable pub notes_of_values : Shape → Private → List ℕ → List Note
 notes_of_values shape private [] = []
 notes_of_values shape private (value ∷ rest) =
     prepend_note (note_after shape private value) (notes_of_values shape (private_after shape private value) rest)
 
--- The notes of an outcome that count, and these notes as plain numbers.
+-- The first `count` notes of an outcome, and these notes as plain numbers.
 abbrev pub outcome_notes : BatchOutcome → List FlatNote
 outcome_notes outcome = take outcome.count outcome.notes
 
 abbrev pub flat_notes : List Note → List FlatNote
 flat_notes notes = map flat_note notes
 
--- Each value is one that the step which finds it may take.
+-- Each value is one that the step that finds it may accept.
 abbrev pub ValuesAccepted : Shape → Private → List ℕ → Type 0
 ValuesAccepted shape private [] = Unit {0}
 ValuesAccepted shape private (value ∷ rest) =
     IsValidLoad shape private.stage value × ValuesAccepted shape (private_after shape private value) rest
 
--- The worker takes each of these values, says this, and then knows this.
+-- The worker accepts each of these values, with these notes, and then has this private state.
 pub record ValuesTaken (shape : Shape) (old : Private) (values : List ℕ) (notes : List FlatNote) (new : Private) : Type
     0 where
   pub all : ValuesAccepted shape old values
   pub leads : new ≡ private_after_values shape old values
   pub says : notes ≡ flat_notes (notes_of_values shape old values)
 
--- One of the values may not be taken; the worker takes those before it.
+-- One of the values may not be accepted; the worker accepts those before it.
 pub record ValueDamaged (shape : Shape) (old : Private) (values : List ℕ) (notes : List FlatNote) (new : Private) : Type
     0 where
   pub at : ℕ

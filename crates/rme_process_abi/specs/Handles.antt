@@ -1,11 +1,11 @@
--- A handle, and what making one answers.
+-- A handle, and the answers of the call that makes one.
 use Rattle.std.specs.Prelude.{◌≡◌, ◌≢◌, ◌⊎◌, ℕ, ◌<◌, ◌≤◌, true}
 use Rattle.rme_words.specs.declared.shape.Shape.{Shape}
 use Rattle.rme_words.specs.Shapes.{IsWithinLimits}
 use Rattle.rme_process_abi.specs.declared.handle.Handle.{Handle}
 use Rattle.rme_process_abi.specs.Workers.{IsCoreWorker, WorkerRestarted}
 
--- There is a worker behind it.
+-- The handle has a worker.
 pub record IsLiveHandle (handle : Handle) : Type 0 where
   pub live : handle.live ≡ true
   pub worker : IsCoreWorker handle.value
@@ -24,15 +24,15 @@ shape_numbers workers locks cells jobs = record { workers = workers; locks = loc
 abbrev pub AreShapeNumbers : ShapeNumbers → Type 0
 AreShapeNumbers numbers = IsWithinLimits numbers.workers numbers.locks numbers.cells numbers.jobs
 
--- A shape of these numbers.
+-- The shape has these numbers.
 pub record HasShapeNumbers (numbers : ShapeNumbers) (shape : Shape) : Type 0 where
   pub has_workers : shape.workers ≡ numbers.workers
   pub has_locks : shape.locks ≡ numbers.locks
   pub has_cells : shape.cells ≡ numbers.cells
   pub has_jobs : shape.jobs ≡ numbers.jobs
 
--- NEW: a worker of the shape of these numbers that comes up (0); or there is no such shape (5), no such worker (6), or
--- no memory (20).
+-- NEW: a worker, about to recover, of the shape of these numbers (0); or there is no such shape (5), no such worker
+-- (6), or no memory (20).
 pub record AbiNewCall (numbers : ShapeNumbers) (worker : ℕ) (before : Handle) (result : ℕ) (after : Handle) : Type 0
   where
     pub answers : (result ≡ 0) ⊎ ((result ≡ 5) ⊎ ((result ≡ 6) ⊎ (result ≡ 20)))

@@ -1,6 +1,6 @@
--- In reading order: what each plain number that crosses to C means, which actions a batch tells, what its values make
--- of a worker, what it guesses, what the functions below the calls promise, what stands behind a handle, which jobs a
--- worker takes, and what each call promises.
+-- In reading order: the plain numbers that C reads and writes; the actions of a batch; the effect of its values on a
+-- worker; the slate that a worker expects; the contracts of the functions below the calls; the worker of a handle; the
+-- jobs that a worker accepts; and the contract of each call.
 pub mod Flat
 pub mod Batches
 pub mod Folds

@@ -1,4 +1,4 @@
--- What the functions below the calls promise of batches and of values: how far actions lead, and values.
+-- The contracts of the functions below the calls: the steps that actions predict, and the effect of values.
 use Rattle.std.specs.Prelude.{◌≡◌, ◌≤◌, ◌+◌, ℕ, List, [], ◌++◌, length, take, slice_index}
 use Rattle.rme_words.specs.declared.shape.Shape.{Shape}
 use Rattle.rme_script.specs.Programs.{Program}
@@ -16,12 +16,13 @@ use Rattle.rme_process_abi.specs.Folds.{ValuesAccepted, private_after_values, no
 
 -- ACTIONS
 
--- What completes a batch for a worker that is there completes, behind these actions, one for a worker that is here.
+-- If further actions are a batch for a worker of state `there`, the actions of `told`, followed by them, are a batch
+-- for one of state `here`.
 abbrev pub PredictsUpTo : Shape → ℕ → Private → List FlatAction → Private → Type 0
 PredictsUpTo shape until here told there =
     (rest : List FlatAction) → Predicts shape until there rest → Predicts shape until here (told ++ rest)
 
--- The same where it is not known which of these workers is there.
+-- The same if only a property of the state `there` is known.
 abbrev pub PredictsUpToSome : Shape → ℕ → Private → List FlatAction → (Private → Type 0) → Type 0
 PredictsUpToSome shape until here told IsThere =
     (rest : List FlatAction) → ((there : Private) → IsThere there → Predicts shape until there rest)
@@ -30,11 +31,11 @@ PredictsUpToSome shape until here told IsThere =
 abbrev pub private_at_stage : ℕ → ℕ → Stage → Private
 private_at_stage worker begun stage = record { worker = worker; begun = begun; stage = stage }
 
--- The worker wants a lock, and holds so many nodes.
+-- The worker wants a lock, and holds `held` nodes.
 abbrev pub climbing_private : ℕ → ℕ → ℕ → ℕ → Private
 climbing_private worker begun lock held = private_at_stage worker begun (Climbing record { lock = lock; held = held })
 
--- The worker is about to load a word of its slate, and a named cell.
+-- The worker is about to load a word of its slate; below, a named cell.
 pub record IsLoadingSlate (worker operations at : ℕ) (private : Private) : Type 0 where
   pub lock : ℕ
   pub turn : ℕ
@@ -50,23 +51,23 @@ pub record IsLoadingCells (lock named cell : ℕ) (private : Private) : Type 0 w
 
 -- VALUES
 
--- The worker takes each of these values, says this, and then knows this.
+-- The worker accepts each of these values, with these notes, and then has this private state.
 pub record ValuesLeadTo (shape : Shape) (old : Private) (values : List ℕ) (notes : List Note) (new : Private) : Type 0
   where
     pub all : ValuesAccepted shape old values
     pub leads : new ≡ private_after_values shape old values
     pub says : notes ≡ notes_of_values shape old values
 
--- So many steps lead from one private state to another and say nothing, whatever they find.
+-- `count` steps lead from one private state to another without a note, whatever they find.
 abbrev pub QuietStepsLeadTo : Shape → Private → ℕ → Private → Type 0
 QuietStepsLeadTo shape old count new = (values : List ℕ) → length values ≡ count → ValuesLeadTo shape old values [] new
 
--- These notes are written down behind those that are there.
+-- These notes are appended to those of the outcome.
 pub record NotesWritten (before : BatchOutcome) (notes : List Note) (after : BatchOutcome) : Type 0 where
   pub told : outcome_notes after ≡ outcome_notes before ++ flat_notes notes
   pub count : after.count ≡ before.count + length notes
 
--- What a worker knows, and the outcome into which its notes are written.
+-- A worker's private state, and the outcome to which its notes are appended.
 pub record NotedPrivate : Type 0 where
   pub private : Private
   pub outcome : BatchOutcome
@@ -74,7 +75,7 @@ pub record NotedPrivate : Type 0 where
 abbrev pub noted : Private → BatchOutcome → NotedPrivate
 noted private outcome = record { private = private; outcome = outcome }
 
--- The worker takes so many of the values, and what it says is written down.
+-- The worker accepts the first `count` values, and its notes are appended.
 pub record FastForward (shape : Shape) (old : NotedPrivate) (values : List ℕ) (count : ℕ) (new : NotedPrivate) : Type 0
   where
     pub within : count ≤ length values
@@ -90,13 +91,13 @@ pub record SomeValuesTaken (shape : Shape) (old : NotedPrivate) (values : List �
   pub some : 1 ≤ count
   pub jumps : FastForward shape old values count new
 
--- The worker takes this value, and what its step says is written down.
+-- The worker accepts this value, and its step's note is appended.
 pub record OneValueTaken (shape : Shape) (old : NotedPrivate) (value : ℕ) (new : NotedPrivate) : Type 0 where
   pub takes : IsValidLoad shape old.private.stage value
   pub leads : new.private ≡ private_after shape old.private value
   pub writes : NotesWritten old.outcome (prepend_note (note_after shape old.private value) []) new.outcome
 
--- The first of the values may not be taken, the worker is as it was, and nothing is said.
+-- The first of the values may not be accepted; the worker and the notes are unchanged.
 pub record FirstValueRefused (shape : Shape) (old : NotedPrivate) (values : List ℕ) (new : NotedPrivate) : Type 0 where
   pub refused : IsValidLoad shape old.private.stage (slice_index values 0) → ⊥
   pub same : new.private ≡ old.private

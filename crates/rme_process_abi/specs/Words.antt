@@ -1,4 +1,4 @@
--- Which word a kind and its numbers name, and what the calls that tell of words answer.
+-- The word that a kind and its numbers name, and the answers of the calls about words.
 use Rattle.std.specs.Prelude.{◌≡◌, ◌≢◌, ◌⊎◌, ℕ, Option, Some, None, ◌==◌, if◌then◌else◌}
 use Rattle.rme_words.specs.declared.shape.Shape.{Shape}
 use Rattle.rme_words.specs.declared.address.Address.{Address}
@@ -25,7 +25,7 @@ address_of_kind kind first second third =
     else if kind == 13 then Some (Mask first)
     else None
 
--- The address is one of the shape, and its number is this.
+-- The address is one of the shape, with this number.
 abbrev pub IsWordNumber : Shape → Option Address → ℕ → Type 0
 IsWordNumber shape None number = ⊥
 IsWordNumber shape (Some address) number = IsShapeAddress shape address × (number ≡ word_number shape address)
@@ -44,7 +44,7 @@ pub record AbiWordCall (numbers : ShapeNumbers) (address : Option Address) (befo
       → (shape : Shape) × HasShapeNumbers numbers shape × ShapeLacksWord shape address
   pub unchanged : result ≢ 0 → after ≡ before
 
--- WORDS: how many there are (0), or there is no such shape (5).
+-- WORDS: the number of words (0), or there is no such shape (5).
 pub record AbiWordCountCall (numbers : ShapeNumbers) (before result after : ℕ) : Type 0 where
   pub answers : (result ≡ 0) ⊎ (result ≡ 5)
   pub counted : result ≡ 0

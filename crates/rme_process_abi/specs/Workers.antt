@@ -1,4 +1,4 @@
--- What stands behind a handle.
+-- The worker of a handle.
 use Rattle.std.specs.Prelude.{◌≡◌, ℕ, ◌<◌, ◌≤◌, Option, Result, Ok, Err}
 use Rattle.rme_words.specs.declared.shape.Shape.{Shape}
 use Rattle.rme_words.specs.declared.refusal.Refusal.{Refusal}
@@ -11,23 +11,23 @@ use Rattle.rme_process_abi.specs.declared.worker.CoreWorker.{CoreWorker}
 use Rattle.rme_process_abi.specs.ExpectedSlates.{IsExpectedSlate}
 use Rattle.rme_process_abi.specs.Jobs.{handed_job_of}
 
--- A private state of the shape, of which at most a batch is outstanding.
+-- A private state of the shape, with at most one batch outstanding.
 pub record IsCoreWorker (worker : CoreWorker) : Type 0 where
   pub private : IsPrivate worker.shape worker.private
   pub few : worker.told ≤ 96
   pub guess : IsExpectedSlate worker.shape worker.guess
 
--- A worker of this shape knows this, and so many of the actions told are outstanding. What it guesses is left open.
+-- A worker of this shape and private state, with `told` actions outstanding. It may expect any slate.
 pub record WorkerKnows (worker : CoreWorker) (shape : Shape) (private : Private) (told : ℕ) : Type 0 where
   pub shape_is : worker.shape ≡ shape
   pub private_is : worker.private ≡ private
   pub told_is : worker.told ≡ told
 
--- It comes up and knows its number alone.
+-- The worker restarts and knows only its own number.
 abbrev pub WorkerRestarted : Shape → ℕ → CoreWorker → Type 0
 WorkerRestarted shape worker new = WorkerKnows new shape (restarted_private worker) 0
 
--- The worker guesses the slate of the job that it may be handed; or it is handed none, and is as it was.
+-- The worker expects the slate of the job that it may be given; or it is refused the job, and is unchanged.
 abbrev pub SubmitDecision : CoreWorker → ℕ → Option Program → Result (Unit {0}) Refusal → CoreWorker → Type 0
 SubmitDecision old lock script (Ok tt) new =
     (handed_job_of old.shape old.private lock script ≡ Ok record { lock = lock; script = new.guess.script })

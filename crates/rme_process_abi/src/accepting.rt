@@ -1,4 +1,4 @@
-//! Which values a step may take, and what the values of several steps make of a worker.
+//! The values that a step may accept, and the effect of the values of several steps on a worker.
 
 ghost use Rattle.std.specs.Prelude.{◌≡◌, ◌↔◌, ◌^◌, ◌<◌, ◌≤◌, ◌+◌, ◌*◌, ℕ, List, length, IsTrue, IsFalse, MatchOption, slice_set};
 ghost use Rattle.rme_script.specs.Programs.{Program};
@@ -18,7 +18,7 @@ use rme_program::{Departure, Log, Private, Recovery, Stage, after};
 use rme_script::{SLATE_WORDS, from_slate};
 use rme_words::Shape;
 
-/// Whether a worker may take this value as what its next step found.
+/// Whether a worker may accept this value as the one that its next step found.
 pub fn may_accept(shape: Shape, private: &Private, value: u64) -> bool
     requires { IsPrivate shape private.now }
     ensures { IsTrue result ↔ IsValidLoad shape private.now.stage value }
@@ -66,7 +66,7 @@ fn may_log(shape: Shape, log: &Log, value: u64) -> bool
     }
 }
 
-/// The slate is a script of the shape once this value stands at the place of its last word.
+/// The slate is a script of the shape with this value as its last word.
 fn ends_slate(
     shape: Shape,
     operations: u32,
@@ -87,10 +87,10 @@ fn ends_slate(
     }
 }
 
-/// Has a worker take a value that is no run's, and writes down what its step said. What it needs of the stack and of
-/// the registers is taken only here.
+/// Has a worker accept a value that is part of no run, and appends its step's note. It is not inlined: only this call
+/// needs its stack and registers.
 ///
-/// It answers false where the step may not take the value, which changes nothing.
+/// Answers false if the step may not accept the value; then nothing changes.
 #[inline(never)]
 fn accept_value(
     shape: &Shape,
@@ -115,10 +115,10 @@ fn accept_value(
     true
 }
 
-/// Has a worker take the values of a run, or else the first value, writes down what the steps said, and answers how
-/// many were taken.
+/// Has a worker accept the values of a run, or else the first value; appends the steps' notes, and answers the number
+/// of accepted values.
 ///
-/// It answers `None` where the next step may not take the first value, which changes nothing.
+/// Answers `None` if the next step may not accept the first value; then nothing changes.
 fn accept_some_values(
     shape: &Shape,
     guess: &ExpectedSlate,
@@ -132,7 +132,8 @@ fn accept_some_values(
     requires room { outcome.old.count + length values.now ≤ 96 }
     ensures private { IsPrivate shape.now private.new }
     ensures taken { MatchOption result (FirstValueRefused shape.now (noted private.old outcome.old) values.now
-        (noted private.new outcome.new)) (λ count. SomeValuesTaken shape.now (noted private.old outcome.old) values.now count
+        (noted private.new outcome.new))
+        (λ count. SomeValuesTaken shape.now (noted private.old outcome.old) values.now count
         (noted private.new outcome.new)) }
 {
     let taken = fast_forward(shape, guess, values, private, outcome);
@@ -146,9 +147,9 @@ fn accept_some_values(
     }
 }
 
-/// Has a worker take the values that its next steps found, one after another, and writes down what the steps said.
+/// Has a worker accept the values that its next steps found, in order, and writes the steps' notes.
 ///
-/// It answers false at the first value that the step may not take, and the worker is as it was before that step.
+/// Answers false at the first value that the step may not accept; then the worker is as it was before that step.
 pub fn accept_all_values(
     shape: &Shape,
     guess: &ExpectedSlate,

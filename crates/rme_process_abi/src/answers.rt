@@ -1,9 +1,9 @@
 //! What the calls answer: 0, the number of a refusal, or one of these.
 
-/// A value was handed in that no world can have.
+/// C passed a value that no world can have.
 pub const DAMAGED: u32 = 100;
 
-/// Values came back where no batch is outstanding, or not as many as were asked for.
+/// Values were passed with no batch outstanding, or more than were asked for.
 pub const NO_BATCH: u32 = 101;
 
 /// The values of a batch have not come back yet.

@@ -1,4 +1,4 @@
-//! The batch that a worker tells: its next own steps, as far as they are known before the first of them is made.
+//! The batch of a worker: its next own steps, as far as they are known before the first of them is made.
 
 ghost use Rattle.std.specs.Prelude.{◌≡◌, ◌≢◌, ◌≤◌, [], ℕ, IsTrue};
 ghost use Rattle.rme_words.specs.Words.{IsShapeAddress};
@@ -21,11 +21,11 @@ use crate::stores::predict_finish;
 use rme_program::{Action, Departure, Log, Note, Private, Stage, after, next};
 use rme_words::Shape;
 
-/// Fills the batch with the next own steps of a worker that is not ready, as far as a step that says something of the
+/// Fills the batch with the next own steps of a worker that is not ready, at the latest up to a step whose note has the
 /// kind `until`.
 ///
-/// A post, the way in and the loads of a section are told in one, and so are its stores and the way out; from any other
-/// place the stores, and the first step that is none, or that says something.
+/// A post, the sweep and the loads of a section are one batch; the section's stores and the exit are the next. From any
+/// other stage the batch has the stores, and the first step that is no store or has a note.
 pub fn predict_batch(
     shape: Shape,
     private: &Private,
@@ -53,7 +53,7 @@ pub fn predict_batch(
     }
 }
 
-/// The next own steps of a worker that writes down what its script leaves.
+/// The next own steps of a worker that writes its redo log.
 fn predict_log(
     context: PredictionContext,
     private: &Private,
@@ -101,7 +101,7 @@ fn predict_log(
     }
 }
 
-/// The next own steps of a worker on its way out.
+/// The next own steps of a worker in phase Exit.
 fn predict_departure(
     context: PredictionContext,
     private: &Private,
@@ -123,7 +123,7 @@ fn predict_departure(
     }
 }
 
-/// The stores that a worker makes next, and the first step that is no store, or that says something.
+/// The stores that a worker makes next, and the first step that is no store or has a note.
 fn predict_stores(context: PredictionContext, private: &Private, batch: &mut Batch)
     requires private { IsPrivate context.shape private.now }
     requires busy { private.now.stage ≢ Stage.Resting }
@@ -151,7 +151,7 @@ fn predict_stores(context: PredictionContext, private: &Private, batch: &mut Bat
     }
 }
 
-/// Has a worker make its store, and answers whether that says nothing and leaves it a step to make.
+/// Has a worker make its store; answers whether the store has no note and a step follows.
 fn make_quiet_store(shape: Shape, ahead: &mut Private) -> bool
     requires private { IsPrivate shape ahead.old }
     requires store { IsValidLoad shape ahead.old.stage 0 }

@@ -1,5 +1,5 @@
-//! What a worker guesses that its loads will find, since it stored these words itself. A batch ends where a load finds
-//! something else, so a wrong guess costs time alone.
+//! The values that a worker expects its loads to find, since it stored these words itself. A batch ends where a load
+//! finds another value, so a wrong expectation costs only time.
 
 ghost use Rattle.std.specs.Prelude.{◌≡◌, ◌*◌, IsTrue, Result, IfOk, take};
 ghost use Rattle.rme_words.specs.declared.shape.Shape.{Shape};
@@ -21,7 +21,7 @@ pub struct ExpectedSlate {
 }
 
 impl ExpectedSlate {
-    /// The guess of a worker that knows of no job: the empty script.
+    /// The expectation of a worker that knows of no job: the empty script.
     pub fn of_empty_script() -> ExpectedSlate
         ensures { (shape : Shape) → IsExpectedSlate shape result }
     {
@@ -32,7 +32,8 @@ impl ExpectedSlate {
         }
     }
 
-    /// The guess of a worker that has this slate, or why no worker of this shape may have it: `BadScript`, or `NoCell`.
+    /// The expectation of a worker with this slate, or why no worker of this shape can have that: `BadScript`, or
+    /// `NoCell`.
     pub fn of(
         shape: Shape,
         operations: u32,
@@ -54,7 +55,7 @@ impl ExpectedSlate {
         })
     }
 
-    /// The section at this even turn, where the slate is the one that is guessed.
+    /// The section at this even turn, if the slate is the expected one.
     pub fn visit(&self, lock: u32, turn: u32) -> Visit
         ensures lock { result.lock ≡ lock }
         ensures turn { result.turn ≡ turn }

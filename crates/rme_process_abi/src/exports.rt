@@ -1,8 +1,8 @@
-//! What C calls. Each call is a method of `CoreWorker`, behind a handle.
+//! The calls of C. Each call is a method of the `CoreWorker` of a handle.
 //!
-//! A handle that a call takes is one that `rme_core_new` wrote and `rme_core_free` has not had, and no other call has
-//! it at the same time: that is all that C must keep, and nothing checks it. All numbers may be any. An `alloc` takes
-//! no bytes, and C does not pass it.
+//! Each handle that a call takes is one that `rme_core_new` wrote and that `rme_core_free` has not freed, and no other
+//! call has it at the same time. C must keep to this; nothing checks it. Numbers may have any value. A parameter
+//! `alloc` takes no bytes, and C does not pass it.
 
 ghost use Rattle.std.specs.Prelude.{◌≡◌};
 ghost use Rattle.rme_process_abi.specs.Handles.{IsLiveHandle, AbiNewCall, shape_numbers};
@@ -16,10 +16,10 @@ use rme_script::SLATE_WORDS;
 use rme_words::{Refusal, Shape};
 use std::alloc::Global;
 
-/// Makes the private state of a worker that comes up after a crash, and writes its handle. It takes memory once.
-/// A handle that is live already is written over, and what it held is never freed.
+/// Makes the private state of a worker that restarts after a crash, and writes its handle. It allocates once. A handle
+/// that is already live is overwritten, and its worker is never freed.
 ///
-/// Answers 0, 5 (`BadShape`), 6 (`NoWorker`) or 20 (`NoMemory`); a refusal leaves the handle as it was.
+/// Answers 0, 5 (`BadShape`), 6 (`NoWorker`) or 20 (`NoMemory`); a refusal leaves the handle unchanged.
 #[unsafe(no_mangle)]
 pub extern "C" fn rme_core_new(
     alloc: Global,
@@ -48,7 +48,7 @@ pub extern "C" fn rme_core_new(
     }
 }
 
-/// Frees what a handle holds.
+/// Frees the worker of a handle.
 #[unsafe(no_mangle)]
 pub extern "C" fn rme_core_free(handle: Handle)
     requires { IsLiveHandle handle }
@@ -56,11 +56,11 @@ pub extern "C" fn rme_core_free(handle: Handle)
     drop(handle.into_box());
 }
 
-/// Fills the batch with the worker's next own steps, at least one and at most 96: none behind one that says something
-/// of the kind `until`. The steps behind a swap that puts nothing, or a load that does not find what it should, are not
-/// made.
+/// Fills the batch with the worker's next own steps, at least one and at most 96, and none after one whose note has the
+/// kind `until`. C does not make the steps after a swap that stores nothing, or after a load that does not find the
+/// expected value.
 ///
-/// Answers 0, 102 while a batch is outstanding, or 10 (`Idle`) where the worker is ready; neither changes anything.
+/// Answers 0, 102 while a batch is outstanding, or 10 (`Idle`) if the worker is ready; neither changes anything.
 #[unsafe(no_mangle)]
 pub extern "C" fn rme_core_next(
     alloc: Global,
@@ -78,12 +78,12 @@ pub extern "C" fn rme_core_next(
     answer
 }
 
-/// Takes back what the steps of a batch found, and writes what came of them.
+/// Takes back the values that the steps of a batch found, and writes the outcome.
 ///
-/// `count` is how many of the steps of the batch that is outstanding were made, at least one: all, or those as far as
-/// the first that ended it. Answers 0; 100 where a value is one that no world can have: the worker then is as after the
-/// steps before it; or 101 where no batch of so many steps is outstanding, which changes nothing. After 0 and 100 no
-/// batch is outstanding.
+/// `count` is the number of steps of the outstanding batch that were made, at least one: all, or those up to the first
+/// that ended it. Answers 0; 100 if no world can have one of the values: then the worker is as after the steps before
+/// it; or 101 if no batch of that many steps is outstanding, which changes nothing. After 0 and 100 no batch is
+/// outstanding.
 #[unsafe(no_mangle)]
 pub extern "C" fn rme_core_after(
     alloc: Global,
@@ -122,10 +122,10 @@ pub extern "C" fn rme_core_stance(
     0
 }
 
-/// Hands a job to a worker that is ready, and writes the number that it will have.
+/// Gives a job to a ready worker, and writes the number that the job will have.
 ///
-/// The script has three words for each of its operations; further words are not read. Refused, in this order, by 9
-/// (`Busy`), 11 (`NoLock`), 12 (`BadScript`), 13 (`NoCell`) and 14 (`TooManyJobs`), which changes nothing.
+/// The script has three words for each of its operations; further words are not read. The refusals, in this order, are
+/// 9 (`Busy`), 11 (`NoLock`), 12 (`BadScript`), 13 (`NoCell`) and 14 (`TooManyJobs`); they change nothing.
 #[unsafe(no_mangle)]
 pub extern "C" fn rme_core_submit(
     alloc: Global,
@@ -136,7 +136,8 @@ pub extern "C" fn rme_core_submit(
     number: &mut u64,
 ) -> u32
     requires { IsLiveHandle handle.old }
-    ensures posted { AbiSubmitCall (submit_state handle.old.value number.old) (submitted_slate lock operations words.now) result
+    ensures posted { AbiSubmitCall (submit_state handle.old.value number.old)
+        (submitted_slate lock operations words.now) result
         (submit_state handle.new.value number.new) }
     ensures live { IsLiveHandle handle.new }
 {
@@ -146,10 +147,10 @@ pub extern "C" fn rme_core_submit(
     answer
 }
 
-/// Has a worker that waits for a lock give its job up: its next steps withdraw it.
+/// Has a worker that waits for a lock give up its job: its next steps withdraw it.
 ///
-/// Answers 0, 102 while a batch is outstanding, 10 (`Idle`) where the worker is ready, or 21 (`NotWaiting`) where it is
-/// not in phase Enter; none of these changes anything.
+/// Answers 0, 102 while a batch is outstanding, 10 (`Idle`) if the worker is ready, or 21 (`NotWaiting`) if it is not
+/// in phase Enter; none of these changes anything.
 #[unsafe(no_mangle)]
 pub extern "C" fn rme_core_withdraw(alloc: Global, handle: &mut Handle) -> u32
     requires { IsLiveHandle handle.old }
@@ -162,7 +163,7 @@ pub extern "C" fn rme_core_withdraw(alloc: Global, handle: &mut Handle) -> u32
     answer
 }
 
-/// Loses all that the worker knows but its number, and the batch that is outstanding: its recovery begins.
+/// Forgets all that the worker knows but its number, and the outstanding batch: its recovery begins.
 #[unsafe(no_mangle)]
 pub extern "C" fn rme_core_restart(alloc: Global, handle: &mut Handle)
     requires { IsLiveHandle handle.old }

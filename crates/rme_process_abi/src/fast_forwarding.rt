@@ -1,4 +1,4 @@
-//! The values of whole runs, taken together: nothing is decided for each of them alone.
+//! The values of whole runs, accepted together, without a decision at each of them.
 
 ghost use Rattle.std.specs.Prelude.{◌≡◌, ◌<◌, ◌≤◌, ◌+◌, ◌*◌, ℕ, List, IsTrue, IfSome, length, take, replicate, slice_index, [], ◌∷◌};
 ghost use Rattle.rme_script.specs.Programs.{Program};
@@ -11,7 +11,7 @@ ghost use Rattle.rme_program.specs.declared.stage.Parity.{Parity};
 ghost use Rattle.rme_program.specs.declared.stage.Departure.{Departure};
 ghost use Rattle.rme_program.specs.declared.note.Note.{Note};
 ghost use Rattle.rme_program.specs.Masks.{first_cell};
-ghost use Rattle.rme_program.specs.Steps.{cell_stage_from, run_stage, finish_outcome, clear_stage};
+ghost use Rattle.rme_program.specs.Steps.{cell_stage_from, run_stage, finish_outcome, clear_stage, logging_section};
 ghost use Rattle.rme_program.specs.Conditions.{IsPrivate, IsStage};
 ghost use Rattle.rme_process_abi.specs.Runs.{private_at_stage, climbing_private, FastForward, QuietStepsLeadTo, ValuesLeadTo, noted};
 ghost use Rattle.rme_process_abi.specs.declared.flat.BatchOutcome.{BatchOutcome};
@@ -26,7 +26,7 @@ use rme_program::{Ascent, Departure, Log, Note, Private, Receipt, Stage, Visit, 
 use rme_script::{Row, eval};
 use rme_words::Shape;
 
-/// Has a worker take values that a batch told as one run brought: none where these are none.
+/// Has a worker accept the values of a run that a batch predicted. Answers 0 if the values are not those of a run.
 pub fn fast_forward(
     shape: &Shape,
     guess: &ExpectedSlate,
@@ -48,7 +48,7 @@ pub fn fast_forward(
     }
 }
 
-/// The stores of a post, and, where they are there, the swaps and the loads behind it.
+/// The stores of a post, and, if their values are there, the swaps and the loads after it.
 fn fast_forward_post(
     shape: &Shape,
     guess: &ExpectedSlate,
@@ -83,7 +83,7 @@ fn fast_forward_post(
     stores
 }
 
-/// The swaps of all nodes that the worker does not hold yet, and, where they are there, the loads behind them.
+/// The swaps of all nodes that the worker does not hold yet, and, if their values are there, the loads after them.
 fn fast_forward_climb(
     shape: &Shape,
     guess: &ExpectedSlate,
@@ -107,8 +107,8 @@ fn fast_forward_climb(
     entered
 }
 
-/// The swaps of the nodes from this one on, and, where they are there, the loads of the section behind them: 0 where a
-/// swap did not put its value, and then the stage stays.
+/// The swaps of the nodes from this one on, and, if their values are there, the section's loads after them. Answers 0
+/// if a swap did not store its value; then the stage is unchanged.
 fn enter(
     shape: &Shape,
     guess: &ExpectedSlate,
@@ -133,7 +133,7 @@ fn enter(
     swaps + accept_loads(shape, guess, ascent.lock, &values[swaps..], stage)
 }
 
-/// So many values are 0.
+/// The first `count` values are 0.
 fn are_free(values: &[u64], count: usize) -> bool
     requires { count ≤ length values.now }
     ensures { IsTrue result → (i : ℕ) → i < count → slice_index values.now i ≡ 0 }
@@ -146,7 +146,7 @@ fn are_free(values: &[u64], count: usize) -> bool
     true
 }
 
-/// The loads of a section, or what comes once its script was run.
+/// The loads of a section, or the steps after its script was run.
 fn fast_forward_section(
     shape: &Shape,
     guess: &ExpectedSlate,
@@ -172,7 +172,7 @@ fn fast_forward_section(
     }
 }
 
-/// The loads of a section, which say nothing.
+/// The loads of a section, which have no notes.
 fn fast_forward_loads(
     shape: &Shape,
     lock: u32,
@@ -189,8 +189,8 @@ fn fast_forward_loads(
     accept_loads(shape, guess, lock, values, &mut private.stage)
 }
 
-/// The loads of a section, where the turn is even and the slate is the one that is guessed; where it is not, none of
-/// them, and the worker is about to load the turn.
+/// The loads of a section, if the turn is even and the slate is the expected one; if not, none of them, and the worker
+/// is about to load the turn.
 fn accept_loads(
     shape: &Shape,
     guess: &ExpectedSlate,
@@ -218,7 +218,7 @@ fn accept_loads(
     0
 }
 
-/// The values begin with an even turn and the slate that is guessed.
+/// The values begin with an even turn and the expected slate.
 fn matches_slate(guess: &ExpectedSlate, values: &[u64]) -> bool
     requires { guess.now.script.n ≤ 8 }
     ensures { IsTrue result → ValuesMatchSlate guess.now values.now }
@@ -238,17 +238,17 @@ fn matches_slate(guess: &ExpectedSlate, values: &[u64]) -> bool
     true
 }
 
-/// Puts the values into the named cells of a row of zeros, and answers how many there are; `None` where values are
-/// wanting.
+/// Puts the values into the named cells of a row of zeros, and answers their number; `None` if values are missing.
 fn read_cells(shape: &Shape, named: u64, values: &[u64], row: &mut Row) -> Option<usize>
     requires row { length row.old ≡ shape.now.cells }
     ensures row { length row.new ≡ shape.now.cells }
     ensures within { IfSome result (λ count. count ≤ length values.now) }
     ensures takes { IfSome result (λ count. (worker begun lock turn : ℕ) (script : Program)
         → ValuesLeadTo shape.now (private_at_stage worker begun
-        (cell_stage_from shape.now lock turn script named row.old (first_cell named 0 shape.now.cells)))
+        (cell_stage_from shape.now (logging_section lock turn script named) row.old
+        (first_cell named 0 shape.now.cells)))
         (take count values.now) []
-        (private_at_stage worker begun (run_stage shape.now lock turn script named row.new))) }
+        (private_at_stage worker begun (run_stage shape.now (logging_section lock turn script named) row.new))) }
 {
     let mut count = 0;
     let mut from = 0;
@@ -263,8 +263,8 @@ fn read_cells(shape: &Shape, named: u64, values: &[u64], row: &mut Row) -> Optio
     Some(count)
 }
 
-/// The script is run on the row of the named cells, in its place, and it is answered how many there are; `None` where
-/// values are wanting, and then the stage may be any.
+/// Runs the script in place on the row of the named cells, and answers the number of cells; `None` if values are
+/// missing, and then the stage may be any.
 fn run_expected_script(
     shape: &Shape,
     visit: Visit,
@@ -277,10 +277,11 @@ fn run_expected_script(
     ensures within { IfSome result (λ count. count ≤ length values.now) }
     ensures takes { IfSome result (λ count. (worker begun : ℕ)
         → ValuesLeadTo shape.now (private_at_stage worker begun
-        (cell_stage_from shape.now visit.lock visit.turn guess.now.script guess.now.named (replicate shape.now.cells 0)
-        (first_cell guess.now.named 0 shape.now.cells)))
+        (cell_stage_from shape.now (logging_section visit.lock visit.turn guess.now.script guess.now.named)
+        (replicate shape.now.cells 0) (first_cell guess.now.named 0 shape.now.cells)))
         (take count values.now) [] (private_at_stage worker begun stage.new)) }
-    ensures stage { IfSome result (λ count. (begun : ℕ) → visit.lock < shape.now.locks → IsStage shape.now begun stage.new) }
+    ensures stage { IfSome result (λ count. (begun : ℕ) → visit.lock < shape.now.locks
+        → IsStage shape.now begun stage.new) }
 {
     let named = guess.named;
     let Some(cell) = first_cell(named, 0, shape.cells) else {
@@ -310,8 +311,8 @@ fn run_expected_script(
     Some(count)
 }
 
-/// The steps from a shadow word to the store that finishes the job, where the copies found what was stored, and, where
-/// they are there, those to the store that frees the root's node.
+/// The steps from a shadow word to the store that finishes the job, if the copies found what was stored, and, if their
+/// values are there, those up to the store that frees the root's node.
 fn fast_forward_finish(
     shape: &Shape,
     values: &[u64],
@@ -362,7 +363,7 @@ fn fast_forward_finish(
     done
 }
 
-/// How many of the named cells are at `cell` and behind it, where `cell` is one.
+/// The number of named cells from `cell` on, where `cell` is one of them.
 fn shadow_count(shape: &Shape, named: u64, cell: u32) -> usize
     requires { cell < shape.now.cells }
     ensures blind { (worker begun : ℕ) (visit : Visit) (row : List ℕ) (reply : ℕ)
@@ -380,7 +381,7 @@ fn shadow_count(shape: &Shape, named: u64, cell: u32) -> usize
     count
 }
 
-/// How many values the steps from the load of the mask to the store of `Done` found, where the copies found what was
+/// The number of values of the steps from the load of the mask to the store of `Done`, if the copies found what was
 /// stored.
 fn find_copies(shape: &Shape, named: u64, row: &Row, reply: u64, values: &[u64]) -> Option<usize>
     requires row { length row.now ≡ shape.now.cells }
@@ -408,14 +409,14 @@ fn find_copies(shape: &Shape, named: u64, row: &Row, reply: u64, values: &[u64])
     Some(count + 5)
 }
 
-/// The values begin with the odd turn of a section of this place, and two stores behind it.
+/// The values begin with the odd turn of a section of this place, and have those of two stores after it.
 fn frees_root(place: u32, values: &[u64]) -> bool
     ensures { IsTrue result → ValuesFreeRoot place values.now }
 {
     values.len() >= 3 && place < 1 << 31 && values[0] == 2 * u64::from(place) + 1
 }
 
-/// The stage of a worker that frees so many more nodes.
+/// The stage of a worker that has `level` more nodes to free.
 fn clearing_stage(lock: u32, level: u32) -> Stage
     ensures { result ≡ clear_stage lock level }
 {

@@ -1,4 +1,4 @@
-//! What C holds of a worker: a pointer that it never follows.
+//! A worker as C holds it: a pointer that C never follows.
 
 ghost use Rattle.std.specs.Prelude.{◌≡◌, true, false, Bool};
 ghost use Rattle.std.specs.Box.Ownership.{box_owns};
@@ -11,10 +11,10 @@ use std::marker::Model;
 use std::mem::replace;
 use std::ptr::null_mut;
 
-/// A worker on the heap of the process that made it, behind a pointer.
+/// A worker on the heap of the process that made it, by a pointer.
 ///
-/// `live` says that there is one, and `value` is it. A handle that is not live owns nothing, whatever its pointer is:
-/// such is the zeroed memory into which a new handle is written.
+/// `live` says that there is one; `value` is it. A handle that is not live owns nothing, whatever its pointer is; the
+/// zeroed memory into which a new handle is written is one.
 #[repr(C)]
 #[derive(Drop)]
 pub struct Handle {
@@ -62,7 +62,7 @@ impl Handle {
         }
     }
 
-    /// Takes the worker of a live handle, which is not live until `close`.
+    /// Takes the worker of a live handle; the handle is not live until `close`.
     pub(crate) fn open(&mut self, alloc: Global) -> Box<CoreWorker, Global>
         requires { self.old.live ≡ true }
         ensures { result.value ≡ self.old.value }
@@ -70,7 +70,7 @@ impl Handle {
         replace(self, Handle::dead(alloc)).into_raw().into_box()
     }
 
-    /// Puts a worker behind a handle.
+    /// Puts a worker into a handle.
     pub(crate) fn close(&mut self, worker: Box<CoreWorker, Global>)
         ensures live { self.new.live ≡ true }
         ensures value { self.new.value ≡ worker.value }
@@ -78,7 +78,7 @@ impl Handle {
         *self = Handle::of(RawBox::of(worker));
     }
 
-    /// Takes the worker of a live handle for good.
+    /// Takes the worker of a live handle, which then is dead.
     pub(crate) fn into_box(self) -> Box<CoreWorker, Global>
         requires { self.live ≡ true }
         ensures { result.value ≡ self.value }

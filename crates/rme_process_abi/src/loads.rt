@@ -14,7 +14,7 @@ use crate::flat::Batch;
 use crate::prediction::PredictionContext;
 use rme_program::first_cell;
 
-/// All the loads, where the slate has the words that are guessed.
+/// All the loads, if the slate has the expected words.
 pub fn predict_section(
     context: PredictionContext,
     worker: u32,
@@ -93,7 +93,8 @@ pub fn predict_cell_loads(
     requires cell { cell < context.shape.cells }
     requires room { batch.old.count + context.shape.cells ≤ 96 }
     ensures foretells { (private : Private)
-        → PredictsUpToSome context.shape context.until private (batch_actions batch.old) (IsLoadingCells lock named cell)
+        → PredictsUpToSome context.shape context.until private (batch_actions batch.old)
+        (IsLoadingCells lock named cell)
         → Predicts context.shape context.until private (batch_actions batch.new) }
     ensures some { 1 ≤ batch.new.count }
     ensures few { batch.new.count ≤ 96 }

@@ -7,10 +7,10 @@ ghost use Rattle.rme_process_abi.specs.Folds.{flat_notes, prepend_note, outcome_
 use crate::flat::{BatchOutcome, FlatNote};
 use rme_program::{Departure, Log, Note, Phase, Receipt, Recovery, Redo, Stage};
 
-/// Where a worker knows of no lock.
+/// The lock of a worker that knows of none.
 const NO_LOCK: u32 = u32::MAX;
 
-/// The kinds of notes, by which a batch is told where to end too.
+/// The kinds of notes; a batch can end at one of them.
 pub const ASKED: u32 = 1;
 
 const BLOCKED: u32 = 2;
@@ -27,7 +27,7 @@ pub const READY: u32 = 7;
 
 const WITHDREW: u32 = 8;
 
-/// Writes one more note down, where it says something.
+/// Appends a note, unless it is quiet.
 pub fn put_note(outcome: &mut BatchOutcome, note: Note)
     requires room { outcome.old.count < 97 }
     ensures told { outcome_notes outcome.new ≡ outcome_notes outcome.old ++ flat_notes (prepend_note note []) }
@@ -46,7 +46,7 @@ pub fn put_note(outcome: &mut BatchOutcome, note: Note)
     }
 }
 
-/// Writes one more note down.
+/// Appends a note.
 pub fn put(outcome: &mut BatchOutcome, note: FlatNote)
     requires room { outcome.old.count < 97 }
     ensures told { outcome_notes outcome.new ≡ outcome_notes outcome.old ++ note ∷ [] }
@@ -57,7 +57,7 @@ pub fn put(outcome: &mut BatchOutcome, note: FlatNote)
     outcome.count += 1;
 }
 
-/// A note of this kind that has a number, or nothing.
+/// A note of this kind with a number; it is quiet if the kind is 0.
 pub fn flat_number_note(kind: u32, number: u32) -> FlatNote
     ensures { result ≡ flat_number_note kind number }
 {
@@ -71,7 +71,7 @@ pub fn flat_number_note(kind: u32, number: u32) -> FlatNote
     }
 }
 
-/// A note of this kind that has a lock.
+/// A note of this kind with a lock.
 pub fn flat_lock_note(kind: u32, lock: u32) -> FlatNote
     ensures { result ≡ flat_lock_note kind lock }
 {
@@ -113,7 +113,7 @@ pub fn phase_number(phase: Phase) -> u32
     }
 }
 
-/// The lock that a worker at this stage is at, or `NO_LOCK`.
+/// The lock of a worker at this stage, or `NO_LOCK`.
 pub fn stage_lock_number(stage: &Stage) -> u32
     ensures { result ≡ stage_lock_number stage.now }
 {

@@ -1,17 +1,17 @@
-//! What the parts of a prediction read.
+//! The input of the parts of a prediction.
 
 use rme_program::Visit;
 use rme_script::Row;
 use rme_words::Shape;
 
-/// What each part of a prediction reads: the shape, and the kind of note behind which the batch ends.
+/// The shape, and the kind of note that ends the batch.
 #[derive(Clone, Copy)]
 pub struct PredictionContext {
     pub shape: Shape,
     pub until: u32,
 }
 
-/// What a section leaves once its script was run: the section, its named cells with their values, and the reply.
+/// The result of a section's script: the section, its named cells with their values, and the reply.
 #[derive(Clone, Copy)]
 pub struct SectionResult {
     pub visit: Visit,

@@ -6,7 +6,7 @@ ghost use Rattle.std.specs.Box.Ownership.{box_owns};
 use std::alloc::Allocator;
 use std::marker::Model;
 
-/// Owns what its box owned, and is not dropped: it goes back into a box or behind a handle.
+/// Owns what its box owned, and is not dropped: it is put back into a box or into a handle.
 pub(crate) struct RawBox<T, A: Allocator> {
     pub(crate) at: *mut T,
     pub(crate) alloc: A,

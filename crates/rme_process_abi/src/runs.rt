@@ -1,4 +1,4 @@
-//! What is known before the first step of it: a post, the way in, and the way out.
+//! The runs of steps that are known before the first of them: a post, a sweep, and the exit.
 
 ghost use Rattle.std.specs.Prelude.{◌≡◌, ◌≢◌, ◌<◌, ◌≤◌, ◌+◌, ◌-◌, ◌^◌, ℕ};
 ghost use Rattle.rme_program.specs.declared.private.Private.{Private};
@@ -20,7 +20,7 @@ use rme_program::{Ascent, Private, Slate};
 use rme_script::op_words;
 use rme_tree::{node, side};
 
-/// A post, and what comes then.
+/// A post, and the steps after it.
 pub fn predict_post(
     context: PredictionContext,
     private: &Private,
@@ -89,7 +89,7 @@ fn predict_slate_stores(
     put(batch, [store(shape.begun_at(worker), number)]);
 }
 
-/// The way in of a worker that holds so many nodes, and what comes then.
+/// The sweep of a worker that holds `held` nodes, and the steps after it.
 pub fn predict_climb(
     context: PredictionContext,
     worker: u32,
@@ -103,7 +103,8 @@ pub fn predict_climb(
     requires guess { IsExpectedSlate context.shape guess.now }
     requires room { batch.old.count ≤ 27 }
     ensures foretells { (start : Private) (begun : ℕ)
-        → PredictsUpTo context.shape context.until start (batch_actions batch.old) (climbing_private worker begun ascent.lock ascent.held)
+        → PredictsUpTo context.shape context.until start (batch_actions batch.old)
+        (climbing_private worker begun ascent.lock ascent.held)
         → Predicts context.shape context.until start (batch_actions batch.new) }
     ensures some { 1 ≤ batch.new.count }
     ensures few { batch.new.count ≤ 96 }
@@ -121,10 +122,12 @@ fn predict_swaps(context: PredictionContext, worker: u32, ascent: Ascent, batch:
     requires held { ascent.held < context.shape.height }
     requires room { batch.old.count ≤ 27 }
     ensures foretells { (start : Private) (begun : ℕ)
-        → PredictsUpTo context.shape context.until start (batch_actions batch.old) (climbing_private worker begun ascent.lock ascent.held)
+        → PredictsUpTo context.shape context.until start (batch_actions batch.old)
+        (climbing_private worker begun ascent.lock ascent.held)
         → Predicts context.shape context.until start (batch_actions batch.new) }
     ensures leads { context.until ≢ 3 → (start : Private) (begun : ℕ)
-        → PredictsUpTo context.shape context.until start (batch_actions batch.old) (climbing_private worker begun ascent.lock ascent.held)
+        → PredictsUpTo context.shape context.until start (batch_actions batch.old)
+        (climbing_private worker begun ascent.lock ascent.held)
         → PredictsUpTo context.shape context.until start (batch_actions batch.new)
         (private_at_stage worker begun (Stage.Logging (Log.LoadTurn ascent.lock))) }
     ensures some { 1 ≤ batch.new.count }
@@ -141,7 +144,7 @@ fn predict_swaps(context: PredictionContext, worker: u32, ascent: Ascent, batch:
     put(batch, [swap(word, side(shape, worker, root))]);
 }
 
-/// The way out of a section of this place: the turn is counted up, and then the nodes are freed.
+/// The exit from a section of this place: the turn is incremented, and then the nodes are freed.
 pub fn predict_exit(
     context: PredictionContext,
     worker: u32,
@@ -167,7 +170,7 @@ pub fn predict_exit(
     }
 }
 
-/// The way out as far as the store that frees the root's node, and so the lock.
+/// The exit up to the store that frees the root's node, and so the lock.
 fn predict_root_release(
     context: PredictionContext,
     worker: u32,

@@ -1,4 +1,4 @@
-//! What is left of a section once its script was run: the shadow words and the turn, the copies, and the receipt.
+//! The rest of a section once its script was run: the shadow words and the turn, the copies, and the receipt.
 
 ghost use Rattle.std.specs.Prelude.{◌≡◌, ◌≢◌, ◌<◌, ◌≤◌, ◌+◌, ◌*◌, ℕ, length};
 ghost use Rattle.rme_program.specs.declared.private.Private.{Private};
@@ -19,7 +19,7 @@ use crate::prediction::{PredictionContext, SectionResult};
 use crate::runs::predict_exit;
 use rme_program::{Private, first_cell};
 
-/// What is left of a section, and what comes then.
+/// The rest of a section, and the steps after it.
 pub fn predict_finish(
     context: PredictionContext,
     private: &Private,
@@ -86,9 +86,11 @@ fn predict_shadow_stores(
     requires room { batch.old.count + context.shape.cells ≤ 96 }
     ensures leads { (start : Private) (worker begun reply : ℕ)
         → PredictsUpTo context.shape context.until start (batch_actions batch.old)
-        (private_at_stage worker begun (Stage.Logging (Log.StoreShadows section.now.visit section.now.named section.now.row reply cell)))
+        (private_at_stage worker begun
+        (Stage.Logging (Log.StoreShadows section.now.visit section.now.named section.now.row reply cell)))
         → PredictsUpTo context.shape context.until start (batch_actions batch.new)
-        (private_at_stage worker begun (Stage.Logging (Log.StoreShadowReply section.now.visit section.now.named reply))) }
+        (private_at_stage worker begun
+        (Stage.Logging (Log.StoreShadowReply section.now.visit section.now.named reply))) }
     ensures few { batch.new.count ≤ batch.old.count + context.shape.cells }
 {
     let shape = context.shape;
@@ -113,9 +115,11 @@ fn predict_turn_store(context: PredictionContext, section: &SectionResult, batch
     requires room { batch.old.count + 4 ≤ 96 }
     ensures leads { (start : Private) (worker begun : ℕ)
         → PredictsUpTo context.shape context.until start (batch_actions batch.old)
-        (private_at_stage worker begun (Stage.Logging (Log.StoreShadowReply section.now.visit section.now.named section.now.reply)))
+        (private_at_stage worker begun
+        (Stage.Logging (Log.StoreShadowReply section.now.visit section.now.named section.now.reply)))
         → PredictsUpTo context.shape context.until start (batch_actions batch.new)
-        (private_at_stage worker begun (copy_stage_from section.now.visit section.now.named (first_cell section.now.named 0 context.shape.cells))) }
+        (private_at_stage worker begun (copy_stage_from section.now.visit section.now.named
+        (first_cell section.now.named 0 context.shape.cells))) }
     ensures count { batch.new.count ≡ batch.old.count + 4 }
 {
     let shape = context.shape;
@@ -138,7 +142,8 @@ fn predict_copies(context: PredictionContext, section: &SectionResult, batch: &m
     requires room { batch.old.count + 2 * context.shape.cells ≤ 96 }
     ensures leads { (start : Private) (worker begun : ℕ)
         → PredictsUpTo context.shape context.until start (batch_actions batch.old)
-        (private_at_stage worker begun (copy_stage_from section.now.visit section.now.named (first_cell section.now.named 0 context.shape.cells)))
+        (private_at_stage worker begun (copy_stage_from section.now.visit section.now.named
+        (first_cell section.now.named 0 context.shape.cells)))
         → PredictsUpTo context.shape context.until start (batch_actions batch.new)
         (private_at_stage worker begun (Stage.Copying (Redo.LoadReply section.now.visit section.now.named))) }
     ensures few { batch.new.count ≤ batch.old.count + 2 * context.shape.cells }

@@ -58,7 +58,7 @@ const ADD_FIVE: [u64; 24] = [
     2, 0, 5, 0, 0, 0, 0, 0, 0, 0, 0, 0, 0, 0, 0, 0, 0, 0, 0, 0, 0, 0, 0, 0,
 ];
 
-/// Does one action on the words, and answers what it found and whether the batch goes on.
+/// Does one action on the words; answers the value that it found, and whether the batch continues.
 fn act(words: &mut [u64; WORDS], action: FlatAction) -> (u64, bool) {
     let Some(word) = words.get_mut(action.word) else {
         return (0, false);
@@ -81,7 +81,7 @@ fn act(words: &mut [u64; WORDS], action: FlatAction) -> (u64, bool) {
     }
 }
 
-/// Does the actions of a batch, as C does, and answers how many it did.
+/// Does the actions of a batch, as C does, and answers their number.
 fn make(words: &mut [u64; WORDS], batch: &mut Batch) -> u32 {
     for at in 0..batch.count.min(96) {
         let (found, goes_on) = act(words, batch.actions[at as usize]);
@@ -93,7 +93,7 @@ fn make(words: &mut [u64; WORDS], batch: &mut Batch) -> u32 {
     batch.count
 }
 
-/// What C has beside a handle: the words, and what goes to and fro.
+/// The words, and the structs that C passes.
 #[derive(Drop)]
 struct TestCaller {
     words: [u64; WORDS],
@@ -111,7 +111,7 @@ impl TestCaller {
     }
 }
 
-/// How many steps were told, how many notes came of them, and the phase.
+/// The number of predicted steps, that of their notes, and the phase.
 fn summary(host: &TestCaller) -> (u32, u32, u32) {
     (host.batch.count, host.outcome.count, host.outcome.phase)
 }
@@ -148,7 +148,7 @@ fn makes_a_job(rt: HostRuntime) -> Result<(), Fail> {
         rme_core_submit(rt.alloc(), &mut handle, 0, 1, &ADD_FIVE, &mut number),
         0
     );
-    // The post, the way in and the loads; then the stores, the copy, the receipt and the way out.
+    // The post, the sweep and the loads; then the stores, the copy, the receipt and the exit.
     assert_eq!(rt; step(&rt, &mut handle, 0, &mut host), 0);
     assert_eq!(rt; summary(&host), (13, 2, 3));
     assert_eq!(rt; kinds(&host), (1, 3));
@@ -182,7 +182,7 @@ fn ends_where_it_is_told_to(rt: HostRuntime) -> Result<(), Fail> {
     );
     assert_eq!(rt; step(&rt, &mut handle, 1, &mut host), 0);
     assert_eq!(rt; (host.batch.count, host.outcome.phase), (6, 2));
-    // The node is another's: the batch ends behind the swap.
+    // Another worker holds the node: the batch ends after the swap.
     host.words[62] = 1;
     assert_eq!(rt; step(&rt, &mut handle, 3, &mut host), 0);
     assert_eq!(rt; (host.outcome.count, host.outcome.notes[0].kind), (1, 2));
@@ -192,7 +192,7 @@ fn ends_where_it_is_told_to(rt: HostRuntime) -> Result<(), Fail> {
         (host.batch.count, host.outcome.notes[0].kind, host.words[62]),
         (1, 3, 2)
     );
-    // The slate has a word of no script: what was guessed is not found, and the word is damage.
+    // The slate has a word of no script: the load does not find what was expected, and the word is damaged.
     host.words[38] = 9;
     assert_eq!(rt; step(&rt, &mut handle, 0, &mut host), 0);
     assert_eq!(rt; step(&rt, &mut handle, 0, &mut host), DAMAGED);

@@ -1,4 +1,4 @@
-//! The numbers of the words, for those that look at them.
+//! The numbers of the words, for callers that read them.
 
 ghost use Rattle.std.specs.Prelude.{◌≡◌, ◌↔◌, IsTrue, IfSome};
 ghost use Rattle.rme_words.specs.Words.{IsShapeAddress};
@@ -10,9 +10,9 @@ use rme_words::{Address, Shape};
 
 /// The number of a word of the shape of these numbers.
 ///
-/// `kind` is 0 for `Begun`, 1 `Done`, 2 `Reply`, 3 `TableSeat`, 4 `At`, 5 `SlateLock`, 6 `SlateLen`, 7 `SlateWord`, 8
-/// `Node`, 9 `Turn`, 10 `Cell`, 11 `Shadow`, 12 `ShadowReply` and 13 `Mask`, and the other numbers are those of the
-/// address, as many as it has. Answers 0, 5 (`BadShape`), or 103 where the shape has no such word; these write nothing.
+/// `kind` is 0 for `Begun`, 1 `Done`, 2 `Reply`, 3 `Place`, 4 `At`, 5 `SlateLock`, 6 `SlateLen`, 7 `SlateWord`, 8
+/// `Node`, 9 `Turn`, 10 `Cell`, 11 `Shadow`, 12 `ShadowReply` and 13 `Mask`. The other numbers are those of the
+/// address, as many as it has. Answers 0, 5 (`BadShape`), or 103 if the shape has no such word; these write nothing.
 #[unsafe(no_mangle)]
 pub extern "C" fn rme_core_word(
     workers: u32,
@@ -25,7 +25,8 @@ pub extern "C" fn rme_core_word(
     third: u32,
     word: &mut u32,
 ) -> u32
-    ensures { AbiWordCall (shape_numbers workers locks cells jobs) (address_of_kind kind first second third) word.old result
+    ensures { AbiWordCall (shape_numbers workers locks cells jobs) (address_of_kind kind first second third)
+        word.old result
         word.new }
 {
     let shape = match Shape::new(workers, locks, cells, jobs) {
@@ -42,7 +43,7 @@ pub extern "C" fn rme_core_word(
     0
 }
 
-/// How many words a shape of these numbers has.
+/// The number of words of a shape of these numbers.
 ///
 /// Answers 0 or 5 (`BadShape`), which writes nothing.
 #[unsafe(no_mangle)]

@@ -1,4 +1,4 @@
-//! One worker: its private state, the shape it is of, and how many actions it told whose values have not come back.
+//! One worker: its private state, its shape, and the number of its outstanding actions.
 
 use crate::accepting::accept_all_values;
 use crate::answers::{BATCH_OUT, DAMAGED, NO_BATCH};
@@ -10,14 +10,14 @@ use rme_program::{Private, Slate, Stage, phase};
 use rme_script::{Job, SLATE_WORDS};
 use rme_words::{Refusal, Shape};
 
-/// What stands behind a handle.
+/// The worker of a handle.
 #[derive(Drop)]
 pub struct CoreWorker {
     pub shape: Shape,
     pub private: Private,
-    /// How many actions of the last batch are outstanding; 0 where none are.
+    /// The number of outstanding actions, those of the last batch; 0 if none is outstanding.
     pub told: u32,
-    /// What its loads are told to expect.
+    /// The slate that its loads expect.
     pub guess: ExpectedSlate,
 }
 
@@ -27,7 +27,7 @@ impl CoreWorker {
     ghost use Rattle.rme_process_abi.specs.Calls.{AbiNextCall, AbiAfterCall, AbiStanceCall, AbiSubmitCall, AbiWithdrawCall, after_state, submit_state, submitted_slate};
     ghost use Rattle.rme_script.specs.Slates.{script_from_words};
 
-    /// A worker that comes up: it knows its own number alone.
+    /// A worker that restarts: it knows only its own number.
     pub fn restarted(shape: Shape, worker: u32) -> CoreWorker
         requires { worker < shape.workers }
         ensures restarted { WorkerRestarted shape worker result }
@@ -41,9 +41,9 @@ impl CoreWorker {
         }
     }
 
-    /// Tells the next own steps.
+    /// Predicts the next own steps.
     ///
-    /// Refused by `BATCH_OUT` while a batch is outstanding, then by `Idle` where the worker is ready.
+    /// Refused by `BATCH_OUT` while a batch is outstanding, then by `Idle` if the worker is ready.
     pub fn predict(&mut self, until: u32, batch: &mut Batch) -> u32
         requires { IsCoreWorker self.old }
         ensures told { AbiNextCall self.old until batch.old result self.new batch.new }
@@ -60,10 +60,11 @@ impl CoreWorker {
         0
     }
 
-    /// Takes back the first values of the batch that is outstanding.
+    /// Takes back the first values of the outstanding batch.
     pub fn accept_values(&mut self, batch: &Batch, count: u32, outcome: &mut BatchOutcome) -> u32
         requires { IsCoreWorker self.old }
-        ensures took { AbiAfterCall (after_state self.old outcome.old) batch.now count result (after_state self.new outcome.new) }
+        ensures took { AbiAfterCall (after_state self.old outcome.old) batch.now count result
+            (after_state self.new outcome.new) }
         ensures worker { IsCoreWorker self.new }
     {
         if count == 0 || count > self.told {
@@ -90,7 +91,7 @@ impl CoreWorker {
         stance.number = u64::from(self.private.begun);
     }
 
-    /// Loses all but the worker's number: its recovery begins.
+    /// Forgets all but the worker's number: its recovery begins.
     pub fn restart(&mut self)
         requires { IsCoreWorker self.old }
         ensures restarted { WorkerRestarted self.old.shape self.old.private.worker self.new }
@@ -100,10 +101,10 @@ impl CoreWorker {
         self.told = 0;
     }
 
-    /// Has a worker that waits for a lock give its job up.
+    /// Has a worker that waits for a lock give up its job.
     ///
-    /// Refused by `BATCH_OUT` while a batch is outstanding, then by `Idle` where the worker is ready, then by
-    /// `NotWaiting` where it is not in phase Enter.
+    /// Refused by `BATCH_OUT` while a batch is outstanding, then by `Idle` if the worker is ready, then by `NotWaiting`
+    /// if it is not in phase Enter.
     pub fn withdraw(&mut self) -> u32
         requires { IsCoreWorker self.old }
         ensures withdrew { AbiWithdrawCall self.old result self.new }
@@ -122,7 +123,7 @@ impl CoreWorker {
         }
     }
 
-    /// Hands a job to a worker that is ready, and writes down the number that it will have.
+    /// Gives a job to a ready worker, and writes the number that the job will have.
     ///
     /// Refused, in this order, by `Busy` (not ready), `NoLock`, `BadScript`, `NoCell` and `TooManyJobs`.
     pub fn post(
@@ -133,7 +134,8 @@ impl CoreWorker {
         number: &mut u64,
     ) -> u32
         requires { IsCoreWorker self.old }
-        ensures posted { AbiSubmitCall (submit_state self.old number.old) (submitted_slate lock operations words.now) result
+        ensures posted { AbiSubmitCall (submit_state self.old number.old) (submitted_slate lock operations words.now)
+            result
             (submit_state self.new number.new) }
         ensures worker { IsCoreWorker self.new }
     {
@@ -147,7 +149,7 @@ impl CoreWorker {
         0
     }
 
-    /// Has the worker guess the slate of the job that it may be handed, or answers why it may not.
+    /// Has the worker expect the slate of the job that it may be given, or answers the refusal.
     fn may_post(
         &mut self,
         lock: u32,

@@ -68,7 +68,7 @@ module _ (s : Shape) (mem : Address → ℕ) (privs : Privates) (es : List Entry
         within = λ odd. absurd (omega (arith, even, odd));
       }
 
-  owned : (lock u : ℕ) (own : WorkerWords) (pending : Bool) → OwnedLockInvariant s (lock_words s mem lock) es lock u own pending → Turns lock (Some u)
+  owned : (lock u : ℕ) (own : WorkerWords) (pending : Bool) → OwnedLockInvariant s (lock_words s mem lock) es lock record { worker = u; words = own } pending → Turns lock (Some u)
   owned lock u own true stands = elim stands [
     | inl is ↦ settled lock (Some u) is
     | inr is ↦ record { few = omega (arith, is.turn); even = λ free. absurd (none-some u (sym free)); within = λ odd. is.mask.within }
@@ -101,7 +101,7 @@ module _ (s : Shape) (mem : Address → ℕ) (privs : Privates) (es : List Entry
   settled_when None is = sym (tables.free s mem privs es lock fact below is)
   settled_when (Some u) is = sym (tables.owned s mem privs es lock u fact below is)
 
-  owned_sections : (u : ℕ) (own : WorkerWords) (pending : Bool) → OwnedLockInvariant s (lock_words s mem lock) es lock u own pending → sections_by (mem (Turn lock)) (not pending) ≡ place_of es lock
+  owned_sections : (u : ℕ) (own : WorkerWords) (pending : Bool) → OwnedLockInvariant s (lock_words s mem lock) es lock record { worker = u; words = own } pending → sections_by (mem (Turn lock)) (not pending) ≡ place_of es lock
   owned_sections u own true stands = elim stands [
     | inl is ↦ even_sections _ _ false is.turn
     | inr is ↦ logged_sections _ _ is.turn

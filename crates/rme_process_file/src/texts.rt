@@ -172,7 +172,8 @@ fn push_worker_line(
     worker: u32,
 ) -> Result<(), AllocError>
     requires { worker < mapped.now.shape.workers }
-    ensures { OnOk result (string_bytes out.new ≡ string_bytes out.old ++ spec.worker_line mapped.now living.now worker) }
+    ensures { OnOk result (string_bytes out.new ≡ string_bytes out.old
+        ++ spec.worker_line mapped.now living.now worker) }
 {
     let report = WorkerReport {
         worker,

@@ -28,7 +28,7 @@ use Rattle.rme_program.proofs.Counts.{cells_below_less}
 use Rattle.rme_program.proofs.Rows.{recover_length, post_length, enter_length, exit_length, clear_length, withdraw_length}
 use Rattle.rme_program.proofs.SectionRows.{section_length}
 
--- ---- sections, by the stage alone
+-- ---- sections, by the stage
 
 even_with : (parity : Parity) (named : ℕ) → IsEvenWithMask parity named → (operations : ℕ) × (parity ≡ Even operations named)
 even_with (Even operations cells) named e = (operations, ap (λ (c : ℕ). Even operations c) e)

@@ -35,7 +35,7 @@ use Rattle.rme_program.specs.declared.stage.Parity.TheVariants.{Even, Odd}
 use Rattle.rme_program.specs.Conditions.{IsRecoveryStage, IsLogStage, IsRedoStage, IsDepartureStage, IsStage, IsPrivate, IsValidLoad}
 use Rattle.rme_program.specs.Masks.{mask_of, first_cell}
 use Rattle.rme_program.specs.Phases.{phase_of, steps_left, log_steps_left, redo_steps_left, departure_steps_left, mask_cells_below}
-use Rattle.rme_program.specs.Steps.{outcome_at, after_recovery, after_other_node, reentry_stage, after_slate, after_ascent, after_departure, clear_stage, cleared_note, exit_stage, after_log, after_redo, shadow_stage_from, run_stage, cell_stage_from, script_stage, slate_stage, turn_stage, copy_stage_from}
+use Rattle.rme_program.specs.Steps.{outcome_at, after_recovery, after_other_node, reentry_stage, after_slate, after_ascent, after_departure, clear_stage, cleared_note, exit_stage, after_log, after_redo, shadow_stage_from, run_stage, cell_stage_from, script_stage, slate_stage, turn_stage, copy_stage_from, logging_section}
 use Rattle.rme_program.specs.StepsMade.{steps_made_in_recovery, steps_made_in_log, steps_made_in_redo, steps_before_redo, load_and_shadow_steps, load_steps}
 use Rattle.rme_program.specs.Progress.{phase_rank, IsEvenWithMask, IsEvenParity, IsLogOnTrack, IsRedoOnTrack, IsOnTrack, StageProgress, IsSectionStart, StepsTaken, ExitStepsTaken, StepIsCounted}
 use Rattle.rme_program.proofs.Counts.{cells_below_less}
@@ -210,31 +210,31 @@ shadows_move shape visit named row reply from None even le e =
     record { track = even; phase = refl; taken = λ from_here begins. (begins, rw parity.1 (omega (arith, first_none named from shape.cells le e))); less = omega (arith, first_none named from shape.cells le e) }
 
 run_move : (shape : Shape) (lock turn : ℕ) (script : Program) (named : ℕ) (row : List ℕ)
-    → Moves shape (run_stage shape lock turn script named row) (2 + 3 * script.n + mask_cells_below named shape.cells) (9 + 2 * shape.cells + mask_cells_below named shape.cells)
+    → Moves shape (run_stage shape (logging_section lock turn script named) row) (2 + 3 * script.n + mask_cells_below named shape.cells) (9 + 2 * shape.cells + mask_cells_below named shape.cells)
 run_move shape lock turn script named row =
-    let shadows : Moves shape (run_stage shape lock turn script named row) (2 + 3 * script.n + mask_cells_below named shape.cells + mask_cells_below named 0) (9 + 2 * shape.cells + mask_cells_below named shape.cells - mask_cells_below named 0)
+    let shadows : Moves shape (run_stage shape (logging_section lock turn script named) row) (2 + 3 * script.n + mask_cells_below named shape.cells + mask_cells_below named 0) (9 + 2 * shape.cells + mask_cells_below named shape.cells - mask_cells_below named 0)
     = shadows_move shape record { lock = lock; turn = turn; parity = Even script.n named } named (eval_of script.ops row).row (eval_of script.ops row).reply 0 (first_cell named 0 shape.cells) refl (omega arith) refl in
     let none : 2 + 3 * script.n + mask_cells_below named shape.cells + mask_cells_below named 0 ≡ 2 + 3 * script.n + mask_cells_below named shape.cells = omega (arith, below_zero named) in
     record {
       track = shadows.track;
       phase = shadows.phase;
-      taken = λ from_here begins. subst (λ (place : ℕ). StepsTaken shape (Logging from_here) (run_stage shape lock turn script named row) place) none (shadows.taken from_here begins);
+      taken = λ from_here begins. subst (λ (place : ℕ). StepsTaken shape (Logging from_here) (run_stage shape (logging_section lock turn script named) row) place) none (shadows.taken from_here begins);
       less = omega (arith, shadows.less);
     }
 
 cells_move : (shape : Shape) (lock turn : ℕ) (script : Program) (row : List ℕ) (from : ℕ) (found : Option ℕ) → from ≤ shape.cells → first_cell (mask_of script.ops) from shape.cells ≡ found
-    → Moves shape (cell_stage_from shape lock turn script (mask_of script.ops) row found) (2 + 3 * script.n + mask_cells_below (mask_of script.ops) from)
+    → Moves shape (cell_stage_from shape (logging_section lock turn script (mask_of script.ops)) row found) (2 + 3 * script.n + mask_cells_below (mask_of script.ops) from)
     (9 + 2 * shape.cells + 2 * mask_cells_below (mask_of script.ops) shape.cells - mask_cells_below (mask_of script.ops) from)
 cells_move shape lock turn script row from (Some cell) le e =
     let first : FirstCell (mask_of script.ops) from shape.cells cell = first_some (mask_of script.ops) from shape.cells cell le e in
     record { track = (refl, first.set); phase = refl; taken = λ from_here begins. (begins, omega (arith, first.same)); less = omega (arith, first.same, cells_below_less (mask_of script.ops) cell shape.cells (omega (arith, first.below))) }
 cells_move shape lock turn script row from None le e =
-    let run : Moves shape (run_stage shape lock turn script (mask_of script.ops) row) (2 + 3 * script.n + mask_cells_below (mask_of script.ops) shape.cells) (9 + 2 * shape.cells + mask_cells_below (mask_of script.ops) shape.cells) = run_move shape lock turn script (mask_of script.ops) row in
+    let run : Moves shape (run_stage shape (logging_section lock turn script (mask_of script.ops)) row) (2 + 3 * script.n + mask_cells_below (mask_of script.ops) shape.cells) (9 + 2 * shape.cells + mask_cells_below (mask_of script.ops) shape.cells) = run_move shape lock turn script (mask_of script.ops) row in
     let all : mask_cells_below (mask_of script.ops) shape.cells ≡ mask_cells_below (mask_of script.ops) from = first_none (mask_of script.ops) from shape.cells le e in
     record {
       track = run.track;
       phase = run.phase;
-      taken = λ from_here begins. subst (λ (n : ℕ). StepsTaken shape (Logging from_here) (run_stage shape lock turn script (mask_of script.ops) row) (2 + 3 * script.n + n)) all (run.taken from_here begins);
+      taken = λ from_here begins. subst (λ (n : ℕ). StepsTaken shape (Logging from_here) (run_stage shape (logging_section lock turn script (mask_of script.ops)) row) (2 + 3 * script.n + n)) all (run.taken from_here begins);
       less = omega (arith, run.less, all);
     }
 
@@ -306,7 +306,7 @@ log_steps shape (LoadCells lock turn script named row cell) value is taken on =
     let set : mask_has_cell (mask_of script.ops) cell ≡ true = ap (λ (m : ℕ). mask_has_cell m cell) (sym on.0) ∙ on.1 in
     let count : mask_cells_below (mask_of script.ops) (cell + 1) ≡ mask_cells_below (mask_of script.ops) cell + 1 = below_more (mask_of script.ops) cell set in
     let within : mask_cells_below (mask_of script.ops) (cell + 1) ≤ mask_cells_below (mask_of script.ops) shape.cells = cells_below_less (mask_of script.ops) (cell + 1) shape.cells (omega (arith, is.1)) in
-    rw on.0 (log_goes shape (LoadCells lock turn script (mask_of script.ops) row cell) (cell_stage_from shape lock turn script (mask_of script.ops) (slice_set row cell value) (first_cell (mask_of script.ops) (cell + 1) shape.cells))
+    rw on.0 (log_goes shape (LoadCells lock turn script (mask_of script.ops) row cell) (cell_stage_from shape (logging_section lock turn script (mask_of script.ops)) (slice_set row cell value) (first_cell (mask_of script.ops) (cell + 1) shape.cells))
     (2 + 3 * script.n + mask_cells_below (mask_of script.ops) (cell + 1)) (9 + 2 * shape.cells + 2 * mask_cells_below (mask_of script.ops) shape.cells - mask_cells_below (mask_of script.ops) (cell + 1))
     (omega (arith, count)) (omega (arith, count, within))
     (cells_move shape lock turn script (slice_set row cell value) (cell + 1) (first_cell (mask_of script.ops) (cell + 1) shape.cells) (omega (arith, is.1)) refl))

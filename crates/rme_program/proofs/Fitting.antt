@@ -23,7 +23,7 @@ use Rattle.rme_program.specs.declared.stage.Parity.TheVariants.{Even}
 use Rattle.rme_program.specs.Conditions.{IsLogStage, IsRedoStage}
 use Rattle.rme_program.specs.Masks.{mask_of, first_cell}
 use Rattle.rme_program.specs.Phases.{mask_cells_below}
-use Rattle.rme_program.specs.Steps.{shadow_stage_from, run_stage, cell_stage_from, script_stage, slate_stage, turn_stage, copy_stage_from, after_log, after_redo, log_action, redo_action}
+use Rattle.rme_program.specs.Steps.{shadow_stage_from, run_stage, cell_stage_from, script_stage, slate_stage, turn_stage, copy_stage_from, after_log, after_redo, log_action, redo_action, logging_section}
 use Rattle.rme_program.specs.Table.{Reading}
 use Rattle.rme_program.specs.StepsMade.{steps_before_redo, steps_made_in_log, steps_made_in_redo}
 use Rattle.rme_program.specs.Stays.{Stay, InSection, IsReading, IsEvenReading, reading_parity, reading_visit, RowsAgreeBefore, LogIsInStay, RedoIsInStay, StageIsInStay, steps_made_in_row, StayLoadFinds}
@@ -82,7 +82,7 @@ module _ (shape : Shape) (known lock : ℕ) (reading : Reading) (is : IsReading 
       (λ c l by. same.0.at c by, same.1)
 
   run_fit : (row : List ℕ) → IsEvenReading reading → length row ≡ shape.cells → RowsAgreeBefore reading shape.cells row reading.cells
-      → FitsAt (run_stage shape lock reading.turn reading.script named row) (2 + 3 * reading.script.n + mask_cells_below named shape.cells)
+      → FitsAt (run_stage shape (logging_section lock reading.turn reading.script named) row) (2 + 3 * reading.script.n + mask_cells_below named shape.cells)
   run_fit row even long agree =
       let fit : FitsAt (shadow_stage_from (reading_visit lock reading) named (eval_of reading.script.ops row).row (eval_of reading.script.ops row).reply (first_cell named 0 shape.cells)) (2 + 3 * reading.script.n + mask_cells_below named shape.cells + mask_cells_below named 0)
       = shadows_fit (eval_of reading.script.ops row).row (eval_of reading.script.ops row).reply 0 even (results row long agree) (omega arith) in
@@ -100,17 +100,17 @@ module _ (shape : Shape) (known lock : ℕ) (reading : Reading) (is : IsReading 
 
   cells_found : (row : List ℕ) (from : ℕ) (found : Option ℕ) → IsEvenReading reading → length row ≡ shape.cells → RowsAgreeBefore reading from row reading.cells → from ≤ shape.cells
       → first_cell named from shape.cells ≡ found
-      → FitsAt (cell_stage_from shape lock reading.turn reading.script named row found) (2 + 3 * reading.script.n + mask_cells_below named from)
+      → FitsAt (cell_stage_from shape (logging_section lock reading.turn reading.script named) row found) (2 + 3 * reading.script.n + mask_cells_below named from)
   cells_found row from (Some cell) even long agree le e =
       let first : FirstCell named from shape.cells cell = first_some named from shape.cells cell le e in
       ((is, (even, refl, refl, refl, refl, first.set, long, agree_to row from cell agree first.none)), omega (arith, first.same))
   cells_found row from None even long agree le e =
       let all : RowsAgreeBefore reading shape.cells row reading.cells = agree_to row from shape.cells agree (λ k a b. none_left named from shape.cells k e a b) in
-      let run : FitsAt (run_stage shape lock reading.turn reading.script named row) (2 + 3 * reading.script.n + mask_cells_below named shape.cells) = run_fit row even long all in
+      let run : FitsAt (run_stage shape (logging_section lock reading.turn reading.script named) row) (2 + 3 * reading.script.n + mask_cells_below named shape.cells) = run_fit row even long all in
       (run.0, run.1 ∙ omega (arith, first_none named from shape.cells le e))
 
   cells_fit : (row : List ℕ) (from : ℕ) → IsEvenReading reading → length row ≡ shape.cells → RowsAgreeBefore reading from row reading.cells → from ≤ shape.cells
-      → FitsAt (cell_stage_from shape lock reading.turn reading.script named row (first_cell named from shape.cells)) (2 + 3 * reading.script.n + mask_cells_below named from)
+      → FitsAt (cell_stage_from shape (logging_section lock reading.turn reading.script named) row (first_cell named from shape.cells)) (2 + 3 * reading.script.n + mask_cells_below named from)
   cells_fit row from even long agree le = cells_found row from (first_cell named from shape.cells) even long agree le refl
 
   agree_more : (row : List ℕ) (cell value : ℕ) → length row ≡ shape.cells → cell < shape.cells → RowsAgreeBefore reading cell row reading.cells → value ≡ slice_index reading.cells cell
@@ -124,7 +124,7 @@ module _ (shape : Shape) (known lock : ℕ) (reading : Reading) (is : IsReading 
 
   script_fit : IsEvenReading reading → FitsAt (script_stage shape lock reading.turn (Some reading.script)) (2 + 3 * reading.script.n)
   script_fit even =
-      let fit : FitsAt (cell_stage_from shape lock reading.turn reading.script named (replicate shape.cells 0) (first_cell named 0 shape.cells)) (2 + 3 * reading.script.n + mask_cells_below named 0)
+      let fit : FitsAt (cell_stage_from shape (logging_section lock reading.turn reading.script named) (replicate shape.cells 0) (first_cell named 0 shape.cells)) (2 + 3 * reading.script.n + mask_cells_below named 0)
       = cells_fit (replicate shape.cells 0) 0 even (length-replicate shape.cells 0) (λ c l by. absurd (omega (arith, l))) (omega arith) in
       (fit.0, fit.1 ∙ omega (arith, below_zero named))
 
@@ -182,7 +182,7 @@ module _ (shape : Shape) (known lock : ℕ) (reading : Reading) (is : IsReading 
       rw (fits.1, fits.2, fits.3) (fit.0, fit.1 ∙ omega arith)
   log_fits worker (LoadCells here turn script mask row cell) value at fits finds =
       let set : mask_has_cell named cell ≡ true = ap (λ (m : ℕ). mask_has_cell m cell) (sym fits.4) ∙ fits.5 in
-      let fit : FitsAt (cell_stage_from shape lock reading.turn reading.script named (slice_set row cell value) (first_cell named (cell + 1) shape.cells)) (2 + 3 * reading.script.n + mask_cells_below named (cell + 1))
+      let fit : FitsAt (cell_stage_from shape (logging_section lock reading.turn reading.script named) (slice_set row cell value) (first_cell named (cell + 1) shape.cells)) (2 + 3 * reading.script.n + mask_cells_below named (cell + 1))
       = cells_fit (slice_set row cell value) (cell + 1) fits.0 (length-set row cell value ∙ fits.6) (agree_more row cell value fits.6 at.1 fits.7 finds) (omega (arith, at.1)) in
       rw (fits.1, fits.2, fits.3, fits.4) (fit.0, fit.1 ∙ omega (arith, below_more named cell set))
   log_fits worker (StoreShadows visit mask row reply cell) value at fits finds =

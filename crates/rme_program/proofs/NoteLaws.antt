@@ -27,7 +27,7 @@ use Rattle.rme_program.specs.Masks.{first_cell}
 use Rattle.rme_program.specs.NoteLaws.{NoteMeaning, NoteMeaningLaw, phase_may_follow, PhaseOrderLaw, StepsLeftLaw, BegunLaw}
 use Rattle.rme_program.specs.Phases.{phase_of, log_steps_left, redo_steps_left, departure_steps_left}
 use Rattle.rme_program.specs.Progress.{phase_rank}
-use Rattle.rme_program.specs.Steps.{reentry_stage, after_other_node, after_recovery, after_slate, after_ascent, cell_stage_from, shadow_stage_from, slate_stage, after_log, copy_stage_from, after_redo, clear_stage, cleared_note, after_departure}
+use Rattle.rme_program.specs.Steps.{reentry_stage, after_other_node, after_recovery, after_slate, after_ascent, cell_stage_from, shadow_stage_from, slate_stage, after_log, copy_stage_from, after_redo, clear_stage, cleared_note, after_departure, logging_section}
 use Rattle.rme_program.proofs.Counts.{cells_below_less}
 use Rattle.rme_program.proofs.Scripting.{no_operations}
 
@@ -35,7 +35,7 @@ use Rattle.rme_program.proofs.Scripting.{no_operations}
 
 module _ (shape : Shape) (worker begun value : ℕ) where
   abbrev Told : Stage → Stage × Note → Type 0
-  Told stage out = NoteMeaning shape worker begun stage value out.0 out.1
+  Told stage out = NoteMeaning shape record { worker = worker; begun = begun; stage = stage } value out.0 out.1
 
   either : (stage : Stage) (b : Bool) (x y : Stage × Note) → (b ≡ true → Told stage x) → (b ≡ false → Told stage y) → Told stage (if b then x else y)
   either stage true x y t f = t refl
@@ -121,7 +121,7 @@ shadows_lead : (visit : Visit) (named : ℕ) (row : List ℕ) (reply : ℕ) (nex
 shadows_lead visit named row reply None = refl
 shadows_lead visit named row reply (Some cell) = refl
 
-cells_lead : (shape : Shape) (lock turn : ℕ) (script : Program) (named : ℕ) (row : List ℕ) (next : Option ℕ) → Leads phase.Section (cell_stage_from shape lock turn script named row next)
+cells_lead : (shape : Shape) (lock turn : ℕ) (script : Program) (named : ℕ) (row : List ℕ) (next : Option ℕ) → Leads phase.Section (cell_stage_from shape (logging_section lock turn script named) row next)
 cells_lead shape lock turn script named row None = shadows_lead _ _ _ _ (first_cell named 0 shape.cells)
 cells_lead shape lock turn script named row (Some cell) = refl
 

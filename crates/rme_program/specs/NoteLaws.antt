@@ -6,6 +6,7 @@ use Rattle.rme_program.specs.declared.kinds.Phase.{Phase}
 use Rattle.rme_program.specs.declared.kinds.Phase.TheVariants as phase
 use Rattle.rme_program.specs.declared.note.Note.{Note}
 use Rattle.rme_program.specs.declared.note.Note.TheVariants.{Quiet, Asked, Blocked, Entered, Reentered, Finished, Left, Ready, Withdrew}
+use Rattle.rme_program.specs.declared.private.Private.{Private}
 use Rattle.rme_program.specs.declared.stage.Stage.{Stage}
 use Rattle.rme_program.specs.declared.stage.Stage.TheVariants.{Resting, Recovering, Posting, Climbing, Logging, Copying, Leaving}
 use Rattle.rme_program.specs.declared.stage.Recovery.TheVariants.{LoadBegun, LoadPath}
@@ -19,36 +20,36 @@ use Rattle.rme_program.specs.Conditions.{IsStage, IsValidLoad}
 use Rattle.rme_program.specs.Phases.{phase_of, steps_left}
 use Rattle.rme_program.specs.Steps.{outcome_at, begun_after, reentry_stage, finish_outcome}
 
--- The meaning of a note, for the stage before the step, the value found and the stage after it. A job is asked for once
--- its whole slate is stored; a blocked worker keeps its stage; the lock is entered at the root; only the store of Done
--- finishes a section, and its receipt is the visit's.
-abbrev pub NoteMeaning : Shape → ℕ → ℕ → Stage → ℕ → Stage → Note → Type 0
-NoteMeaning shape worker begun stage value next Quiet = Unit {0}
-NoteMeaning shape worker begun stage value next (Asked number) =
-    (slate : Slate) × (stage ≡ Posting slate) × (number ≡ begun + 1)
+-- The meaning of a note, for the private state before the step, the value found and the stage after it. A job is asked
+-- for once its whole slate is stored; a blocked worker keeps its stage; the lock is entered at the root; only the store
+-- of Done finishes a section, and its receipt is the visit's.
+abbrev pub NoteMeaning : Shape → Private → ℕ → Stage → Note → Type 0
+NoteMeaning shape before value next Quiet = Unit {0}
+NoteMeaning shape before value next (Asked number) =
+    (slate : Slate) × (before.stage ≡ Posting slate) × (number ≡ before.begun + 1)
     × (next ≡ Climbing record { lock = slate.job.lock; held = 0 })
     × (slate.stored ≡ 2 + 3 * slate.job.script.n)
-NoteMeaning shape worker begun stage value next Blocked =
-    (ascent : Ascent) × (stage ≡ Climbing ascent) × (value ≢ 0) × (next ≡ stage)
-NoteMeaning shape worker begun stage value next (Entered lock) =
-    (held : ℕ) × (stage ≡ Climbing record { lock = lock; held = held }) × (held + 1 ≡ shape.height)
+NoteMeaning shape before value next Blocked =
+    (ascent : Ascent) × (before.stage ≡ Climbing ascent) × (value ≢ 0) × (next ≡ before.stage)
+NoteMeaning shape before value next (Entered lock) =
+    (held : ℕ) × (before.stage ≡ Climbing record { lock = lock; held = held }) × (held + 1 ≡ shape.height)
     × (next ≡ Logging (LoadTurn lock))
-NoteMeaning shape worker begun stage value next (Reentered lock) =
-    (pending : Bool) × (held : ℕ) × (stage ≡ Recovering (LoadPath pending lock held)) × (held + 1 ≡ shape.height)
-    × (next ≡ reentry_stage pending lock)
-NoteMeaning shape worker begun stage value next (Finished receipt) =
-    (visit : Visit) × (mask : ℕ) × (reply : ℕ) × (stage ≡ Copying (StoreDone visit mask reply))
-    × ((next, Finished receipt) ≡ finish_outcome worker begun visit reply)
-NoteMeaning shape worker begun stage value next (Left lock) = stage ≡ Leaving (Clear lock shape.height)
-NoteMeaning shape worker begun stage value next Ready = next ≡ Resting
-NoteMeaning shape worker begun stage value next (Withdrew number) =
-    (lock : ℕ) × (held : ℕ) × (stage ≡ Leaving (WithdrawDone lock held)) × (number ≡ begun)
+NoteMeaning shape before value next (Reentered lock) =
+    (pending : Bool) × (held : ℕ) × (before.stage ≡ Recovering (LoadPath pending lock held))
+    × (held + 1 ≡ shape.height) × (next ≡ reentry_stage pending lock)
+NoteMeaning shape before value next (Finished receipt) =
+    (visit : Visit) × (mask : ℕ) × (reply : ℕ) × (before.stage ≡ Copying (StoreDone visit mask reply))
+    × ((next, Finished receipt) ≡ finish_outcome before.worker before.begun visit reply)
+NoteMeaning shape before value next (Left lock) = before.stage ≡ Leaving (Clear lock shape.height)
+NoteMeaning shape before value next Ready = next ≡ Resting
+NoteMeaning shape before value next (Withdrew number) =
+    (lock : ℕ) × (held : ℕ) × (before.stage ≡ Leaving (WithdrawDone lock held)) × (number ≡ before.begun)
 
 abbrev pub NoteMeaningLaw : Type 0
 NoteMeaningLaw =
     (shape : Shape) (worker begun : ℕ) (stage : Stage) (value : ℕ)
-    → NoteMeaning shape worker begun stage value (outcome_at shape worker begun stage value).0
-    (outcome_at shape worker begun stage value).1
+    → NoteMeaning shape record { worker = worker; begun = begun; stage = stage } value
+    (outcome_at shape worker begun stage value).0 (outcome_at shape worker begun stage value).1
 
 -- The phases to which a step may lead: its own, and the next in the worker's cycle; Recover may lead to any but Post.
 abbrev pub phase_may_follow : Phase → Phase → Bool

@@ -43,7 +43,8 @@ NamedMaskLaw =
 pub record ReentryStep (shape : Shape) (worker begun done lock : ℕ) : Type 0 where
   pub there : slice_get (recover_row shape worker (nat_lt done begun) lock) (shape.height + 2) ≡ Some
       (Load (path_node shape worker lock shape.height))
-  pub alone : (place value here : ℕ) → (recover_outcome shape worker (recovery_reading begun done lock) place value).1 ≡ Reentered here
+  pub alone : (place value here : ℕ)
+      → (recover_outcome shape worker (recovery_reading begun done lock) place value).1 ≡ Reentered here
       → place ≡ shape.height + 2
 
 -- The values with which a stay begins: levels below the root for a partial or withdrawing Exit; a script of the shape

@@ -1,5 +1,7 @@
 -- The stays of a worker in its phases: the row of each, the steps of it that a worker at a stage has made, and the
--- outcome of each step by the table.
+-- outcome of each step by the table. A reader of the step table can stop before THE KNOWLEDGE OF A STAGE: until there
+-- is what a stay is, its row, and what its loads may find. THE THEOREM at the end says that each step of the code is
+-- its row's, with its row's outcome; what lies between defines a worker's place in a row, and that outcome.
 use Rattle.std.specs.Prelude.{◌≡◌, ◌≢◌, ℕ, ◌+◌, ◌-◌, ◌*◌, ◌/◌, ◌%◌, ◌<◌, ◌≤◌, Bool, true, ◌==◌, nat_lt, if◌then◌else◌, List, length, take, slice_index, Some}
 use Rattle.std.specs.List.{slice_get}
 use Rattle.rme_words.specs.declared.shape.Shape.{Shape}

@@ -121,24 +121,35 @@ shadow_stage_from visit named row reply (Some cell) = Logging (StoreShadows visi
 shadow_stage_from visit named row reply None = Logging (StoreShadowReply visit named reply)
 
 -- A section at an even turn, of a script that names these cells.
+pub record LoggingSection : Type 0 where
+  pub lock : ℕ
+  pub turn : ℕ
+  pub script : Program
+  pub named : ℕ
+
+abbrev pub logging_section : ℕ → ℕ → Program → ℕ → LoggingSection
+logging_section lock turn script named = record { lock = lock; turn = turn; script = script; named = named }
+
 abbrev pub even_visit : ℕ → ℕ → Program → ℕ → Visit
 even_visit lock turn script named = record { lock = lock; turn = turn; parity = Even script.n named }
 
 -- The script is run on the row of the named cells.
-abbrev pub run_stage : Shape → ℕ → ℕ → Program → ℕ → List ℕ → Stage
-run_stage shape lock turn script named row =
-    shadow_stage_from (even_visit lock turn script named) named (eval_of script.ops row).row
-    (eval_of script.ops row).reply (first_cell named 0 shape.cells)
+abbrev pub run_stage : Shape → LoggingSection → List ℕ → Stage
+run_stage shape section row =
+    shadow_stage_from (even_visit section.lock section.turn section.script section.named) section.named
+    (eval_of section.script.ops row).row (eval_of section.script.ops row).reply
+    (first_cell section.named 0 shape.cells)
 
 -- The named cells from here on are not yet loaded.
-abbrev pub cell_stage_from : Shape → ℕ → ℕ → Program → ℕ → List ℕ → Option ℕ → Stage
-cell_stage_from shape lock turn script named row (Some cell) = Logging (LoadCells lock turn script named row cell)
-cell_stage_from shape lock turn script named row None = run_stage shape lock turn script named row
+abbrev pub cell_stage_from : Shape → LoggingSection → List ℕ → Option ℕ → Stage
+cell_stage_from shape section row (Some cell) =
+    Logging (LoadCells section.lock section.turn section.script section.named row cell)
+cell_stage_from shape section row None = run_stage shape section row
 
 -- The script is known.
 abbrev pub script_stage : Shape → ℕ → ℕ → Option Program → Stage
 script_stage shape lock turn (Some script) =
-    cell_stage_from shape lock turn script (mask_of script.ops) (replicate shape.cells 0)
+    cell_stage_from shape (logging_section lock turn script (mask_of script.ops)) (replicate shape.cells 0)
     (first_cell (mask_of script.ops) 0 shape.cells)
 script_stage shape lock turn None = Resting
 
@@ -164,7 +175,8 @@ after_log shape (LoadLen lock turn) value = slate_stage shape lock turn value (r
 after_log shape (LoadSlate lock turn operations words loaded) value =
     slate_stage shape lock turn operations (slice_set words loaded value) (loaded + 1)
 after_log shape (LoadCells lock turn script named row cell) value =
-    cell_stage_from shape lock turn script named (slice_set row cell value) (first_cell named (cell + 1) shape.cells)
+    cell_stage_from shape (logging_section lock turn script named) (slice_set row cell value)
+    (first_cell named (cell + 1) shape.cells)
 after_log shape (StoreShadows visit named row reply cell) value =
     shadow_stage_from visit named row reply (first_cell named (cell + 1) shape.cells)
 after_log shape (StoreShadowReply visit named reply) value = Logging (StoreMask visit named)

@@ -1,4 +1,4 @@
-//! Why a worker is not handed a job.
+//! Why a worker is refused a job.
 
 use crate::job::Job;
 use rme_words::{Refusal, Shape};
@@ -8,10 +8,11 @@ impl Job {
     ghost use Rattle.rme_script.specs.JobRefusals.{job_refusal};
     ghost use Rattle.rme_script.specs.Jobs.{IsJob};
 
-    /// Why a worker of the shape that has begun this many jobs is not handed this one; `None` where it may be.
+    /// Why a worker of the shape that has begun this number of jobs is refused this one; `None` if it is not.
     ///
-    /// `NoLock` where there is no such lock, then `BadScript` where the script has more than 8 operations, then `NoCell`
-    /// where it names a cell that is not there, then `TooManyJobs` where the worker has begun as many as the shape has.
+    /// In order of priority: `NoLock` if there is no such lock, `BadScript` if the script has more than 8 operations,
+    /// `NoCell` if it names a cell that is not there, and `TooManyJobs` if the worker has begun as many jobs as the
+    /// shape has.
     pub fn refusal(&self, shape: Shape, begun: u32) -> Option<Refusal>
         ensures exact { result ≡ job_refusal shape begun self.now }
         ensures may { result ≡ None → IsJob shape self.now × (begun < shape.jobs) }

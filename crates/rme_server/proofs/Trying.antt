@@ -24,7 +24,7 @@ use Rattle.rme_session_protocol.specs.Attempts.{merged_reply, retry_order, is_st
 use Rattle.rme_session_protocol.specs.declared.view.PendingWorker.{PendingWorker}
 use Rattle.rme_session_protocol.specs.declared.view.Session as shown
 use Rattle.rme_session_protocol.specs.declared.view.SessionView.{SessionView}
-use Rattle.rme_session_protocol.proofs.Trying as sight
+use Rattle.rme_session_protocol.proofs.Trying as session_laws
 use Rattle.rme_session_protocol.proofs.Trying.{IsClimb, climb_not_refused, enter_not_refused, false_true}
 use Rattle.rme_session_threads.specs.ThreadSteps.{stand_change, ThreadOrderEffect, AppendsJobEntry, EnterEntries, ReadyEnterEntries, ReadySubmitEntries, EntersWithoutEntry, OrderOwnSteps, ThreadSessionStep, ResumeEntries, SubmitEntries}
 use Rattle.rme_session_threads.specs.Stands.{held_draft, held_entries, held_worker, holding_session, stand_view}
@@ -73,7 +73,7 @@ all_tries ident count tries old now its reply all obeys = let acts = obeys.acts 
     made = acts.made;
     before = acts.before;
     after = acts.after;
-    obeys = sight.all_tries ident.shape acts.made tries (stand_view acts.before old) (stand_view acts.after now) its reply all acts.obeys;
+    obeys = session_laws.all_tries ident.shape acts.made tries (stand_view acts.before old) (stand_view acts.after now) its reply all acts.obeys;
     told_before = acts.told_before;
     told_after = acts.told_after;
     adds = adds_tried ident count acts.made tries old now obeys.let_go its reply acts.adds;
@@ -157,7 +157,7 @@ draft_of_waiting : (shape : Shape) (made : ℕ) (old : SessionView) (value : Hol
     → IsClimb (holding_session last value) → SessionStepInSteps shape made old (Submit its) mid (Submitted Waiting) → held_draft (held_worker value) ≡ Some its.job
 draft_of_waiting shape made old Empty mid last its at climbs obeys = absurd climbs
 draft_of_waiting shape made old (Ready ready) mid last its at climbs obeys = absurd climbs
-draft_of_waiting shape made old (Climb climb) mid last its at climbs obeys = sight.waits_with shape made old mid _ its at obeys
+draft_of_waiting shape made old (Climb climb) mid last its at climbs obeys = session_laws.waits_with shape made old mid _ its at obeys
 draft_of_waiting shape made old (Held held) mid last its at climbs obeys = absurd climbs
 
 draft_of_resumed : (start value : Holding) (one two : Option program.Receipt) → ResumeOrderEffect (holding_session one start) (holding_session two value) Waiting → held_draft (held_worker value) ≡ held_draft (held_worker start)
@@ -238,7 +238,7 @@ pub both_parts : (ident : ServiceId) (count tries : ℕ) (old mid now : Session)
 both_parts ident count tries old mid now its reply last some waits first then =
     let one = first.acts in
     let two = then.acts in
-    let still = sight.still_climbs ident.shape tries one.made (stand_view one.before old) (stand_view one.after mid) some its reply waits one.obeys in
+    let still = session_laws.still_climbs ident.shape tries one.made (stand_view one.before old) (stand_view one.after mid) some its reply waits one.obeys in
     let same = same_view mid one.after two.before still.0 in
     let P : SessionView → Type 0 = λ view. SessionStepInSteps ident.shape two.made view (retry_order its) (stand_view two.after now) last in
     let more = subst P (sym same) two.obeys in record {
@@ -247,7 +247,7 @@ both_parts ident count tries old mid now its reply last some waits first then =
         made = one.made + two.made;
         before = one.before;
         after = two.after;
-        obeys = sight.both_parts ident.shape tries one.made two.made (stand_view one.before old) (stand_view one.after mid) (stand_view two.after now) its reply last waits one.obeys more;
+        obeys = session_laws.both_parts ident.shape tries one.made two.made (stand_view one.before old) (stand_view one.after mid) (stand_view two.after now) its reply last waits one.obeys more;
         told_before = one.told_before;
         told_after = two.told_after;
         adds = adds_both ident count tries one.made two.made old mid now one.before one.after (stand_view two.after now) first.let_go then.let_go still.0 still.1 its reply last waits one.obeys
@@ -282,15 +282,15 @@ over tries its reply not waits = absurd (false_true (sym not ∙ waits))
 -- The reply of some number of tries, after which no further try is needed, is that of the order, or the client is gone.
 module _ (gone : Type 0) (ident : ServiceId) (count : ℕ) (old now : Session) (its : Order) (reply : SessionReply) where
   until_gone : (tries : ℕ) → 1 ≤ tries → ThreadSessionStep ident count old (with_tries tries its) now reply → is_still_waiting reply ≡ true → (least_patience_tries (order_patience its) ≤ tries) ⊎ gone
-      → SessionStepUntilGone gone ident count old its now reply
+      → SessionStepUntilGone gone (ThreadSessionStep ident count) old its now reply
   until_gone tries some step waits (inl all) = inl (all_tries ident count tries old now its reply (λ w. all) step)
   until_gone tries some step waits (inr is) = inr (is, waits, (tries, some, step))
 
   by_waiting : (waits : Bool) → is_still_waiting reply ≡ waits → (tries : ℕ) → 1 ≤ tries → ThreadSessionStep ident count old (with_tries tries its) now reply → MayStopAfter gone its tries reply
-      → SessionStepUntilGone gone ident count old its now reply
+      → SessionStepUntilGone gone (ThreadSessionStep ident count) old its now reply
   by_waiting true is tries some step stops = until_gone tries some step is (stops is)
   by_waiting false is tries some step stops = inl (all_tries ident count tries old now its reply (over tries its reply is) step)
 
   pub tries_until_gone : IsReplyOfTries (λ (tries : ℕ). λ (r : SessionReply). ThreadSessionStep ident count old (with_tries tries its) now r) (λ (tries : ℕ). λ (r : SessionReply). MayStopAfter gone its tries r) reply
-      → SessionStepUntilGone gone ident count old its now reply
+      → SessionStepUntilGone gone (ThreadSessionStep ident count) old its now reply
   tries_until_gone (tries, some, step, stops) = by_waiting (is_still_waiting reply) refl tries some step stops

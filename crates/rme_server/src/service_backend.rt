@@ -8,11 +8,11 @@ use rme_session_protocol::{
 };
 use rme_session_server::{
     AnswerError, AttemptError, Backend, Buffers, Client, CloseHandle, FirstReply, OrderAttempts,
-    OrderRun, SessionRegistry, update_claim,
+    OrderRequest, OrderRun, SessionRegistry, update_claim,
 };
 use rme_session_threads::{Holding, Slots, Stand, detach_session, obey};
 use rme_table::{Service, Tag};
-use rme_wire::{Cut, Names, Sink};
+use rme_wire::{Names, Sink};
 use rme_words::Refusal;
 use std::alloc::Global;
 use std::sync::Wait;
@@ -43,6 +43,7 @@ impl<K: Tag, H: CloseHandle> Backend for ServiceBackend<'_, K, H> {
     ghost use Rattle.rme_server.specs.ServiceAttempts.{SessionStepUntilGone};
     ghost use Rattle.rme_session_protocol.specs.Orders.{world_numbers};
     ghost use Rattle.rme_session_threads.specs.Stands as stands;
+    ghost use Rattle.rme_session_threads.specs.ThreadSteps.{ThreadSessionStep};
 
     type Stand = Stand;
 
@@ -54,7 +55,8 @@ impl<K: Tag, H: CloseHandle> Backend for ServiceBackend<'_, K, H> {
 
     ghost nobody = { λ _. stands.empty_stand };
 
-    ghost answers = { λ host gone. SessionLineAnswer (SessionStepUntilGone gone K.ident host.slots.now) host.names.now
+    ghost answers = { λ host gone.
+        SessionLineAnswer (SessionStepUntilGone gone (ThreadSessionStep K.ident host.slots.now)) host.names.now
         world_numbers };
 
     fn alloc(&self) -> Global {
@@ -77,12 +79,11 @@ impl<K: Tag, H: CloseHandle> Backend for ServiceBackend<'_, K, H> {
         &self,
         rt: &R,
         stand: Stand,
-        cut: Cut,
         buffers: &mut Buffers,
         writer: &mut O,
         client: &C,
     ) -> (Stand, Result<(), AnswerError>) {
-        let order = match buffers.parse_order(cut, self.names, WORLD_NUMBERS) {
+        let order = match buffers.parse_order(self.names, WORLD_NUMBERS) {
             Ok(Ok(order)) => order,
             Ok(Err(why)) => return (
                 stand,
@@ -92,8 +93,7 @@ impl<K: Tag, H: CloseHandle> Backend for ServiceBackend<'_, K, H> {
         };
         let run = OrderRun {
             backend: self,
-            client,
-            order,
+            request: OrderRequest { client, order },
         };
         let (stand, replied) = run.execute(rt, stand, &mut buffers.exchange, writer);
         match replied {
@@ -131,7 +131,8 @@ impl<K: Tag, H: CloseHandle> OrderAttempts for ServiceBackend<'_, K, H> {
 
     ghost says = { λ reply. reply };
 
-    ghost executes = { λ host tries old its now reply. ThreadSessionStep K.ident host.slots.now old (with_tries tries its) now
+    ghost executes = { λ host tries old its now reply. ThreadSessionStep K.ident host.slots.now old
+        (with_tries tries its) now
         reply };
 
     fn registry(&self) -> &SessionRegistry<H> {
@@ -157,12 +158,12 @@ impl<K: Tag, H: CloseHandle> OrderAttempts for ServiceBackend<'_, K, H> {
         &self,
         rt: &R,
         stand: Stand,
-        order: &Order,
+        request: &OrderRequest<'_, C>,
         is_hurried: bool,
-        client: &C,
     ) -> (Stand, Result<FirstReply<SessionReply>, AttemptError>) {
-        let tries = quick_tries(order, is_hurried);
-        let (stand, reply) = self.attempt(rt, stand, &with_tries(order, tries), client);
+        let tries = quick_tries(&request.order, is_hurried);
+        let order = with_tries(&request.order, tries);
+        let (stand, reply) = self.attempt(rt, stand, &order, request.client);
         (stand, Ok(FirstReply { reply, tries }))
     }
 
@@ -170,11 +171,11 @@ impl<K: Tag, H: CloseHandle> OrderAttempts for ServiceBackend<'_, K, H> {
         &self,
         rt: &R,
         stand: Stand,
-        order: &Order,
+        request: &OrderRequest<'_, C>,
         reply: SessionReply,
-        client: &C,
     ) -> (Stand, Result<SessionReply, AttemptError>) {
-        let (stand, last) = self.attempt(rt, stand, &retry_order(*order), client);
+        let order = retry_order(request.order);
+        let (stand, last) = self.attempt(rt, stand, &order, request.client);
         (stand, Ok(merge_replies(reply, last)))
     }
 }

@@ -32,6 +32,7 @@ use Rattle.rme_service_steps.specs.SeatViews.{SeatView}
 use Rattle.rme_service_steps.specs.CallSteps.{seat_call, PartIsAtStage, CallProgress, CallFell, OwnStepWasMade, FinishIsAllowed}
 use Rattle.rme_service_steps.proofs.Chains.{walks_then}
 use Rattle.rme_service_steps.proofs.Leading.{leads_onward}
+use Rattle.rme_service_steps.proofs.Reading.{finished_place}
 use Rattle.rme_service_steps.proofs.Seats.{stood_after}
 use Rattle.rme_service_phases.specs.Sections.{visit_of_part, parity_of_stage, RedoSteps}
 
@@ -51,6 +52,7 @@ module _ (s : Shape) (p : Part) (b mask reply : ℕ) (visit : Visit) (at : PartI
       leads = leads_onward s p (λ e. busy (sym (ap (λ (q : Private). q.stage) at.private) ∙ e));
       entries = refl;
       count = refl;
+      section = refl;
       here = ap (private_action s) at.private ∙ ap (λ (n : ℕ). Store (Done p.worker) n) (sym is);
       within = at.stood.worker;
       lies = its ∙ ap (λ (x : Shape). position_of_address x (Done worker)) same ∙ ap (λ (w : ℕ). position_of_address s (Done w)) own;
@@ -113,6 +115,8 @@ module _ (s : Shape) (a c d : SeatView) (t u v : ChanceCounts) (b lock turn mask
       by = own;
       number = refl;
       at_lock = refl;
+      place = λ section knew. finished_place s c.part begun (receipt_of c.part.worker lock b turn reply) made.told (λ e. unfinished (sym (ap (λ (q : Private). q.stage) done.at.private) ∙ e))
+          (ap (λ (n : ℕ). note_after s c.part.private n) is ∙ finishes_note s c.part b mask reply (visit_of_part a.part lock turn) done.at) section (done.stays.section ∙ knew);
       at = record {
         private = now ∙ mine;
         stood = subst (λ (p : Part). PartWasInWorld s p) (sym made.took) (stood_after s c.part begun made.told);
@@ -121,6 +125,9 @@ module _ (s : Shape) (a c d : SeatView) (t u v : ChanceCounts) (b lock turn mask
     steps = all_steps s c.part b mask reply (visit_of_part a.part lock turn) done.at ∙ ap (λ (o : Option Job). section_steps s (draft_script o) mask (parity_of_stage a.part.private.stage)) done.stays.draft;
   }
     where
+      unfinished : ◌≡◌ {A = Stage} (Copying (StoreDone (visit_of_part a.part lock turn) mask reply)) Resting → ⊥
+      unfinished e = cc
+
       now : ◌≡◌ {A = Private} d.part.private record { worker = c.part.worker; begun = b; stage = Leaving (LoadExitTurn lock) }
       now = ap (λ (p : Part). p.private) took ∙ ap (λ (q : Private). private_after s q b) done.at.private
 
@@ -130,4 +137,4 @@ module _ (s : Shape) (a c d : SeatView) (t u v : ChanceCounts) (b lock turn mask
 
 -- A fall within fewer steps is one within more.
 pub falls_wider : {s : Shape} {lead : Part → Part} {a b : SeatView} {t u : ChanceCounts} {few most : ℕ} → CallFell (seat_call s lead a b t u) few → few ≤ most → CallFell (seat_call s lead a b t u) most
-falls_wider fell less = record { walks = fell.walks; fewer = omega (arith, fell.fewer, less); ident = fell.ident; own = fell.own; entries = fell.entries }
+falls_wider fell less = record { walks = fell.walks; fewer = omega (arith, fell.fewer, less); ident = fell.ident; own = fell.own; entries = fell.entries; section = fell.section }

@@ -35,7 +35,7 @@ pending_of s own held locks b (Logging log) waits knows = knows.0.pending
 pending_of s own held locks b (Copying redo) waits knows = knows.0.pending
 pending_of s own held locks b (Leaving departure) waits knows = cc
 
--- The words behind those of the operations do not matter.
+-- The words after those of the operations do not matter.
 front_same : (words : List ℕ) (ops : List Op) (k i : ℕ) → take k words ≡ ops_words ops → k ≤ length words → i < k → slice_index words i ≡ slice_index (slate_of ops) i
 front_same words ops k i same long below =
     let counted : length (ops_words ops) ≡ min k (length words) = ap length (sym same) ∙ length-take k words in

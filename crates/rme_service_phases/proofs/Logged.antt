@@ -10,7 +10,7 @@ use Rattle.rme_program.specs.declared.stage.Log.TheVariants.{LoadCells, StoreSha
 use Rattle.rme_program.specs.declared.stage.Redo.TheVariants.{LoadMask}
 use Rattle.rme_program.specs.declared.stage.Visit.{Visit}
 use Rattle.rme_program.specs.Masks.{first_cell}
-use Rattle.rme_program.specs.Steps.{cell_stage_from, shadow_stage_from}
+use Rattle.rme_program.specs.Steps.{cell_stage_from, shadow_stage_from, logging_section}
 use Rattle.rme_service_steps.specs.Layout.{position_of_address}
 use Rattle.rme_service_steps.specs.Parts.{unchanged_part}
 use Rattle.rme_service_steps.specs.Chances.{ChanceCounts}
@@ -25,9 +25,9 @@ module _ (s : Shape) (a : SeatView) (t : ChanceCounts) (b lock turn named cell :
   named_may shape number same its = may_load s a.part b _ at (Cell lock cell) number refl refl (lock_in, small) (its ∙ ap (λ (x : Shape). position_of_address x (Cell lock cell)) same)
 
   pub named_loaded : (c : SeatView) (u : ChanceCounts) (value : ℕ) (later : List ℕ) → later ≡ slice_set row cell value → OwnStepWasMade (seat_call s unchanged_part a c t u) value
-      → CallProgress (seat_call s unchanged_part a c t u) 1 b (cell_stage_from s lock turn script named later (first_cell named (cell + 1) s.cells))
+      → CallProgress (seat_call s unchanged_part a c t u) 1 b (cell_stage_from s (logging_section lock turn script named) later (first_cell named (cell + 1) s.cells))
   named_loaded c u value later is made =
-      subst (λ (xs : List ℕ). CallProgress (seat_call s unchanged_part a c t u) 1 b (cell_stage_from s lock turn script named xs (first_cell named (cell + 1) s.cells))) (sym is) (did s a c t u value made at refl refl refl)
+      subst (λ (xs : List ℕ). CallProgress (seat_call s unchanged_part a c t u) 1 b (cell_stage_from s (logging_section lock turn script named) xs (first_cell named (cell + 1) s.cells))) (sym is) (did s a c t u value made at refl refl refl)
 
 -- One shadow word stored.
 module _ (s : Shape) (a : SeatView) (t : ChanceCounts) (b named reply cell : ℕ) (visit : Visit) (row : List ℕ) (at : PartIsAtStage s a.part b (Logging (StoreShadows visit named row reply cell)))

@@ -1,4 +1,4 @@
--- A loop over the cells of a mask, rising, with so many steps for each.
+-- A loop over the cells of a mask, in ascending order, with a fixed number of steps for each.
 use Rattle.std.proofs.Common.{List, length, ◌≡◌, ℕ, suc, ◌+◌, ◌*◌, ◌<◌, ◌≤◌, sym, ◌∙◌, ap, subst, mul-le-mul_right, suc-mul, arith}
 use Rattle.std.specs.Prelude.{Option, Some, None}
 use Rattle.rme_words.specs.declared.shape.Shape.{Shape}

@@ -63,6 +63,7 @@ module _ (s : Shape) (a c d : SeatView) (t u v : ChanceCounts) (m b begun lock t
     by = f.by ∙ one.stays.own;
     number = f.number;
     at_lock = f.at_lock;
+    place = λ section knew. f.place section (one.stays.section ∙ knew);
     at = f.at;
   }
 

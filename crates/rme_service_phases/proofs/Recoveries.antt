@@ -1,4 +1,4 @@
--- The recovery of a worker: the restart, the loads up to the lock, and the look up the path.
+-- The recovery of a worker: the restart, the loads up to the lock, and the search of the path.
 use Rattle.std.proofs.Common.{◌≡◌, ◌≢◌, ℕ, ◌+◌, ◌<◌, ◌≤◌, refl, sym, ◌∙◌, ap, subst, arith}
 use Rattle.std.specs.Prelude.{Bool, true, false, nat_lt}
 use Rattle.std.proofs.lemmas.Bool.{eq-eqb, ne_eqb}
@@ -59,6 +59,7 @@ module _ (ident : ServiceId) (a : SeatView) (ours : a.ident ≡ ident) (stood : 
           leads = leads_restart ident.shape a.part;
           entries = refl;
           count = refl;
+          section = refl;
           here = refl;
           within = worker_in;
           lies = its ∙ ap (λ (y : Shape). position_of_address y (Begun worker)) same ∙ ap (λ (w : ℕ). position_of_address ident.shape (Begun w)) mine;
@@ -74,7 +75,7 @@ module _ (ident : ServiceId) (a : SeatView) (ours : a.ident ≡ ident) (stood : 
 
       module _ (begun : ℕ) (one : OwnStepWasMade (seat_call ident.shape restarted_part a b t u) begun) where
         restarts : CallProgress (seat_call ident.shape restarted_part a b t u) 1 begun (Recovering LoadDone)
-        restarts = did_led ident.shape restarted_part a b t u begun 0 (Recovering LoadBegun) one refl refl refl refl refl refl refl
+        restarts = did_led ident.shape restarted_part a b t u begun 0 (Recovering LoadBegun) one refl refl refl refl refl refl refl refl
 
         pub begun_few : begun ≤ 1000000
         begun_few = let few = few_begun ident.shape b.part begun (Recovering LoadDone) restarts.at in

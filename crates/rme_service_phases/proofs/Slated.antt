@@ -31,7 +31,7 @@ use Rattle.rme_service_steps.specs.Chances.{ChanceCounts}
 use Rattle.rme_service_steps.specs.SeatViews.{ServiceId, SeatView}
 use Rattle.rme_service_steps.specs.CallSteps.{seat_call, PartIsAtStage, PartIsBeforeStage, CallProgress, CallFell, FellBeforeStep, OwnStepWasMade, LoadIsAllowed}
 use Rattle.rme_service_steps.proofs.Chains.{nothing, did, then_on, falls_on, falls_at, may_load, takes_value}
-use Rattle.rme_service_phases.specs.Sections.{SlateIsRead, LogSteps, even_visit, has_unfinished_job}
+use Rattle.rme_service_phases.specs.Sections.{SlateIsRead, LogSteps, visit_from_even_turn, has_unfinished_job}
 use Rattle.rme_service_phases.proofs.Drafted.{IsDrafted, is_drafted, slate_of_long, drafted_script}
 
 -- So many words were loaded, which are those of the draft; once they are all, they are a script of the shape.
@@ -164,7 +164,7 @@ script_count n words p read = elim (cases_Bool (nat_lt 8 n)) [
     of_ops (Some ops) e = ap (λ (q : Program). q.n) (same_Some p record { n = n; ops = ops } e)
 
 pub logs : {s : Shape} {a c : SeatView} {t u : ChanceCounts} {lock turn : ℕ} (script : Program) → IsScript s.cells script
-    → CallProgress (seat_call s unchanged_part a c t u) (4 + 3 * script.n + mask_cells_below (mask_of script.ops) s.cells * 2) a.part.private.begun (Copying (LoadMask (even_visit lock turn script.n (mask_of script.ops))))
+    → CallProgress (seat_call s unchanged_part a c t u) (4 + 3 * script.n + mask_cells_below (mask_of script.ops) s.cells * 2) a.part.private.begun (Copying (LoadMask (visit_from_even_turn lock turn script.n (mask_of script.ops))))
     → LogSteps (seat_call s unchanged_part a c t u) lock turn
 logs script good doing = record { script = script; good = good; doing = doing }
 

@@ -31,6 +31,7 @@ module _ (s : Shape) (p : Part) (lock held : ℕ) (at : PartIsBeforeStage s p (C
         leads = leads_withdraw s p record { lock = lock; held = held } (ap (λ (q : Private). q.stage) at.private);
         entries = refl;
         count = refl;
+        section = refl;
         here = ap (private_action s) gives_up;
         within = at.stood.worker;
         lies = its ∙ ap (λ (y : Shape). position_of_address y (Place worker)) same ∙ ap (λ (w : ℕ). position_of_address s (Place w)) own;
@@ -46,7 +47,7 @@ module _ (s : Shape) (a b : SeatView) (t u : ChanceCounts) (lock held : ℕ) (at
 
   module _ (x : Shape) (worker : ℕ) (same : x ≡ s) (own : worker ≡ a.part.worker) (one : OwnStepWasMade (seat_call s withdrawing_part a b t u) withdrawn_place) where
     placed : CallProgress (seat_call s withdrawing_part a b t u) 1 a.part.private.begun (Leaving (WithdrawAt lock held))
-    placed = did_led s withdrawing_part a b t u withdrawn_place a.part.private.begun (Leaving (WithdrawPlace lock held)) one (gives_up s a.part lock held at) refl refl refl refl refl refl
+    placed = did_led s withdrawing_part a b t u withdrawn_place a.part.private.begun (Leaving (WithdrawPlace lock held)) one (gives_up s a.part lock held at) refl refl refl refl refl refl refl
 
     pub at_may : (number : ℕ) → number ≡ position_of_address x (At worker) → StoreIsAllowed s unchanged_part b.part number lock
     at_may number its = next_store s withdrawing_part a b t u placed At x worker number refl at.stood.worker same own its lock (λ w. refl)

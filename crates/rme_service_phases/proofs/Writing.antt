@@ -103,6 +103,7 @@ module _ (s : Shape) (job : Job) (a : SeatView) (t : ChanceCounts) (b : ℕ) (re
     leads = leads_submit s a.part job (ap (λ (q : Private). q.stage) rests.private) (subst (λ (n : ℕ). n < s.jobs) (sym (ap (λ (q : Private). q.begun) rests.private)) few) good;
     entries = refl;
     count = refl;
+    section = refl;
     here = ap (λ (w : ℕ). Store (SlateLock w) job.lock) (ap (λ (q : Private). q.worker) rests.private);
     within = rests.stood.worker;
     lies = its;
@@ -113,7 +114,7 @@ module _ (s : Shape) (job : Job) (a : SeatView) (t : ChanceCounts) (b : ℕ) (re
     post_one made =
         let first : ◌≡◌ {A = Private} (submitted_part job a.part).private record { worker = a.part.worker; begun = b; stage = Posting record { job = job; stored = 0 } } =
         ap {B = Private} (λ (q : Private). record { worker = q.worker; begun = q.begun; stage = Posting record { job = job; stored = 0 } }) rests.private in
-        did_led s (submitted_part job) a c t v job.lock b (Posting record { job = job; stored = 0 }) made first refl refl refl refl
+        did_led s (submitted_part job) a c t v job.lock b (Posting record { job = job; stored = 0 }) made first refl refl refl refl refl
         (slate_goes a.part.worker b job 0 (omega arith)) (slate_keeps a.part.worker b job 0 job.lock (omega arith))
 
     pub len_may : (u : ChanceCounts) (at n : ℕ) → n ≡ job.script.n → CallProgress (seat_call s (submitted_part job) a c t u) 1 b (Posting record { job = job; stored = 1 }) → at ≡ position_of_address s (SlateLen a.part.worker)

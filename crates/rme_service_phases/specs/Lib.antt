@@ -1,5 +1,5 @@
--- In reading order: what a sweep of phase Enter has done, what phase Recover finds, and what a section's parts say of
--- each other.
+-- In reading order: the steps of a sweep of phase Enter; the results of phase Recover; and the steps of a section and
+-- of its parts.
 pub mod Climbs
 pub mod Recoveries
 pub mod Sections

@@ -1,4 +1,4 @@
--- The stages of a section as its straight code goes through them, and the steps of a section.
+-- The stages of a section in order, and the number of its steps.
 use Rattle.std.specs.Prelude.{◌≡◌, ◌⊎◌, ℕ, ◌+◌, ◌*◌, List, [], ◌∷◌, ◌++◌, length, Some, Bool, true, false}
 use Rattle.rme_words.specs.declared.shape.Shape.{Shape}
 use Rattle.rme_script.specs.Cells.{cells_of_ops}
@@ -21,7 +21,7 @@ use Rattle.rme_service_steps.specs.declared.seat_record.Part.{Part}
 use Rattle.rme_service_steps.specs.Parts.{draft_script}
 use Rattle.rme_service_steps.specs.CallSteps.{SeatCall, SeatStepSequence, PartIsAtStage, CallProgress}
 
--- How the section was begun that a stage is in, which no code keeps.
+-- The parity at which the section of a stage was begun. No code keeps it.
 abbrev pub parity_of_redo : Redo → Parity
 parity_of_redo (LoadMask visit) = visit.parity
 parity_of_redo (LoadShadow visit mask cell) = visit.parity
@@ -36,37 +36,36 @@ abbrev pub parity_of_stage : Stage → Parity
 parity_of_stage (Copying redo) = parity_of_redo redo
 parity_of_stage _ = Odd
 
--- The visit of a part in the copying of a section of this lock and turn.
+-- The visit of a part while it copies a section of this lock and turn.
 abbrev pub visit_of_part : Part → ℕ → ℕ → Visit
 visit_of_part part lock turn = record { lock = lock; turn = turn; parity = parity_of_stage part.private.stage }
 
 -- The visit of a section that was begun at an even turn.
-abbrev pub even_visit : ℕ → ℕ → ℕ → ℕ → Visit
-even_visit lock turn operations named = record { lock = lock; turn = turn; parity = Even operations named }
+abbrev pub visit_from_even_turn : ℕ → ℕ → ℕ → ℕ → Visit
+visit_from_even_turn lock turn operations named = record { lock = lock; turn = turn; parity = Even operations named }
 
--- The slate was read: so many words are a script of the shape.
+-- The slate was read: its first `operations` operations are a script of the shape.
 pub record SlateIsRead (shape : Shape) (operations : ℕ) (words : List ℕ) : Type 0 where
   pub script : Program
   pub read : script_from_words operations words ≡ Some script
   pub good : IsScript shape.cells script
 
--- The steps of a whole section: 11 + 3n + 4t from an even turn, for a script of n operations that name t cells;
--- 7 + 2m from an odd one, for m cells of the mask.
+-- The number of steps of a whole section: 11 + 3n + 4t from an even turn, for a script of n operations that names t
+-- cells; 7 + 2m from an odd turn, for m cells of the mask.
 abbrev pub IsSectionCount : Shape → Program → ℕ → Type 0
 IsSectionCount shape script count =
     (count ≡ 11 + 3 * script.n + 4 * length (cells_of_ops script.ops shape.cells))
     ⊎ ((mask : ℕ) × (count ≡ 7 + 2 * mask_cells_below mask shape.cells))
 
--- The script was read, was run, and what it leaves is written down: from the load of the length to the store of the odd
--- turn.
+-- The script was read and run, and its redo log was written: from the load of the length to the store of the odd turn.
 pub record LogSteps (call : SeatCall) (lock turn : ℕ) : Type 0 where
   pub script : Program
   pub good : IsScript call.shape.cells script
   pub doing : CallProgress call (4 + 3 * script.n + mask_cells_below (mask_of script.ops) call.shape.cells * 2)
-      call.start.part.private.begun (Copying (LoadMask (even_visit lock turn script.n (mask_of script.ops))))
+      call.start.part.private.begun (Copying (LoadMask (visit_from_even_turn lock turn script.n (mask_of script.ops))))
 
--- The section was finished with this receipt: its entry is the part's last, with the script of the draft, and the
--- worker is before the first step of its exit.
+-- The section was finished with this receipt. Its entry is the part's last, with the draft's script; its place is the
+-- number of finished sections that the worker knew, if it knew it; and the worker is before the first step of its exit.
 pub record FinishSteps (call : SeatCall) (count begun lock : ℕ) (receipt : Receipt) : Type 0 where
   pub walks : SeatStepSequence call 0
   pub counted : call.end.part.steps ≡ call.start.part.steps + count
@@ -78,9 +77,10 @@ pub record FinishSteps (call : SeatCall) (count begun lock : ℕ) (receipt : Rec
   pub by : receipt.worker ≡ call.start.part.worker
   pub number : receipt.number ≡ begun
   pub at_lock : receipt.lock ≡ lock
+  pub place : (section : ℕ) → call.start.part.section ≡ Some section → receipt.place ≡ section
   pub at : PartIsAtStage call.shape call.end.part begun (Leaving (LoadExitTurn lock))
 
--- The same from the load of the mask on: what was copied by this mask, and the step that finished the job.
+-- The same from the load of the mask on: the cells of this mask were copied, and the job was finished.
 pub record RedoSteps (call : SeatCall) (begun lock turn : ℕ) (receipt : Receipt) : Type 0 where
   pub mask : ℕ
   pub finishes : FinishSteps call (6 + mask_cells_below mask call.shape.cells * 2) begun lock receipt
@@ -88,14 +88,14 @@ pub record RedoSteps (call : SeatCall) (begun lock turn : ℕ) (receipt : Receip
       + 1 ≡ section_steps call.shape (draft_script call.start.part.draft) mask
       (parity_of_stage call.start.part.private.stage)
 
--- The stages of a worker whose job is asked for and not finished: its slate is the job's.
+-- The stages of a worker whose job is begun and not finished: its slate is the job's.
 abbrev pub has_unfinished_job : Stage → Bool
 has_unfinished_job (Climbing ascent) = true
 has_unfinished_job (Logging log) = true
 has_unfinished_job (Copying redo) = true
 has_unfinished_job _ = false
 
--- A whole section: so many steps as it has, of the script of the draft.
+-- A whole section of the draft's script, with the number of steps that it has.
 pub record SectionSteps (call : SeatCall) (begun lock : ℕ) (receipt : Receipt) : Type 0 where
   pub count : ℕ
   pub finishes : FinishSteps call count begun lock receipt

@@ -6,7 +6,7 @@ ghost use Rattle.rme_service_steps.specs.Parts.{unchanged_part};
 ghost use Rattle.rme_service_steps.specs.CallSteps.{seat_call, CallFell, PartIsBeforeStage};
 ghost use Rattle.rme_service_phases.specs.Climbs.{SweepSteps};
 
-use rme_service_steps::{Chance, Fell, NoChange, WordTable, WorkerSeat, layout};
+use rme_service_steps::{Chance, Fell, NoChange, WordSwap, WordTable, WorkerSeat, layout};
 use rme_tree::{node, side};
 
 /// How a sweep ended.
@@ -14,12 +14,12 @@ use rme_tree::{node, side};
 pub enum Climbed {
     /// The worker owns the lock.
     Entered,
-    /// The worker holds so many nodes of its path, and the next one was another's.
+    /// The worker holds `held` nodes of its path, and another worker has the next one.
     Blocked { held: u32 },
 }
 
-/// Phase Enter of a worker that holds so many nodes of its path in this lock: takes one node after another
-/// from its own side, until it has the root or meets a node that is not free.
+/// Phase Enter of a worker that holds `held` nodes of its path in this lock: takes one node after another from its own
+/// side, until it has the root or finds a node that is not free.
 pub fn climb<C: Chance>(
     seat: &mut WorkerSeat,
     service: &WordTable,
@@ -40,7 +40,8 @@ pub fn climb<C: Chance>(
     while level < shape.height {
         let at = layout::node_at(shape, lock, node(shape, worker, level + 1));
         let own = side(shape, worker, level + 1);
-        let found = seat.swap::<NoChange, C>(service, chance, at, 0, own)?;
+        let words = WordSwap { from: 0, to: own };
+        let found = seat.swap::<NoChange, C>(service, chance, at, words)?;
         if found != 0 {
             return Ok(Climbed::Blocked { held: level });
         }

@@ -1,4 +1,4 @@
-//! Phase Section from the odd turn on: what was written down is copied, and the job is finished.
+//! Phase Section from the odd turn on: the redo log is applied, and the job is finished.
 
 ghost use Rattle.std.specs.Prelude.{◌≡◌, ℕ, ◌+◌, ◌*◌, ◌/◌, ◌^◌, ◌<◌, MatchResult};
 ghost use Rattle.rme_program.specs.declared.stage.Stage.TheVariants.{Copying};
@@ -16,7 +16,7 @@ use rme_script::Script;
 use rme_service_steps::{Chance, Fell, NoChange, WordTable, WorkerSeat, layout};
 
 impl OpenSection {
-    /// Copies the shadow words of the mask's cells into the cells, rising.
+    /// Copies the shadow words of the mask's cells into the cells, in ascending order.
     fn copy_cells<C: Chance>(
         self,
         seat: &mut WorkerSeat,
@@ -54,7 +54,7 @@ impl OpenSection {
         Ok(())
     }
 
-    /// Copies what was written down: loads the mask, and copies its cells. Answers the mask.
+    /// Applies the redo log: loads the mask, and copies its cells. Answers the mask.
     fn copy<C: Chance>(
         self,
         seat: &mut WorkerSeat,
@@ -118,25 +118,24 @@ impl OpenSection {
         Ok(reply)
     }
 
-    /// From the load of the mask to the store of `done`: copies what was written down, stores the receipt's words,
-    /// and finishes the job. `script` is that of the job; its entry is put to the worker's.
+    /// From the load of the mask to the store of `Done`: applies the redo log, stores the receipt's words, and finishes
+    /// the job. `script` is that of the job; appends its entry to the worker's.
     pub(crate) fn complete<C: Chance>(
         self,
         seat: &mut WorkerSeat,
         service: &WordTable,
         chance: &mut C,
-        begun: u32,
         script: &Script,
     ) -> Result<Receipt, Fell>
         requires ours { seat.old.ident ≡ service.now }
         requires lock { self.lock < service.now.shape.locks }
-        requires begun { begun ≡ seat.old.part.private.begun }
+        requires begun { self.begun ≡ seat.old.part.private.begun }
         requires at { PartIsBeforeStage service.now.shape seat.old.part
             (Copying (LoadMask (visit_of_part seat.old.part self.lock self.turn))) }
         requires script { draft_script seat.old.part.draft ≡ script.now }
         ensures { let call = seat_call service.now.shape unchanged_part seat.old seat.new (C.tally chance.old)
             (C.tally chance.new) in
-            MatchResult result (λ receipt. RedoSteps call begun self.lock self.turn receipt)
+            MatchResult result (λ receipt. RedoSteps call self.begun self.lock self.turn receipt)
             (λ _. CallFell call (6 + service.now.shape.cells * 2)) }
     {
         let worker = seat.worker();
@@ -145,12 +144,11 @@ impl OpenSection {
         let receipt = Receipt {
             worker,
             lock: self.lock,
-            number: begun,
+            number: self.begun,
             place: self.turn / 2,
             reply,
         };
-        let at = layout::done_at(service.shape(), worker);
-        seat.finish(service, chance, at, receipt, script)?;
+        seat.finish(service, chance, receipt, script)?;
         Ok(receipt)
     }
 }

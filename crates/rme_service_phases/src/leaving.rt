@@ -1,4 +1,4 @@
-//! Phase Exit: after a section, and the release of nodes alone.
+//! Phase Exit: after a section, and the release of nodes without one.
 
 ghost use Rattle.std.specs.Prelude.{◌≡◌, ℕ, ◌+◌, ◌<◌, ◌≤◌, MatchResult};
 ghost use Rattle.rme_program.specs.declared.stage.Stage.TheVariants.{Resting, Climbing, Leaving};
@@ -11,7 +11,7 @@ use rme_program::{Ascent, WITHDRAWN_PLACE};
 use rme_service_steps::{Chance, Fell, NoChange, Withdraw, WordTable, WorkerSeat, layout};
 use rme_tree::node;
 
-/// Releases so many nodes of the worker's path, from the highest downward, and leaves the worker ready.
+/// Releases `levels` nodes of the worker's path, from the highest down. Then the worker is ready.
 pub fn clear<C: Chance>(
     seat: &mut WorkerSeat,
     service: &WordTable,
@@ -39,8 +39,8 @@ pub fn clear<C: Chance>(
     Ok(())
 }
 
-/// Phase Exit after a section: counts the turn on where the section's is still odd, and then releases the
-/// worker's path from the root downward, so that the lock is free. Leaves the worker ready.
+/// Phase Exit after a section: increments the turn if it is still that of the section, an odd one, and releases the
+/// worker's path from the root down, so that the lock is free. Then the worker is ready.
 pub fn leave<C: Chance>(
     seat: &mut WorkerSeat,
     service: &WordTable,
@@ -65,9 +65,8 @@ pub fn leave<C: Chance>(
     clear(seat, service, chance, lock, shape.height())
 }
 
-/// Phase Exit of a worker that gives its job up, and waits for a lock with some nodes of its path held:
-/// stores the receipt that says so for the number that it last began, and releases those nodes. Leaves the
-/// worker ready.
+/// Phase Exit of a worker that gives up its job while it waits for a lock with some nodes of its path held: stores the
+/// receipt of the withdrawal for its last number, and releases those nodes. Then the worker is ready.
 pub fn withdraw<C: Chance>(
     seat: &mut WorkerSeat,
     service: &WordTable,

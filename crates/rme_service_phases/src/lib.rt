@@ -1,11 +1,11 @@
-//! The phases of a worker at the shared words: Recover, Post, Enter, Section and Exit, each straight code.
+//! The phases of a worker on the shared words: Recover, Post, Enter, Section and Exit, each as straight-line code.
 //!
-//! Each function here makes the own steps of one phase, or of a part of one, by a worker's seat: an operation
-//! on one word after another, with a question to the Chance before each. It reads as the algorithm's text
-//! does; what the worker knows at each step stands in the seat's record, for the proofs alone. The crate
-//! stands on rme_service_steps, and what those above use is that each phase, where it doesn't fall, has made so many
-//! of the core's own steps, and where it led (`CallProgress`), and that a fall leaves fewer (`CallFell`): both in
-//! rme_service_steps' `specs/CallSteps.antt`. Begin with `climbing.rt`, the shortest.
+//! Each function here makes the own steps of one phase, or of a part of one, by a worker's seat: one operation on one
+//! word after another, with a question to the Chance before each. The code reads as the algorithm's text; what the
+//! worker knows at each step is in the seat's record, in proofs only. The crate stands on rme_service_steps. The crates
+//! above use that each phase without a crash makes a known number of the core's own steps and ends at a known stage
+//! (`CallProgress`), and that a crash leaves fewer (`CallFell`); both are in rme_service_steps' `specs/CallSteps.antt`.
+//! Begin with `climbing.rt`, the shortest.
 #![tactic(auto)]
 
 mod climbing;

@@ -1,4 +1,4 @@
-//! Phase Post: a worker writes its job down.
+//! Phase Post: a worker logs its job.
 
 ghost use Rattle.std.specs.Prelude.{◌≡◌, ◌+◌, ◌*◌, ◌<◌, MatchResult};
 ghost use Rattle.rme_program.specs.declared.note.Note.TheVariants.{Asked};
@@ -10,8 +10,8 @@ ghost use Rattle.rme_service_steps.specs.CallSteps.{seat_call, CallProgress, Cal
 use rme_script::{Job, slate_word};
 use rme_service_steps::{Chance, Fell, JobTag, NoChange, WordTable, WorkerSeat, layout};
 
-/// Phase Post: stores the job's lock, its number of operations and their words, and then counts `begun` up, so
-/// that the job has its number. `begun` is what the ready worker knows of the word of that name.
+/// Phase Post: stores the job's lock, the number of its operations and their words, and then increments `Begun`, so
+/// that the job has its number. `begun` is the value of that word, as the ready worker knows it.
 pub fn post<J: JobTag, C: Chance>(
     seat: &mut WorkerSeat,
     service: &WordTable,

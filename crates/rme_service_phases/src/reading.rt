@@ -8,7 +8,7 @@ ghost use Rattle.rme_service_phases.specs.Sections.{has_unfinished_job};
 use rme_script::{Script, read_slate};
 use rme_service_steps::{WordTable, WorkerSeat, layout};
 
-/// Reads the script of the job that the worker waits or is inside with from its slate. It makes no step, and
+/// Reads, from its slate, the script of the job with which the worker waits or is inside. It makes no own step, and
 /// changes no word.
 pub fn read_script(seat: &mut WorkerSeat, service: &WordTable, script: &mut Script)
     requires ours { seat.old.ident ≡ service.now }
@@ -25,7 +25,7 @@ pub fn read_script(seat: &mut WorkerSeat, service: &WordTable, script: &mut Scri
     }
 }
 
-/// Reads so many operations' words of the slate of a worker's job, which has as many.
+/// Reads the words of the slate's first `operations` operations; the worker's job has at least as many.
 fn read_words(seat: &mut WorkerSeat, service: &WordTable, operations: u32) -> [u64; 24]
     requires ours { seat.old.ident ≡ service.now }
     requires waiting { has_unfinished_job seat.old.part.private.stage ≡ true }

@@ -1,4 +1,4 @@
-//! Phase Recover: what a worker that comes up after a crash finds.
+//! Phase Recover: what a worker finds as it restarts after a crash.
 
 ghost use Rattle.std.specs.Prelude.{◌≡◌, ◌+◌, ◌<◌, MatchResult};
 ghost use Rattle.rme_words.specs.declared.shape.Shape.{Shape};
@@ -14,27 +14,27 @@ use rme_service_steps::{Chance, Fell, NoChange, Restart, WordTable, WorkerSeat, 
 use rme_tree::{node, side};
 use rme_words::Shape;
 
-/// What Recover finds: how many jobs the worker has begun, and where its last life ended.
+/// What Recover finds: the number of jobs that the worker has begun, and where its last life ended.
 #[derive(Clone, Copy)]
 pub struct RecoveredWorker {
     pub begun: u32,
     pub found: ResumePoint,
 }
 
-/// Where a worker's last life ended, and so where it goes on.
+/// Where a worker's last life ended, and so where it continues.
 #[derive(Clone, Copy)]
 pub enum ResumePoint {
     /// No job is pending, and no node is held.
     Ready,
-    /// The last job waits for this lock, with so many nodes held.
+    /// The last job waits for this lock, with `held` nodes held.
     Climbing { lock: u32, held: u32 },
     /// The worker owns this lock; its last job is pending, or its section is finished.
     Inside { lock: u32, pending: bool },
-    /// No job is pending, and so many nodes are still held.
+    /// No job is pending, and `level` nodes are still held.
     Leaving { lock: u32, level: u32 },
 }
 
-/// The position of the word that names the lock.
+/// The position of the word with the lock's number.
 fn lock_at(shape: Shape, worker: u32, pending: bool) -> usize
     requires { worker < shape.workers }
     ensures { result ≡ position_of_address shape (lock_address pending worker) }
@@ -45,7 +45,7 @@ fn lock_at(shape: Shape, worker: u32, pending: bool) -> usize
     layout::receipt_lock_at(shape, worker)
 }
 
-/// What is found where so many nodes are the worker's, and the next is not.
+/// The result if the worker has `held` nodes, and not the next one.
 fn partial_resume_point(lock: u32, held: u32, pending: bool) -> ResumePoint
     ensures leads { after_other_node pending lock held ≡ (resume_stage result, resume_note result) }
     ensures read { (shape : Shape) → levels_read shape result ≡ held + 1 }
@@ -59,7 +59,7 @@ fn partial_resume_point(lock: u32, held: u32, pending: bool) -> ResumePoint
     ResumePoint::Leaving { lock, level: held }
 }
 
-/// Looks up the worker's path from the leaf, to the first node that is not its own.
+/// Searches the worker's path from the leaf for the first node that is not its own.
 fn find_path<C: Chance>(
     seat: &mut WorkerSeat,
     service: &WordTable,
@@ -89,8 +89,8 @@ fn find_path<C: Chance>(
     Ok(ResumePoint::Inside { lock, pending })
 }
 
-/// Phase Recover of a worker that comes up after a crash and knows its own number alone: finds how many jobs
-/// it has begun, whether the last one is pending, its lock, and how many nodes of the path it holds there.
+/// Phase Recover of a worker that restarts after a crash and knows only its own number: finds the number of jobs that
+/// it has begun, whether the last one is pending, its lock, and the number of nodes of the path that it holds there.
 pub fn recover<C: Chance>(
     seat: &mut WorkerSeat,
     service: &WordTable,

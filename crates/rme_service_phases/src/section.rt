@@ -1,4 +1,4 @@
-//! Phase Section, whole.
+//! The whole of phase Section.
 
 ghost use Rattle.std.specs.Prelude.{◌≡◌, ℕ, ◌+◌, ◌*◌, ◌<◌, MatchResult};
 ghost use Rattle.rme_program.specs.declared.stage.Stage.TheVariants.{Logging};
@@ -13,9 +13,9 @@ use rme_program::Receipt;
 use rme_script::Script;
 use rme_service_steps::{Chance, Fell, NoChange, WordTable, WorkerSeat, layout};
 
-/// Phase Section: loads the turn; where it is even, runs the script and writes down what it leaves; and then,
-/// or at once where it was odd, copies what was written down and finishes the job. `begun` is the job's number.
-/// The job's entry is put to the worker's.
+/// Phase Section: loads the turn. If it is even, runs the script and writes the redo log. Then, or at once if the turn
+/// was odd, applies the redo log and finishes the job. `begun` is the job's number. Appends the job's entry to the
+/// worker's.
 pub fn perform<C: Chance>(
     seat: &mut WorkerSeat,
     service: &WordTable,
@@ -34,12 +34,12 @@ pub fn perform<C: Chance>(
 {
     let at = layout::turn_at(service.shape(), lock);
     let turn = seat.load::<NoChange, C>(service, chance, at)? as u32;
-    let section = OpenSection { lock, turn };
+    let section = OpenSection { lock, turn, begun };
     let mut script = Script::of(&[]);
     if turn % 2 == 1 {
         read_script(seat, service, &mut script);
-        return section.complete(seat, service, chance, begun, &script);
+        return section.complete(seat, service, chance, &script);
     }
     section.log(seat, service, chance, &mut script)?;
-    section.complete(seat, service, chance, begun, &script)
+    section.complete(seat, service, chance, &script)
 }

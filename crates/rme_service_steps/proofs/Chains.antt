@@ -24,7 +24,7 @@ use Rattle.rme_service_steps.specs.CallSteps.{seat_call, ValuesWereFound, StepsW
 use Rattle.rme_machine.proofs.Further.{fitting}
 use Rattle.rme_machine.proofs.Taking.{taking}
 use Rattle.rme_service_steps.specs.Rule.{table_memory, privates_of_parts}
-use Rattle.rme_service_steps.proofs.Seats.{plain_entries, stood_after}
+use Rattle.rme_service_steps.proofs.Seats.{plain_entries, kept_section, stood_after}
 use Rattle.rme_service_steps.proofs.Leading.{leads_onward}
 
 -- ---- questions
@@ -101,7 +101,7 @@ module _ (s : Shape) (a b c : SeatView) (t u v : ChanceCounts) (falls : ℕ) whe
 
 module _ (s : Shape) (a b c : SeatView) (t u v : ChanceCounts) where
   stays_on : (lead : Part → Part) → JobIsUnchanged (seat_call s lead a b t u) → JobIsUnchanged (seat_call s unchanged_part b c u v) → JobIsUnchanged (seat_call s lead a c t v)
-  stays_on lead one two = record { ident = two.ident ∙ one.ident; own = two.own ∙ one.own; draft = two.draft ∙ one.draft; entries = two.entries ∙ one.entries }
+  stays_on lead one two = record { ident = two.ident ∙ one.ident; own = two.own ∙ one.own; draft = two.draft ∙ one.draft; entries = two.entries ∙ one.entries; section = two.section ∙ one.section }
 
   some_values : (lead : Part → Part) (m b1 : ℕ) (st : Stage) (one : CallProgress (seat_call s lead a b t u) m b1 st) → 1 ≤ m → 0 < length one.walks.values
   some_values lead m b1 st one some_step = let w = one.walks in omega (arith, w.steps, one.counted, some_step)
@@ -129,6 +129,7 @@ module _ (s : Shape) (a b c : SeatView) (t u v : ChanceCounts) where
     ident = two.ident ∙ one.stays.ident;
     own = two.own ∙ one.stays.own;
     entries = two.entries ∙ one.stays.entries;
+    section = two.section ∙ one.stays.section;
   }
 
   pub falls_led : {lead : Part → Part} {m n most b1 : ℕ} {st1 : Stage} → 1 ≤ m → CallProgress (seat_call s lead a b t u) m b1 st1 → CallFell (seat_call s unchanged_part b c u v) n → m + n ≤ most → CallFell (seat_call s lead a c t v) most
@@ -138,6 +139,7 @@ module _ (s : Shape) (a b c : SeatView) (t u v : ChanceCounts) where
     ident = two.ident ∙ one.stays.ident;
     own = two.own ∙ one.stays.own;
     entries = two.entries ∙ one.stays.entries;
+    section = two.section ∙ one.stays.section;
   }
 
 -- Nothing was done yet.
@@ -149,7 +151,7 @@ pub nothing : (s : Shape) (a : SeatView) (t : ChanceCounts) (b : ℕ) (st : Stag
 nothing s a t b st at = record {
   walks = record { values = []; walk = refl; found = tt; steps = omega arith; asks = record { yes = omega arith; asked = counted_none t.questions } };
   counted = omega arith;
-  stays = record { ident = refl; own = refl; draft = refl; entries = refl };
+  stays = record { ident = refl; own = refl; draft = refl; entries = refl; section = refl };
   at = at;
 }
 
@@ -161,6 +163,7 @@ falls_at s lead a b t u most fell some_step = record {
   ident = ap (λ (x : SeatView). x.ident) fell.same;
   own = ap (λ (x : SeatView). x.part.worker) fell.same;
   entries = ap (λ (x : SeatView). x.part.entries) fell.same;
+  section = ap (λ (x : SeatView). x.part.section) fell.same;
 }
 
 -- ---- one step
@@ -173,6 +176,7 @@ module _ (s : Shape) (p : Part) (b : ℕ) (st : Stage) (at : PartIsAtStage s p b
       leads = leads_onward s p (λ e. busy st plain (ap (λ (q : Private). q.stage) (sym at.private) ∙ e));
       entries = refl;
       count = refl;
+      section = refl;
       here = ap (private_action s) at.private ∙ is;
       within = within;
       lies = its;
@@ -199,8 +203,8 @@ module _ (s : Shape) (p : Part) (b : ℕ) (st : Stage) (at : PartIsAtStage s p b
 module _ (s : Shape) (lead : Part → Part) (a c : SeatView) (t v : ChanceCounts) (value b : ℕ) (st : Stage) (made : OwnStepWasMade (seat_call s lead a c t v) value)
     (private : (lead a.part).private ≡ record { worker = a.part.worker; begun = b; stage = st }) where
   pub did_led : {b2 : ℕ} {out : Stage} {note : Note} → stage_adds_no_entry st ≡ true → (lead a.part).worker ≡ a.part.worker → (lead a.part).entries ≡ a.part.entries → (lead a.part).steps ≡ a.part.steps
-      → outcome_at s a.part.worker b st value ≡ (out, note) → begun_after b st value ≡ b2 → CallProgress (seat_call s lead a c t v) 1 b2 out
-  did_led {b2} {out} {note} plain own entries steps leads known = record {
+      → (lead a.part).section ≡ a.part.section → outcome_at s a.part.worker b st value ≡ (out, note) → begun_after b st value ≡ b2 → CallProgress (seat_call s lead a c t v) 1 b2 out
+  did_led {b2} {out} {note} plain own entries steps section leads known = record {
     walks = record {
       values = value ∷ [];
       walk = made.took;
@@ -214,6 +218,7 @@ module _ (s : Shape) (lead : Part → Part) (a c : SeatView) (t v : ChanceCounts
       own = ap (λ (p : Part). p.worker) made.took ∙ own;
       draft = ap (λ (p : Part). p.draft) made.took;
       entries = ap (λ (p : Part). p.entries) made.took ∙ plain_entries s (lead a.part) value (ap (λ (q : Private). stage_adds_no_entry q.stage) private ∙ plain) ∙ entries;
+      section = ap (λ (p : Part). p.section) made.took ∙ kept_section s (lead a.part) value (ap (λ (q : Private). stage_adds_no_entry q.stage) private ∙ plain) ∙ section;
     };
     at = record {
       private = ap (λ (p : Part). p.private) made.took ∙ ap (λ (q : Private). private_after s q value) private ∙ now ∙ mine;
@@ -232,11 +237,11 @@ module _ (s : Shape) (lead : Part → Part) (a c : SeatView) (t v : ChanceCounts
 
 pub did : (s : Shape) (a c : SeatView) (t v : ChanceCounts) (value : ℕ) {b b2 : ℕ} {st out : Stage} {note : Note} → OwnStepWasMade (seat_call s unchanged_part a c t v) value → PartIsAtStage s a.part b st → stage_adds_no_entry st ≡ true
     → outcome_at s a.part.worker b st value ≡ (out, note) → begun_after b st value ≡ b2 → CallProgress (seat_call s unchanged_part a c t v) 1 b2 out
-did s a c t v value {b} {b2} {st} made at plain leads known = did_led s unchanged_part a c t v value b st made at.private plain refl refl refl leads known
+did s a c t v value {b} {b2} {st} made at plain leads known = did_led s unchanged_part a c t v value b st made at.private plain refl refl refl refl leads known
 
 -- ---- what a worker at a stage knows
 
--- A part that stood in a world is of the shape, and what its step finds may be gone on with.
+-- A part that was in a world is of the shape, and its step may accept what it finds.
 pub is_private : (s : Shape) (p : Part) → PartWasInWorld s p → (p.private.worker ≡ p.worker) × IsPrivate s p.private
 is_private s p stood = fitting s (table_memory s stood.words) (privates_of_parts stood.parts) stood.history p.worker p.private stood.world.fact stood.worker (ap (λ (q : Part). Some q.private) stood.here)
 

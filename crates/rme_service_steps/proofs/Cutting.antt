@@ -39,7 +39,7 @@ module _ (s : Shape) (parts : ℕ → Part) where
   agrees_spent : RecordAgrees s parts empty_record
   agrees_spent = record { shaped = λ some_part. absurd (omega (arith, some_part)); own = λ k q at. absurd (some-ne-none q (sym at)) }
 
--- The first part of a record is cut off, and a new seat has it.
+-- The first part of a record is split off, and a new seat has it.
 pub splits : (s : Shape) (id : ℕ) (its : Shape) (p : Part) (ps : List Part)
     → Splits (TableInvariant s) id (record { shape = its; parts = p ∷ ps }) (record { shape = its; parts = ps }) (one_part_record its p)
 splits s id its p ps table holds at = record { parts = holds.parts; history = holds.history; once = once; agrees = agrees; world = holds.world }
@@ -66,7 +66,7 @@ splits s id its p ps table holds at = record { parts = holds.parts; history = ho
       | inr last ↦ subst (λ (x : SeatRecord). RecordAgrees s holds.parts x) last (agrees_first s holds.parts p ps its (holds.agrees id old at))
     ]
 
--- A seat takes in the parts of another, which is spent.
+-- A seat joins the parts of another, which is consumed.
 pub joins : (s : Shape) (id other : ℕ) (one two : SeatRecord) → one.shape ≡ s → Joins (TableInvariant s) id one other two (all_parts one two) empty_record
 joins s id other one two shaped table holds at apart there = record { parts = holds.parts; history = holds.history; once = once; agrees = agrees; world = holds.world }
   where

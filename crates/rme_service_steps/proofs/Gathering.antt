@@ -1,4 +1,4 @@
--- All seats are put together in one, and their entries in one list.
+-- All seats are joined in one, and their entries in one list.
 use Rattle.std.proofs.Common.{◌≡◌, ℕ, zero, suc, ◌+◌, ◌<◌, ◌≤◌, List, [], ◌∷◌, ◌++◌, length, refl, sym, ◌∙◌, ap, subst, arith}
 use Rattle.std.specs.Prelude.{slice_get, Some}
 use Rattle.std.proofs.lemmas.Option.{same_Some}
@@ -28,7 +28,7 @@ entries_last : (seats : List SeatView) (seat : SeatView) → entries_given (seat
 entries_last [] seat = sym (append-nil seat.part.entries)
 entries_last (x ∷ seats) seat = ap (λ (es : List Entry). es ++ x.part.entries) (entries_last seats seat) ∙ append_assoc seat.part.entries (entries_given seats) x.part.entries
 
--- Each seat's part is among them, and as often.
+-- Each seat's part is among them, the same number of times.
 part_given : (seats : List SeatView) (k : ℕ) (seat : SeatView) → slice_get seats k ≡ Some seat → (j : ℕ) × (get_elem? (parts_given seats) j ≡ some seat.part)
 part_given [] k seat at = cc
 part_given (x ∷ seats) zero seat at =
@@ -42,7 +42,7 @@ seats_counted w (x ∷ seats) =
     let both = total_append (part_is_of_worker w) (parts_given seats) (x.part ∷ []) in
     omega (arith, rest, both)
 
--- While seats are joined: the first has the parts, and the history the entries, of all that were taken in.
+-- While seats are joined: the first has the parts, and the history the entries, of all joined ones.
 pub record Joined (ident : ServiceId) (seats rest : List SeatView) (own : TableId) (mine : Me ℕ SeatRecord) (old now : List Entry) (room_then room_now : ℕ) : Type 0 where
   pub table : own ≡ ident.table
   pub me : mine ≡ (record { shape = ident.shape; parts = mine.0.parts }, [])
@@ -60,7 +60,7 @@ at_end : {A : Type 0} (xs : List A) (x : A) → slice_get (xs ++ x ∷ []) (leng
 at_end [] x = refl
 at_end (y ∷ xs) x = at_end xs x
 
--- The last of some seats is taken off.
+-- The last of some seats is removed.
 module _ (ident : ServiceId) (rest left : List SeatView) (seat : SeatView) (takes : rest ≡ left ++ seat ∷ []) (ours : SeatsAreOfService ident rest) where
   pub last_ours : seat.ident ≡ ident
   last_ours = ours (length left) seat (ap (λ (xs : List SeatView). slice_get xs (length left)) takes ∙ at_end left seat)

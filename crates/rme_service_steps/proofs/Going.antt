@@ -1,5 +1,6 @@
--- The rule of the table: an own step of a seat with one part keeps it, and tells its caller of the world in which it was made.
-use Rattle.std.proofs.Common.{◌≡◌, ◌≢◌, ℕ, zero, suc, ◌+◌, ◌<◌, List, [], ◌∷◌, set, refl, sym, ◌∙◌, ap, subst, inl, inr, arith}
+-- The rule of the table: an own step of a seat with one part preserves it, and its caller learns the world in which it
+-- was made.
+use Rattle.std.proofs.Common.{◌≡◌, ◌≢◌, ℕ, zero, suc, ◌+◌, ◌/◌, ◌<◌, List, [], ◌∷◌, set, refl, sym, ◌∙◌, ap, subst, inl, inr, arith}
 use Rattle.std.specs.Prelude.{◌==◌, if◌then◌else◌, slice_index, slice_set}
 use Rattle.std.proofs.lemmas.Bool.{cases_eq, eq-eqb, ne_eqb}
 use mathlib.Core.Option.{some, some-injective, some-ne-none}
@@ -8,23 +9,27 @@ use Rattle.atomic_table.specs.Table.{State, Step, keeps, Allows}
 use Rattle.atomic_table.proofs.Lists.{at_set, set_else, set_again}
 use Rattle.rme_words.specs.declared.shape.Shape.{Shape}
 use Rattle.rme_words.specs.declared.address.Address.{Address}
+use Rattle.rme_words.specs.declared.address.Address.TheVariants.{Turn}
 use Rattle.rme_words.specs.Words.{IsShapeAddress}
+use Rattle.rme_program.specs.declared.stage.Stage.TheVariants.{Logging}
+use Rattle.rme_program.specs.declared.stage.Log.TheVariants.{LoadTurn}
 use Rattle.rme_program.specs.declared.note.Entry.{Entry}
 use Rattle.rme_program.specs.ActionEffects.{action_address}
 use Rattle.rme_program.specs.Steps.{private_action, note_after}
 use Rattle.rme_machine.specs.Changes.{history_after}
 use Rattle.rme_service_steps.specs.declared.seat_record.Part.{Part}
 use Rattle.rme_service_steps.specs.declared.seat_record.SeatRecord.{SeatRecord}
-use Rattle.rme_service_steps.specs.Parts.{part_after_step}
+use Rattle.rme_service_steps.specs.Parts.{part_after_step, part_with_section}
 use Rattle.rme_service_steps.specs.Layout.{position_of_address}
 use Rattle.rme_service_steps.specs.Rule.{ServiceInvariant, RecordsInvariant, RecordAgrees, TableInvariant, table_memory, parts_with_update, total_of, part_count_of_worker, part_is_of_worker, one_part_record}
-use Rattle.rme_service_steps.specs.Steps.{ChangeIsAllowed, PartWasInWorld, PartMadeStep, PartReadsWord, ReaderLoadEffect, OwnStepEffect, position_of_action, word_after_action, value_of_action, value_found_in, words_after}
+use Rattle.rme_service_steps.specs.Steps.{ChangeIsAllowed, PartWasInWorld, PartMadeStep, PartReadsWord, ReaderLoadEffect, SectionLoadEffect, OwnStepEffect, position_of_action, word_after_action, value_of_action, value_found_in, words_after}
 use Rattle.rme_service_steps.proofs.Tables.{set_same, found_read}
 use Rattle.rme_service_steps.proofs.Totals.{total_set, total_at}
 use Rattle.rme_service_steps.proofs.Worlds.{there, elsewhere}
+use Rattle.rme_service_steps.proofs.Reading.{read_world, turn_few}
 use Rattle.rme_service_steps.proofs.Keeping.{keeps as step_keeps}
 
--- Where a seat has the one part of a worker, no other seat has a part of it.
+-- If a seat has the one part of a worker, no other seat has a part of it.
 alone : (views : List SeatRecord) (id other : ℕ) (mine its : SeatRecord) (w k : ℕ) (q : Part) → total_of (part_count_of_worker w) views ≡ 1 → get_elem? views id ≡ some mine → part_count_of_worker w mine ≡ 1
     → other ≢ id → get_elem? views other ≡ some its → get_elem? its.parts k ≡ some q → q.worker ≢ w
 alone views id other mine its w k q once at one apart there has e =
@@ -36,7 +41,7 @@ alone views id other mine its w k q once at one apart there has e =
     let some_one = total_at (part_is_of_worker w) its.parts k q has in
     absurd (omega (arith, emptied, some_part, own, some_one, once, one))
 
--- What a seat's record says where another's part changes.
+-- A seat's record after the part of another changed.
 agrees_still : (s : Shape) (parts : ℕ → Part) (its : SeatRecord) (w : ℕ) (q : Part) → RecordAgrees s parts its → ((k : ℕ) (r : Part) → get_elem? its.parts k ≡ some r → r.worker ≢ w)
     → RecordAgrees s (parts_with_update parts w q) its
 agrees_still s parts its w q agrees others = record {
@@ -122,6 +127,23 @@ goes s slots id p lead step leads within table holds long at small =
     let stood : PartWasInWorld s q = record { words = table.words; parts = parts; history = holds.history; world = led; worker = worker; here = here } in
     let told : PartMadeStep s q value = record { before = stood; words = words_after s table.words action; did = kept.did; after = kept.world } in
     (one_part_record s after, keeps, tt, rule, (refl, told))
+
+-- Whatever the table is, a worker that is inside may read the number of finished sections of its lock.
+pub reads : (s : Shape) (slots id : ℕ) (p : Part) (lock : ℕ) (known : Step ℕ) → lock < s.locks → p.private.stage ≡ Logging (LoadTurn lock)
+    → Allows (TableInvariant s) slots id (one_part_record s p, []) (position_of_address s (Turn lock)) (λ (n : ℕ). n) (λ found. λ after. SectionLoadEffect known (one_part_record s p, []) found after)
+reads s slots id p lock known within at_turn table holds long at small =
+    let own = mine s table id p holds at in
+    let spot = position_of_address s (Turn lock) in
+    let q = part_with_section p (slice_index table.words spot / 2) in
+    let found : slice_index table.words spot ≡ table_memory s table.words (Turn lock) = found_read s table.words holds.world.long (Turn lock) within in
+    let world : ServiceInvariant s table.words (parts_with_update holds.parts p.worker q) holds.history =
+    subst (λ (n : ℕ). ServiceInvariant s table.words (parts_with_update holds.parts p.worker (part_with_section p (n / 2))) holds.history) (sym found)
+    (read_world s table.words holds.parts holds.history p lock holds.world own.worker own.here at_turn) in
+    let words : table.words ≡ slice_set table.words spot (slice_index table.words spot) = sym (set_same table.words spot) in
+    let rule = subst (λ (ws : List ℕ). RecordsInvariant s ws (slice_set table.views id (one_part_record s q))) words (replaced s table id p q table.words holds.history holds at refl world) in
+    let stood : PartWasInWorld s q = record { words = table.words; parts = parts_with_update holds.parts p.worker q; history = holds.history; world = world; worker = own.worker; here = there holds.parts p.worker q } in
+    let few = turn_few s table.words holds.parts holds.history p lock holds.world own.worker own.here at_turn in
+    (one_part_record s q, keeps, tt, rule, (refl, stood, (let is = found in omega (arith, few, is))))
 
 -- A reader's load changes nothing.
 pub looks : (s : Shape) (slots id : ℕ) (p : Part) (at : ℕ) (known : Step ℕ) → known.word ≡ at

@@ -1,4 +1,4 @@
--- A worker that is inside a lock and only recovers stays there, alone.
+-- A worker that is inside a lock and only recovers remains its only owner.
 use Rattle.std.proofs.Common.{◌≡◌, ℕ, List, [], ◌∷◌, ◌++◌, inr, refl, sym, ap, ◌∙◌}
 use Rattle.rme_words.specs.declared.shape.Shape.{Shape}
 use Rattle.rme_program.specs.declared.kinds.Phase.TheVariants.{Recover, Exit}
@@ -21,12 +21,13 @@ use Rattle.rme_service_steps.specs.Inside.{InsideLaw, OperationsOnlyRecover, Ope
 use Rattle.rme_service_steps.specs.Rule.{ServiceState, ServiceStateInvariant, service_abstract_state, table_memory, privates_of_parts}
 use Rattle.rme_service_steps.specs.Running.{state_after_operation, labels_of_operations, labels_of_operation, next_note, next_value}
 use Rattle.rme_service_steps.proofs.Running.{running}
+use Rattle.rme_service_steps.proofs.Worlds.{reached_state}
 
 -- A step of Recover is no leave.
 exit_recover : Exit ≡ Recover → ⊥
 exit_recover is = cc
 
-not_leaving : (shape : Shape) (worker begun : ℕ) (stage : Stage) (value : ℕ) (next : Stage) (note : Note) (lock : ℕ) → NoteMeaning shape worker begun stage value next note → phase_of stage ≡ Recover
+not_leaving : (shape : Shape) (worker begun : ℕ) (stage : Stage) (value : ℕ) (next : Stage) (note : Note) (lock : ℕ) → NoteMeaning shape record { worker = worker; begun = begun; stage = stage } value next note → phase_of stage ≡ Recover
     → act_of_note note ≡ Leave lock → ⊥
 not_leaving shape worker begun stage value next Quiet lock tells recovers is = cc
 not_leaving shape worker begun stage value next (Asked number) lock tells recovers is = cc
@@ -57,6 +58,7 @@ same_act who worker one other is = ap did_of is
 module _ (shape : Shape) (worker lock : ℕ) where
   no_leave_by : (one : Operation) (old : ServiceState) → OperationOnlyRecovers shape worker one old → HasNoLeave worker lock (labels_of_operation shape one old)
   no_leave_by operation.Look old recovers = tt
+  no_leave_by (operation.ReadSection who lock_read) old recovers = tt
   no_leave_by (operation.Restart who) old recovers = (λ is. let a = same_act _ _ _ _ is in cc, (λ is. let a = same_act _ _ _ _ is in cc, tt))
   no_leave_by (operation.Submit who job) old recovers = (λ is. let a = same_act _ _ _ _ is in cc, tt)
   no_leave_by (operation.Withdraw who) old recovers = (λ is. let a = same_act _ _ _ _ is in cc, tt)
@@ -75,15 +77,7 @@ module _ (shape : Shape) (worker lock : ℕ) where
   no_leave [] old recovers = tt
   no_leave (one ∷ others) old (recovers, more) = both (labels_of_operation shape one old) (labels_of_operations shape others (state_after_operation shape one old)) (no_leave_by one old recovers) (no_leave others (state_after_operation shape one old) more)
 
-reached : (shape : Shape) (old : ServiceState) → ServiceStateInvariant shape old → IsReachable shape (service_abstract_state shape old)
-reached shape old world = record {
-  start = service_abstract_state shape old;
-  begins = inr (table_memory shape old.words, privates_of_parts old.parts, old.history, world.fact, refl);
-  labels = [];
-  run = refl;
-}
-
 pub inside : InsideLaw
 inside shape old operations worker lock world may owns recovers =
     let runs = running shape old operations world may in
-    reentry.owned shape (service_abstract_state shape old) _ worker lock (labels_of_operations shape operations old) (reached shape old world) owns runs.run (no_leave shape worker lock operations old recovers)
+    reentry.owned shape (service_abstract_state shape old) _ worker lock (labels_of_operations shape operations old) (reached_state shape (table_memory shape old.words) (privates_of_parts old.parts) old.history world.fact) owns runs.run (no_leave shape worker lock operations old recovers)

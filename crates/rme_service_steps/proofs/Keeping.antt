@@ -26,9 +26,10 @@ use Rattle.rme_machine.specs.Knowledge.{StageKnowledge}
 use Rattle.rme_machine.specs.Invariant.{Invariant}
 use Rattle.rme_machine.specs.Views.{worker_words, lock_words, is_pending, slate_job}
 use Rattle.rme_machine.specs.AbstractState.{Privates, act_of_note, abstract_state}
-use Rattle.rme_machine.specs.Laws.{RefinementStep}
+use Rattle.rme_machine.specs.Laws.{RefinementStep, concrete_state}
 use Rattle.rme_machine.specs.Histories.{history_of_worker}
 use Rattle.rme_machine.specs.FurtherLaws.{StateHasDrafts, draft_after}
+use Rattle.rme_machine.specs.KnownSections.{StateKnowsSections}
 use Rattle.rme_machine.proofs.Own_step.{own_step}
 use Rattle.rme_machine.proofs.Taking.{taking}
 use Rattle.rme_machine.proofs.Books.{books}
@@ -38,9 +39,9 @@ use Rattle.rme_service_steps.specs.Layout.{table_size}
 use Rattle.rme_service_steps.specs.Rule.{ServiceInvariant, PartMatchesHistory, table_memory, privates_of_parts, parts_with_update}
 use Rattle.rme_service_steps.specs.Steps.{StepPreservesService, StepPreservesServiceLaw, position_of_action, word_after_action, value_of_step, value_found_in, words_after}
 use Rattle.rme_service_steps.proofs.Tables.{did_in}
-use Rattle.rme_service_steps.proofs.Worlds.{there, elsewhere, became, world_of, drafts_of}
+use Rattle.rme_service_steps.proofs.Worlds.{there, elsewhere, became, world_of, drafts_of, sections_of, reached_state}
 
--- A step hands no job over.
+-- A step submits no job.
 kept_draft : (note : Note) (draft : Option Job) → draft_after (act_of_note note) draft ≡ draft
 kept_draft Quiet draft = refl
 kept_draft (Asked k) draft = refl
@@ -64,7 +65,7 @@ IsBy w (Left lock) = Unit {0}
 IsBy w Ready = Unit {0}
 IsBy w (Withdrew k) = Unit {0}
 
-tells_by : (s : Shape) (v w b value : ℕ) (stage next : Stage) (note : Note) → v ≡ w → NoteMeaning s v b stage value next note → IsBy w note
+tells_by : (s : Shape) (v w b value : ℕ) (stage next : Stage) (note : Note) → v ≡ w → NoteMeaning s record { worker = v; begun = b; stage = stage } value next note → IsBy w note
 tells_by s v w b value stage next Quiet is tells = tt
 tells_by s v w b value stage next (Asked k) is tells = tt
 tells_by s v w b value stage next Blocked is tells = tt
@@ -95,7 +96,7 @@ module _ (s : Shape) (mem : Address → ℕ) (privs : Privates) (es entries : Li
       let k : P (Copying (StoreDone visit mask reply)) = subst P at knows in k.0.pending
 
   pub own_entries : (q : Private) (value : ℕ) (note : Note) → privs w ≡ Some q
-      → NoteMeaning s q.worker q.begun q.stage value (private_after s q value).stage note
+      → NoteMeaning s q value (private_after s q value).stage note
       → history_of_worker (history_after es mem w note) w ≡ entries_after entries draft note
   own_entries q value Quiet was tells = booked
   own_entries q value (Asked k) was tells = booked
@@ -128,11 +129,10 @@ module _ (s : Shape) (words new : List ℕ) (parts : ℕ → Part) (es : List En
   was : privates_of_parts parts p.worker ≡ Some p.private
   was = ap (λ (q : Part). Some q.private) here
 
-  tells : NoteMeaning s p.private.worker p.private.begun p.private.stage value (private_after s p.private value).stage (note_after s p.private value)
+  tells : NoteMeaning s p.private value (private_after s p.private value).stage (note_after s p.private value)
   tells = note_law s p.private.worker p.private.begun p.private.stage value
 
-  goes : RefinementStep s (table_memory s words) (table_memory s new) (privates_of_parts parts) (privates_of_parts (parts_with_update parts p.worker (part_after_step s p value))) es
-      (history_after es (table_memory s words) p.worker (note_after s p.private value)) p.worker (act_of_note (note_after s p.private value))
+  goes : RefinementStep s (concrete_state (table_memory s words) (privates_of_parts parts) es) (concrete_state (table_memory s new) (privates_of_parts (parts_with_update parts p.worker (part_after_step s p value))) (history_after es (table_memory s words) p.worker (note_after s p.private value))) p.worker (act_of_note (note_after s p.private value))
   goes = own_step s (table_memory s words) (table_memory s new) (privates_of_parts parts) _ es p.worker p.private value world.fact worker was busy did
       (became parts p.worker (part_after_step s p value))
 
@@ -162,12 +162,17 @@ module _ (s : Shape) (words new : List ℕ) (parts : ℕ → Part) (es : List En
       (λ (u : ℕ). (parts_with_update parts p.worker (part_after_step s p value) u).draft)
   drafts_after = drafts_of s (act_of_note (note_after s p.private value)) _ _ parts p (part_after_step s p value) goes.1 here (kept_draft (note_after s p.private value) p.draft) world.drafts
 
+  sections_after : StateKnowsSections (abstract_state s (table_memory s new) (privates_of_parts (parts_with_update parts p.worker (part_after_step s p value))) (history_after es (table_memory s words) p.worker (note_after s p.private value)))
+      (λ (u : ℕ). (parts_with_update parts p.worker (part_after_step s p value) u).section)
+  sections_after = sections_of s (act_of_note (note_after s p.private value)) _ _ parts p (part_after_step s p value)
+      (reached_state s (table_memory s words) (privates_of_parts parts) es world.fact) goes.1 here refl world.sections
+
   pub kept : length new ≡ table_size s → StepPreservesService s record { words = words; parts = parts; history = es }
       record { words = new; parts = parts_with_update parts p.worker (part_after_step s p value); history = history_after es (table_memory s words) p.worker (note_after s p.private value) } p value
   kept long = record {
     takes = taking s (table_memory s words) (table_memory s new) (privates_of_parts parts) es p.worker p.private value world.fact worker was busy did;
     did = did;
-    world = world_of s new (parts_with_update parts p.worker (part_after_step s p value)) _ long goes.0 books_after drafts_after;
+    world = world_of s new (parts_with_update parts p.worker (part_after_step s p value)) _ long goes.0 books_after drafts_after sections_after;
     does = goes.1;
   }
 

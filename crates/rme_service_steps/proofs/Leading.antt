@@ -11,7 +11,7 @@ use Rattle.rme_script.specs.Jobs.{IsJob}
 use Rattle.rme_program.specs.Steps.{restarted_private}
 use Rattle.rme_machine.specs.declared.label.Act.TheVariants.{Hand, Crash, Restart, Wait}
 use Rattle.rme_machine.specs.Changes.{PrivateChange}
-use Rattle.rme_machine.specs.Laws.{RefinementStep}
+use Rattle.rme_machine.specs.Laws.{RefinementStep, concrete_state}
 use Rattle.rme_machine.specs.AbstractState.{Privates, abstract_state}
 use Rattle.rme_machine.proofs.Events.{submit, crash, restart, withdraw}
 use Rattle.rme_service_steps.specs.declared.seat_record.Part.{Part}
@@ -19,7 +19,7 @@ use Rattle.rme_service_steps.specs.Parts.{unchanged_part, restarted_part, submit
 use Rattle.rme_service_steps.specs.Rule.{ServiceInvariant, table_memory, privates_of_parts, parts_with_update}
 use Rattle.rme_service_steps.specs.Running.{ChangeIsServiceRun, IsServiceRun, restart_labels, submit_labels, withdraw_labels}
 use Rattle.rme_service_steps.specs.Steps.{ChangeIsAllowed}
-use Rattle.rme_service_steps.proofs.Worlds.{became, world_of, drafts_of, drafts_same, same_parts, books_of}
+use Rattle.rme_service_steps.proofs.Worlds.{became, world_of, drafts_of, drafts_same, sections_of, sections_same, reached_state, same_parts, books_of}
 
 pub leads_onward : (s : Shape) (p : Part) → p.private.stage ≢ Resting → ChangeIsAllowed s unchanged_part p
 leads_onward s p busy = record {
@@ -47,10 +47,10 @@ module _ (s : Shape) (p : Part) (words : List ℕ) (parts : ℕ → Part) (es : 
     off = λ u apart. (became parts p.worker (restarted_part p)).off u apart ∙ rw (ne_eqb u p.worker apart) refl;
   }
 
-  crashes : RefinementStep s (table_memory s words) (table_memory s words) (privates_of_parts parts) without es es p.worker Crash
+  crashes : RefinementStep s (concrete_state (table_memory s words) (privates_of_parts parts) es) (concrete_state (table_memory s words) without es) p.worker Crash
   crashes = crash s (table_memory s words) (privates_of_parts parts) without es p.worker p.private world.fact worker was fell
 
-  restarts : RefinementStep s (table_memory s words) (table_memory s words) without (privates_of_parts (parts_with_update parts p.worker (restarted_part p))) es es p.worker Restart
+  restarts : RefinementStep s (concrete_state (table_memory s words) without es) (concrete_state (table_memory s words) (privates_of_parts (parts_with_update parts p.worker (restarted_part p))) es) p.worker Restart
   restarts = restart s (table_memory s words) without (privates_of_parts (parts_with_update parts p.worker (restarted_part p))) es p.worker crashes.0 worker fell.at rose
 
   restart_world : ServiceInvariant s words (parts_with_update parts p.worker (restarted_part p)) es
@@ -60,8 +60,11 @@ module _ (s : Shape) (p : Part) (words : List ℕ) (parts : ℕ → Part) (es : 
       let up = restarts in
       let drafts = drafts_of s Crash _ (abstract_state s mem without es) parts p p down.1 here refl world.drafts in
       let still = drafts_same (abstract_state s mem without es) _ (λ (u : ℕ). (parts u).draft) drafts (λ u. ap (λ (f : ℕ → Part). (f u).draft) (same_parts parts p here)) in
+      let sections = sections_of s Crash _ (abstract_state s mem without es) parts p p (reached_state s mem (privates_of_parts parts) es world.fact) down.1 here refl world.sections in
+      let known = sections_same (abstract_state s mem without es) _ (λ (u : ℕ). (parts u).section) sections (λ u. ap (λ (f : ℕ → Part). (f u).section) (same_parts parts p here)) in
       world_of s words (parts_with_update parts p.worker (restarted_part p)) es world.long up.0 (books_of s words parts es p (restarted_part p) world here refl refl)
       (drafts_of s Restart _ _ parts p (restarted_part p) up.1 here refl still)
+      (sections_of s Restart _ _ parts p (restarted_part p) (reached_state s mem without es down.0) up.1 here refl known)
 
   submit_world : (job : Job) → p.private.stage ≡ Resting → p.private.begun < s.jobs → IsJob s job → ServiceInvariant s words (parts_with_update parts p.worker (submitted_part job p)) es
   submit_world job rests few is =
@@ -69,6 +72,7 @@ module _ (s : Shape) (p : Part) (words : List ℕ) (parts : ℕ → Part) (es : 
       let goes = submit s mem (privates_of_parts parts) _ es p.worker p.private job world.fact worker was rests few is (became parts p.worker (submitted_part job p)) in
       world_of s words (parts_with_update parts p.worker (submitted_part job p)) es world.long goes.0 (books_of s words parts es p (submitted_part job p) world here refl refl)
       (drafts_of s (Hand (p.private.begun + 1) job) _ _ parts p (submitted_part job p) goes.1 here refl world.drafts)
+      (sections_of s (Hand (p.private.begun + 1) job) _ _ parts p (submitted_part job p) (reached_state s mem (privates_of_parts parts) es world.fact) goes.1 here refl world.sections)
 
   withdraw_world : (ascent : Ascent) → p.private.stage ≡ Climbing ascent → ServiceInvariant s words (parts_with_update parts p.worker (withdrawing_part p)) es
   withdraw_world ascent climbs =
@@ -76,6 +80,7 @@ module _ (s : Shape) (p : Part) (words : List ℕ) (parts : ℕ → Part) (es : 
       let goes = withdraw s mem (privates_of_parts parts) _ es p.worker p.private ascent world.fact worker was climbs (became parts p.worker (withdrawing_part p)) in
       world_of s words (parts_with_update parts p.worker (withdrawing_part p)) es world.long goes.0 (books_of s words parts es p (withdrawing_part p) world here refl refl)
       (drafts_of s Wait _ _ parts p (withdrawing_part p) goes.1 here refl world.drafts)
+      (sections_of s Wait _ _ parts p (withdrawing_part p) (reached_state s mem (privates_of_parts parts) es world.fact) goes.1 here refl world.sections)
 
   -- As steps of the abstract machine.
   pub restart_runs : IsServiceRun s record { words = words; parts = parts; history = es } (restart_labels p) record { words = words; parts = parts_with_update parts p.worker (restarted_part p); history = es }

@@ -3,9 +3,11 @@ pub mod Tables
 pub mod Worlds
 pub mod Keeping
 pub mod Leading
+pub mod Reading
 pub mod Totals
 pub mod Going
 pub mod Seats
+pub mod ReadingSeats
 pub mod Chains
 pub mod Cutting
 pub mod Opened

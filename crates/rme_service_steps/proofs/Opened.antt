@@ -73,9 +73,9 @@ module _ (s : Shape) where
 
   pub opening_world : ServiceInvariant s (zero_table s) fresh_part []
   opening_world = world_of s (zero_table s) fresh_part [] (length-replicate (table_size s) 0) opened.0
-      (λ w worker. record { own = refl; entries = refl }) drafts
+      (λ w worker. record { own = refl; entries = refl }) drafts (λ w me at. tt)
 
-  -- So each worker's fresh part stood in a world.
+  -- So each worker's fresh part was in a world.
   pub fresh_stood : (w : ℕ) → w < s.workers → PartWasInWorld s (fresh_part w)
   fresh_stood w worker = record { words = zero_table s; parts = fresh_part; history = []; world = opening_world; worker = worker; here = refl }
 
@@ -129,7 +129,7 @@ first_left s w worker =
     let count : s.workers - w ≡ suc (s.workers - (w + 1)) = omega (arith, worker) in
     ap {B = SeatRecord} (λ (n : ℕ). record { shape = s; parts = map fresh_part (range_with_len w n) }) count
 
--- The first seat deals a worker its part: it may be cut off, and what both seats then have.
+-- A worker's part is split off the first seat: that is allowed, and the parts of both seats after it.
 module _ (ident : ServiceId) (me : Me ℕ SeatRecord) (w : ℕ) (left : me ≡ (record_from_worker ident.shape w, [])) (worker : w < ident.shape.workers) where
   cut : ◌≡◌ {A = SeatRecord} me.0 record { shape = ident.shape; parts = fresh_part w ∷ (record_from_worker ident.shape (w + 1)).parts }
   cut = ap (λ (m : Me ℕ SeatRecord). m.0) left ∙ first_left ident.shape w worker
@@ -149,7 +149,7 @@ module _ (ident : ServiceId) (me : Me ℕ SeatRecord) (w : ℕ) (left : me ≡ (
   dealt_me : (after : Me ℕ SeatRecord) → after ≡ (first_part me.0, []) → after ≡ (one_part_record ident.shape (fresh_part w), [])
   dealt_me after is = is ∙ ap (λ (r : SeatRecord). let m : Me ℕ SeatRecord = (first_part r, []) in m) cut
 
-  -- A fresh seat keeps what every seat keeps.
+  -- A fresh seat satisfies the invariant of every seat.
   pub dealt_seated : (after : Me ℕ SeatRecord) (es : List Entry) (room : ℕ) → after ≡ (first_part me.0, []) → es ≡ [] → ident.shape.jobs ≤ room → SeatInvariant after w false es room
   dealt_seated after es room is none wide =
       let fresh : SeatInvariant (one_part_record ident.shape (fresh_part w), []) w false [] room =
@@ -163,7 +163,7 @@ module _ (ident : ServiceId) (me : Me ℕ SeatRecord) (w : ℕ) (left : me ≡ (
     part = ap (λ (m : Me ℕ SeatRecord). only_part m.0) (dealt_me after is) k;
   }
 
--- One seat more is dealt.
+-- One more seat is split off.
 pub dealt_more : (ident : ServiceId) (seats more : List SeatView) (w : ℕ) (seat : SeatView) → length seats ≡ w → ((k : ℕ) (s : SeatView) → slice_get seats k ≡ Some s → IsFreshSeat ident k s)
     → seat ≡ record { ident = ident; part = fresh_part w } → more ≡ seats ++ seat ∷ [] → (k : ℕ) (s : SeatView) → slice_get more k ≡ Some s → IsFreshSeat ident k s
 dealt_more ident seats more w seat long fresh is grows k s at = elim (last_or_before seats seat k s (subst (λ (xs : List SeatView). slice_get xs k ≡ Some s) grows at)) [

@@ -101,7 +101,7 @@ block_mono s i j le = elim (cases_Bool (nat_lt i (31 * s.workers))) [
       omega (arith, first, second, mono)
 ]
 
--- A word of a larger number lies behind.
+-- A word of a larger number has a larger position.
 behind : (s : Shape) (i j : ℕ) → i < j → position_of_word s i < position_of_word s j
 behind s i j less =
     let mono = block_mono s i j (omega (arith, less)) in
@@ -180,7 +180,7 @@ numbered s a n is within =
     let below = word_below s a within in
     omega (arith, below, is)
 
--- The word of an address lies behind the gaps before its block.
+-- The word of an address is after the gaps before its block.
 pub lies_there : (s : Shape) (a : Address) (n block at : ℕ) → IsShapeAddress s a → n ≡ word_number s a → block ≡ block_in s (spot s a) → at ≡ n + 7 * (1 + block) → at ≡ position_of_address s a
 lies_there s a n block at within is its laid =
     let here = address_block s a within in

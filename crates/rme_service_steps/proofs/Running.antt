@@ -1,9 +1,11 @@
 -- The operations of all threads, in their order, are a run of the abstract machine.
-use Rattle.std.proofs.Common.{◌≡◌, ℕ, ◌+◌, ◌<◌, List, [], ◌∷◌, ◌++◌, refl, sym, ap, subst}
+use Rattle.std.proofs.Common.{◌≡◌, ℕ, ◌+◌, ◌/◌, ◌<◌, List, [], ◌∷◌, ◌++◌, refl, sym, ap, subst}
 use Rattle.rme_words.specs.declared.shape.Shape.{Shape}
+use Rattle.rme_words.specs.declared.address.Address.TheVariants.{Turn}
 use Rattle.rme_script.specs.declared.job.Job.{Job}
 use Rattle.rme_program.specs.declared.stage.Ascent.{Ascent}
-use Rattle.rme_program.specs.declared.stage.Stage.TheVariants.{Resting, Climbing}
+use Rattle.rme_program.specs.declared.stage.Stage.TheVariants.{Resting, Climbing, Logging}
+use Rattle.rme_program.specs.declared.stage.Log.TheVariants.{LoadTurn}
 use Rattle.rme_script.specs.Jobs.{IsJob}
 use Rattle.rme_machine.specs.declared.label.Act.TheVariants.{Hand, Crash, Restart, Wait}
 use Rattle.rme_machine.specs.declared.label.Label.{Label}
@@ -13,11 +15,12 @@ use Rattle.rme_machine.specs.Machine.{MachineState, MachineRun}
 use Rattle.rme_machine.specs.AbstractState.{act_of_note}
 use Rattle.rme_service_steps.specs.declared.operation.Operation.{Operation}
 use Rattle.rme_service_steps.specs.declared.operation.Operation.TheVariants as operation
-use Rattle.rme_service_steps.specs.Parts.{part_after_step, restarted_part, submitted_part, withdrawing_part}
+use Rattle.rme_service_steps.specs.Parts.{part_after_step, part_with_section, restarted_part, submitted_part, withdrawing_part}
 use Rattle.rme_service_steps.specs.Rule.{ServiceState, ServiceStateInvariant, service_abstract_state, table_memory, parts_with_update}
 use Rattle.rme_service_steps.specs.Running.{IsServiceRun, OperationMayCome, ServiceRefinementLaw, state_after_operation, labels_of_operation, next_action, next_note, next_value, state_with_part}
 use Rattle.rme_service_steps.specs.Steps.{words_after}
 use Rattle.rme_service_steps.proofs.Keeping.{keeps}
+use Rattle.rme_service_steps.proofs.Reading.{read_world, read_runs}
 use Rattle.rme_service_steps.proofs.Leading.{restart_runs, submit_runs, withdraw_runs}
 
 -- A run, and then another.
@@ -44,6 +47,16 @@ module _ (shape : Shape) (old : ServiceState) (world : ServiceStateInvariant sha
   restarts_run =
       by_worker (λ (w : ℕ). IsServiceRun shape old (Of w Crash ∷ Of w Restart ∷ []) (state_with_part old w (restarted_part (old.parts worker))))
       (restart_runs shape (old.parts worker) old.words old.parts old.history world below here)
+
+  reads_run : (lock : ℕ) → (old.parts worker).private.stage ≡ Logging (LoadTurn lock)
+      → IsServiceRun shape old [] (state_with_part old worker (part_with_section (old.parts worker) (table_memory shape old.words (Turn lock) / 2)))
+  reads_run lock at =
+      let part = old.parts worker in
+      by_worker (λ (w : ℕ). IsServiceRun shape old [] (state_with_part old w (part_with_section part (table_memory shape old.words (Turn lock) / 2))))
+      record {
+        world = read_world shape old.words old.parts old.history part lock world below here at;
+        run = read_runs shape old.words old.parts old.history part lock world below here at;
+      }
 
   submits_run : (job : Job) → (old.parts worker).private.stage ≡ Resting → (old.parts worker).private.begun < shape.jobs → IsJob shape job
       → IsServiceRun shape old (labels_of_operation shape (operation.Submit worker job) old) (state_after_operation shape (operation.Submit worker job) old)
@@ -74,6 +87,7 @@ module _ (shape : Shape) (old : ServiceState) (world : ServiceStateInvariant sha
 
 comes : (shape : Shape) (one : Operation) (old : ServiceState) → ServiceStateInvariant shape old → OperationMayCome shape one old → IsServiceRun shape old (labels_of_operation shape one old) (state_after_operation shape one old)
 comes shape operation.Look old world may = record { world = world; run = refl }
+comes shape (operation.ReadSection worker lock) old world may = reads_run shape old world worker may.0 lock may.1
 comes shape (operation.Restart worker) old world may = restarts_run shape old world worker may
 comes shape (operation.Submit worker job) old world may = submits_run shape old world worker may.0 job may.1 may.2 may.3
 comes shape (operation.Withdraw worker) old world may = withdraws_run shape old world worker may.0 may.1 may.2

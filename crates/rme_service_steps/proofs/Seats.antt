@@ -1,4 +1,4 @@
--- A worker's seat at the table: that it may make its step, and what it keeps.
+-- A worker's seat at the table: its step is allowed, and preserves its invariant.
 use Rattle.std.proofs.Common.{◌≡◌, ℕ, ◌+◌, ◌<◌, ◌≤◌, List, [], ◌∷◌, ◌++◌, length, refl, sym, ◌∙◌, ap, subst, inl, inr, arith}
 use Rattle.std.specs.Prelude.{Bool, true, ◌==◌, Option, is_some}
 use Rattle.std.proofs.lemmas.Bool.{cases_Bool}
@@ -35,18 +35,20 @@ use Rattle.rme_service_steps.specs.Steps.{PartWasInWorld, PartMadeStep, PartRead
 use Rattle.rme_service_steps.specs.SeatViews.{ServiceId, SeatView, WordTableInvariant, SeatInvariant}
 use Rattle.rme_service_steps.specs.Chances.{ChanceCounts, ChanceWasAsked}
 use Rattle.rme_service_steps.specs.CallSteps.{seat_call, stage_adds_no_entry, StepIsAllowed, PlainStepIsAllowed, FinishIsAllowed, OwnStepWasMade}
+use Rattle.rme_machine.specs.AbstractState.{act_of_note}
+use Rattle.rme_machine.specs.KnownSections.{section_after}
 use Rattle.rme_machine.specs.Histories.{history_of_worker, numbers_of_worker, HistoryIsLegalAfter}
 use Rattle.rme_machine.proofs.Historical.{rises_few}
 use Rattle.rme_service_steps.proofs.Positions.{inside}
 use Rattle.rme_service_steps.proofs.Worlds.{there}
 use Rattle.rme_service_steps.proofs.Going.{goes, looks}
 
--- What is told does not go by the operands.
+-- The effect does not depend on the operands.
 abbrev pub no_step : Step ℕ
 no_step = step 0 0 0 0 none
 
 -- A step of another stage than the store of Done makes no entry.
-plain_note : (s : Shape) (w b value : ℕ) (stage next : Stage) (note : Note) (es : List Entry) (draft : Option Job) → stage_adds_no_entry stage ≡ true → NoteMeaning s w b stage value next note
+plain_note : (s : Shape) (w b value : ℕ) (stage next : Stage) (note : Note) (es : List Entry) (draft : Option Job) → stage_adds_no_entry stage ≡ true → NoteMeaning s record { worker = w; begun = b; stage = stage } value next note
     → entries_after es draft note ≡ es
 plain_note s w b value stage next Quiet es draft plain tells = refl
 plain_note s w b value stage next (Asked k) es draft plain tells = refl
@@ -63,7 +65,25 @@ pub plain_entries : (s : Shape) (p : Part) (value : ℕ) → stage_adds_no_entry
 plain_entries s p value plain = plain_note s p.private.worker p.private.begun value p.private.stage _ (note_after s p.private value) p.entries p.draft plain
     (note_law s p.private.worker p.private.begun p.private.stage value)
 
--- After its step a part stood in a world.
+-- Nor does it finish a section.
+plain_section : (s : Shape) (w b value : ℕ) (stage next : Stage) (note : Note) (section : Option ℕ) → stage_adds_no_entry stage ≡ true → NoteMeaning s record { worker = w; begun = b; stage = stage } value next note
+    → section_after (act_of_note note) section ≡ section
+plain_section s w b value stage next Quiet section plain tells = refl
+plain_section s w b value stage next (Asked k) section plain tells = refl
+plain_section s w b value stage next Blocked section plain tells = refl
+plain_section s w b value stage next (Entered lock) section plain tells = refl
+plain_section s w b value stage next (Reentered lock) section plain tells = refl
+plain_section s w b value stage next (Finished receipt) section plain (visit, mask, reply, at, out) =
+    let no : stage_adds_no_entry (Copying (StoreDone visit mask reply)) ≡ true = ap stage_adds_no_entry (sym at) ∙ plain in cc
+plain_section s w b value stage next (Left lock) section plain tells = refl
+plain_section s w b value stage next Ready section plain tells = refl
+plain_section s w b value stage next (Withdrew k) section plain tells = refl
+
+pub kept_section : (s : Shape) (p : Part) (value : ℕ) → stage_adds_no_entry p.private.stage ≡ true → (part_after_step s p value).section ≡ p.section
+kept_section s p value plain = plain_section s p.private.worker p.private.begun value p.private.stage _ (note_after s p.private value) p.section plain
+    (note_law s p.private.worker p.private.begun p.private.stage value)
+
+-- After its step a part was in a world.
 pub stood_after : (s : Shape) (p : Part) (value : ℕ) → PartMadeStep s p value → PartWasInWorld s (part_after_step s p value)
 stood_after s p value stepped = record {
   words = stepped.words;
@@ -103,7 +123,7 @@ module _ (mine tid : TableId) (key shape : Shape) (me : Me ℕ SeatRecord) (iden
   pub ident_shape : ident.shape ≡ me.0.shape
   ident_shape = sym (ap (λ (x : ServiceId). x.shape) table.known) ∙ sym same_shape
 
-  -- What a caller showed, by the seat's own record.
+  -- The caller's requirement, by the seat's own record.
   pub may_here : (lead : Part → Part) (action : Action) (at : ℕ) → StepIsAllowed ident.shape lead stand.part action at → StepIsAllowed me.0.shape lead (only_part me.0) action at
   may_here lead action at may =
       let P : Shape → Type 0 = λ (s : Shape). StepIsAllowed s lead stand.part action at in
@@ -129,7 +149,7 @@ module _ (mine tid : TableId) (key shape : Shape) (me : Me ℕ SeatRecord) (iden
       let M : Me ℕ SeatRecord → Type 0 = λ (m : Me ℕ SeatRecord). Allows (TableInvariant key) tid.slots id m at (word_after_action action) (λ found. λ after. OwnStepEffect lead no_step m (value_of_action action found) after) in
       (same_table, within, subst M (sym table.one) (subst K (sym same_key) (subst N (sym may.lies) (subst A may.here go))))
 
-  -- What the seat keeps, and how its part goes on.
+  -- The seat's invariant, and its part after the step.
   module _ (worker : ℕ) (drafted : Bool) (es : List Entry) (room : ℕ) (seated : SeatInvariant me worker drafted es room)
       (lead : Part → Part) (action : Action) (at : ℕ) (value : ℕ) (after : Me ℕ SeatRecord) (told : OwnStepEffect lead no_step me value after) where
     now_one : after ≡ (one_part_record me.0.shape (part_after_step me.0.shape (lead (only_part me.0)) value), [])
@@ -170,7 +190,7 @@ module _ (mine tid : TableId) (key shape : Shape) (me : Me ℕ SeatRecord) (iden
         now_keeps drafted es room may.leads.worker (ap (λ (d : Option Job). is_some d) draft ∙ seated.drafts)
         (plain_entries me.0.shape (lead (only_part me.0)) value plain ∙ may.entries ∙ seated.all) refl
 
-    -- What the caller is told.
+    -- The effect as the caller learns it.
     pub made : (others : TableId) (old new : ChanceCounts) → others ≡ mine → ChanceWasAsked old new 1 0
         → OwnStepWasMade (seat_call ident.shape lead stand record { ident = record { table = others; shape = after.0.shape }; part = only_part after.0 } old new) value
     made others old new same asks =

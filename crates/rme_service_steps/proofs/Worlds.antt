@@ -1,5 +1,5 @@
 -- Worlds: what each shows of one worker, and what makes one.
-use Rattle.std.proofs.Common.{◌≡◌, ◌≢◌, ℕ, ◌<◌, List, length, refl, sym, ◌∙◌, ap, subst, inl, inr}
+use Rattle.std.proofs.Common.{◌≡◌, ◌≢◌, ℕ, ◌<◌, List, [], length, refl, sym, ◌∙◌, ap, subst, inl, inr}
 use Rattle.std.specs.Prelude.{Bool, true, false, Option, Some, None, ◌==◌, if◌then◌else◌}
 use Rattle.std.proofs.lemmas.Bool.{cases_eq, eq-eqb, ne_eqb}
 use Rattle.rme_words.specs.declared.shape.Shape.{Shape}
@@ -13,10 +13,13 @@ use Rattle.rme_machine.specs.AbstractState.{Privates, abstract_state, abstract_w
 use Rattle.rme_machine.specs.Histories.{last_entry_of_worker}
 use Rattle.rme_machine.specs.Invariant.{Invariant}
 use Rattle.rme_machine.specs.FurtherLaws.{StateHasDrafts, StanceHasDraft, draft_after}
+use Rattle.rme_machine.specs.KnownSections.{StanceKnowsSection, StateKnowsSections, section_after}
+use Rattle.rme_machine.specs.Theorems.{IsReachable}
 use Rattle.rme_machine.specs.declared.label.Act.{Act}
 use Rattle.rme_machine.specs.Machine.{MachineState, MachineStep}
 use Rattle.rme_machine.proofs.Shows.{shown_me}
 use Rattle.rme_machine.proofs.Books.{drafting}
+use Rattle.rme_machine.proofs.Knowing.{knowing}
 use Rattle.rme_service_steps.specs.declared.seat_record.Part.{Part}
 use Rattle.rme_service_steps.specs.Layout.{table_size}
 use Rattle.rme_service_steps.specs.Rule.{ServiceInvariant, PartMatchesHistory, table_memory, privates_of_parts, parts_with_update}
@@ -47,20 +50,26 @@ slate_is_draft s mem privs es drafts w worker are pending =
     draft_by (lock_owned_by_worker s mem w) (is_pending (worker_words mem w)) _ (slate_job (worker_words mem w)) (last_entry_job (last_entry_of_worker es w)) (privs w) (drafts w) pending
     (are w (abstract_worker s mem privs es w) (shown_me s mem privs es w worker))
 
--- A world is made of the fact, the books and the drafts.
+-- A world is made of the invariant, the workers' entries, the drafts and the known sections.
 pub world_of : (s : Shape) (words : List ℕ) (parts : ℕ → Part) (es : List Entry) → length words ≡ table_size s → Invariant s (table_memory s words) (privates_of_parts parts) es → ((w : ℕ) → w < s.workers → PartMatchesHistory es w (parts w))
-    → StateHasDrafts (abstract_state s (table_memory s words) (privates_of_parts parts) es) (λ (w : ℕ). (parts w).draft) → ServiceInvariant s words parts es
-world_of s words parts es long fact books drafts = record {
+    → StateHasDrafts (abstract_state s (table_memory s words) (privates_of_parts parts) es) (λ (w : ℕ). (parts w).draft)
+    → StateKnowsSections (abstract_state s (table_memory s words) (privates_of_parts parts) es) (λ (w : ℕ). (parts w).section) → ServiceInvariant s words parts es
+world_of s words parts es long fact books drafts sections = record {
   long = long;
   fact = fact;
   books = books;
   drafts = drafts;
+  sections = sections;
   slates = λ w worker pending. slate_is_draft s (table_memory s words) (privates_of_parts parts) es (λ (w : ℕ). (parts w).draft) w worker drafts pending;
 }
 
 -- Drafts that are the same for each worker.
 pub drafts_same : (state : MachineState) (drafts others : ℕ → Option Job) → StateHasDrafts state drafts → ((u : ℕ) → drafts u ≡ others u) → StateHasDrafts state others
 drafts_same state drafts others are same u me at = subst (λ (d : Option Job). StanceHasDraft me.stance d) (same u) (are u me at)
+
+-- Known sections that are the same for each worker.
+pub sections_same : (state : MachineState) (sections others : ℕ → Option ℕ) → StateKnowsSections state sections → ((u : ℕ) → sections u ≡ others u) → StateKnowsSections state others
+sections_same state sections others knows same u me at = subst (λ (n : Option ℕ). StanceKnowsSection state.history me.stance n) (same u) (knows u me at)
 
 -- The drafts after a step of the machine, where the worker's own is then this one.
 pub drafts_of : (s : Shape) (act : Act) (old new : MachineState) (parts : ℕ → Part) (p q : Part) → MachineStep s act old p.worker new → parts p.worker ≡ p
@@ -71,6 +80,22 @@ drafts_of s act old new parts p q does here own are =
     same : (u : ℕ) → (if u == p.worker then draft_after act (parts p.worker).draft else (parts u).draft) ≡ (parts_with_update parts p.worker q u).draft
     same u = elim (cases_eq u p.worker) [
       | inl e ↦ rw (eq-eqb u p.worker e) (ap (λ (x : Part). draft_after act x.draft) here ∙ own)
+      | inr n ↦ rw (ne_eqb u p.worker n) refl
+    ]
+
+-- The state of words, private states and a history with the invariant is one that a run reaches.
+pub reached_state : (s : Shape) (mem : Address → ℕ) (privs : Privates) (es : List Entry) → Invariant s mem privs es → IsReachable s (abstract_state s mem privs es)
+reached_state s mem privs es fact = record { start = abstract_state s mem privs es; begins = inr (mem, privs, es, fact, refl); labels = []; run = refl }
+
+-- The known sections after a step of the machine, where the worker's own is then this one.
+pub sections_of : (s : Shape) (act : Act) (old new : MachineState) (parts : ℕ → Part) (p q : Part) → IsReachable s old → MachineStep s act old p.worker new → parts p.worker ≡ p
+    → section_after act p.section ≡ q.section → StateKnowsSections old (λ (u : ℕ). (parts u).section) → StateKnowsSections new (λ (u : ℕ). (parts_with_update parts p.worker q u).section)
+sections_of s act old new parts p q reached does here own knows =
+    sections_same new _ _ (knowing s act old p.worker new (λ (v : ℕ). (parts v).section) reached does knows) same
+  where
+    same : (u : ℕ) → (if u == p.worker then section_after act (parts p.worker).section else (parts u).section) ≡ (parts_with_update parts p.worker q u).section
+    same u = elim (cases_eq u p.worker) [
+      | inl e ↦ rw (eq-eqb u p.worker e) (ap (λ (x : Part). section_after act x.section) here ∙ own)
       | inr n ↦ rw (ne_eqb u p.worker n) refl
     ]
 

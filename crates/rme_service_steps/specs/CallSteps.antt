@@ -1,13 +1,15 @@
--- What a call has done: its own steps, one after another, each with its question.
+-- The own steps of one call, in order, with one question to the Chance before each.
 use Rattle.std.specs.Prelude.{◌≡◌, ℕ, ◌+◌, ◌<◌, Bool, true, false, List, [], ◌∷◌, length}
 use Rattle.rme_words.specs.declared.shape.Shape.{Shape}
 use Rattle.rme_words.specs.declared.address.Address.{Address}
+use Rattle.rme_words.specs.declared.address.Address.TheVariants.{Turn}
 use Rattle.rme_words.specs.Words.{IsShapeAddress}
 use Rattle.rme_program.specs.declared.action.Action.{Action}
 use Rattle.rme_program.specs.declared.action.Action.TheVariants.{Load, Store, Swap}
 use Rattle.rme_program.specs.ActionEffects.{action_address}
 use Rattle.rme_program.specs.declared.stage.Stage.{Stage}
-use Rattle.rme_program.specs.declared.stage.Stage.TheVariants.{Resting, Copying}
+use Rattle.rme_program.specs.declared.stage.Stage.TheVariants.{Resting, Logging, Copying}
+use Rattle.rme_program.specs.declared.stage.Log.TheVariants.{LoadTurn}
 use Rattle.rme_program.specs.declared.stage.Redo.{Redo}
 use Rattle.rme_program.specs.declared.stage.Redo.TheVariants.{StoreDone}
 use Rattle.rme_program.specs.declared.note.Receipt.{Receipt}
@@ -20,8 +22,8 @@ use Rattle.rme_service_steps.specs.Steps.{ChangeIsAllowed, PartWasInWorld, PartM
 use Rattle.rme_service_steps.specs.Chances.{ChanceCounts, ChanceWasAsked}
 use Rattle.rme_service_steps.specs.SeatViews.{SeatView}
 
--- Each number was found by an own step in a world in which the part stood: there was one whose words and parts were
--- those of the rule, and whose word, the one that the step speaks of, had that number.
+-- Each value was found by an own step in some world. In that world the invariant held of the words and parts, the
+-- worker had this part, and the step's word had this value.
 abbrev pub StepsWereMade : Shape → Part → List ℕ → Type 0
 StepsWereMade shape part [] = Unit {0}
 StepsWereMade shape part (value ∷ values) =
@@ -32,8 +34,8 @@ ValuesWereFound shape lead part [] = Unit {0}
 ValuesWereFound shape lead part (value ∷ values) =
     PartMadeStep shape (lead part) value × StepsWereMade shape (part_after_step shape (lead part) value) values
 
--- A call of a worker: the service's shape, the change of the worker's part that stands before its first own step, and
--- the worker's seat and the counts of its Chance, before the call and after it.
+-- A call of a worker: the service's shape, the change of the worker's part before its first own step, and the worker's
+-- seat and the counts of its Chance, before and after the call.
 pub record SeatCall : Type 0 where
   pub shape : Shape
   pub lead : Part → Part
@@ -52,8 +54,8 @@ seat_call shape lead start end start_counts end_counts = record {
   end_counts = end_counts;
 }
 
--- The part went on by own steps, each over the number that it found in a world, with a question before each; where the
--- worker fell there was one more question, answered yes.
+-- The part after the call follows from own steps, each with the value that it found in a world, and one question before
+-- each. If the worker crashed, there was one more question, answered yes.
 pub record SeatStepSequence (call : SeatCall) (falls : ℕ) : Type 0 where
   pub values : List ℕ
   pub walk : call.end.part ≡ part_after_change call.shape call.lead call.start.part values
@@ -61,38 +63,40 @@ pub record SeatStepSequence (call : SeatCall) (falls : ℕ) : Type 0 where
   pub steps : call.end.part.steps ≡ call.start.part.steps + length values
   pub asks : ChanceWasAsked call.start_counts call.end_counts (length values + falls) falls
 
--- What a call within one job leaves as it was.
+-- What a call within one job leaves unchanged.
 pub record JobIsUnchanged (call : SeatCall) : Type 0 where
   pub ident : call.end.ident ≡ call.start.ident
   pub own : call.end.part.worker ≡ call.start.part.worker
   pub draft : call.end.part.draft ≡ (call.lead call.start.part).draft
   pub entries : call.end.part.entries ≡ call.start.part.entries
+  pub section : call.end.part.section ≡ call.start.part.section
 
--- The worker is before the step of this stage.
+-- The worker's next step is that of this stage.
 pub record PartIsAtStage (shape : Shape) (part : Part) (begun : ℕ) (stage : Stage) : Type 0 where
   pub private : part.private ≡ record { worker = part.worker; begun = begun; stage = stage }
   pub stood : PartWasInWorld shape part
 
--- The same, with what its private state knows of `begun`.
+-- The same, with the `begun` that its private state has.
 abbrev pub PartIsBeforeStage : Shape → Part → Stage → Type 0
 PartIsBeforeStage shape part stage = PartIsAtStage shape part part.private.begun stage
 
--- So many own steps were made without a fall, and led to this stage.
+-- The call made this number of own steps without a crash, and is at this stage.
 pub record CallProgress (call : SeatCall) (count begun : ℕ) (stage : Stage) : Type 0 where
   pub walks : SeatStepSequence call 0
   pub counted : call.end.part.steps ≡ call.start.part.steps + count
   pub stays : JobIsUnchanged call
   pub at : PartIsAtStage call.shape call.end.part begun stage
 
--- Fewer own steps were made, and then the worker fell.
+-- The call made fewer own steps, and then the worker crashed.
 pub record CallFell (call : SeatCall) (most : ℕ) : Type 0 where
   pub walks : SeatStepSequence call 1
   pub fewer : call.end.part.steps < call.start.part.steps + most
   pub ident : call.end.ident ≡ call.start.ident
   pub own : call.end.part.worker ≡ call.start.part.worker
   pub entries : call.end.part.entries ≡ call.start.part.entries
+  pub section : call.end.part.section ≡ call.start.part.section
 
--- The step of a stage makes no entry.
+-- The step of a stage adds no entry to the history.
 abbrev pub redo_adds_no_entry : Redo → Bool
 redo_adds_no_entry (StoreDone visit mask reply) = false
 redo_adds_no_entry _ = true
@@ -102,16 +106,18 @@ stage_adds_no_entry Resting = false
 stage_adds_no_entry (Copying redo) = redo_adds_no_entry redo
 stage_adds_no_entry _ = true
 
--- What stands before the step may stand there, the step is this action, it makes no entry, and its word lies there.
+-- The change before the step is allowed, the step has this action and adds no entry, and the action's word is at this
+-- position.
 pub record StepIsAllowed (shape : Shape) (lead : Part → Part) (part : Part) (action : Action) (at : ℕ) : Type 0 where
   pub leads : ChangeIsAllowed shape lead part
   pub entries : (lead part).entries ≡ part.entries
   pub count : (lead part).steps ≡ part.steps
+  pub section : (lead part).section ≡ part.section
   pub here : private_action shape (lead part).private ≡ action
   pub within : IsShapeAddress shape (action_address action)
   pub lies : at ≡ position_of_address shape (action_address action)
 
--- The step made no entry, and nothing was handed over.
+-- The step adds no entry, and the change before it submits no job.
 pub record PlainStepIsAllowed (shape : Shape) (lead : Part → Part) (part : Part) (action : Action) (at : ℕ) : Type 0
   where
     pub may : StepIsAllowed shape lead part action at
@@ -129,20 +135,26 @@ abbrev pub SwapIsAllowed : Shape → (Part → Part) → Part → ℕ → ℕ �
 SwapIsAllowed shape lead part at from to =
     (address : Address) × PlainStepIsAllowed shape lead part (Swap address from to) at
 
+-- The worker is inside a lock and before its first own step there, the load of the turn, which lies there.
+abbrev pub TurnIsNext : Shape → Part → ℕ → Type 0
+TurnIsNext shape part at =
+    (lock : ℕ) × (lock < shape.locks) × (at ≡ position_of_address shape (Turn lock))
+    × PartIsBeforeStage shape part (Logging (LoadTurn lock))
+
 -- The step finishes the section, with this receipt.
 pub record FinishIsAllowed (shape : Shape) (part : Part) (at : ℕ) (receipt : Receipt) : Type 0 where
   pub address : Address
   pub may : StepIsAllowed shape unchanged_part part (Store address receipt.number) at
   pub note : note_after shape part.private receipt.number ≡ Finished receipt
 
--- One own step, which found this value: the core's, in a world.
+-- One own step, which found this value: a step of the core in a world.
 pub record OwnStepWasMade (call : SeatCall) (value : ℕ) : Type 0 where
   pub took : call.end.part ≡ part_after_step call.shape (call.lead call.start.part) value
   pub told : PartMadeStep call.shape (call.lead call.start.part) value
   pub ident : call.end.ident ≡ call.start.ident
   pub asks : ChanceWasAsked call.start_counts call.end_counts 1 0
 
--- The worker fell before its step, and nothing changed.
+-- The worker crashed before its step, and nothing changed.
 pub record FellBeforeStep (call : SeatCall) : Type 0 where
   pub same : call.end ≡ call.start
   pub asks : ChanceWasAsked call.start_counts call.end_counts 1 1

@@ -1,18 +1,18 @@
--- What contracts see of a Chance: its yeses, and the count of its questions where it keeps one.
+-- A Chance as contracts see it: the number of its yeses, and the number of its questions, if it counts them.
 use Rattle.std.specs.Prelude.{◌≡◌, ℕ, ◌+◌, Bool, true, false, Option, Some, None}
 
--- A count of questions is kept up to the greatest number of its type; from there on there is none.
+-- The questions are counted up to the greatest number of their type; beyond it the count is `None`.
 pub record ChanceCounts : Type 0 where
   pub yeses : ℕ
   pub questions : Option ℕ
 
--- So many more questions were counted, as far as they are.
+-- `count` more questions were counted, if both counts are known.
 abbrev pub QuestionsAreCounted : Option ℕ → Option ℕ → ℕ → Type 0
 QuestionsAreCounted before None count = Unit {0}
 QuestionsAreCounted None (Some after) count = ⊥
 QuestionsAreCounted (Some before) (Some after) count = after ≡ before + count
 
--- So many questions were asked, and so many answered yes.
+-- The Chance was asked `questions` times, and answered yes `yeses` times.
 pub record ChanceWasAsked (old new : ChanceCounts) (questions yeses : ℕ) : Type 0 where
   pub yes : new.yeses ≡ old.yeses + yeses
   pub asked : QuestionsAreCounted old.questions new.questions questions

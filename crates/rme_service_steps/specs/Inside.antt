@@ -1,4 +1,4 @@
--- BEING INSIDE A LOCK. What whoever holds a worker may let it do, in between, without its leaving the lock.
+-- BEING INSIDE A LOCK. What may be done to a worker that owns a lock without its leaving the lock.
 use Rattle.std.specs.Prelude.{◌≡◌, ℕ, List, [], ◌∷◌, Some, slice_get}
 use Rattle.rme_words.specs.declared.shape.Shape.{Shape}
 use Rattle.rme_program.specs.declared.kinds.Phase.TheVariants.{Recover}
@@ -9,7 +9,8 @@ use Rattle.rme_service_steps.specs.declared.operation.Operation.TheVariants as o
 use Rattle.rme_service_steps.specs.Rule.{ServiceState, ServiceStateInvariant, service_abstract_state}
 use Rattle.rme_service_steps.specs.Running.{OperationsMayCome, state_after_operations, state_after_operation, labels_of_operations}
 
--- An own step of the worker is one of its recovery; what others do, and what else is done to the worker, is free.
+-- If the operation is an own step of the worker, it is a step of Recover. Steps of other workers, and other operations
+-- on the worker, are free.
 abbrev pub OperationOnlyRecovers : Shape → ℕ → Operation → ServiceState → Type 0
 OperationOnlyRecovers shape worker (operation.Step who) old =
     who ≡ worker → phase_of (old.parts who).private.stage ≡ Recover
@@ -21,8 +22,8 @@ OperationsOnlyRecover shape worker (one ∷ others) old =
     OperationOnlyRecovers shape worker one old
     × OperationsOnlyRecover shape worker others (state_after_operation shape one old)
 
--- As long as a worker that owns a lock makes no step but those of Recover, however often it falls and comes back, no
--- other worker takes, re-enters, finishes in or leaves that lock, and it is the owner still.
+-- While a worker that owns a lock makes only own steps of Recover, no other worker takes, re-enters, finishes in or
+-- leaves that lock, and the worker remains its owner. The worker may crash and restart any number of times.
 abbrev pub InsideLaw : Type 0
 InsideLaw =
     (shape : Shape) (old : ServiceState) (operations : List Operation) (worker lock : ℕ)

@@ -1,7 +1,6 @@
--- Where the words of a shape lie in a service's table: in the order of their numbers, block after block. A worker's
--- words are a block, and of a lock the nodes are one, and its other words the next. Before each block, and behind the
--- last, lie seven words that nobody uses. So a line of a processor's cache, which has eight words, has none of two
--- blocks.
+-- The positions of a shape's words in a service's table: in the order of their numbers, block after block. Each
+-- worker's words are a block; of each lock, the nodes are one block, and its other words the next. Seven unused words
+-- are before each block and after the last. So a cache line, which has eight words, has no words of two blocks.
 use Rattle.std.specs.Prelude.{ℕ, ◌+◌, ◌-◌, ◌*◌, ◌/◌, ◌%◌, ◌<◌, ◌≤◌, nat_lt, if◌then◌else◌, List, map, slice_index}
 use Rattle.std.specs.List.{range_with_len}
 use Rattle.rme_words.specs.declared.shape.Shape.{Shape}
@@ -12,31 +11,31 @@ use Rattle.rme_words.specs.Words.{word_number, word_count, lock_block}
 unfoldable pub half_of_lock : Shape → ℕ → ℕ
 half_of_lock shape offset = if nat_lt offset (shape.leaves - 1) then 0 else 1
 
--- The block of the word of a number: the workers' come first, then two for each lock.
+-- The block of the word with this number: the workers' blocks come first, then two for each lock.
 unfoldable pub block_of_word : Shape → ℕ → ℕ
 block_of_word shape number =
     if nat_lt number (31 * shape.workers) then number / 31
     else shape.workers + (2 * ((number - 31 * shape.workers) / lock_block shape) + half_of_lock shape
     ((number - 31 * shape.workers) % lock_block shape))
 
--- Where the word of a number lies, and that of an address.
+-- The position of the word with this number, and of that at an address.
 unfoldable pub position_of_word : Shape → ℕ → ℕ
 position_of_word shape number = number + 7 * (1 + block_of_word shape number)
 
 abbrev pub position_of_address : Shape → Address → ℕ
 position_of_address shape address = position_of_word shape (word_number shape address)
 
--- How many words the table has.
+-- The number of words in the table.
 abbrev pub table_size : Shape → ℕ
 table_size shape = word_count shape + 7 * (1 + (shape.workers + 2 * shape.locks))
 
--- The law of the gaps: between two words of two blocks lie seven others.
+-- The law of the gaps: between two words of different blocks are seven others.
 abbrev pub CacheLinePaddingLaw : Type 0
 CacheLinePaddingLaw =
     (shape : Shape) (i j : ℕ) → block_of_word shape i < block_of_word shape j
     → position_of_word shape i + 8 ≤ position_of_word shape j
 
--- So many words of a table, and all, in the order of their numbers.
+-- The first `count` words of a table, and all, in the order of their numbers.
 abbrev pub first_table_words : Shape → List ℕ → ℕ → List ℕ
 first_table_words shape words count =
     map (λ (number : ℕ). slice_index words (position_of_word shape number)) (range_with_len 0 count)

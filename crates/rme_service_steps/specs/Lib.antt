@@ -1,8 +1,8 @@
--- In reading order: a shape, a job and a part that stand where there is none; the part of one worker and how it goes
--- on; where words lie; what the words and every seat's record show together; what an own step and a reader's load tell;
--- what contracts see of a Chance, of a service and of a worker's seat; what a call has done; how a service opens and is
--- closed; what any operations, in their order, are to the abstract machine; and what a worker may do without leaving
--- its lock.
+-- In reading order: placeholders for a shape, a job and a part; the part of one worker, and the part after a step; the
+-- positions of words; the invariant of the words and the records of all seats; the effects of an own step and of a
+-- reader's load; a Chance, a service and a worker's seat as contracts see them; the steps of a call; how a service is
+-- opened and closed; the operations of all threads as a run of the abstract machine; and what a worker may do without
+-- leaving its lock.
 pub mod Placeholders
 pub mod Parts
 pub mod Layout

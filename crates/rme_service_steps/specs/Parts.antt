@@ -1,4 +1,4 @@
--- The part of one worker, and how it goes on: by an own step, and by what stands before a call's first step.
+-- The part of one worker, and its changes: by an own step, and by what precedes a call's first step.
 use Rattle.std.specs.Prelude.{ℕ, ◌+◌, List, [], ◌∷◌, ◌++◌, Option, Some, None}
 use Rattle.rme_words.specs.declared.shape.Shape.{Shape}
 use Rattle.rme_script.specs.declared.job.Job.{Job}
@@ -9,6 +9,8 @@ use Rattle.rme_program.specs.declared.note.Note.TheVariants.{Quiet, Asked, Block
 use Rattle.rme_program.specs.declared.private.Private.{Private}
 use Rattle.rme_program.specs.Steps.{private_after, note_after, ready_private, restarted_private, submitted_private, withdrawing_private}
 use Rattle.rme_machine.specs.Views.{no_script}
+use Rattle.rme_machine.specs.AbstractState.{act_of_note}
+use Rattle.rme_machine.specs.KnownSections.{section_after}
 use Rattle.rme_service_steps.specs.declared.seat_record.Part.{Part}
 
 -- The script of the job that was posted last.
@@ -16,7 +18,7 @@ abbrev pub draft_script : Option Job → Program
 draft_script None = no_script
 draft_script (Some job) = job.script
 
--- The entries after a step: a finished section adds its own, with the script of the draft.
+-- The entries after a step: a finished section adds one, with the draft's script.
 abbrev pub entries_after : List Entry → Option Job → Note → List Entry
 entries_after entries draft Quiet = entries
 entries_after entries draft (Asked k) = entries
@@ -29,7 +31,7 @@ entries_after entries draft (Left lock) = entries
 entries_after entries draft Ready = entries
 entries_after entries draft (Withdrew k) = entries
 
--- A part after one own step, this number being loaded or found: the core's `after`, and one step more.
+-- A part after one own step, which loaded or found this value: the core's `after`, and one step more.
 abbrev pub part_after_step : Shape → Part → ℕ → Part
 part_after_step shape part value = record {
   worker = part.worker;
@@ -38,30 +40,23 @@ part_after_step shape part value = record {
   entries = entries_after part.entries part.draft (note_after shape part.private value);
   steps = part.steps + 1;
   note = note_after shape part.private value;
+  section = section_after (act_of_note (note_after shape part.private value)) part.section;
 }
 
--- A part after own steps, these numbers being found, the first first.
+-- A part after own steps that found these values, in order.
 abbrev pub part_after_steps : Shape → Part → List ℕ → Part
 part_after_steps shape part [] = part
 part_after_steps shape part (value ∷ values) = part_after_steps shape (part_after_step shape part value) values
 
--- The same where something stands before the first step: without a step it does not come to pass.
+-- The same with a change before the first step. Without a step the change is not made.
 abbrev pub part_after_change : Shape → (Part → Part) → Part → List ℕ → Part
 part_after_change shape lead part [] = part
 part_after_change shape lead part (value ∷ values) =
     part_after_steps shape (part_after_step shape (lead part) value) values
 
--- What stands before a first step: nothing; Crash and Restart; Submit; Withdraw.
+-- The changes before a first step: none; Crash and Restart; Submit; Withdraw.
 abbrev pub part_with_private : Part → Private → Part
-part_with_private part private =
-    record {
-      worker = part.worker;
-      private = private;
-      draft = part.draft;
-      entries = part.entries;
-      steps = part.steps;
-      note = part.note;
-    }
+part_with_private part private = record part { private = private }
 
 abbrev pub unchanged_part : Part → Part
 unchanged_part part = part
@@ -70,19 +65,24 @@ abbrev pub restarted_part : Part → Part
 restarted_part part = part_with_private part (restarted_private part.worker)
 
 abbrev pub submitted_part : Job → Part → Part
-submitted_part job part = record {
-  worker = part.worker;
-  private = submitted_private part.private job;
-  draft = Some job;
-  entries = part.entries;
-  steps = part.steps;
-  note = part.note;
-}
+submitted_part job part = record part { private = submitted_private part.private job; draft = Some job }
 
 abbrev pub withdrawing_part : Part → Part
 withdrawing_part part = part_with_private part (withdrawing_private part.private)
 
--- The part of a worker at the opening: ready, and with nothing done.
+-- A part whose worker has read the number of finished sections of its lock.
+abbrev pub part_with_section : Part → ℕ → Part
+part_with_section part section = record part { section = Some section }
+
+-- The part of a worker at the opening: ready, with no job posted.
 abbrev pub fresh_part : ℕ → Part
 fresh_part worker =
-    record { worker = worker; private = ready_private worker 0; draft = None; entries = []; steps = 0; note = Quiet }
+    record {
+      worker = worker;
+      private = ready_private worker 0;
+      draft = None;
+      entries = [];
+      steps = 0;
+      note = Quiet;
+      section = None;
+    }

@@ -1,4 +1,4 @@
--- A shape and a part that stand where there is none: those of a record that was put to another's.
+-- Placeholders for a shape and a part, in a record whose parts were given to another.
 use Rattle.std.specs.Prelude.{[], None, refl}
 use native.Mathlib.Bridge.{IsLe, le_by_compare}
 use Rattle.rme_words.specs.Shapes.{IsWithinLimits, IsTree}
@@ -47,7 +47,15 @@ no_shape =
     }
 
 abbrev pub no_part : Part
-no_part = record { worker = 0; private = ready_private 0 0; draft = None; entries = []; steps = 0; note = Quiet }
+no_part = record {
+  worker = 0;
+  private = ready_private 0 0;
+  draft = None;
+  entries = [];
+  steps = 0;
+  note = Quiet;
+  section = None;
+}
 
 abbrev pub no_job : Job
 no_job = record { lock = 0; script = no_script }

@@ -1,4 +1,4 @@
-//! The end of a service.
+//! The close of a service.
 
 ghost use Rattle.std.specs.Prelude.{◌≡◌, ◌+◌, ◌<◌, ◌≤◌, [], ◌++◌, length, vec_capacity};
 ghost use Rattle.std.specs.Slots.{slots_items, slots_len, IsFull};
@@ -20,10 +20,9 @@ impl WordTable {
     ghost use Rattle.rme_words.specs.Words.{word_count};
     ghost use Rattle.rme_service_steps.specs.Closing.{SeatsAreOfService, parts_given, entries_given, ServiceIsGathered};
 
-    /// Closes the service: its words are put to `words`, and the finished sections of all seats to `history`.
+    /// Closes the service: appends its words to `words`, and the finished sections of all seats to `history`.
     ///
-    /// The seats are this service's, and there is at least one. Both lists have the room, so that no memory is
-    /// taken.
+    /// The seats are this service's, and there is at least one. Both lists have the room, so that no memory is taken.
     pub fn gather(
         self,
         seats: Vec<WorkerSeat>,
@@ -44,7 +43,7 @@ impl WordTable {
         (words, history)
     }
 
-    /// Closes the service as `gather` does, and lets the finished sections of all seats go.
+    /// Closes the service as `gather` does, and drops the finished sections of all seats.
     pub fn gather_words(self, seats: Vec<WorkerSeat>, words: Vec<u64>) -> Vec<u64>
         requires ours { SeatsAreOfService self seats.items }
         requires some_seat { 0 < length seats.items }
@@ -59,7 +58,7 @@ impl WordTable {
         words
     }
 
-    /// Puts the parts of all seats together in one.
+    /// Joins the parts of all seats in one.
     fn join_seats(&self, mut seats: Vec<WorkerSeat>) -> TableSeat
         requires ours { SeatsAreOfService self.now seats.items }
         requires some_seat { 0 < length seats.items }
@@ -77,7 +76,7 @@ impl WordTable {
         all
     }
 
-    /// Puts the parts of all seats together in one, and their entries to the history.
+    /// Joins the parts of all seats in one, and appends their entries to the history.
     fn join_all(&self, mut seats: Vec<WorkerSeat>, history: &mut Vec<Entry>) -> TableSeat
         requires ours { SeatsAreOfService self.now seats.items }
         requires some_seat { 0 < length seats.items }
@@ -102,7 +101,7 @@ impl WorkerSeat {
     ghost use Rattle.std.specs.Prelude.{◌≡◌, ◌+◌, ◌≤◌, [], ◌++◌, length, vec_capacity};
     ghost use Rattle.rme_service_steps.specs.Rule.{one_part_record};
 
-    /// The place alone.
+    /// Only the seat at the table.
     fn into_table_seat(self) -> TableSeat
         ensures table { result.table_id ≡ self.ident.table }
         ensures part { result.me ≡ (one_part_record self.ident.shape self.part, []) }
@@ -116,7 +115,7 @@ impl WorkerSeat {
         seat
     }
 
-    /// The place alone; the entries are put to the history.
+    /// The seat at the table; appends the entries to the history.
     fn give_entries(self, history: &mut Vec<Entry>) -> TableSeat
         requires { length history.old.items + length self.part.entries ≤ vec_capacity history.old }
         ensures table { result.table_id ≡ self.ident.table }
@@ -135,7 +134,7 @@ impl WorkerSeat {
     }
 }
 
-/// Puts the entries to the history, one after another.
+/// Appends the entries to the history.
 fn put_all(history: &mut Vec<Entry>, entries: &EntryList)
     requires { length history.old.items + length entries.now.entries ≤ vec_capacity history.old }
     ensures entries { history.new.items ≡ history.old.items ++ entries.now.entries }
@@ -149,7 +148,7 @@ fn put_all(history: &mut Vec<Entry>, entries: &EntryList)
     }
 }
 
-/// Puts the words of the table to the list, in the order of their numbers.
+/// Appends the words of the table to the list, in the order of their numbers.
 fn with_bank(mut words: Vec<u64>, closed: &Closed<u8, Global>, shape: Shape) -> Vec<u64>
     requires full { IsFull closed.now.words }
     requires count { slots_len closed.now.words ≡ table_size shape }

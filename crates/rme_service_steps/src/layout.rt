@@ -1,9 +1,9 @@
-//! Where the words of a shape lie in the table of a service.
+//! The positions of a shape's words in the table of a service.
 //!
-//! They lie in the order of their numbers, block after block, with a gap before each block and behind the last, so that
-//! no line of the processor's cache has words of two blocks. A thread that stores a word takes none away, then, from
-//! threads that are at other locks; and those who wait for a lock, and swap its nodes all the time, take none away from
-//! its owner.
+//! The words are in the order of their numbers, block after block, with a gap before each block and after the last, so
+//! that no cache line has words of two blocks. A thread that stores a word invalidates no cache line of threads at
+//! other locks; and waiting workers, which swap the nodes of a lock all the time, invalidate no cache line of its
+//! owner.
 
 ghost use Rattle.std.specs.Prelude.{◌≡◌, ◌<◌, ◌≤◌, ◌+◌, ◌*◌};
 ghost use Rattle.rme_words.specs.Words.{lock_block, word_count};
@@ -12,21 +12,21 @@ ghost use Rattle.rme_service_steps.specs.Layout.{block_of_word, half_of_lock, po
 
 use rme_words::Shape;
 
-/// So many words lie between two blocks, and nobody uses them: with seven, a line of 64 bytes has no words of both,
-/// wherever the table begins.
+/// The number of unused words between two blocks. With seven, a line of 64 bytes has no words of both, wherever the
+/// table begins.
 const GAP: usize = 7;
 
-/// How many words a worker has.
+/// The number of a worker's words.
 const OWN_WORDS: usize = 31;
 
-/// How many words the table of this shape has.
+/// The number of words in the table of this shape.
 pub(crate) fn table_size(shape: Shape) -> usize
     ensures { result ≡ table_size shape }
 {
     shape.words() + GAP * (1 + (shape.workers as usize + 2 * shape.locks as usize))
 }
 
-/// The position of the word of this number.
+/// The position of the word with this number.
 pub(crate) fn position_of_word(shape: Shape, number: usize) -> usize
     requires { number < word_count shape }
     ensures position { result ≡ position_of_word shape number }
@@ -35,7 +35,7 @@ pub(crate) fn position_of_word(shape: Shape, number: usize) -> usize
     number + GAP * (1 + block_of_word(shape, number))
 }
 
-/// The block of the word of this number: the workers' come first, then two for each lock.
+/// The block of the word with this number: the workers' blocks come first, then two for each lock.
 fn block_of_word(shape: Shape, number: usize) -> usize
     requires { number < word_count shape }
     ensures block { result ≡ block_of_word shape number }
@@ -50,7 +50,7 @@ fn block_of_word(shape: Shape, number: usize) -> usize
     shape.workers as usize + (2 * (behind / lock_block) + half_of_lock(shape, behind % lock_block))
 }
 
-/// The half of a lock's words that the one at this offset is in: the first has its nodes.
+/// The half of a lock's words with the word at this offset: the first half has the nodes.
 fn half_of_lock(shape: Shape, offset: usize) -> usize
     ensures half { result ≡ half_of_lock shape offset }
     ensures few { result ≤ 1 }
@@ -62,7 +62,7 @@ fn half_of_lock(shape: Shape, offset: usize) -> usize
     }
 }
 
-/// The position of the word of this number, which is in this block.
+/// The position of the word with this number, which is in this block.
 fn position_in_block(shape: Shape, number: usize, block: u32) -> usize
     requires number { number < word_count shape }
     requires block { block < shape.workers + 2 * shape.locks }

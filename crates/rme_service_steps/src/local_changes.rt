@@ -1,16 +1,16 @@
-//! What stands before the first step of a call: it comes to pass together with that step.
+//! The changes of a worker's part before the first step of a call. A change is made together with that step.
 
 ghost use Rattle.rme_script.specs.declared.job.Job.{Job};
 ghost use Rattle.rme_service_steps.specs.declared.seat_record.Part.{Part};
 
 use std::marker::{Brand, PhantomData};
 
-/// A change of a worker's part that is no step.
+/// A change of a worker's part that is not a step.
 pub trait LocalChange {
     ghost lead: { Part → Part };
 }
 
-/// Names a job, for the proofs alone.
+/// A job, in proofs only.
 pub trait JobTag {
     ghost job: { Job };
 }
@@ -21,7 +21,7 @@ impl JobTag for Brand {
     ghost job = { no_job };
 }
 
-/// Nothing stands before the step.
+/// No change before the step.
 pub struct NoChange;
 
 impl LocalChange for NoChange {
@@ -30,7 +30,7 @@ impl LocalChange for NoChange {
     ghost lead = { unchanged_part };
 }
 
-/// The worker crashed, and comes up again.
+/// The worker crashed, and restarts.
 pub struct Restart;
 
 impl LocalChange for Restart {
@@ -39,7 +39,7 @@ impl LocalChange for Restart {
     ghost lead = { restarted_part };
 }
 
-/// The worker was handed a job.
+/// The worker was given a job.
 pub struct Submit<J: JobTag> {
     job: PhantomData<J>,
 }
@@ -50,7 +50,7 @@ impl<J: JobTag> LocalChange for Submit<J> {
     ghost lead = { submitted_part J.job };
 }
 
-/// The worker gives its job up.
+/// The worker gives up its job.
 pub struct Withdraw;
 
 impl LocalChange for Withdraw {

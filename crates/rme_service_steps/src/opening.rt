@@ -16,11 +16,10 @@ impl WordTable {
     ghost use Rattle.rme_service_steps.specs.Parts.{fresh_part};
     ghost use Rattle.rme_service_steps.specs.Opening.{record_from_worker, ServiceIsOpened};
 
-    /// A new service of this shape: all words are 0, and each worker has a seat, in order, with nothing posted
-    /// and nothing done.
+    /// A new service of this shape: all words are 0, and each worker has a seat, in order, with no job posted.
     ///
-    /// Takes memory for the words, and for each worker's seat with room for as many entries as the shape has
-    /// jobs; `NoMemory` where it was refused.
+    /// Takes memory for the words, and for each worker's seat with room for as many entries as the shape has jobs;
+    /// `NoMemory` if it is refused.
     pub fn open(alloc: Global, shape: Shape) -> Result<(WordTable, Vec<WorkerSeat>), NoMemory>
         ensures { IfOk result (λ opened. ServiceIsOpened shape opened.0 opened.1.items) }
     {
@@ -48,7 +47,7 @@ impl WordTable {
         Ok((WordTable { table, shape }, seat))
     }
 
-    /// The seat of a worker, whose part the first seat gives away.
+    /// Splits a worker's seat off the first seat.
     fn split_off_worker(&self, seat: &mut TableSeat, worker: u32, entries: EntryList) -> WorkerSeat
         requires own { seat.old.table_id ≡ self.now.table }
         requires parts { seat.old.me ≡ (record_from_worker self.now.shape worker, []) }

@@ -1,4 +1,4 @@
-//! The rule of the table: between any two operations words and records show a world.
+//! The rule of the table: between any two operations, words and records are a world.
 
 use crate::seat_record::SeatRecord;
 use atomic_table::{Join, Seat, Shared, Split, TableRule};
@@ -15,7 +15,7 @@ impl TableRule<u8, SeatRecord, Shape> for ServiceRule {
     ghost first = { opening_record };
 }
 
-/// Cuts the first part off a record.
+/// Splits the first part off a record.
 pub struct FirstPart;
 
 impl Split<SeatRecord> for FirstPart {
@@ -26,7 +26,7 @@ impl Split<SeatRecord> for FirstPart {
     ghost right = { first_part };
 }
 
-/// Puts the parts of two records together.
+/// Joins the parts of two records.
 pub struct AllParts;
 
 impl Join<SeatRecord> for AllParts {
@@ -37,7 +37,7 @@ impl Join<SeatRecord> for AllParts {
     ghost spent = { empty_record };
 }
 
-/// The words as threads share them, and a seat of one thread.
+/// The words as threads share them, and the seat of one thread.
 pub type SharedWords = Shared<u8, SeatRecord, Shape, ServiceRule>;
 
 pub type TableSeat = Seat<u8, SeatRecord>;

@@ -9,7 +9,7 @@ use rme_words::Shape;
 use std::alloc::Global;
 use std::marker::Model;
 
-/// The words that all workers share. Threads use it by a `&`.
+/// The words that all workers share. Threads use it by `&`.
 #[derive(Drop)]
 pub struct WordTable {
     pub(crate) table: Table<u8, SeatRecord, Shape, ServiceRule, Global>,

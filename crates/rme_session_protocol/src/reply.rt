@@ -98,7 +98,8 @@ pub fn push_session_reply(
 
 /// Appends a worker's stance, with the word of the line that asked.
 fn push_stance(out: &mut String, number: u64, word: &str, standing: &str) -> Result<(), AllocError>
-    ensures { OnOk result (string_bytes out.new ≡ string_bytes out.old ++ spec.stance_text number word.now standing.now) }
+    ensures { OnOk result (string_bytes out.new ≡ string_bytes out.old
+        ++ spec.stance_text number word.now standing.now) }
 {
     write!(
         out,

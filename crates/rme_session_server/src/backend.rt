@@ -3,7 +3,7 @@
 use crate::attempt_error::AnswerError;
 use crate::buffers::Buffers;
 use crate::client::{Client, CloseHandle};
-use rme_wire::{Cut, Names, Sink};
+use rme_wire::{Names, Sink};
 use std::alloc::Global;
 use std::sync::Wait;
 use std::time::Clock;
@@ -50,13 +50,12 @@ pub trait Backend {
         ensures nobody { result ≡ nobody self.now }
         ensures may_hold { may_hold self.now result };
 
-    /// Answers the last line, of this cut: `buffers.text` becomes the answer and a newline; none of it is buffered or
+    /// Answers the last line: `buffers.text` becomes the answer and a newline; none of it is buffered or
     /// written yet. If the answer will take long, the buffered answers are written first.
     fn answer<R: Wait + Clock, O: Sink, C: Client<Handle = Self::Handle>>(
         &self,
         rt: &R,
         stand: Self::Stand,
-        cut: Cut,
         buffers: &mut Buffers,
         writer: &mut O,
         client: &C,
@@ -65,7 +64,7 @@ pub trait Backend {
         requires may_hold { may_hold self.now stand }
         ensures may_hold { may_hold self.now result.0 }
         ensures answers { OnOk result.1 (answers self.now (C.gone client.now) stand
-            (input_line_of cut buffers.old.exchange.line.items) (string_bytes buffers.new.text) result.0) }
+            (input_line_of buffers.old.cut buffers.old.exchange.line.items) (string_bytes buffers.new.text) result.0) }
         ensures gathers { OnOk result.1 (BufferedWrite (O.contents writer.old) buffers.old.exchange.pending []
             (O.contents writer.new) buffers.new.exchange.pending) }
         ensures err { IfErr result.1 (λ why. AnswerFailure why (O.contents writer.old) buffers.old.exchange.pending

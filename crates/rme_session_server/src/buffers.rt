@@ -13,10 +13,11 @@ use std::alloc::{AllocError, Global};
 /// The first capacity of the text, in bytes: room for the answer to most orders.
 const USUAL_ROOM: usize = 256;
 
-/// The last line of a session, its buffered answers, and the text of the answer to the last line.
+/// The last line of a session and how it was cut, its buffered answers, and the text of the answer to the last line.
 #[derive(Drop)]
 pub struct Buffers {
     pub exchange: Exchange,
+    pub cut: Cut,
     pub text: String,
     values: ValueReader,
 }
@@ -35,6 +36,7 @@ impl Buffers {
         Ok(Buffers {
             text: String::with_capacity(alloc, USUAL_ROOM)?,
             exchange: Exchange::new(alloc)?,
+            cut: Cut::End,
             values: ValueReader::new(alloc),
         })
     }
@@ -42,15 +44,14 @@ impl Buffers {
     /// Parses the last line to its order, or to the refusal that answers it. A job's number is at most `most`.
     pub fn parse_order(
         &mut self,
-        cut: Cut,
         names: &Names,
         most: u64,
     ) -> Result<Result<Order, Refusal>, NoMemory>
         ensures asked { IfOk result (λ asked. asked ≡ parsed_order names.now most
-            (input_line_of cut self.old.exchange.line.items)) }
+            (input_line_of self.old.cut self.old.exchange.line.items)) }
         ensures same { self.new.exchange ≡ self.old.exchange }
     {
-        if cut == Cut::TooLong {
+        if self.cut == Cut::TooLong {
             return Ok(Err(Refusal::LineTooLong));
         }
         let Ok(order) = parse_order(&mut self.values, names, most, self.exchange.line()) else {

@@ -28,7 +28,7 @@ pub use backend::Backend;
 pub use buffers::Buffers;
 pub use client::{Client, CloseHandle, LocalClient, NoCloseHandle};
 pub use connection::{Closer, Connection, Listener};
-pub use order_attempts::{FirstReply, OrderAttempts};
+pub use order_attempts::{FirstReply, OrderAttempts, OrderRequest};
 pub use order_run::OrderRun;
 pub use server::{ServerLimits, ServerObserver, serve};
 pub use session_loop::session;

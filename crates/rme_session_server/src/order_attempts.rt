@@ -15,6 +15,13 @@ pub struct FirstReply<R> {
     pub tries: u32,
 }
 
+/// An order of a session, and the session's client.
+#[derive(Clone, Copy)]
+pub struct OrderRequest<'a, C> {
+    pub client: &'a C,
+    pub order: Order,
+}
+
 /// A backend that executes an order by attempts. `OrderRun` makes them, with the pauses between them.
 pub trait OrderAttempts {
     ghost use Rattle.std.specs.Prelude.{◌≡◌, ◌+◌, ◌≤◌, ℕ, IfOk, IsTrue};
@@ -40,7 +47,7 @@ pub trait OrderAttempts {
     // The property of a session's state that every call preserves.
     ghost may_have: { Self → Self.Session → Type 0 };
 
-    // The session reply that a reply stands for.
+    // The session reply of a reply.
     ghost says: { Self.Reply → SessionReply };
 
     // An order was executed by this number of tries: the session before, the order, the session after, and the reply.
@@ -65,30 +72,29 @@ pub trait OrderAttempts {
         &self,
         rt: &R,
         session: Self::Session,
-        order: &Order,
+        request: &OrderRequest<'_, C>,
         is_hurried: bool,
-        client: &C,
     ) -> (Self::Session, Result<FirstReply<Self::Reply>, AttemptError>)
         requires usable { is_usable self.now }
         requires may_have { may_have self.now session }
         ensures may_have { may_have self.now result.0 }
         ensures some { IfOk result.1 (λ first. 1 ≤ first.tries) }
-        ensures executes { IfOk result.1 (λ first. executes self.now first.tries session order.now result.0 first.reply) };
+        ensures executes { IfOk result.1 (λ first. executes self.now first.tries session request.now.order result.0
+            first.reply) };
 
     /// Makes one more try at an order that has this reply so far, and answers the reply to all tries.
     fn retry<R: Wait + Clock, C: Client<Handle = Self::Handle>>(
         &self,
         rt: &R,
         session: Self::Session,
-        order: &Order,
+        request: &OrderRequest<'_, C>,
         reply: Self::Reply,
-        client: &C,
     ) -> (Self::Session, Result<Self::Reply, AttemptError>)
         requires usable { is_usable self.now }
         requires may_have { may_have self.now session }
-        requires may { MayContinueOrder order.now (says reply) }
+        requires may { MayContinueOrder request.now.order (says reply) }
         ensures may_have { may_have self.now result.0 }
         ensures executes { IfOk result.1 (λ last. (tries : ℕ) (old : Self.Session) → 1 ≤ tries
-            → executes self.now tries old order.now session reply
-            → executes self.now (tries + 1) old order.now result.0 last) };
+            → executes self.now tries old request.now.order session reply
+            → executes self.now (tries + 1) old request.now.order result.0 last) };
 }

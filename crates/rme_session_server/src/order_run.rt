@@ -5,19 +5,18 @@ ghost use Rattle.rme_session_protocol.specs.Attempts as spec;
 
 use crate::attempt_error::{AnswerError, AttemptError, answer_error};
 use crate::client::Client;
-use crate::order_attempts::{FirstReply, OrderAttempts};
+use crate::order_attempts::{FirstReply, OrderAttempts, OrderRequest};
 use crate::wait_backoff::{LONGEST, WaitBackoff};
 use rme_session_protocol::{Attachment, Order, Patience, order_patience};
 use rme_wire::{Exchange, Sink};
 use std::sync::Wait;
 use std::time::{Clock, Duration};
 
-/// An order of a session, the backend that executes it, and the client of the session.
+/// An order of a session, and the backend that executes it.
 #[derive(Clone, Copy)]
 pub struct OrderRun<'a, A, C> {
     pub backend: &'a A,
-    pub client: &'a C,
-    pub order: Order,
+    pub request: OrderRequest<'a, C>,
 }
 
 impl<A: OrderAttempts, C: Client<Handle = A::Handle>> OrderRun<'_, A, C> {
@@ -46,8 +45,9 @@ impl<A: OrderAttempts, C: Client<Handle = A::Handle>> OrderRun<'_, A, C> {
         requires may_have { A.may_have self.now.backend.now session }
         ensures may_have { A.may_have self.now.backend.now result.0 }
         ensures executes { IfOk result.1
-            (IsReplyOfTries (λ tries. A.executes self.now.backend.now tries session self.now.order result.0)
-            (λ tries reply. MayStopAfter (C.gone self.now.client.now) self.now.order tries (A.says reply))) }
+            (IsReplyOfTries (λ tries. A.executes self.now.backend.now tries session self.now.request.order result.0)
+            (λ tries reply. MayStopAfter (C.gone self.now.request.client.now) self.now.request.order tries
+            (A.says reply))) }
         ensures gathers { OnOk result.1 (BufferedWrite (O.contents writer.old) exchange.old.pending []
             (O.contents writer.new) exchange.new.pending) }
         ensures err { IfErr result.1 (λ why. AnswerFailure why (O.contents writer.old) exchange.old.pending
@@ -57,9 +57,7 @@ impl<A: OrderAttempts, C: Client<Handle = A::Handle>> OrderRun<'_, A, C> {
             → LastWriteFailed (O.took writer.old) (O.took writer.new)) }
     {
         let is_hurried = exchange.has_unwritten();
-        let (session, begun) = self
-            .backend
-            .begin(rt, session, &self.order, is_hurried, self.client);
+        let (session, begun) = self.backend.begin(rt, session, &self.request, is_hurried);
         let first = match begun {
             Ok(first) => first,
             Err(why) => return (session, Err(answer_error(why))),
@@ -80,17 +78,17 @@ impl<A: OrderAttempts, C: Client<Handle = A::Handle>> OrderRun<'_, A, C> {
     /// Whether the order is tried again after its first attempt.
     fn is_to_continue(&self, first: &FirstReply<A::Reply>) -> bool
         requires some { 1 ≤ first.now.tries }
-        ensures goes_on { IsTrue result → MayContinueOrder self.now.order (A.says first.now.reply) }
-        ensures stops { IsFalse result → MayStopAfter (C.gone self.now.client.now) self.now.order first.now.tries
-            (A.says first.now.reply) }
+        ensures goes_on { IsTrue result → MayContinueOrder self.now.request.order (A.says first.now.reply) }
+        ensures stops { IsFalse result → MayStopAfter (C.gone self.now.request.client.now) self.now.request.order
+            first.now.tries (A.says first.now.reply) }
     {
-        if let Order::Attach(asked) = &self.order {
+        if let Order::Attach(asked) = &self.request.order {
             return asked.take && self.backend.is_taken(&first.reply);
         }
         if !self.backend.is_waiting(&first.reply) {
             return false;
         }
-        match order_patience(&self.order) {
+        match order_patience(&self.request.order) {
             Some(Patience::Tries(most)) => first.tries < most,
             Some(Patience::Wait(milliseconds)) => milliseconds > 0,
             None => false,
@@ -107,14 +105,16 @@ impl<A: OrderAttempts, C: Client<Handle = A::Handle>> OrderRun<'_, A, C> {
         requires usable { A.is_usable self.now.backend.now }
         requires may_have { A.may_have self.now.backend.now session }
         requires some { 1 ≤ first.tries }
-        requires may { MayContinueOrder self.now.order (A.says first.reply) }
+        requires may { MayContinueOrder self.now.request.order (A.says first.reply) }
         ensures may_have { A.may_have self.now.backend.now result.0 }
         ensures executes { (old : A.Session)
-            → A.executes self.now.backend.now first.tries old self.now.order session first.reply
-            → IfOk result.1 (IsReplyOfTries (λ tries. A.executes self.now.backend.now tries old self.now.order result.0)
-            (λ tries reply. MayStopAfter (C.gone self.now.client.now) self.now.order tries (A.says reply))) }
+            → A.executes self.now.backend.now first.tries old self.now.request.order session first.reply
+            → IfOk result.1 (IsReplyOfTries
+            (λ tries. A.executes self.now.backend.now tries old self.now.request.order result.0)
+            (λ tries reply. MayStopAfter (C.gone self.now.request.client.now) self.now.request.order tries
+            (A.says reply))) }
     {
-        match &self.order {
+        match &self.request.order {
             Order::Attach(asked) => self.take_over(rt, session, asked, first),
             _ => self.retry_until_done(rt, session, first),
         }
@@ -132,13 +132,15 @@ impl<A: OrderAttempts, C: Client<Handle = A::Handle>> OrderRun<'_, A, C> {
         requires usable { A.is_usable self.now.backend.now }
         requires may_have { A.may_have self.now.backend.now session }
         requires some { 1 ≤ first.tries }
-        requires attach { self.now.order ≡ Attach asked.now }
+        requires attach { self.now.request.order ≡ Attach asked.now }
         requires taken { A.says first.reply ≡ Refused Taken }
         ensures may_have { A.may_have self.now.backend.now result.0 }
         ensures executes { (old : A.Session)
-            → A.executes self.now.backend.now first.tries old self.now.order session first.reply
-            → IfOk result.1 (IsReplyOfTries (λ tries. A.executes self.now.backend.now tries old self.now.order result.0)
-            (λ tries reply. MayStopAfter (C.gone self.now.client.now) self.now.order tries (A.says reply))) }
+            → A.executes self.now.backend.now first.tries old self.now.request.order session first.reply
+            → IfOk result.1 (IsReplyOfTries
+            (λ tries. A.executes self.now.backend.now tries old self.now.request.order result.0)
+            (λ tries reply. MayStopAfter (C.gone self.now.request.client.now) self.now.request.order tries
+            (A.says reply))) }
     {
         let FirstReply { reply, tries: _ } = first;
         let registry = self.backend.registry();
@@ -148,15 +150,13 @@ impl<A: OrderAttempts, C: Client<Handle = A::Handle>> OrderRun<'_, A, C> {
         for _ in rt.forever() {
             registry.close_client(rt, asked.worker);
             returned.wait(rt, Duration::from_micros(LONGEST));
-            let (next, retried) = self
-                .backend
-                .retry(rt, session, &self.order, reply, self.client);
+            let (next, retried) = self.backend.retry(rt, session, &self.request, reply);
             session = next;
             reply = match retried {
                 Ok(reply) => reply,
                 Err(why) => return (session, Err(why)),
             };
-            if !self.backend.is_taken(&reply) || self.client.is_gone() {
+            if !self.backend.is_taken(&reply) || self.request.client.is_gone() {
                 return (session, Ok(reply));
             }
         }
@@ -174,23 +174,23 @@ impl<A: OrderAttempts, C: Client<Handle = A::Handle>> OrderRun<'_, A, C> {
         requires may_have { A.may_have self.now.backend.now session }
         requires some { 1 ≤ first.tries }
         requires waits { is_still_waiting (A.says first.reply) ≡ true }
-        requires may { MayContinueOrder self.now.order (A.says first.reply) }
+        requires may { MayContinueOrder self.now.request.order (A.says first.reply) }
         ensures may_have { A.may_have self.now.backend.now result.0 }
         ensures executes { (old : A.Session)
-            → A.executes self.now.backend.now first.tries old self.now.order session first.reply
-            → IfOk result.1 (IsReplyOfTries (λ tries. A.executes self.now.backend.now tries old self.now.order result.0)
-            (λ tries reply. MayStopAfter (C.gone self.now.client.now) self.now.order tries (A.says reply))) }
+            → A.executes self.now.backend.now first.tries old self.now.request.order session first.reply
+            → IfOk result.1 (IsReplyOfTries
+            (λ tries. A.executes self.now.backend.now tries old self.now.request.order result.0)
+            (λ tries reply. MayStopAfter (C.gone self.now.request.client.now) self.now.request.order tries
+            (A.says reply))) }
     {
         let FirstReply { reply, tries } = first;
         let lock = self.backend.lock_waited_for(&session, &reply);
         let mut pauses = WaitBackoff::new(rt, lock, self.backend.registry());
         let mut session = session;
         let mut reply = reply;
-        for made in tries..max_tries(&self.order) {
-            pauses.pause(rt, &self.order);
-            let (next, retried) = self
-                .backend
-                .retry(rt, session, &self.order, reply, self.client);
+        for made in tries..max_tries(&self.request.order) {
+            pauses.pause(rt, &self.request.order);
+            let (next, retried) = self.backend.retry(rt, session, &self.request, reply);
             session = next;
             reply = match retried {
                 Ok(reply) => reply,
@@ -200,7 +200,7 @@ impl<A: OrderAttempts, C: Client<Handle = A::Handle>> OrderRun<'_, A, C> {
                 return (session, Ok(reply));
             }
             pauses.notify_next();
-            if pauses.is_over(rt, &self.order) || self.is_client_gone(&pauses) {
+            if pauses.is_over(rt, &self.request.order) || self.is_client_gone(&pauses) {
                 return (session, Ok(reply));
             }
         }
@@ -209,9 +209,9 @@ impl<A: OrderAttempts, C: Client<Handle = A::Handle>> OrderRun<'_, A, C> {
 
     /// Whether the waiting client is found to be gone. It is not checked between tries that follow without sleeping.
     fn is_client_gone(&self, pauses: &WaitBackoff<'_>) -> bool
-        ensures { IsTrue result → C.gone self.now.client.now }
+        ensures { IsTrue result → C.gone self.now.request.client.now }
     {
-        !pauses.is_spinning() && self.client.is_gone()
+        !pauses.is_spinning() && self.request.client.is_gone()
     }
 }
 

@@ -15,7 +15,7 @@ use std::io::{Error, ErrorKind};
 use std::sync::atomic::{AtomicU64, Ordering};
 use std::sync::{Condvar, Mutex, Wait};
 use std::thread;
-use std::thread::{Builder, Threads};
+use std::thread::{Builder, Scope, Threads};
 use std::time::{Clock, Duration};
 
 /// The stack size in bytes of a session's thread, of an accepting thread, and of the watching thread.
@@ -58,7 +58,7 @@ pub trait ServerObserver {
 /// is over, no more are accepted, and all connections are closed, within a second even if no client sends anything.
 ///
 /// The end of one session ends no other, unless the backend is over then. Neither does a connection that can't be
-/// accepted or can't have a thread: `trouble` is told, and the next one is accepted. The error is the first such
+/// accepted or can't have a thread: `trouble` is notified, and the next one is accepted. The error is the first such
 /// failure, and is returned at the end. If a listener's closer or the second listener's thread can't be had, the error
 /// is returned before any connection is accepted.
 pub fn serve<
@@ -84,26 +84,39 @@ pub fn serve<
         has_ended: Mutex::new(false),
         ended: Condvar::new(),
     };
-    let shared = &entrance;
+    let server = ServerContext {
+        entrance: &entrance,
+        observer: trouble,
+        backend,
+    };
+    let server = &server;
     thread::scope(
         thread::scope_env(),
         rt,
         move |scope| -> Result<(), ServeFault>
-            requires fits { B.fits backend.now }
+            requires fits { B.fits server.now.backend.now }
         {
-            let watching = move || watch(rt, shared, trouble, backend);
+            let watching = move || watch(rt, server);
             // Without this thread the server still ends, once a session finds that the backend is over.
             let watcher = Builder::new()
                 .stack_size(STACK)
                 .spawn_scoped(scope, watching);
-            let served = accept_all(rt, (listener, other), shared, trouble, backend);
-            shared.announce_end(rt);
+            let served = accept_all(rt, (listener, other), server);
+            server.entrance.announce_end(rt);
             if let Ok(watcher) = watcher {
                 watcher.join(rt);
             }
             served
         },
     )
+}
+
+/// What the threads of a server share: the entrance, the observer and the backend.
+#[derive(Drop)]
+struct ServerContext<'a, B, T> {
+    entrance: &'a Acceptor,
+    observer: &'a T,
+    backend: &'a B,
 }
 
 /// Accepts the connections of one listener or of two, each listener in a thread of its own. Returns when all sessions
@@ -115,29 +128,27 @@ fn accept_all<
 >(
     rt: &R,
     listeners: (Listener, Option<Listener>),
-    entrance: &Acceptor,
-    trouble: &T,
-    backend: &B,
+    server: &ServerContext<'_, B, T>,
 ) -> Result<(), ServeFault>
-    requires fits { B.fits backend.now }
+    requires fits { B.fits server.now.backend.now }
 {
     let (listener, other) = listeners;
     let Some(other) = other else {
-        return accept_loop(rt, listener, entrance, trouble, backend);
+        return accept_loop(rt, listener, server);
     };
     thread::scope(
         thread::scope_env(),
         rt,
         move |scope| -> Result<(), ServeFault>
-            requires fits { B.fits backend.now }
+            requires fits { B.fits server.now.backend.now }
         {
             let beside = move || -> Result<(), ServeFault>
-                requires fits { B.fits backend.now }
-            { accept_loop(rt, other, entrance, trouble, backend) };
+                requires fits { B.fits server.now.backend.now }
+            { accept_loop(rt, other, server) };
             let Ok(beside) = Builder::new().stack_size(STACK).spawn_scoped(scope, beside) else {
                 return Err(ServeFault::NoThread);
             };
-            let ended = accept_loop(rt, listener, entrance, trouble, backend);
+            let ended = accept_loop(rt, listener, server);
             ended.and(beside.join(rt))
         },
     )
@@ -146,17 +157,18 @@ fn accept_all<
 /// Reports each second, and closes all connections once the backend is over, until all sessions have ended.
 fn watch<B: Backend<Handle = Closer>, R: Wait + Clock, T: ServerObserver>(
     rt: &R,
-    entrance: &Acceptor,
-    trouble: &T,
-    backend: &B,
+    server: &ServerContext<'_, B, T>,
 ) {
     for _ in rt.forever() {
-        if entrance.has_ended_within(rt, Duration::from_secs(WATCH_PERIOD)) {
+        if server
+            .entrance
+            .has_ended_within(rt, Duration::from_secs(WATCH_PERIOD))
+        {
             return;
         }
-        trouble.second_passed();
-        if backend.is_over(rt) {
-            entrance.close_all(rt);
+        server.observer.second_passed();
+        if server.backend.is_over(rt) {
+            server.entrance.close_all(rt);
         }
     }
 }
@@ -186,45 +198,73 @@ fn accept_loop<
     B: Backend<Handle = Closer> + Sync,
     R: Threads + Wait + Clock + Sync,
     T: ServerObserver + Sync,
->(
-    rt: &R,
-    listener: Listener,
-    entrance: &Acceptor,
-    trouble: &T,
-    backend: &B,
-) -> Result<(), ServeFault>
-    requires fits { B.fits backend.now }
+>(rt: &R, listener: Listener, server: &ServerContext<'_, B, T>) -> Result<(), ServeFault>
+    requires fits { B.fits server.now.backend.now }
 {
     thread::scope(
         thread::scope_env(),
         rt,
         move |scope| -> Result<(), ServeFault>
-            requires fits { B.fits backend.now }
-        {
-            let listener = listener;
-            let mut ended = Ok(());
-            for _ in rt.forever() {
-                match entrance.accept(rt, &listener) {
-                    Accepted::Over => break,
-                    Accepted::GivenUp => {}
-                    Accepted::Early(client) => reject(backend.alloc(), &client, backend.names()),
-                    Accepted::Failed(why) => ended = ended.and(Err(report_accept_failure(
-                        trouble, why,
-                    ))),
-                    Accepted::Client(number, client) => {
-                        let talk = move ||
-                            requires fits { B.fits backend.now }
-                        { handle_connection(rt, number, client, entrance, trouble, backend) };
-                        let thread = Builder::new().stack_size(STACK).spawn_scoped(scope, talk);
-                        if thread.is_err() {
-                            ended = ended.and(Err(report_no_thread(trouble, &entrance.running)));
-                        }
-                    }
-                }
-            }
-            ended
-        },
+            requires fits { B.fits server.now.backend.now }
+        { accept_connections(rt, scope, listener, server) },
     )
+}
+
+/// Accepts connections, and starts a session for each in a thread of the scope. The error is the first failure.
+fn accept_connections<
+    's,
+    E,
+    B: Backend<Handle = Closer> + Sync,
+    R: Threads + Wait + Clock + Sync,
+    T: ServerObserver + Sync,
+>(
+    rt: &'s R,
+    scope: &Scope<'s, E>,
+    listener: Listener,
+    server: &'s ServerContext<'s, B, T>,
+) -> Result<(), ServeFault>
+    requires fits { B.fits server.now.backend.now }
+{
+    let mut ended = Ok(());
+    for _ in rt.forever() {
+        let served = match server.entrance.accept(rt, &listener) {
+            Accepted::Over => return ended,
+            Accepted::GivenUp => Ok(()),
+            Accepted::Early(client) => {
+                reject(server.backend.alloc(), &client, server.backend.names());
+                Ok(())
+            }
+            Accepted::Failed(why) => Err(report_accept_failure(server.observer, why)),
+            Accepted::Client(number, client) => start_session(rt, scope, server, number, client),
+        };
+        ended = ended.and(served);
+    }
+    unreachable!()
+}
+
+/// Starts the session of a connection in a thread of the scope.
+fn start_session<
+    's,
+    E,
+    B: Backend<Handle = Closer> + Sync,
+    R: Threads + Wait + Clock + Sync,
+    T: ServerObserver + Sync,
+>(
+    rt: &'s R,
+    scope: &Scope<'s, E>,
+    server: &'s ServerContext<'s, B, T>,
+    number: u64,
+    client: Connection,
+) -> Result<(), ServeFault>
+    requires fits { B.fits server.now.backend.now }
+{
+    let talk = move ||
+        requires fits { B.fits server.now.backend.now }
+    { handle_connection(rt, server, number, client) };
+    match Builder::new().stack_size(STACK).spawn_scoped(scope, talk) {
+        Ok(_) => Ok(()),
+        Err(_) => Err(report_no_thread(server.observer, &server.entrance.running)),
+    }
 }
 
 /// The outcome of one `accept`.
@@ -403,20 +443,25 @@ impl<T: ServerObserver> ReasonObserver for ConnectionObserver<'_, T> {
 /// closed too.
 fn handle_connection<B: Backend<Handle = Closer>, R: Wait + Clock, T: ServerObserver>(
     rt: &R,
+    server: &ServerContext<'_, B, T>,
     number: u64,
     client: Connection,
-    entrance: &Acceptor,
-    trouble: &T,
-    backend: &B,
 )
-    requires fits { B.fits backend.now }
+    requires fits { B.fits server.now.backend.now }
 {
+    let entrance = server.entrance;
+    let backend = server.backend;
     // It is closed last: once its client sees that, the session is no longer counted.
     let client = entrance
         .connections
         .add(rt, backend.alloc(), number, client);
     if let Some(client) = &client {
-        run_session(rt, client, entrance.line_observer(trouble, number), backend);
+        run_session(
+            rt,
+            client,
+            entrance.line_observer(server.observer, number),
+            backend,
+        );
         entrance.connections.remove(rt, number);
     }
     entrance.running.fetch_sub(1, Ordering::SeqCst);

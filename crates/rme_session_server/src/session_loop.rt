@@ -1,9 +1,9 @@
 //! A session: the lines of one client, and their answers.
 
-ghost use Rattle.std.specs.Prelude.{◌≡◌, ◌<◌, ◌≤◌, ℕ, [], IfErr, IfOk, List, OnOk, Option, false, true};
-ghost use Rattle.rme_line_io.specs.Readers.{ReadFailure, ReaderEnded, BufferWrittenSince, LastReadFailed, SomeReadsMade, ReadsMadeAt, NothingRead, bytes_left, reader_has_ended, most_lines, reads_left};
-ghost use Rattle.rme_line_io.specs.LineRuns.{RunEndsOnFault, AnswersArePrompt, LineRunStepFails, LineRunStep, RunWritesAll, RunWritesFirst, RunWritesTo};
-ghost use Rattle.rme_line_io.specs.StreamEvents.{LastWriteFailed, WritesMade};
+ghost use Rattle.std.specs.Prelude.{◌≡◌, ◌<◌, ℕ, [], IfErr, IfOk, List, OnOk, Option, false, true};
+ghost use Rattle.rme_line_io.specs.Readers.{ReaderEnded, BufferWrittenSince, bytes_left, most_lines};
+ghost use Rattle.rme_line_io.specs.StreamCalls.{CallReads, CallWrites};
+ghost use Rattle.rme_line_io.specs.LineRuns.{RunEndsOnFault, AnswersArePrompt, LineRunStepFails, LineRunStep, RunWritesAll, RunWritesFirst, RunWritesTo, run_moment, stream_moment};
 
 use crate::backend::Backend;
 use crate::buffers::Buffers;
@@ -32,31 +32,34 @@ pub fn session<
 ) -> Result<(), EngineFault>
     requires fits { B.fits backend.now }
     ensures ok { OnOk result (RunWritesAll (B.answers backend.now (C.gone client.now)) (B.nobody backend.now)
-        (bytes_left I.remaining lines.old) (O.contents writer.old) (O.contents writer.new)) }
+        (stream_moment I.remaining lines.old (O.contents writer.old)) (O.contents writer.new)) }
     ensures err { IfErr result (λ fault. RunWritesFirst (B.answers backend.now (C.gone client.now))
-        (B.nobody backend.now) fault (bytes_left I.remaining lines.old) (bytes_left I.remaining lines.new)
-        (O.contents writer.old) (O.contents writer.new)) }
+        (B.nobody backend.now) fault (stream_moment I.remaining lines.old (O.contents writer.old))
+        (stream_moment I.remaining lines.new (O.contents writer.new))) }
     ensures end { OnOk result (ReaderEnded lines.new) }
-    ensures ended { ReaderEnded lines.old → NothingRead lines.old lines.new }
-    ensures failed { IfErr result (λ fault. fault ≡ EngineFault.ReadFailed → ReadFailure lines.old lines.new) }
-    ensures reads { SomeReadsMade I.gave lines.old lines.new }
-    ensures prompt { ReadsMadeAt I.moments lines.old lines.new
+    ensures reads { CallReads I.gave I.moments lines.old lines.new
         (AnswersArePrompt (B.answers backend.now (C.gone client.now)) (B.nobody backend.now)
-        (bytes_left I.remaining lines.old) (O.contents writer.old)) }
-    ensures read_broke { IfErr result (λ fault. fault ≡ EngineFault.ReadFailed
-        → LastReadFailed I.gave lines.old lines.new) }
-    ensures write_broke { IfErr result (λ fault. fault ≡ EngineFault.WriteFailed
-        → LastWriteFailed (O.took writer.old) (O.took writer.new)) }
+        (stream_moment I.remaining lines.old (O.contents writer.old)))
+        result }
+    ensures writes { CallWrites (O.took writer.old) (O.took writer.new) result }
 {
     let Ok(mut buffers) = Buffers::new(backend.alloc()) else {
         return Err(EngineFault::NoMemory);
     };
-    let (stand, ended) = answer_all_lines(rt, lines, &mut buffers, writer, client, backend);
+    let context = SessionContext { backend, client };
+    let (stand, ended) = answer_all_lines(rt, &context, lines, &mut buffers, writer);
     backend.end_session(rt, stand);
     match ended {
         Ok(()) => Ok(()),
         Err(fault) => Err(buffers.exchange.give_up(fault, writer)),
     }
+}
+
+/// What a session's lines are answered with: the backend and the client.
+#[derive(Drop)]
+struct SessionContext<'a, B, C> {
+    backend: &'a B,
+    client: &'a C,
 }
 
 /// Answers line after line until none is left, and returns the session's state.
@@ -68,37 +71,33 @@ fn answer_all_lines<
     C: Client<Handle = B::Handle>,
 >(
     rt: &R,
+    context: &SessionContext<'_, B, C>,
     lines: &mut LineReader<I>,
     buffers: &mut Buffers,
     writer: &mut O,
-    client: &C,
-    backend: &B,
 ) -> (B::Stand, Result<(), EngineFault>)
-    requires fits { B.fits backend.now }
+    requires fits { B.fits context.now.backend.now }
     requires none_kept { buffers.old.exchange.pending ≡ [] }
-    ensures may_hold { B.may_hold backend.now result.0 }
-    ensures ok { OnOk result.1 (RunWritesTo (B.answers backend.now (C.gone client.now)) (B.nobody backend.now)
-        (bytes_left I.remaining lines.old) (O.contents writer.old) (O.contents writer.new) result.0) }
+    ensures may_hold { B.may_hold context.now.backend.now result.0 }
+    ensures ok { OnOk result.1 (RunWritesTo (B.answers context.now.backend.now (C.gone context.now.client.now))
+        (B.nobody context.now.backend.now)
+        (stream_moment I.remaining lines.old (O.contents writer.old)) (O.contents writer.new) result.0) }
     ensures err { IfErr result.1 (λ fault. (holds : Option (List ℕ)) (last : EngineFault)
         → RunEndsOnFault fault (O.contents writer.new) buffers.new.exchange.pending holds last
-        → RunWritesFirst (B.answers backend.now (C.gone client.now)) (B.nobody backend.now) last
-        (bytes_left I.remaining lines.old) (bytes_left I.remaining lines.new) (O.contents writer.old) holds) }
+        → RunWritesFirst (B.answers context.now.backend.now (C.gone context.now.client.now))
+        (B.nobody context.now.backend.now) last
+        (stream_moment I.remaining lines.old (O.contents writer.old)) (stream_moment I.remaining lines.new holds)) }
     ensures end { OnOk result.1 (ReaderEnded lines.new) }
-    ensures ended { ReaderEnded lines.old → NothingRead lines.old lines.new }
-    ensures failed { IfErr result.1 (λ fault. fault ≡ EngineFault.ReadFailed → ReadFailure lines.old lines.new) }
-    ensures reads { SomeReadsMade I.gave lines.old lines.new }
-    ensures prompt { ReadsMadeAt I.moments lines.old lines.new
-        (AnswersArePrompt (B.answers backend.now (C.gone client.now)) (B.nobody backend.now)
-        (bytes_left I.remaining lines.old) (O.contents writer.old)) }
-    ensures read_broke { IfErr result.1 (λ fault. fault ≡ EngineFault.ReadFailed
-        → LastReadFailed I.gave lines.old lines.new) }
-    ensures writes { WritesMade (O.took writer.old) (O.took writer.new) }
-    ensures write_broke { IfErr result.1 (λ fault. fault ≡ EngineFault.WriteFailed
-        → LastWriteFailed (O.took writer.old) (O.took writer.new)) }
+    ensures reads { CallReads I.gave I.moments lines.old lines.new
+        (AnswersArePrompt (B.answers context.now.backend.now (C.gone context.now.client.now))
+        (B.nobody context.now.backend.now)
+        (stream_moment I.remaining lines.old (O.contents writer.old)))
+        result.1 }
+    ensures writes { CallWrites (O.took writer.old) (O.took writer.new) result.1 }
 {
-    let mut stand = backend.begin_session();
+    let mut stand = context.backend.begin_session();
     for _ in rt.forever() {
-        let (next, turned) = answer_next_line(rt, stand, lines, buffers, writer, client, backend);
+        let (next, turned) = answer_next_line(rt, context, stand, lines, buffers, writer);
         match turned {
             Ok(true) => stand = next,
             Ok(false) => return (next, Ok(())),
@@ -117,36 +116,29 @@ fn answer_next_line<
     C: Client<Handle = B::Handle>,
 >(
     rt: &R,
+    context: &SessionContext<'_, B, C>,
     stand: B::Stand,
     lines: &mut LineReader<I>,
     buffers: &mut Buffers,
     writer: &mut O,
-    client: &C,
-    backend: &B,
 ) -> (B::Stand, Result<bool, EngineFault>)
-    requires fits { B.fits backend.now }
-    requires may_hold { B.may_hold backend.now stand }
-    ensures may_hold { B.may_hold backend.now result.0 }
-    ensures ok { IfOk result.1 (LineRunStep (B.answers backend.now (C.gone client.now))
-        (bytes_left I.remaining lines.old) (bytes_left I.remaining lines.new) (reader_has_ended lines.new) stand
-        result.0
-        (O.contents writer.old) buffers.old.exchange.pending (O.contents writer.new) buffers.new.exchange.pending) }
-    ensures err { IfErr result.1 (λ fault. LineRunStepFails (B.answers backend.now (C.gone client.now)) fault
-        (bytes_left I.remaining lines.old) (bytes_left I.remaining lines.new) stand
-        (O.contents writer.old) buffers.old.exchange.pending (O.contents writer.new) buffers.new.exchange.pending) }
+    requires fits { B.fits context.now.backend.now }
+    requires may_hold { B.may_hold context.now.backend.now stand }
+    ensures may_hold { B.may_hold context.now.backend.now result.0 }
+    ensures ok { IfOk result.1 (LineRunStep (B.answers context.now.backend.now (C.gone context.now.client.now))
+        stand result.0
+        (run_moment I.remaining lines.old (O.contents writer.old) buffers.old.exchange.pending)
+        (run_moment I.remaining lines.new (O.contents writer.new) buffers.new.exchange.pending)) }
+    ensures err { IfErr result.1 (λ fault. LineRunStepFails
+        (B.answers context.now.backend.now (C.gone context.now.client.now)) fault stand
+        (run_moment I.remaining lines.old (O.contents writer.old) buffers.old.exchange.pending)
+        (run_moment I.remaining lines.new (O.contents writer.new) buffers.new.exchange.pending)) }
     ensures fewer { IfOk result.1 (λ more. more ≡ true → most_lines lines.new < most_lines lines.old) }
     ensures end { IfOk result.1 (λ more. more ≡ false → ReaderEnded lines.new) }
-    ensures ended { ReaderEnded lines.old → NothingRead lines.old lines.new }
-    ensures fewer_reads { reads_left lines.new ≤ reads_left lines.old }
-    ensures failed { IfErr result.1 (λ fault. fault ≡ EngineFault.ReadFailed → ReadFailure lines.old lines.new) }
-    ensures reads { SomeReadsMade I.gave lines.old lines.new }
-    ensures prompt { ReadsMadeAt I.moments lines.old lines.new
-        (BufferWrittenSince (bytes_left I.remaining lines.old) (O.contents writer.old) buffers.old.exchange.pending) }
-    ensures read_broke { IfErr result.1 (λ fault. fault ≡ EngineFault.ReadFailed
-        → LastReadFailed I.gave lines.old lines.new) }
-    ensures writes { WritesMade (O.took writer.old) (O.took writer.new) }
-    ensures write_broke { IfErr result.1 (λ fault. fault ≡ EngineFault.WriteFailed
-        → LastWriteFailed (O.took writer.old) (O.took writer.new)) }
+    ensures reads { CallReads I.gave I.moments lines.old lines.new
+        (BufferWrittenSince (bytes_left I.remaining lines.old) (O.contents writer.old) buffers.old.exchange.pending)
+        result.1 }
+    ensures writes { CallWrites (O.took writer.old) (O.took writer.new) result.1 }
 {
     let cut = match buffers.exchange.next_line(lines, writer) {
         Ok(cut) => cut,
@@ -155,7 +147,10 @@ fn answer_next_line<
     if cut == Cut::End {
         return (stand, Ok(false));
     }
-    let (stand, answered) = backend.answer(rt, stand, cut, buffers, writer, client);
+    buffers.cut = cut;
+    let (stand, answered) = context
+        .backend
+        .answer(rt, stand, buffers, writer, context.client);
     match answered {
         Ok(()) => {}
         Err(why) => return (stand, Err(why.session_fault())),

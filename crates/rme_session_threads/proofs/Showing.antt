@@ -40,7 +40,8 @@ use Rattle.rme_session_threads.specs.declared.stand.Holding.{Holding}
 use Rattle.rme_session_threads.specs.declared.stand.Holding.TheVariants.{Empty, Ready, Climb, Held}
 use Rattle.rme_session_threads.specs.declared.stand.Stand.{Stand as Session}
 use Rattle.rme_session_threads.specs.declared.work.SessionWork.{SessionWork}
-use Rattle.rme_session_threads.specs.declared.work.SessionWork.TheVariants.{Repeat, Post, GoIn, GoOn, PostInside, GoInside, Stay}
+use Rattle.rme_session_threads.specs.declared.work.SessionWork.TheVariants.{Repeat, Post, GoIn, GoOn, Stay}
+use Rattle.rme_session_threads.specs.declared.work.WorkGoal.TheVariants as until
 use Rattle.rme_session_threads.proofs.Working.{led_inside, led_onward, led_so}
 
 -- The last one of some entries.
@@ -214,13 +215,13 @@ module _ (ident : ServiceId) (count : ℕ) (its : Submission) (planned : Planned
         → WorkWithinPlan ident.shape (submit_lead (work_holding work) its.job) (begun_by work) now became let_go → ThreadWaitsAfterTries (least_tries its.patience) (holding_steps (work_holding work)) now.value became
         → ThreadOrderExecution ident count (stand_change (begun_by work) now let_go) (order.Submit its) (reply.Submitted became)
     work_submitted (Repeat ready) asked makes through tried = repeated_so ready became asked makes through
-    work_submitted (Post admitted tries) (next, same, none) makes through tried =
+    work_submitted (Post admitted tries until.Finished) (next, same, none) makes through tried =
         let P : Job → Type 0 = λ job. ThreadJobEffect (stand_next_job admitted.ready job) admitted.ready.part.entries now.value became in
         posted_so admitted.ready next none (subst P same makes) through tried
-    work_submitted (GoIn climb tries) asked makes through tried = waited_so climb asked makes through tried
+    work_submitted (GoIn climb tries until.Finished) asked makes through tried = waited_so climb asked makes through tried
     work_submitted (GoOn held) asked makes through tried = inside_so held asked makes through tried
-    work_submitted (PostInside admitted tries) asked makes through tried = absurd asked
-    work_submitted (GoInside climb tries) asked makes through tried = absurd asked
+    work_submitted (Post admitted tries until.Inside) asked makes through tried = absurd asked
+    work_submitted (GoIn climb tries until.Inside) asked makes through tried = absurd asked
     work_submitted (Stay held) asked makes through tried = absurd asked
 
 -- ENTER
@@ -323,16 +324,16 @@ module _ (ident : ServiceId) (count : ℕ) (its : Submission) (planned : Planned
       → WorkWithinPlan ident.shape (submit_lead (work_holding work) its.job) (starts_by (work_holding work)) now became let_go → ThreadWaitsAfterTries (least_tries its.patience) (holding_steps (work_holding work)) now.value became
       → ThreadOrderExecution ident count (stand_change (starts_by (work_holding work)) now let_go) (order.Enter its) (reply.Entered became)
   work_entered became (Repeat ready) asked makes through tried = repeated_inside ready became asked makes through
-  work_entered became (Post admitted tries) (next, same, none) makes through tried =
+  work_entered became (Post admitted tries until.Finished) (next, same, none) makes through tried =
       let P : Job → Type 0 = λ job. ThreadEnterEffect (stand_next_job admitted.ready job) admitted.ready.part.entries now.value became in
       posted_inside became admitted.ready next none (subst P same makes) through tried
-  work_entered became (GoIn climb tries) asked makes through tried = waited_inside became climb asked makes through tried
+  work_entered became (GoIn climb tries until.Finished) asked makes through tried = waited_inside became climb asked makes through tried
   work_entered became (GoOn held) asked (same, is) through tried =
       let P : JobOutcome → Type 0 = λ o. WorkWithinPlan ident.shape unchanged_part (starts_by (Held held)) now o let_go in
       let Q : JobOutcome → Type 0 = λ o. ThreadOrderExecution ident count (stand_change (starts_by (Held held)) now let_go) (order.Enter its) (reply.Entered o) in
       subst Q (sym is) (stayed_inside held asked same (subst P is through))
-  work_entered became (PostInside admitted tries) asked makes through tried = absurd asked
-  work_entered became (GoInside climb tries) asked makes through tried = absurd asked
+  work_entered became (Post admitted tries until.Inside) asked makes through tried = absurd asked
+  work_entered became (GoIn climb tries until.Inside) asked makes through tried = absurd asked
   work_entered became (Stay held) asked makes through tried = absurd asked
 
 pub entered : (ident : ServiceId) (count : ℕ) (work : SessionWork) (old now : Session) (became : JobOutcome) (let_go : Option SeatView) (its : Submission) → work_holding work ≡ old.value → IsSubmitWork ident.shape its work
@@ -378,12 +379,12 @@ module _ (ident : ServiceId) (count : ℕ) (planned : PlannedCrash) (now : Sessi
   work_resumed : (patience : Patience) (work : SessionWork) → IsResumeWork work → WorkEffect ident.shape work now.value became → WorkWithinPlan ident.shape unchanged_part (stands_with work) now became let_go
       → ThreadWaitsAfterTries (least_tries patience) (holding_steps (work_holding work)) now.value became → ThreadOrderExecution ident count (stand_change (stands_with work) now let_go) (order.Resume patience) (reply.Resumed became)
   work_resumed patience (Repeat ready) asked makes through tried = absurd asked
-  work_resumed patience (Post admitted given) asked makes through tried = absurd asked
-  work_resumed patience (PostInside admitted given) asked makes through tried = absurd asked
-  work_resumed patience (GoInside climb given) asked makes through tried = absurd asked
+  work_resumed patience (Post admitted given until.Finished) asked makes through tried = absurd asked
+  work_resumed patience (Post admitted given until.Inside) asked makes through tried = absurd asked
+  work_resumed patience (GoIn climb given until.Inside) asked makes through tried = absurd asked
   work_resumed patience (Stay held) asked makes through tried = absurd asked
-  work_resumed patience (GoIn climb given) asked makes through tried =
-      let so = goes_shown climb now.value became makes in resumed_so ident count (stands_with (GoIn climb given)) now became let_go patience so.0 refl so.1 so.2 so.3 through tried
+  work_resumed patience (GoIn climb given until.Finished) asked makes through tried =
+      let so = goes_shown climb now.value became makes in resumed_so ident count (stands_with (GoIn climb given until.Finished)) now became let_go patience so.0 refl so.1 so.2 so.3 through tried
   work_resumed patience (GoOn held) asked makes through tried =
       let so = goes_shown held now.value became makes in resumed_so ident count (stands_with (GoOn held)) now became let_go patience so.0 refl so.1 so.2 so.3 through tried
 

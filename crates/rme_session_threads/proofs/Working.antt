@@ -1,9 +1,12 @@
 -- A worker whose job was driven.
-use Rattle.std.proofs.Common.{◌≡◌, ℕ, [], ◌-◌, ◌≤◌, Result, Ok, Err, sym, subst, ◌∙◌, refl, arith}
+use Rattle.std.proofs.lemmas.Option.{same_Some}
+use Rattle.std.proofs.Common.{◌≡◌, ℕ, ◌+◌, List, [], ◌-◌, ◌≤◌, Result, Ok, Err, sym, subst, ◌∙◌, refl, arith}
 use Rattle.std.specs.Prelude.{false, true, Option, Some, None}
 use Rattle.rme_words.specs.declared.shape.Shape.{Shape}
 use Rattle.rme_script.specs.declared.job.Job.{Job}
+use Rattle.rme_program.specs.declared.note.Entry.{Entry}
 use Rattle.rme_program.specs.declared.note.Receipt.{Receipt}
+use Rattle.rme_session_protocol.specs.SessionViews.{WorkerJob}
 use Rattle.rme_service_steps.specs.declared.seat_record.Part.{Part}
 use Rattle.rme_service_steps.specs.Parts.{unchanged_part}
 use Rattle.rme_service_steps.specs.Parts.{submitted_part as handed}
@@ -19,16 +22,18 @@ use Rattle.rme_session_protocol.specs.PlannedCrashes.{planned_after}
 use Rattle.rme_session_protocol.proofs.Counting.{leaves_none}
 use Rattle.rme_session_threads.specs.CrashPlans.{countdown_tally}
 use Rattle.rme_session_threads.specs.Stands.{HasSlot, IsValidWorkResult, held_worker}
-use Rattle.rme_session_threads.specs.SessionWorks.{HasWorkTries, IsResumeWork, IsSubmitWork, WorkWithinPlan, WorkEffect, WorkSettlement, CountdownSpares, WorkSpendsCountdown, entered_result, work_holding, work_lead, work_until_inside, finished_result}
-use Rattle.rme_session_threads.specs.JobOutcomes.{WorkWaitsAfterTries, WorkResultSatisfies, ThreadEnterPendingEffect, ThreadPendingJobEffect, PlanSpares, ThreadWaitsAfterTries, IsNotFallen, ThreadRepeatEffect, OwnStepsBetween, submit_lead}
+use Rattle.rme_session_threads.specs.SessionWorks.{HasWorkTries, IsResumeWork, IsSubmitWork, WorkWithinPlan, WorkEffect, WorkSettlement, CountdownSpares, WorkSpendsCountdown, driven_result, work_holding, work_lead, work_until_inside}
+use Rattle.rme_session_threads.specs.JobOutcomes.{AwaitsLock, HasFinishedJob, WorkOnNextJob, WorkOnPendingJob, StillAwaitsLock, stand_next_job, stand_pending_job, WorkWaitsAfterTries, WorkResultSatisfies, ThreadEnterPendingEffect, ThreadPendingJobEffect, PlanSpares, ThreadWaitsAfterTries, IsNotFallen, ThreadRepeatEffect, OwnStepsBetween, submit_lead}
 use Rattle.rme_session_protocol.specs.declared.planned_crash.Countdown.{Countdown}
 use Rattle.rme_session_protocol.specs.declared.planned_crash.Countdown.TheVariants.{Runs, Fallen}
 use Rattle.rme_session_protocol.specs.declared.planned_crash.PlannedCrash.{PlannedCrash}
 use Rattle.rme_session_threads.specs.declared.stand.Holding.{Holding}
-use Rattle.rme_session_threads.specs.declared.stand.Holding.TheVariants.{Ready}
+use Rattle.rme_session_threads.specs.declared.stand.Holding.TheVariants.{Empty, Ready, Climb, Held}
+use Rattle.rme_session_threads.specs.declared.work.WorkGoal.{WorkGoal}
 use Rattle.rme_session_threads.specs.declared.stand.Stand.{Stand as Session}
 use Rattle.rme_session_threads.specs.declared.work.SessionWork.{SessionWork}
-use Rattle.rme_session_threads.specs.declared.work.SessionWork.TheVariants.{Repeat, Post, GoIn, GoOn, PostInside, GoInside, Stay}
+use Rattle.rme_session_threads.specs.declared.work.SessionWork.TheVariants.{Repeat, Post, GoIn, GoOn, Stay}
+use Rattle.rme_session_threads.specs.declared.work.WorkGoal.TheVariants as until
 use Rattle.rme_session_threads.proofs.Planning.{fallen, spared, stayed}
 
 -- The session after a drive whose gate admits every worker, and so never stops one.
@@ -50,7 +55,7 @@ module _ (shape : Shape) (start : SeatView) (old now : Countdown) where
     ),
   )
 
-  pub driven_did : (drive : Driven) → DriveOutcome shape false start (countdown_tally old) (countdown_tally now) drive → GateLetsPass drive → WorkResultSatisfies (finished_result drive) (ThreadPendingJobEffect start)
+  pub driven_did : (drive : Driven) → DriveOutcome shape false start (countdown_tally old) (countdown_tally now) drive → GateLetsPass drive → WorkResultSatisfies (driven_result drive) (ThreadPendingJobEffect start)
   driven_did (driven.Done ready receipt) (goes, its, number) passes = (done_did ready receipt goes its number, tt)
   driven_did (driven.Waits climb) (goes, still) passes = (record { draft = still.draft; entries = still.entries; own = goes.own; number = still.number }, tt)
   driven_did (driven.Stopped held) drives passes = absurd passes
@@ -60,13 +65,13 @@ module _ (shape : Shape) (start : SeatView) (old now : Countdown) where
   has_slot ident count falls later goes slot = record { ident_is = goes.ident ∙ slot.ident_is; slot = rw goes.own slot.slot }
 
   pub driven_ours : (ident : ServiceId) (drive : Driven) → DriveOutcome shape false start (countdown_tally old) (countdown_tally now) drive → GateLetsPass drive
-      → (count : ℕ) → HasSlot ident count start → IsValidWorkResult ident count (finished_result drive)
+      → (count : ℕ) → HasSlot ident count start → IsValidWorkResult ident count (driven_result drive)
   driven_ours ident (driven.Done ready receipt) (goes, its, number) passes count slot = has_slot ident count 0 ready goes slot
   driven_ours ident (driven.Waits climb) (goes, still) passes count slot = has_slot ident count 0 climb goes slot
   driven_ours ident (driven.Stopped held) drives passes count slot = absurd passes
   driven_ours ident (driven.Fell down) goes passes count slot = has_slot ident count 1 down goes slot
 
-  pub driven_plan : (drive : Driven) → DriveOutcome shape false start (countdown_tally old) (countdown_tally now) drive → GateLetsPass drive → WorkSpendsCountdown shape unchanged_part old (Some start) now (finished_result drive)
+  pub driven_plan : (drive : Driven) → DriveOutcome shape false start (countdown_tally old) (countdown_tally now) drive → GateLetsPass drive → WorkSpendsCountdown shape unchanged_part old (Some start) now (driven_result drive)
   driven_plan (driven.Done ready receipt) (goes, its, number) passes = spared shape unchanged_part start ready old now goes.walks goes.ident goes.own
   driven_plan (driven.Waits climb) (goes, still) passes = spared shape unchanged_part start climb old now goes.walks goes.ident goes.own
   driven_plan (driven.Stopped held) drives passes = absurd passes
@@ -85,7 +90,7 @@ barred told shape worker (driven.Fell down) watches = tt
 
 -- The session after a drive until the worker is inside.
 module _ (shape : Shape) (start : SeatView) (old now : Countdown) where
-  pub arrived_did : (drive : Driven) → DriveOutcome shape false start (countdown_tally old) (countdown_tally now) drive → IsBarred drive → GateStopsInside drive → WorkResultSatisfies (entered_result drive) (ThreadEnterPendingEffect start)
+  pub arrived_did : (drive : Driven) → DriveOutcome shape false start (countdown_tally old) (countdown_tally now) drive → IsBarred drive → GateStopsInside drive → WorkResultSatisfies (driven_result drive) (ThreadEnterPendingEffect start)
   arrived_did (driven.Done ready receipt) drives bars stops = absurd bars
   arrived_did (driven.Waits climb) (goes, still) bars stops = (record { draft = still.draft; entries = still.entries; own = goes.own; number = still.number }, tt)
   arrived_did (driven.Stopped held) (goes, still) bars (entered, pending) =
@@ -93,20 +98,20 @@ module _ (shape : Shape) (start : SeatView) (old now : Countdown) where
   arrived_did (driven.Fell down) drives bars stops = tt
 
   pub arrived_ours : (ident : ServiceId) (drive : Driven) → DriveOutcome shape false start (countdown_tally old) (countdown_tally now) drive → IsBarred drive → GateStopsInside drive
-      → (count : ℕ) → HasSlot ident count start → IsValidWorkResult ident count (entered_result drive)
+      → (count : ℕ) → HasSlot ident count start → IsValidWorkResult ident count (driven_result drive)
   arrived_ours ident (driven.Done ready receipt) drives bars stops count slot = absurd bars
   arrived_ours ident (driven.Waits climb) (goes, still) bars stops count slot = has_slot shape start old now ident count 0 climb goes slot
   arrived_ours ident (driven.Stopped held) (goes, still) bars (entered, pending) count slot = (has_slot shape start old now ident count 0 held goes slot, pending)
   arrived_ours ident (driven.Fell down) goes bars stops count slot = has_slot shape start old now ident count 1 down goes slot
 
-  pub arrived_plan : (drive : Driven) → DriveOutcome shape false start (countdown_tally old) (countdown_tally now) drive → IsBarred drive → WorkSpendsCountdown shape unchanged_part old (Some start) now (entered_result drive)
+  pub arrived_plan : (drive : Driven) → DriveOutcome shape false start (countdown_tally old) (countdown_tally now) drive → IsBarred drive → WorkSpendsCountdown shape unchanged_part old (Some start) now (driven_result drive)
   arrived_plan (driven.Done ready receipt) drives bars = absurd bars
   arrived_plan (driven.Waits climb) (goes, still) bars = spared shape unchanged_part start climb old now goes.walks goes.ident goes.own
   arrived_plan (driven.Stopped held) (goes, still) bars = spared shape unchanged_part start held old now goes.walks goes.ident goes.own
   arrived_plan (driven.Fell down) goes bars = fallen shape unchanged_part start down old now goes.walks goes.ident goes.own
 
 pub arrived_tried : (start : SeatView) (before after : SweepTries) (drive : Driven) → WaitsAfterAllSweeps start before after drive → IsBarred drive
-    → WorkWaitsAfterTries (before.most - before.blocked) start.part.steps (entered_result drive)
+    → WorkWaitsAfterTries (before.most - before.blocked) start.part.steps (driven_result drive)
 arrived_tried start before after (driven.Done ready receipt) exhausts bars = absurd bars
 arrived_tried start before after (driven.Waits climb) exhausts bars = exhausts.steps
 arrived_tried start before after (driven.Stopped held) exhausts bars = tt
@@ -169,12 +174,12 @@ pub led_so : (shape : Shape) (its : Submission) (work : SessionWork) (planned : 
     → WorkEffect shape work now.value became → WorkWithinPlan shape (work_lead work) (record { value = work_holding work; planned = planned }) now became let_go
     → WorkWithinPlan shape (submit_lead (work_holding work) its.job) (record { value = work_holding work; planned = planned }) now became let_go
 led_so shape its (Repeat ready) planned now became let_go asked makes left = repeated shape ready planned its.job now became let_go makes left
-led_so shape its (Post admitted tries) planned now became let_go (next, same, none) makes left =
+led_so shape its (Post admitted tries until.Finished) planned now became let_go (next, same, none) makes left =
     let P : Job → Type 0 = λ job. WorkWithinPlan shape (handed job) (record { value = Ready admitted.ready; planned = planned }) now became let_go in subst P same left
-led_so shape its (GoIn climb tries) planned now became let_go asked makes left = left
+led_so shape its (GoIn climb tries until.Finished) planned now became let_go asked makes left = left
 led_so shape its (GoOn held) planned now became let_go asked makes left = left
-led_so shape its (PostInside admitted tries) planned now became let_go asked makes left = absurd asked
-led_so shape its (GoInside climb tries) planned now became let_go asked makes left = absurd asked
+led_so shape its (Post admitted tries until.Inside) planned now became let_go asked makes left = absurd asked
+led_so shape its (GoIn climb tries until.Inside) planned now became let_go asked makes left = absurd asked
 led_so shape its (Stay held) planned now became let_go asked makes left = absurd asked
 
 -- The same for work until the worker is inside.
@@ -182,52 +187,52 @@ pub led_inside : (shape : Shape) (its : Submission) (work : SessionWork) (planne
     → WorkEffect shape (work_until_inside work) now.value became → WorkWithinPlan shape (work_lead (work_until_inside work)) (record { value = work_holding (work_until_inside work); planned = planned }) now became let_go
     → WorkWithinPlan shape (submit_lead (work_holding work) its.job) (record { value = work_holding work; planned = planned }) now became let_go
 led_inside shape its (Repeat ready) planned now became let_go asked makes left = repeated shape ready planned its.job now became let_go makes left
-led_inside shape its (Post admitted tries) planned now became let_go (next, same, none) makes left =
+led_inside shape its (Post admitted tries until.Finished) planned now became let_go (next, same, none) makes left =
     let P : Job → Type 0 = λ job. WorkWithinPlan shape (handed job) (record { value = Ready admitted.ready; planned = planned }) now became let_go in subst P same left
-led_inside shape its (GoIn climb tries) planned now became let_go asked makes left = left
+led_inside shape its (GoIn climb tries until.Finished) planned now became let_go asked makes left = left
 led_inside shape its (GoOn held) planned now became let_go asked makes left = left
-led_inside shape its (PostInside admitted tries) planned now became let_go asked makes left = absurd asked
-led_inside shape its (GoInside climb tries) planned now became let_go asked makes left = absurd asked
+led_inside shape its (Post admitted tries until.Inside) planned now became let_go asked makes left = absurd asked
+led_inside shape its (GoIn climb tries until.Inside) planned now became let_go asked makes left = absurd asked
 led_inside shape its (Stay held) planned now became let_go asked makes left = absurd asked
 
 -- It starts from the same worker, and has the same number of tries.
 pub same_start : (work : SessionWork) → work_holding (work_until_inside work) ≡ work_holding work
 same_start (Repeat ready) = refl
-same_start (Post admitted tries) = refl
-same_start (GoIn climb tries) = refl
+same_start (Post admitted tries until.Finished) = refl
+same_start (GoIn climb tries until.Finished) = refl
 same_start (GoOn held) = refl
-same_start (PostInside admitted tries) = refl
-same_start (GoInside climb tries) = refl
+same_start (Post admitted tries until.Inside) = refl
+same_start (GoIn climb tries until.Inside) = refl
 same_start (Stay held) = refl
 
 pub same_tries : (tries : ℕ) (work : SessionWork) → HasWorkTries tries work → HasWorkTries tries (work_until_inside work)
 same_tries tries (Repeat ready) has = has
-same_tries tries (Post admitted given) has = has
-same_tries tries (GoIn climb given) has = has
+same_tries tries (Post admitted given until.Finished) has = has
+same_tries tries (GoIn climb given until.Finished) has = has
 same_tries tries (GoOn held) has = tt
-same_tries tries (PostInside admitted given) has = has
-same_tries tries (GoInside climb given) has = has
+same_tries tries (Post admitted given until.Inside) has = has
+same_tries tries (GoIn climb given until.Inside) has = has
 same_tries tries (Stay held) has = has
 
 -- The work of an order that continues a job.
 pub led_onward : (shape : Shape) (work : SessionWork) (old now : Session) (became : JobOutcome) (let_go : Option SeatView) → IsResumeWork work → WorkWithinPlan shape (work_lead work) old now became let_go
     → WorkWithinPlan shape unchanged_part old now became let_go
 led_onward shape (Repeat ready) old now became let_go asked left = absurd asked
-led_onward shape (Post admitted tries) old now became let_go asked left = absurd asked
-led_onward shape (GoIn climb tries) old now became let_go asked left = left
+led_onward shape (Post admitted tries until.Finished) old now became let_go asked left = absurd asked
+led_onward shape (GoIn climb tries until.Finished) old now became let_go asked left = left
 led_onward shape (GoOn held) old now became let_go asked left = left
-led_onward shape (PostInside admitted tries) old now became let_go asked left = absurd asked
-led_onward shape (GoInside climb tries) old now became let_go asked left = absurd asked
+led_onward shape (Post admitted tries until.Inside) old now became let_go asked left = absurd asked
+led_onward shape (GoIn climb tries until.Inside) old now became let_go asked left = absurd asked
 led_onward shape (Stay held) old now became let_go asked left = absurd asked
 
 -- The tries that were made before a job waits.
-pub driven_tried : (start : SeatView) (before after : SweepTries) (drive : Driven) → WaitsAfterAllSweeps start before after drive → GateLetsPass drive → WorkWaitsAfterTries (before.most - before.blocked) start.part.steps (finished_result drive)
+pub driven_tried : (start : SeatView) (before after : SweepTries) (drive : Driven) → WaitsAfterAllSweeps start before after drive → GateLetsPass drive → WorkWaitsAfterTries (before.most - before.blocked) start.part.steps (driven_result drive)
 driven_tried start before after (driven.Done ready receipt) exhausts passes = tt
 driven_tried start before after (driven.Waits climb) exhausts passes = exhausts.steps
 driven_tried start before after (driven.Stopped held) exhausts passes = absurd passes
 driven_tried start before after (driven.Fell down) exhausts passes = tt
 
-pub owning_tried : (most steps : ℕ) (drive : Driven) → DriveDoesNotWait drive → GateLetsPass drive → WorkWaitsAfterTries most steps (finished_result drive)
+pub owning_tried : (most steps : ℕ) (drive : Driven) → DriveDoesNotWait drive → GateLetsPass drive → WorkWaitsAfterTries most steps (driven_result drive)
 owning_tried most steps (driven.Done ready receipt) owns passes = tt
 owning_tried most steps (driven.Waits climb) owns passes = absurd owns
 owning_tried most steps (driven.Stopped held) owns passes = absurd passes
@@ -255,3 +260,62 @@ pub settled_tried : (most steps : ℕ) (planned : PlannedCrash) (worked : Result
     → WorkWaitsAfterTries most steps worked → ThreadWaitsAfterTries most steps now.value became
 settled_tried most steps planned (Ok (value, its)) now became let_go (now_is, its_is, none) tried = rw (now_is, its_is) tried
 settled_tried most steps planned (Err down) now became let_go (now_is, its_is, go_is) tried = rw its_is tt
+
+-- A job that was posted: the worker that waits then has the next number, and what becomes of its job becomes of the next
+-- job.
+module _ (start now : SeatView) (job : Job) (draft : now.part.draft ≡ Some job) (entries : now.part.entries ≡ start.part.entries) (own : now.part.worker ≡ start.part.worker)
+    (number_is : now.part.private.begun ≡ start.part.private.begun + 1) where
+  still_awaits : (later : SeatView) → StillAwaitsLock now later → AwaitsLock (stand_next_job start job) start.part.entries later
+  still_awaits later still = record { draft = still.draft ∙ draft; entries = still.entries ∙ entries; own = still.own ∙ own; number = still.number ∙ number_is }
+
+  same_task : (other : Job) → now.part.draft ≡ Some other → stand_pending_job now other ≡ stand_next_job start job
+  same_task other is = λ k. record { worker = own k; number = number_is k; job = same_Some other job (sym is ∙ draft) k }
+
+  posted_effect : (stop : WorkGoal) (value : Holding) (its : JobOutcome) → WorkOnPendingJob stop now value its → WorkOnNextJob stop (stand_next_job start job) start.part.entries value its
+  posted_effect until.Finished (Ready ready) (outcome.Receipt receipt) (other, is, (entry, has, same)) =
+      let P : WorkerJob → List Entry → Type 0 = λ (task : WorkerJob) (before : List Entry). HasFinishedJob task before ready entry in
+      (entry, subst (λ (before : List Entry). P (stand_next_job start job) before) entries (subst (λ (task : WorkerJob). P task now.part.entries) (same_task other is) has), same)
+  posted_effect until.Finished (Climb climb) outcome.Waiting still = still_awaits climb still
+  posted_effect until.Finished Empty outcome.Fell fell = tt
+  posted_effect until.Inside (Held held) (outcome.Inside number) (still, entered, is) = (still_awaits held still, entered, is ∙ number_is)
+  posted_effect until.Inside (Climb climb) outcome.Waiting still = still_awaits climb still
+  posted_effect until.Inside Empty outcome.Fell fell = tt
+  posted_effect until.Finished Empty (outcome.Receipt receipt) none = absurd none
+  posted_effect until.Finished Empty outcome.Withdrawn none = absurd none
+  posted_effect until.Finished Empty outcome.Waiting none = absurd none
+  posted_effect until.Finished Empty (outcome.Inside number) none = absurd none
+  posted_effect until.Finished (Ready ready) outcome.Withdrawn none = absurd none
+  posted_effect until.Finished (Ready ready) outcome.Waiting none = absurd none
+  posted_effect until.Finished (Ready ready) outcome.Fell none = absurd none
+  posted_effect until.Finished (Ready ready) (outcome.Inside number) none = absurd none
+  posted_effect until.Finished (Climb climb) (outcome.Receipt receipt) none = absurd none
+  posted_effect until.Finished (Climb climb) outcome.Withdrawn none = absurd none
+  posted_effect until.Finished (Climb climb) outcome.Fell none = absurd none
+  posted_effect until.Finished (Climb climb) (outcome.Inside number) none = absurd none
+  posted_effect until.Finished (Held held) (outcome.Receipt receipt) none = absurd none
+  posted_effect until.Finished (Held held) outcome.Withdrawn none = absurd none
+  posted_effect until.Finished (Held held) outcome.Waiting none = absurd none
+  posted_effect until.Finished (Held held) outcome.Fell none = absurd none
+  posted_effect until.Finished (Held held) (outcome.Inside number) none = absurd none
+  posted_effect until.Inside Empty (outcome.Receipt receipt) none = absurd none
+  posted_effect until.Inside Empty outcome.Withdrawn none = absurd none
+  posted_effect until.Inside Empty outcome.Waiting none = absurd none
+  posted_effect until.Inside Empty (outcome.Inside number) none = absurd none
+  posted_effect until.Inside (Ready ready) (outcome.Receipt receipt) none = absurd none
+  posted_effect until.Inside (Ready ready) outcome.Withdrawn none = absurd none
+  posted_effect until.Inside (Ready ready) outcome.Waiting none = absurd none
+  posted_effect until.Inside (Ready ready) outcome.Fell none = absurd none
+  posted_effect until.Inside (Ready ready) (outcome.Inside number) none = absurd none
+  posted_effect until.Inside (Climb climb) (outcome.Receipt receipt) none = absurd none
+  posted_effect until.Inside (Climb climb) outcome.Withdrawn none = absurd none
+  posted_effect until.Inside (Climb climb) outcome.Fell none = absurd none
+  posted_effect until.Inside (Climb climb) (outcome.Inside number) none = absurd none
+  posted_effect until.Inside (Held held) (outcome.Receipt receipt) none = absurd none
+  posted_effect until.Inside (Held held) outcome.Withdrawn none = absurd none
+  posted_effect until.Inside (Held held) outcome.Waiting none = absurd none
+  posted_effect until.Inside (Held held) outcome.Fell none = absurd none
+
+  pub posted_did : (stop : WorkGoal) (worked : Result (Holding × JobOutcome) SeatView) → WorkResultSatisfies worked (WorkOnPendingJob stop now)
+      → WorkResultSatisfies worked (WorkOnNextJob stop (stand_next_job start job) start.part.entries)
+  posted_did stop (Ok (value, its)) (has, up) = (posted_effect stop value its has, up)
+  posted_did stop (Err down) has = posted_effect stop Empty outcome.Fell has

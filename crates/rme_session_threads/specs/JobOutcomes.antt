@@ -16,6 +16,8 @@ use Rattle.rme_session_protocol.specs.SessionViews as sight
 use Rattle.rme_session_protocol.specs.SessionViews.{WorkerJob}
 use Rattle.rme_session_protocol.specs.declared.planned_crash.PlannedCrash.{PlannedCrash}
 use Rattle.rme_session_threads.specs.Stands.{held_worker, pending_worker_of, ready_worker_of}
+use Rattle.rme_session_threads.specs.declared.work.WorkGoal.{WorkGoal}
+use Rattle.rme_session_threads.specs.declared.work.WorkGoal.TheVariants as until
 use Rattle.rme_session_threads.specs.declared.stand.Holding.{Holding}
 use Rattle.rme_session_threads.specs.declared.stand.Holding.TheVariants.{Empty, Ready, Climb, Held}
 
@@ -91,6 +93,15 @@ ThreadEnterPendingEffect start (Held held) (outcome.Inside number) =
 ThreadEnterPendingEffect start (Climb climb) outcome.Waiting = StillAwaitsLock start climb
 ThreadEnterPendingEffect start Empty outcome.Fell = Unit {0}
 ThreadEnterPendingEffect start value its = ⊥
+
+-- The work on the worker's next job, and on the job that it has, by where it stops.
+abbrev pub WorkOnNextJob : WorkGoal → WorkerJob → List Entry → Holding → JobOutcome → Type 0
+WorkOnNextJob until.Finished task before value its = ThreadJobEffect task before value its
+WorkOnNextJob until.Inside task before value its = ThreadEnterEffect task before value its
+
+abbrev pub WorkOnPendingJob : WorkGoal → SeatView → Holding → JobOutcome → Type 0
+WorkOnPendingJob until.Finished start value its = ThreadPendingJobEffect start value its
+WorkOnPendingJob until.Inside start value its = ThreadEnterPendingEffect start value its
 
 -- The last number is answered again, by its receipt or as withdrawn, and the worker is unchanged.
 abbrev pub ThreadRepeatEffect : Shape → SeatView → Holding → JobOutcome → Type 0

@@ -15,87 +15,73 @@ use Rattle.rme_session_protocol.specs.declared.planned_crash.Countdown.{Countdow
 use Rattle.rme_session_protocol.specs.declared.planned_crash.Countdown.TheVariants.{Runs, Fallen}
 use Rattle.rme_session_protocol.specs.declared.planned_crash.PlannedCrash.{PlannedCrash}
 use Rattle.rme_session_threads.specs.Stands.{held_worker, empty_stand}
-use Rattle.rme_session_threads.specs.JobOutcomes.{ThreadEnterEffect, PlanCrashes, ThreadEnterPendingEffect, ThreadPendingJobEffect, PlanSpares, ThreadRepeatEffect, ThreadJobEffect, stand_next_job}
+use Rattle.rme_session_threads.specs.JobOutcomes.{WorkOnNextJob, WorkOnPendingJob, PlanCrashes, ThreadPendingJobEffect, PlanSpares, ThreadRepeatEffect, stand_next_job}
 use Rattle.rme_session_threads.specs.declared.stand.Holding.{Holding}
 use Rattle.rme_session_threads.specs.declared.stand.Holding.TheVariants as holds
 use Rattle.rme_session_threads.specs.declared.stand.Stand.{Stand as Standing}
 use Rattle.rme_session_threads.specs.declared.work.SessionWork.{SessionWork}
-use Rattle.rme_session_threads.specs.declared.work.SessionWork.TheVariants.{Repeat, Post, GoIn, GoOn, PostInside, GoInside, Stay}
+use Rattle.rme_session_threads.specs.declared.work.SessionWork.TheVariants.{Repeat, Post, GoIn, GoOn, Stay}
+use Rattle.rme_session_threads.specs.declared.work.WorkGoal.TheVariants as until
 
 -- What the session holds before the work.
 abbrev pub work_holding : SessionWork → Holding
 work_holding (Repeat ready) = holds.Ready ready
-work_holding (Post admitted tries) = holds.Ready admitted.ready
-work_holding (GoIn climb tries) = holds.Climb climb
+work_holding (Post admitted tries stop) = holds.Ready admitted.ready
+work_holding (GoIn climb tries stop) = holds.Climb climb
 work_holding (GoOn held) = holds.Held held
-work_holding (PostInside admitted tries) = holds.Ready admitted.ready
-work_holding (GoInside climb tries) = holds.Climb climb
 work_holding (Stay held) = holds.Held held
 
 -- The work of a submission that is not refused: the last number again; or the next number, whose job may be posted; or
 -- the pending job.
 abbrev pub IsSubmitWork : Shape → Submission → SessionWork → Type 0
 IsSubmitWork shape its (Repeat ready) = (0 < its.number) × (its.number ≡ ready.part.private.begun)
-IsSubmitWork shape its (Post admitted tries) =
+IsSubmitWork shape its (Post admitted tries until.Finished) =
     (its.number ≡ admitted.ready.part.private.begun + 1) × (admitted.job ≡ its.job)
     × (job_refusal shape admitted.ready.part.private.begun its.job ≡ None)
-IsSubmitWork shape its (GoIn climb tries) = PendingJobRefusal climb.part.private.begun climb.part.draft its None
+IsSubmitWork shape its (GoIn climb tries until.Finished) =
+    PendingJobRefusal climb.part.private.begun climb.part.draft its None
 IsSubmitWork shape its (GoOn held) = PendingJobRefusal held.part.private.begun held.part.draft its None
 IsSubmitWork shape its work = ⊥
 
 -- The same work, until the worker is inside.
 abbrev pub work_until_inside : SessionWork → SessionWork
-work_until_inside (Post admitted tries) = PostInside admitted tries
-work_until_inside (GoIn climb tries) = GoInside climb tries
+work_until_inside (Post admitted tries stop) = Post admitted tries until.Inside
+work_until_inside (GoIn climb tries stop) = GoIn climb tries until.Inside
 work_until_inside (GoOn held) = Stay held
 work_until_inside work = work
 
 -- The work of an order that continues a job.
 abbrev pub IsResumeWork : SessionWork → Type 0
 IsResumeWork (Repeat ready) = ⊥
-IsResumeWork (Post admitted tries) = ⊥
-IsResumeWork (GoIn climb tries) = Unit {0}
+IsResumeWork (GoIn climb tries until.Finished) = Unit {0}
 IsResumeWork (GoOn held) = Unit {0}
 IsResumeWork work = ⊥
 
 -- The job may wait after this number of tries; a worker that owns its lock, or has no job to do, does not wait.
 abbrev pub HasWorkTries : ℕ → SessionWork → Type 0
-HasWorkTries tries (Post admitted given) = given ≡ tries
-HasWorkTries tries (GoIn climb given) = given ≡ tries
-HasWorkTries tries (PostInside admitted given) = given ≡ tries
-HasWorkTries tries (GoInside climb given) = given ≡ tries
+HasWorkTries tries (Post admitted given stop) = given ≡ tries
+HasWorkTries tries (GoIn climb given stop) = given ≡ tries
 HasWorkTries tries work = Unit {0}
 
 -- What the session holds after the work, and the outcome of the job.
 abbrev pub WorkEffect : Shape → SessionWork → Holding → JobOutcome → Type 0
 WorkEffect shape (Repeat ready) value its = ThreadRepeatEffect shape ready value its
-WorkEffect shape (Post admitted tries) value its =
-    ThreadJobEffect (stand_next_job admitted.ready admitted.job) admitted.ready.part.entries value its
-WorkEffect shape (GoIn climb tries) value its = ThreadPendingJobEffect climb value its
+WorkEffect shape (Post admitted tries stop) value its =
+    WorkOnNextJob stop (stand_next_job admitted.ready admitted.job) admitted.ready.part.entries value its
+WorkEffect shape (GoIn climb tries stop) value its = WorkOnPendingJob stop climb value its
 WorkEffect shape (GoOn held) value its = ThreadPendingJobEffect held value its
-WorkEffect shape (PostInside admitted tries) value its =
-    ThreadEnterEffect (stand_next_job admitted.ready admitted.job) admitted.ready.part.entries value its
-WorkEffect shape (GoInside climb tries) value its = ThreadEnterPendingEffect climb value its
 WorkEffect shape (Stay held) value its = (value ≡ holds.Held held) × (its ≡ outcome.Inside held.part.private.begun)
 
--- What the session holds of a driven worker.
-abbrev pub finished_result : Driven → Result (Holding × JobOutcome) SeatView
-finished_result (driven.Done ready receipt) = Ok (holds.Ready ready, outcome.Receipt receipt)
-finished_result (driven.Waits climb) = Ok (holds.Climb climb, outcome.Waiting)
-finished_result (driven.Stopped held) = Ok (holds.Held held, outcome.Waiting)
-finished_result (driven.Fell down) = Err down
-
--- What the session holds of a worker that was driven until it was inside.
-abbrev pub entered_result : Driven → Result (Holding × JobOutcome) SeatView
-entered_result (driven.Done ready receipt) = Ok (holds.Ready ready, outcome.Receipt receipt)
-entered_result (driven.Waits climb) = Ok (holds.Climb climb, outcome.Waiting)
-entered_result (driven.Stopped held) = Ok (holds.Held held, outcome.Inside held.part.private.begun)
-entered_result (driven.Fell down) = Err down
+-- What the session holds of a driven worker, and the outcome of its job.
+abbrev pub driven_result : Driven → Result (Holding × JobOutcome) SeatView
+driven_result (driven.Done ready receipt) = Ok (holds.Ready ready, outcome.Receipt receipt)
+driven_result (driven.Waits climb) = Ok (holds.Climb climb, outcome.Waiting)
+driven_result (driven.Stopped held) = Ok (holds.Held held, outcome.Inside held.part.private.begun)
+driven_result (driven.Fell down) = Err down
 
 -- The lead before the first step of the work.
 abbrev pub work_lead : SessionWork → Part → Part
-work_lead (Post admitted tries) = submitted_part admitted.job
-work_lead (PostInside admitted tries) = submitted_part admitted.job
+work_lead (Post admitted tries stop) = submitted_part admitted.job
 work_lead work = unchanged_part
 
 -- The plan after work: the worker was spared, or it crashed as planned. No work begins after a crash.

@@ -1,6 +1,6 @@
 //! The sessions of the running service: how a session attaches a worker, executes orders with it, and releases it.
 //!
-//! `slots.rt` has the slots of the workers that no session has, each behind a lock whose type names the service. A
+//! `slots.rt` has the slots of the workers that no session has, each under a lock whose type names the service. A
 //! session takes a worker out of its slot (`stand.rt`) and executes orders with it (`orders.rt`); a client can plan a
 //! crash, to see its effect. The crate stands on rme_session_protocol, which defines the effect of an order, on
 //! rme_table, whose values the sessions hold, and on crossbeam_utils for the pause after a blocked sweep. The crates

@@ -10,7 +10,7 @@ ghost use Rattle.rme_session_threads.specs.SessionWorks.{HasWorkTries, IsResumeW
 ghost use Rattle.rme_session_threads.specs.declared.stand.Holding.TheVariants as holds;
 
 use crate::stand::Holding;
-use crate::work::SessionWork;
+use crate::work::{SessionWork, WorkGoal};
 use rme_session_protocol::{
     Patience, Submission, SubmissionKind, classify_submission, pending_refusal,
 };
@@ -74,7 +74,11 @@ fn find_ready_work<'a>(
 {
     match classify_submission(ready.number(), submission, service.shape()) {
         Ok(SubmissionKind::Post) => match ready.admit(service, &submission.job) {
-            Ok(admitted) => Ok(SessionWork::Post(admitted, submission.patience.least_tries())),
+            Ok(admitted) => Ok(SessionWork::Post(
+                admitted,
+                submission.patience.least_tries(),
+                WorkGoal::Finished,
+            )),
             Err((ready, why)) => Err((Holding::Ready(ready), why)),
         },
         Ok(SubmissionKind::Repeat) => Ok(SessionWork::Repeat(ready)),
@@ -97,7 +101,7 @@ fn find_climb_work<'a>(
 {
     let job = climb.job(service);
     match pending_refusal(climb.number(), &job, submission) {
-        None => Ok(SessionWork::GoIn(climb, submission.patience.least_tries())),
+        None => Ok(SessionWork::GoIn(climb, submission.patience.least_tries(), WorkGoal::Finished)),
         Some(why) => Err((Holding::Climb(climb), why)),
     }
 }
@@ -135,7 +139,11 @@ pub(crate) fn find_resume_work(
     match value {
         Holding::Empty => Err((Holding::Empty, Refusal::NotAttached)),
         Holding::Ready(ready) => Err((Holding::Ready(ready), Refusal::Idle)),
-        Holding::Climb(climb) => Ok(SessionWork::GoIn(climb, patience.least_tries())),
+        Holding::Climb(climb) => Ok(SessionWork::GoIn(
+            climb,
+            patience.least_tries(),
+            WorkGoal::Finished,
+        )),
         Holding::Held(held) => Ok(SessionWork::GoOn(held)),
     }
 }
@@ -182,7 +190,8 @@ pub(crate) fn check_last(value: Holding) -> Result<Ready, RefusedOrder>
 
 /// The value of a session with a worker, to plan its crash or to release it.
 pub(crate) fn check_attached(value: Holding) -> Result<Holding, RefusedOrder>
-    ensures holds { IfOk result (λ holding. (holding ≡ value) × (spec.bare_refusal (holding_session None value) ≡ None)) }
+    ensures holds { IfOk result (λ holding. (holding ≡ value)
+        × (spec.bare_refusal (holding_session None value) ≡ None)) }
     ensures refused { IfErr result (λ refused. (refused.0 ≡ value)
         × (spec.bare_refusal (holding_session None value) ≡ Some refused.1)) }
 {

@@ -7,8 +7,8 @@ ghost use Rattle.std.specs.Prelude.{◌≡◌, ℕ, Some, false};
 ghost use Rattle.rme_table.specs.Calls.{is_section_over};
 ghost use Rattle.rme_session_threads.specs.Stands.{HasSlot, IsValidHolding, IsValidWorkResult, held_worker};
 ghost use Rattle.rme_service_steps.specs.Parts.{unchanged_part, submitted_part};
-ghost use Rattle.rme_session_threads.specs.SessionWorks.{HasWorkTries, WorkEffect, WorkSpendsCountdown, entered_result, work_holding, work_lead, finished_result};
-ghost use Rattle.rme_session_threads.specs.JobOutcomes.{WorkWaitsAfterTries, ThreadEnterEffect, WorkResultSatisfies, ThreadEnterPendingEffect, ThreadPendingJobEffect, ThreadRepeatEffect, ThreadJobEffect, stand_next_job, holding_steps};
+ghost use Rattle.rme_session_threads.specs.SessionWorks.{HasWorkTries, WorkEffect, WorkSpendsCountdown, driven_result, work_holding, work_lead};
+ghost use Rattle.rme_session_threads.specs.JobOutcomes.{WorkWaitsAfterTries, WorkResultSatisfies, WorkOnNextJob, WorkOnPendingJob, ThreadEnterPendingEffect, ThreadPendingJobEffect, ThreadRepeatEffect, stand_next_job, holding_steps};
 ghost use Rattle.rme_session_threads.specs.declared.stand.Holding.TheVariants as holds;
 ghost use Rattle.rme_session_protocol.specs.declared.reply.JobOutcome.TheVariants as outcome;
 
@@ -21,20 +21,25 @@ use rme_table::{Admitted, Climb, Down, Driven, Free, Held, Ready, Service, Shut,
 /// What the session holds afterwards, and the outcome of the job.
 pub(crate) type WorkResult = (Holding, JobOutcome);
 
+/// Where the work on a job stops, if the job does not wait and the worker does not crash.
+#[derive(Clone, Copy)]
+pub(crate) enum WorkGoal {
+    /// The job is finished, and the worker is ready.
+    Finished,
+    /// The worker is inside its lock.
+    Inside,
+}
+
 /// The work of a session's worker.
 pub(crate) enum SessionWork<'a> {
     /// Answer the last number again.
     Repeat(Ready),
     /// Post the job, whose number is the next, and continue it with at most this number of sweeps.
-    Post(Admitted<'a>, u32),
+    Post(Admitted<'a>, u32, WorkGoal),
     /// Continue the waiting job, with at most this number of sweeps.
-    GoIn(Climb, u32),
+    GoIn(Climb, u32, WorkGoal),
     /// Continue the job that the worker is inside with.
     GoOn(Held),
-    /// Post the job, and continue until the worker is inside, with at most this number of sweeps.
-    PostInside(Admitted<'a>, u32),
-    /// Continue the waiting job until the worker is inside, with at most this number of sweeps.
-    GoInside(Climb, u32),
     /// Stay inside.
     Stay(Held),
 }
@@ -48,8 +53,10 @@ impl<'a> SessionWork<'a> {
         ensures { result ≡ work_until_inside self.entry }
     {
         match self {
-            SessionWork::Post(admitted, tries) => SessionWork::PostInside(admitted, tries),
-            SessionWork::GoIn(climb, tries) => SessionWork::GoInside(climb, tries),
+            SessionWork::Post(admitted, tries, _) => {
+                SessionWork::Post(admitted, tries, WorkGoal::Inside)
+            }
+            SessionWork::GoIn(climb, tries, _) => SessionWork::GoIn(climb, tries, WorkGoal::Inside),
             SessionWork::GoOn(held) => SessionWork::Stay(held),
             work => work,
         }
@@ -74,13 +81,9 @@ pub(crate) fn perform_work(
 {
     match work {
         SessionWork::Repeat(ready) => Ok(repeat_last(ready, service)),
-        SessionWork::Post(admitted, tries) => post_and_finish(admitted, tries, planned, service),
-        SessionWork::GoIn(climb, tries) => climb_and_finish(climb, tries, planned, service),
+        SessionWork::Post(admitted, tries, goal) => post(admitted, tries, goal, planned, service),
+        SessionWork::GoIn(climb, tries, goal) => climb_to(climb, tries, goal, planned, service),
         SessionWork::GoOn(held) => finish_held(held, planned, service),
-        SessionWork::PostInside(admitted, tries) => post_and_enter(
-            admitted, tries, planned, service,
-        ),
-        SessionWork::GoInside(climb, tries) => climb_and_enter(climb, tries, planned, service),
         SessionWork::Stay(held) => Ok(stay_inside(held)),
     }
 }
@@ -99,24 +102,48 @@ fn repeat_last(mut ready: Ready, service: &Service) -> WorkResult
 
 /// Posts the job and continues it.
 #[inline(always)]
-fn post_and_finish(
+fn post(
     admitted: Admitted<'_>,
     tries: u32,
+    goal: WorkGoal,
     planned: &mut CountdownChance,
     service: &Service,
 ) -> Result<WorkResult, Down>
     requires ours { admitted.ready.ident ≡ service.now }
     ensures ours { (count : ℕ) → HasSlot service.now count admitted.entry.ready
         → IsValidWorkResult service.now count result }
-    ensures did { WorkResultSatisfies result (ThreadJobEffect (stand_next_job admitted.entry.ready admitted.entry.job)
-        admitted.entry.ready.part.entries) }
+    ensures did { WorkResultSatisfies result (WorkOnNextJob goal
+        (stand_next_job admitted.entry.ready admitted.entry.job) admitted.entry.ready.part.entries) }
     ensures plan { WorkSpendsCountdown service.now.shape (submitted_part admitted.entry.job) planned.old.countdown
         (Some admitted.entry.ready) planned.new.countdown result }
     ensures tried { WorkWaitsAfterTries tries admitted.entry.ready.part.steps result }
 {
     match admitted.post(service, planned) {
-        Ok(climb) => climb_and_finish(climb, tries, planned, service),
+        Ok(climb) => climb_to(climb, tries, goal, planned, service),
         Err(down) => Err(down),
+    }
+}
+
+/// From waiting to the goal, with at most this number of sweeps and a pause after each blocked one. The gate lets the
+/// worker into its section if the job is to be finished.
+#[inline(always)]
+fn climb_to(
+    climb: Climb,
+    tries: u32,
+    goal: WorkGoal,
+    planned: &mut CountdownChance,
+    service: &Service,
+) -> Result<WorkResult, Down>
+    requires ours { climb.ident ≡ service.now }
+    ensures ours { (count : ℕ) → HasSlot service.now count climb → IsValidWorkResult service.now count result }
+    ensures did { WorkResultSatisfies result (WorkOnPendingJob goal climb) }
+    ensures plan { WorkSpendsCountdown service.now.shape unchanged_part planned.old.countdown (Some climb)
+        planned.new.countdown result }
+    ensures tried { WorkWaitsAfterTries tries climb.part.steps result }
+{
+    match goal {
+        WorkGoal::Finished => climb_and_finish(climb, tries, planned, service),
+        WorkGoal::Inside => climb_and_enter(climb, tries, planned, service),
     }
 }
 
@@ -140,29 +167,7 @@ fn climb_and_finish(
         blocked: 0,
         most: tries,
     };
-    finished_result(climb.drive_waiting(service, planned, &Free, &mut tries, || backoff.snooze()))
-}
-
-/// Posts the job and continues until the worker is inside.
-fn post_and_enter(
-    admitted: Admitted<'_>,
-    tries: u32,
-    planned: &mut CountdownChance,
-    service: &Service,
-) -> Result<WorkResult, Down>
-    requires ours { admitted.ready.ident ≡ service.now }
-    ensures ours { (count : ℕ) → HasSlot service.now count admitted.entry.ready
-        → IsValidWorkResult service.now count result }
-    ensures did { WorkResultSatisfies result (ThreadEnterEffect (stand_next_job admitted.entry.ready admitted.entry.job)
-        admitted.entry.ready.part.entries) }
-    ensures plan { WorkSpendsCountdown service.now.shape (submitted_part admitted.entry.job) planned.old.countdown
-        (Some admitted.entry.ready) planned.new.countdown result }
-    ensures tried { WorkWaitsAfterTries tries admitted.entry.ready.part.steps result }
-{
-    match admitted.post(service, planned) {
-        Ok(climb) => climb_and_enter(climb, tries, planned, service),
-        Err(down) => Err(down),
-    }
+    driven_result(climb.drive_waiting(service, planned, &Free, &mut tries, || backoff.snooze()))
 }
 
 /// From waiting to the lock's entry, with at most this number of sweeps and a pause after each blocked one.
@@ -184,7 +189,7 @@ fn climb_and_enter(
         blocked: 0,
         most: tries,
     };
-    entered_result(climb.drive_waiting(service, planned, &Shut, &mut tries, || backoff.snooze()))
+    driven_result(climb.drive_waiting(service, planned, &Shut, &mut tries, || backoff.snooze()))
 }
 
 /// A worker that is already inside makes no step.
@@ -209,31 +214,17 @@ fn finish_held(
         planned.new.countdown result }
     ensures tried { (most : ℕ) → WorkWaitsAfterTries most held.part.steps result }
 {
-    finished_result(held.drive_owner(service, planned, &Free))
-}
-
-/// What the session holds of a worker that was driven until it was inside, and the outcome of its job.
-fn entered_result(driven: Driven) -> Result<WorkResult, Down>
-    ensures { result ≡ entered_result driven }
-{
-    match driven {
-        Driven::Stopped(held) => Ok(stay_inside(held)),
-        Driven::Waits(climb) => Ok((Holding::Climb(climb), JobOutcome::Waiting)),
-        // The gate admits no worker to its section.
-        Driven::Done(ready, receipt) => Ok((Holding::Ready(ready), JobOutcome::Receipt(receipt))),
-        Driven::Fell(down) => Err(down),
-    }
+    driven_result(held.drive_owner(service, planned, &Free))
 }
 
 /// What the session holds of a driven worker, and the outcome of its job.
-fn finished_result(driven: Driven) -> Result<WorkResult, Down>
-    ensures { result ≡ finished_result driven }
+fn driven_result(driven: Driven) -> Result<WorkResult, Down>
+    ensures { result ≡ driven_result driven }
 {
     match driven {
         Driven::Done(ready, receipt) => Ok((Holding::Ready(ready), JobOutcome::Receipt(receipt))),
         Driven::Waits(climb) => Ok((Holding::Climb(climb), JobOutcome::Waiting)),
-        // The gate of a session admits every worker.
-        Driven::Stopped(held) => Ok((Holding::Held(held), JobOutcome::Waiting)),
+        Driven::Stopped(held) => Ok(stay_inside(held)),
         Driven::Fell(down) => Err(down),
     }
 }

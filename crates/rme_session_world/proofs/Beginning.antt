@@ -1,5 +1,5 @@
 -- Workers at the start of an order: their session view, and their progress with the job.
-use Rattle.std.proofs.Common.{◌≡◌, ◌≢◌, ℕ, ◌+◌, refl, sym, ◌∙◌, ap, subst}
+use Rattle.std.proofs.Common.{◌≡◌, ◌≢◌, ℕ, ◌+◌, arith, refl, sym, ◌∙◌, ap, subst}
 use Rattle.std.specs.Prelude.{Some, slice_get}
 use Rattle.std.proofs.lemmas.Option.{none-some, same_Some}
 use Rattle.rme_script.specs.declared.job.Job.{Job}
@@ -15,15 +15,16 @@ use Rattle.rme_machine.specs.Views.{slate_job}
 use Rattle.rme_session_protocol.specs.SessionViews.{pending_worker_job, next_worker_job}
 use Rattle.rme_session_protocol.specs.declared.view.PendingWorker.{PendingWorker}
 use Rattle.rme_session_protocol.specs.declared.view.ReadyWorker.{ReadyWorker}
+use Rattle.rme_session_protocol.specs.declared.view.Session.{Session}
 use Rattle.rme_session_protocol.specs.declared.view.Session.TheVariants.{Nobody, Ready, Climb, Held}
 use Rattle.rme_world.specs.WorldViews.{WorldView}
 use Rattle.rme_world.specs.WorldInvariants.{WorldInvariant}
 use Rattle.rme_world.specs.Events.{SubmitChange}
 use Rattle.rme_world.specs.Queries.{world_worker_words}
-use Rattle.rme_session_world.specs.WorkerSessions.{IsAtRest, last_receipt_under, worker_state_in, worker_session}
+use Rattle.rme_session_world.specs.WorkerSessions.{IsAtRest, IsNumberWithinJobs, last_receipt_under, worker_state_in, worker_session}
 use Rattle.rme_session_world.proofs.Posting.{posted_found}
-use Rattle.rme_session_world.proofs.Sighting.{climb_sight, held_sight, inside_of, phase_shown, ready_sight, shows_phase, waiting_of}
-use Rattle.rme_session_world.proofs.Stances.{IsNumbered, Suits, begun_known, numbered, post_begun, post_stance, suits}
+use Rattle.rme_session_world.proofs.Viewing.{climb_shown, held_shown, inside_of, phase_shown, ready_shown, shows_phase, waiting_of}
+use Rattle.rme_session_world.proofs.Stances.{IsNumbered, Suits, begun_known, fits, numbered, post_begun, post_stance, suits}
 use Rattle.rme_session_world.proofs.Ways.{OnWay, Way}
 use Rattle.rme_session_world.proofs.Working.{IsUpIn, is_past_entry, is_way_in}
 
@@ -32,13 +33,13 @@ module _ (seen : WorldView) (worker : ℕ) (kept : WorldInvariant seen) (rests :
   private = rests.0
 
   pub ready_is : phase_of private.stage ≡ phase.Ready → worker_session seen worker ≡ Ready record { worker = worker; number = (worker_state_in seen worker).asked; last = last_receipt_under seen.history worker (worker_state_in seen worker).asked }
-  ready_is e = ready_sight seen worker private kept rests.1 e
+  ready_is e = ready_shown seen worker private kept rests.1 e
 
   pub climb_is : phase_of private.stage ≡ phase.Enter → worker_session seen worker ≡ Climb record { worker = worker; number = (worker_state_in seen worker).asked; draft = Some (slate_job (world_worker_words seen worker)) }
-  climb_is e = climb_sight seen worker private kept rests.1 e
+  climb_is e = climb_shown seen worker private kept rests.1 e
 
   pub held_is : phase_of private.stage ≡ phase.Section → worker_session seen worker ≡ Held record { worker = worker; number = (worker_state_in seen worker).asked; draft = Some (slate_job (world_worker_words seen worker)) }
-  held_is e = held_sight seen worker private kept rests.1 e
+  held_is e = held_shown seen worker private kept rests.1 e
 
   shown : phase_shown (worker_session seen worker) ≡ Some (phase_of private.stage)
   shown = shows_phase seen worker private kept rests.1 rests.2
@@ -62,6 +63,16 @@ module _ (seen : WorldView) (worker : ℕ) (kept : WorldInvariant seen) (rests :
       let q = is ∙ ready_is (ready_phase ready is) in
       let same : ready ≡ record { worker = worker; number = (worker_state_in seen worker).asked; last = last_receipt_under seen.history worker (worker_state_in seen worker).asked } = cc in
       (ap (λ (r : ReadyWorker). r.worker) same, ap (λ (r : ReadyWorker). r.number) same)
+
+  -- A ready worker has begun at most all its jobs.
+  pub number_within : (session : Session) → session ≡ worker_session seen worker → IsNumberWithinJobs seen.shape session
+  number_within Nobody is = tt
+  number_within (Ready ready) is =
+      let number = (ready_parts ready is).1 in
+      let begun = begun_known seen worker private kept rests.1 rests.2 in
+      let few = (fits seen worker private kept rests.1).shaped.begun in omega (arith, number, begun, few)
+  number_within (Climb pending) is = tt
+  number_within (Held pending) is = tt
 
   pub climb_parts : (pending : PendingWorker) → Climb pending ≡ worker_session seen worker → pending ≡ record { worker = worker; number = (worker_state_in seen worker).asked; draft = Some (slate_job (world_worker_words seen worker)) }
   climb_parts pending is = let q = is ∙ climb_is (climb_phase pending is) in cc

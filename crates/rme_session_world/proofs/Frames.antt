@@ -30,7 +30,7 @@ use Rattle.rme_session_world.specs.WorkerSessions.{IsAtRest, worker_session}
 use Rattle.rme_session_world.specs.WorkerRuns.{IsRunEnd, RunStepSequence, is_goal_reached}
 use Rattle.rme_session_world.specs.JobRuns.{JobRunEnd, JobContinuation}
 use Rattle.rme_session_world.proofs.Posting.{crashed_found}
-use Rattle.rme_session_world.proofs.Sighting.{phase_shown, shows_phase}
+use Rattle.rme_session_world.proofs.Viewing.{phase_shown, shows_phase}
 use Rattle.rme_session_world.proofs.Working.{rest_phase, stopped_rests, there_rests}
 
 -- The shape is unchanged, and so are the private states of the other workers.

@@ -36,7 +36,7 @@ use Rattle.rme_session_world.specs.WorkerRuns.{RunStepSequence}
 use Rattle.rme_session_world.proofs.Beginning.{climb_parts, climb_phase}
 use Rattle.rme_session_world.proofs.Lasts.{none_pending}
 use Rattle.rme_session_world.proofs.Posting.{withdrawing_found}
-use Rattle.rme_session_world.proofs.Sighting.{ready_sight}
+use Rattle.rme_session_world.proofs.Viewing.{ready_shown}
 use Rattle.rme_session_world.proofs.Stances.{pending_known}
 use Rattle.rme_session_world.proofs.Ways.{machine_step, me_kept, me_put, new_within, phases, step_of}
 
@@ -179,7 +179,7 @@ module _ (old mid : WorldView) (worker : ℕ) (pending : PendingWorker) (kept : 
 pub ends_given : (number : ℕ) (seen : WorldView) (worker : ℕ) (pending : PendingWorker) → Giving number seen worker → pending.worker ≡ worker → pending.number ≡ number
     → (private : Private) → slice_get seen.privates worker ≡ Some (Some private) → phase_of private.stage ≡ phase.Ready → worker_session seen worker ≡ Ready (withdrawn_worker pending)
 ends_given number seen worker pending giving by under private found e =
-    ready_sight seen worker private giving.kept found e
+    ready_shown seen worker private giving.kept found e
     ∙ ap (λ (n : ℕ). Ready record { worker = worker; number = n; last = last_receipt_under seen.history worker n }) giving.asked
     ∙ ap (λ (l : Option Receipt). Ready record { worker = worker; number = number; last = l }) giving.none
     ∙ ap (λ (w : ℕ). Ready record { worker = w; number = number; last = None }) (sym by)

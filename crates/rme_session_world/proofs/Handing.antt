@@ -87,7 +87,7 @@ repeated old worker planned ready its aims.Inside rests is may same =
 
 -- A job was submitted.
 pub handed : (old new : WorldView) (worker : ℕ) (planned : PlannedCrash) (ready : ReadyWorker) (its : Submission) (aim : SubmitAim) (worked : WorkedJob) → IsAtRest old worker → Ready ready ≡ worker_session old worker
-    → posting_refusal old.shape ready.number its ≡ None → its.number ≢ ready.number → JobSubmission (goal_for aim) worker its.job planned old worked new
+    → posting_refusal old.shape ready.number its ≡ None → its.number ≢ ready.number → JobSubmission (goal_for aim) worker (record { job = its.job; planned = planned }) old worked new
     → AppliesOrder old (Some worker) planned (order_for aim its) (worked_order worker (Submit its.job) worked (reply_for aim worked.outcome)) new
 handed old new worker planned ready its aims.Receipt worked rests is may apart posts =
     let way = next_way old posts.mid worker posts.number its.job ready posts.before posts.went.begun rests is posts.submitted.accepted in

@@ -4,7 +4,7 @@ pub mod Lasts
 pub mod Stances
 pub mod Planning
 pub mod Ways
-pub mod Sighting
+pub mod Viewing
 pub mod Posting
 pub mod Working
 pub mod Events

@@ -109,35 +109,35 @@ now_within old new holders seat (Some worker) planned its carried kept all is ca
     omega (arith, slice_get_within new.privates worker (Some rests.1.0) rests.1.1, carries.long, kept.all_privates, all)
 
 -- The session has the worker that the order left it.
-desk_seat : (old new : WorldView) (holders after : List (Option ℕ)) (stand : SessionState) (seat : Option ℕ) (its : Order) (carried : AppliedOrder) → WorldInvariant old → ExecutorInvariant record { world = old; holders = holders }
+worker_after_order : (old new : WorldView) (holders after : List (Option ℕ)) (stand : SessionState) (seat : Option ℕ) (its : Order) (carried : AppliedOrder) → WorldInvariant old → ExecutorInvariant record { world = old; holders = holders }
     → after ≡ holders_after holders seat carried.seat stand.session → AppliesOrder old seat stand.planned its carried new → owned_worker_by record { world = new; holders = after } stand.session carried.seat ≡ carried.seat
-desk_seat old new holders after stand seat its carried kept tended settled carries =
+worker_after_order old new holders after stand seat its carried kept tended settled carries =
     let then_ = now_within old new holders seat carried.seat stand.planned its carried kept tended.all refl carries in
     let H : List (Option ℕ) → Type 0 = λ (hs : List (Option ℕ)). owned_worker_by record { world = new; holders = hs } stand.session carried.seat ≡ carried.seat in
     subst H (sym settled) (seat_after_is old new holders stand.session tended seat carried.seat then_)
 
 -- The session view makes a step of the order.
-pub desk_obeys : (old new : WorldView) (holders after : List (Option ℕ)) (stand : SessionState) (seat : Option ℕ) (its : Order) (carried : AppliedOrder) → WorldInvariant old → ExecutorInvariant record { world = old; holders = holders }
+pub executor_obeys : (old new : WorldView) (holders after : List (Option ℕ)) (stand : SessionState) (seat : Option ℕ) (its : Order) (carried : AppliedOrder) → WorldInvariant old → ExecutorInvariant record { world = old; holders = holders }
     → seat ≡ owned_worker record { world = old; holders = holders } stand → after ≡ holders_after holders seat carried.seat stand.session → AppliesOrder old seat stand.planned its carried new
     → SessionStep old.shape (executor_session_view record { world = old; holders = holders } stand) (with_tries 1 its)
     (executor_session_view record { world = new; holders = after } record { session = stand.session; worker = carried.seat; planned = carried.planned }) carried.reply
-desk_obeys old new holders after stand seat its carried kept tended is settled carries =
-    let same = desk_seat old new holders after stand seat its carried kept tended settled carries in
+executor_obeys old new holders after stand seat its carried kept tended is settled carries =
+    let same = worker_after_order old new holders after stand seat its carried kept tended settled carries in
     let P : Option ℕ → Type 0 = λ (own : Option ℕ). SessionStep old.shape (worker_view old own stand.planned) (with_tries 1 its) (worker_view new carried.seat carried.planned) carried.reply in
     let Q : Option ℕ → Type 0 = λ (own : Option ℕ). SessionStep old.shape (executor_session_view record { world = old; holders = holders } stand) (with_tries 1 its) (worker_view new own carried.planned) carried.reply in
     subst Q (sym same) (subst P is carries.obeys)
 
 -- A waiting job is that of a worker that the session has, and that another worker blocks.
-pub desk_waits : (old new : WorldView) (holders after : List (Option ℕ)) (stand : SessionState) (seat : Option ℕ) (its : Order) (carried : AppliedOrder) → WorldInvariant old → ExecutorInvariant record { world = old; holders = holders }
+pub executor_waits : (old new : WorldView) (holders after : List (Option ℕ)) (stand : SessionState) (seat : Option ℕ) (its : Order) (carried : AppliedOrder) → WorldInvariant old → ExecutorInvariant record { world = old; holders = holders }
     → after ≡ holders_after holders seat carried.seat stand.session → AppliesOrder old seat stand.planned its carried new → is_still_waiting carried.reply ≡ true
     → IsSessionStopped new (owned_worker record { world = new; holders = after } record { session = stand.session; worker = carried.seat; planned = carried.planned })
-desk_waits old new holders after stand seat its carried kept tended settled carries waits =
-    subst (IsSessionStopped new) (sym (desk_seat old new holders after stand seat its carried kept tended settled carries)) (carries.waits waits)
+executor_waits old new holders after stand seat its carried kept tended settled carries waits =
+    subst (IsSessionStopped new) (sym (worker_after_order old new holders after stand seat its carried kept tended settled carries)) (carries.waits waits)
 
-pub desk_tended : (old new : WorldView) (holders after : List (Option ℕ)) (stand : SessionState) (seat : Option ℕ) (its : Order) (carried : AppliedOrder) → WorldInvariant old → ExecutorInvariant record { world = old; holders = holders }
+pub executor_tended : (old new : WorldView) (holders after : List (Option ℕ)) (stand : SessionState) (seat : Option ℕ) (its : Order) (carried : AppliedOrder) → WorldInvariant old → ExecutorInvariant record { world = old; holders = holders }
     → seat ≡ owned_worker record { world = old; holders = holders } stand → after ≡ holders_after holders seat carried.seat stand.session → AppliesOrder old seat stand.planned its carried new
     → ExecutorInvariant record { world = new; holders = after }
-desk_tended old new holders after stand seat its carried kept tended is settled carries =
+executor_tended old new holders after stand seat its carried kept tended is settled carries =
     let then_ = now_within old new holders seat carried.seat stand.planned its carried kept tended.all refl carries in
     let H : List (Option ℕ) → Type 0 = λ (hs : List (Option ℕ)). ExecutorInvariant record { world = new; holders = hs } in
     subst H (sym settled)

@@ -26,7 +26,6 @@ use Rattle.rme_session_protocol.specs.declared.order.Patience.{Patience}
 use Rattle.rme_session_protocol.specs.declared.order.Submission.{Submission}
 use Rattle.rme_session_protocol.specs.declared.reply.SessionReply.TheVariants as reply
 use Rattle.rme_world.specs.Refusals.{is_climbing_stage, is_resting_stage, submit_refusal, withdraw_refusal}
-use Rattle.rme_world.specs.Refusals as worlds
 use Rattle.rme_world.specs.WorldViews.{WorldView}
 use Rattle.rme_world.specs.WorldInvariants.{WorldInvariant}
 use Rattle.rme_session_world.specs.declared.event_batch.BatchStart.TheVariants.{GoOn}

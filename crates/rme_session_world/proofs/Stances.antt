@@ -79,7 +79,7 @@ module _ (seen : WorldView) (worker : ℕ) (private : Private) (kept : WorldInva
   within : worker < seen.shape.workers
   within = is_worker seen worker (Some private) kept.all_privates found
 
-  fits : PrivateInvariant seen.shape (world_worker_words seen worker) (held_levels_in seen.shape (world_memory seen) worker) (lock_words seen.shape (world_memory seen)) worker private
+  pub fits : PrivateInvariant seen.shape (world_worker_words seen worker) (held_levels_in seen.shape (world_memory seen) worker) (lock_words seen.shape (world_memory seen)) worker private
   fits = kept.fact.fits worker private within (up_at seen worker (Some private) found)
 
   own : Option ℕ → Bool → JobStance

@@ -38,7 +38,7 @@ use Rattle.rme_session_world.specs.Replies.{worker_after_run}
 use Rattle.rme_session_world.specs.WorkerSessions.{IsAtRest, is_resting_phase, last_receipt_under, worker_state_in, worker_session}
 use Rattle.rme_session_world.specs.WorkerRuns.{IsRunEnd, PlanAfterRun, RunStepSequence, is_goal_reached}
 use Rattle.rme_session_world.specs.JobRuns.{JobRunEnd, JobContinuation}
-use Rattle.rme_session_world.proofs.Sighting.{climb_sight, held_sight, idle, inside_of, ready_sight, waiting_of}
+use Rattle.rme_session_world.proofs.Viewing.{climb_shown, held_shown, idle, inside_of, ready_shown, waiting_of}
 use Rattle.rme_session_world.proofs.Stances.{IsNumbered, Suits, numbered, suits}
 use Rattle.rme_session_world.proofs.Walking.{made, then_kept}
 use Rattle.rme_session_world.proofs.Ways.{OnWay, Way, phases, way_walks}
@@ -147,7 +147,7 @@ module _ (task : WorkerJob) (seen : WorldView) (worker : ℕ) (way : Way task se
       let on = on_at Idle (idle seen worker way.private way.kept way.found e) in (
         on.1.0,
         on.1.1,
-        ready_sight seen worker way.private way.kept way.found e
+        ready_shown seen worker way.private way.kept way.found e
             ∙ ap (λ (n : ℕ). Ready record { worker = worker; number = n; last = last_receipt_under seen.history worker n }) on.0
             ∙ ap (λ (w : ℕ). Ready record { worker = w; number = task.number; last = last_receipt_under seen.history w task.number }) (sym way.its)
             ∙ ap (λ (l : Option Receipt). Ready record { worker = task.worker; number = task.number; last = l }) on.1.2,
@@ -166,7 +166,7 @@ module _ (task : WorkerJob) (seen : WorldView) (worker : ℕ) (way : Way task se
       let waits = waiting_of (worker_state_in seen worker).stance at in
       let on = on_at (Waiting waits.0 waits.1) waits.2 in
       let its = subst (λ (s : JobStance). IsNumbered s (worker_state_in seen worker).asked (slate_job (world_worker_words seen worker))) waits.2 (numbered seen worker) in
-      climb_sight seen worker way.private way.kept way.found e ∙ ap (λ (p : PendingWorker). Climb p) (as_waiting (worker_state_in seen worker).asked (slate_job (world_worker_words seen worker)) on.0 (sym its.1 ∙ on.1))
+      climb_shown seen worker way.private way.kept way.found e ∙ ap (λ (p : PendingWorker). Climb p) (as_waiting (worker_state_in seen worker).asked (slate_job (world_worker_words seen worker)) on.0 (sym its.1 ∙ on.1))
 
   pub ends_held : phase_of way.private.stage ≡ phase.Section → worker_session seen worker ≡ Held (waiting_worker task)
   ends_held e =
@@ -174,7 +174,7 @@ module _ (task : WorkerJob) (seen : WorldView) (worker : ℕ) (way : Way task se
       let in_it = inside_of (worker_state_in seen worker).stance at in
       let on = on_at (Inside in_it.0 in_it.1) in_it.2 in
       let its = subst (λ (s : JobStance). IsNumbered s (worker_state_in seen worker).asked (slate_job (world_worker_words seen worker))) in_it.2 (numbered seen worker) in
-      held_sight seen worker way.private way.kept way.found e ∙ ap (λ (p : PendingWorker). Held p) (as_waiting (worker_state_in seen worker).asked (slate_job (world_worker_words seen worker)) on.0 (sym its.1 ∙ on.1))
+      held_shown seen worker way.private way.kept way.found e ∙ ap (λ (p : PendingWorker). Held p) (as_waiting (worker_state_in seen worker).asked (slate_job (world_worker_words seen worker)) on.0 (sym its.1 ∙ on.1))
 
 -- ---- the work of a worker, by the definitions of orders
 

@@ -39,10 +39,15 @@ pub record JobContinuation (goal : RunGoal) (worker : ℕ) (planned : PlannedCra
 abbrev pub MaySubmitJob : WorldView → ℕ → Job → Type 0
 MaySubmitJob seen worker job = submit_refusal seen worker job ≡ None
 
-pub record JobSubmission (goal : RunGoal) (worker : ℕ) (job : Job) (planned : PlannedCrash) (old : WorldView)
-    (worked : WorkedJob) (new : WorldView) : Type 0 where
+-- A job, and the crash that is planned for its worker.
+pub record PlannedJob : Type 0 where
+  pub job : Job
+  pub planned : PlannedCrash
+
+pub record JobSubmission (goal : RunGoal) (worker : ℕ) (its : PlannedJob) (old : WorldView) (worked : WorkedJob)
+    (new : WorldView) : Type 0 where
   pub before : WorldInvariant old
   pub number : ℕ
   pub mid : WorldView
-  pub submitted : SubmitContract old worker job (Ok number) mid
-  pub went : JobContinuation goal worker planned mid worked new
+  pub submitted : SubmitContract old worker its.job (Ok number) mid
+  pub went : JobContinuation goal worker its.planned mid worked new

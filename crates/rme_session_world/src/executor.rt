@@ -165,15 +165,18 @@ impl Executor {
         }
     }
 
-    /// Executes an order of a session, with one try if its job waits, and answers the reply with the event batch.
+    /// Executes an order of a session with this view, with one try if its job waits, and answers the reply with the
+    /// event batch.
     ///
     /// A refused order changes nothing, and neither does one for which memory was refused. `Taken` if another session
     /// has the worker to attach.
     pub fn execute(
         &mut self,
         stand: &mut SessionState,
+        view: &Session,
         order: &Order,
     ) -> Result<ExecutedOrder, NoMemory>
+        requires view { view.now ≡ (executor_session_view self.old stand.old).session }
         ensures obeys { IfOk result (λ done. SessionStep self.old.world.shape (executor_session_view self.old stand.old)
             (with_tries 1 order.now) (executor_session_view self.new stand.new) done.reply) }
         ensures happened { IfOk result (λ done. AppliesEvents self.old.world (batch_events_if done.batch)
@@ -192,7 +195,7 @@ impl Executor {
             return Ok(ExecutedOrder { reply, batch: None });
         }
         recall_invariant(&self.world, 0);
-        let carried = match apply_order(&mut self.world, seat, stand.planned, order) {
+        let carried = match apply_order(&mut self.world, seat, view, stand.planned, order) {
             Ok(carried) => carried,
             Err(fault) => return Err(fault),
         };

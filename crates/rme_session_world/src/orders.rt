@@ -1,7 +1,7 @@
 //! The orders of a session, applied as events of a world.
 
 ghost use Rattle.std.specs.Prelude.{◌≡◌, ◌<◌, IfOk, None, OnErr, Some};
-ghost use Rattle.rme_session_world.specs.AppliedOrders.{AppliesOrder, IsSessionAtRest, IsAttachable};
+ghost use Rattle.rme_session_world.specs.AppliedOrders.{AppliesOrder, IsSessionAtRest, IsAttachable, worker_view};
 ghost use Rattle.rme_session_world.specs.Downs.{IsWorkerDown};
 ghost use Rattle.rme_session_world.specs.WorkerSessions.{IsAtRest, worker_session};
 ghost use Rattle.rme_session_world.specs.Replies.{attach_reply, worked_order, goal_for, unchanged_order, ready_receipt, waiting_number, order_for, refused_order, reply_for, withdraw_reply};
@@ -71,24 +71,34 @@ impl SubmitAim {
     }
 }
 
-/// Applies an order of a session with this worker, if any, with one try if its job waits.
+/// A submission with its goal.
+#[derive(Clone, Copy)]
+struct SubmitRequest<'a> {
+    submission: &'a Submission,
+    aim: SubmitAim,
+}
+
+/// Applies an order of a session with this worker, if any, with one try if its job waits. The session's view is this
+/// one.
 ///
 /// A refused order changes nothing. A worker to attach is down, or does not exist. `NoMemory` if memory for a
 /// submission was refused; then nothing has changed.
 pub(crate) fn apply_order(
     world: &mut World,
     seat: Option<u32>,
+    session: &Session,
     planned: PlannedCrash,
     order: &Order,
 ) -> Result<AppliedOrder, NoMemory>
     requires seated { IsSessionAtRest world.old seat }
+    requires session { session.now ≡ (worker_view world.old seat planned).session }
     requires may { IsAttachable world.old seat order.now }
     ensures carries { IfOk result (λ carried. AppliesOrder world.old seat planned order.now carried world.new) }
     ensures unchanged { OnErr result (world.new ≡ world.old) }
 {
     match seat {
         None => Ok(apply_without_worker(world, planned, order)),
-        Some(worker) => apply_with_worker(world, worker, planned, order),
+        Some(worker) => apply_with_worker(world, worker, session, planned, order),
     }
 }
 
@@ -157,20 +167,41 @@ fn attach_reply(session: &Session) -> SessionReply
 fn apply_with_worker(
     world: &mut World,
     worker: u32,
+    session: &Session,
     planned: PlannedCrash,
     order: &Order,
 ) -> Result<AppliedOrder, NoMemory>
     requires rests { IsAtRest world.old worker }
-    ensures carries { IfOk result (λ carried. AppliesOrder world.old (Some worker) planned order.now carried world.new) }
+    requires session { session.now ≡ worker_session world.old worker }
+    ensures carries { IfOk result (λ carried. AppliesOrder world.old (Some worker) planned
+        order.now carried world.new) }
     ensures unchanged { OnErr result (world.new ≡ world.old) }
 {
-    let session = worker_session(world, worker);
-    if let Some(why) = order_refusal(world.shape(), &session, order) {
+    recall_invariant(world, worker);
+    if let Some(why) = order_refusal(world.shape(), session, order) {
         return Ok(refused_order(why, Some(worker), planned));
     }
     match order {
-        Order::Submit(its) => submit(world, worker, &session, planned, its, SubmitAim::Receipt),
-        Order::Enter(its) => submit(world, worker, &session, planned, its, SubmitAim::Inside),
+        Order::Submit(submission) => {
+            let aim = SubmitAim::Receipt;
+            submit(
+                world,
+                worker,
+                session,
+                planned,
+                &SubmitRequest { submission, aim },
+            )
+        }
+        Order::Enter(submission) => {
+            let aim = SubmitAim::Inside;
+            submit(
+                world,
+                worker,
+                session,
+                planned,
+                &SubmitRequest { submission, aim },
+            )
+        }
         Order::Resume(_) => {
             let worked = continue_job(world, worker, RunGoal::Ready, planned);
             Ok(worked_order(
@@ -189,11 +220,11 @@ fn apply_with_worker(
                 SessionReply::Committed(worked.outcome),
             ))
         }
-        Order::Withdraw => Ok(withdraw(world, worker, &session, planned)),
+        Order::Withdraw => Ok(withdraw(world, worker, session, planned)),
         Order::Last => Ok(unchanged_order(
             worker,
             planned,
-            SessionReply::Last(ready_receipt(&session)),
+            SessionReply::Last(ready_receipt(session)),
         )),
         Order::CrashAfter(steps) => Ok(unchanged_order(
             worker,
@@ -211,23 +242,26 @@ fn submit(
     worker: u32,
     session: &Session,
     planned: PlannedCrash,
-    its: &Submission,
-    aim: SubmitAim,
+    request: &SubmitRequest<'_>,
 ) -> Result<AppliedOrder, NoMemory>
     requires rests { IsAtRest world.old worker }
     requires session { session.now ≡ worker_session world.old worker }
-    requires may { OrderRefusal world.old.shape session.now (order_for aim its.now) None }
-    ensures carries { IfOk result (λ carried. AppliesOrder world.old (Some worker) planned (order_for aim its.now)
-        carried world.new) }
+    requires may { OrderRefusal world.old.shape session.now
+        (order_for request.now.aim request.now.submission.now) None }
+    ensures carries { IfOk result (λ carried. AppliesOrder world.old (Some worker) planned
+        (order_for request.now.aim request.now.submission.now) carried world.new) }
     ensures unchanged { OnErr result (world.new ≡ world.old) }
 {
     match session {
-        Session::Ready(ready) => submit_new(world, worker, ready, planned, its, aim),
-        Session::Held(pending) => Ok(continue_inside(world, worker, pending, planned, aim)),
+        Session::Ready(ready) => submit_new(world, worker, ready, planned, request),
+        Session::Held(pending) => {
+            Ok(continue_inside(world, worker, pending, planned, request.aim))
+        }
         Session::Nobody => unreachable!(),
         Session::Climb(_) => {
-            let worked = continue_job(world, worker, aim.goal(), planned);
-            Ok(worked_order(worker, BatchStart::GoOn, worked, aim.reply(worked.outcome)))
+            let worked = continue_job(world, worker, request.aim.goal(), planned);
+            let reply = request.aim.reply(worked.outcome);
+            Ok(worked_order(worker, BatchStart::GoOn, worked, reply))
         }
     }
 }
@@ -238,16 +272,19 @@ fn submit_new(
     worker: u32,
     ready: &ReadyWorker,
     planned: PlannedCrash,
-    its: &Submission,
-    aim: SubmitAim,
+    request: &SubmitRequest<'_>,
 ) -> Result<AppliedOrder, NoMemory>
     requires rests { IsAtRest world.old worker }
     requires session { at.Ready ready.now ≡ worker_session world.old worker }
-    requires may { posting_refusal world.old.shape ready.now.number its.now ≡ None }
-    ensures carries { IfOk result (λ carried. AppliesOrder world.old (Some worker) planned (order_for aim its.now)
-        carried world.new) }
+    requires may { posting_refusal world.old.shape ready.now.number request.now.submission.now ≡ None }
+    ensures carries { IfOk result (λ carried. AppliesOrder world.old (Some worker) planned
+        (order_for request.now.aim request.now.submission.now) carried world.new) }
     ensures unchanged { OnErr result (world.new ≡ world.old) }
 {
+    let SubmitRequest {
+        submission: its,
+        aim,
+    } = *request;
     if its.number == ready.number as u64 {
         return Ok(unchanged_order(worker, planned, aim.reply(last_outcome(ready.last))));
     }

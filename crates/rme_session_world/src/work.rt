@@ -101,7 +101,8 @@ pub(crate) fn submit_and_run(
     planned: PlannedCrash,
 ) -> Result<WorkedJob, NoMemory>
     requires may { MaySubmitJob world.old worker job }
-    ensures posts { IfOk result (λ worked. JobSubmission goal worker job planned world.old worked world.new) }
+    ensures posts { IfOk result (λ worked. JobSubmission goal worker (record { job = job; planned = planned }) world.old
+        worked world.new) }
     ensures unchanged { OnErr result (world.new ≡ world.old) }
 {
     recall_invariant(world, worker);

@@ -25,7 +25,7 @@ given_all shape downs all = all_pass (has_down downs) 0 shape.workers (λ w less
   | inr p ↦ absurd (omega (arith, less, p.0, all.count))
 ])
 
--- Look-ups in slices are look-ups in the lists that they stand for.
+-- Look-ups in slices are look-ups in their lists.
 module _ (s t : Shape) (made rounds : ℕ) (own plans : List WorkerPlan) (found fresh : Bool) (d downs : List SeatView) (e ends : List End) (same : s ≡ t) (so_many : made ≡ rounds) (planned : own ≡ plans) (is : found ≡ fresh)
     (all_d : d ≡ downs) (all_e : e ≡ ends) where
   pub whole_so : DownsFollowPlans s made own found d e → DownsFollowPlans t rounds plans fresh downs ends

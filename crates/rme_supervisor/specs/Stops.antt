@@ -111,7 +111,7 @@ StallAfterPost gate ready job most new (Ended down end) =
     → ((climb : SeatView) × JobWasPosted ready climb job × AllSweepsWereMade climb down (no_sweep_tries most) new)
     ⊎ GateTurnsAway gate ready.part.worker
 
--- The gate was told of the worker's last job, unless that was withdrawn.
+-- The gate was notified of the worker's last job, unless that was withdrawn.
 pub record GateWasTold (told : ℕ → ℕ → ℕ → Type 0) (shape : Shape) (ready : SeatView) : Type 0 where
   pub receipt : Option Receipt
   pub last : LastReceiptContract shape ready.part receipt

@@ -25,7 +25,7 @@ mod slots;
 mod worker_slot;
 
 pub use end::End;
-pub use plan::{Schedule, WorkerPlan};
+pub use plan::{RunContext, Schedule, WorkerPlan};
 pub use report::{Attended, Fault, Report, Unattended};
 pub use rme_table::{Free, Gate};
 pub use run::{attend, supervise};

@@ -192,7 +192,7 @@ fn drive_result(driven: Driven) -> Result<Ready, LifeStop>
     }
 }
 
-/// Exits after a job that was finished before the worker restarted, until it is ready. The gate is told of the job.
+/// Exits after a job that was finished before the worker restarted, until it is ready. The gate is notified of the job.
 fn exit_finished<G: Gate>(
     orders: &LifeContext<'_, G>,
     leave: Leave,

@@ -1,6 +1,7 @@
 //! The plan of a supervised worker.
 
 use rme_script::Job;
+use rme_table::Service;
 
 /// The jobs of a worker, and its falls.
 #[derive(Drop)]
@@ -23,6 +24,14 @@ pub struct WorkerPlan {
 pub struct Schedule<'a> {
     pub plans: &'a [WorkerPlan],
     pub rounds: u32,
+}
+
+/// What a run is made with, apart from its Downs: the service, the plans and the gate.
+#[derive(Drop)]
+pub struct RunContext<'a, G> {
+    pub service: &'a Service,
+    pub schedule: Schedule<'a>,
+    pub gate: &'a G,
 }
 
 impl WorkerPlan {

@@ -11,7 +11,7 @@ ghost use Rattle.rme_supervisor.specs.Supervised.{AreAllDowns, IsAttended, IsRun
 use crate::checking::{are_downs_as_planned, are_fresh, are_worker_plans};
 use crate::keeping::keep_all;
 use crate::life_results::{LifeResults, collect_results};
-use crate::plan::{Schedule, WorkerPlan};
+use crate::plan::{RunContext, Schedule, WorkerPlan};
 use crate::report::{Attended, Fault, Report, Unattended};
 use crate::run_tag::RunTag;
 use crate::slots::{LockedSlot, fill};
@@ -53,7 +53,12 @@ pub fn supervise<G: Gate + Sync, R: Threads + Wait + Sync>(
         plans: &plans,
         rounds: 1,
     };
-    match attend(rt, alloc, &service, downs, &schedule, gate) {
+    let context = RunContext {
+        service: &service,
+        schedule,
+        gate,
+    };
+    match attend(rt, alloc, &context, downs) {
         Ok(attended) => close(service, attended),
         Err(unattended) => {
             let Unattended { why, downs } = unattended;
@@ -74,47 +79,44 @@ pub fn supervise<G: Gate + Sync, R: Threads + Wait + Sync>(
 pub fn attend<G: Gate + Sync, R: Threads + Wait + Sync>(
     rt: &R,
     alloc: Global,
-    service: &Service,
+    context: &RunContext<'_, G>,
     downs: Vec<Down>,
-    schedule: &Schedule<'_>,
-    gate: &G,
 ) -> Result<Attended, Unattended>
-    requires ours { SeatsAreOfService service.now downs.items }
-    requires all { AreAllDowns service.now.shape downs.items }
-    ensures attended { let run = run_at_gate schedule.now.rounds schedule.now.plans.now downs.items
-        (gate_view (G.answered gate.now) G.lets_all service.now.shape) in
-        IfOk result (λ attended. IsAttended service.now run attended) }
-    ensures unattended { let run = run_at_gate schedule.now.rounds schedule.now.plans.now downs.items
-        (gate_view (G.answered gate.now) G.lets_all service.now.shape) in
-        IfErr result (λ unattended. IsUnattended service.now run unattended) }
+    requires ours { SeatsAreOfService context.now.service.now downs.items }
+    requires all { AreAllDowns context.now.service.now.shape downs.items }
+    ensures attended { let run = run_at_gate context.now.schedule.rounds context.now.schedule.plans.now downs.items
+        (gate_view (G.answered context.now.gate.now) G.lets_all context.now.service.now.shape) in
+        IfOk result (λ attended. IsAttended context.now.service.now run attended) }
+    ensures unattended { let run = run_at_gate context.now.schedule.rounds context.now.schedule.plans.now downs.items
+        (gate_view (G.answered context.now.gate.now) G.lets_all context.now.service.now.shape) in
+        IfErr result (λ unattended. IsUnattended context.now.service.now run unattended) }
 {
-    if !are_worker_plans(schedule.plans, downs.len()) {
+    if !are_worker_plans(context.schedule.plans, downs.len()) {
         return Err(Unattended {
             why: Refusal::BadShape,
             downs,
         });
     }
-    run::<Brand, G, R>(rt, alloc, service, downs, schedule, gate)
+    run::<Brand, G, R>(rt, alloc, context, downs)
 }
 
 /// A run with plans that can be supervised.
 fn run<K: RunTag + Send + Sync, G: Gate + Sync, R: Threads + Wait + Sync>(
     rt: &R,
     alloc: Global,
-    service: &Service,
+    context: &RunContext<'_, G>,
     downs: Vec<Down>,
-    schedule: &Schedule<'_>,
-    gate: &G,
 ) -> Result<Attended, Unattended>
-    requires named { (service.now ≡ K.Tag.ident) × (schedule.now.plans.now ≡ K.run.plans)
-        × (downs.items ≡ K.run.given) × (schedule.now.rounds ≡ K.run.rounds) }
+    requires named { (context.now.service.now ≡ K.Tag.ident) × (context.now.schedule.plans.now ≡ K.run.plans)
+        × (downs.items ≡ K.run.given) × (context.now.schedule.rounds ≡ K.run.rounds) }
     requires away { (worker : ℕ)
-        → GateTurnsAway (gate_view (G.answered gate.now) G.lets_all service.now.shape) worker → K.run.turned worker }
-    requires ours { SeatsAreOfService service.now downs.items }
-    requires all { AreAllDowns service.now.shape downs.items }
-    requires good { AreWorkerPlans schedule.now.plans.now (length downs.items) }
-    ensures attended { IfOk result (λ attended. IsAttended service.now K.run attended) }
-    ensures unattended { IfErr result (λ unattended. IsUnattended service.now K.run unattended) }
+        → GateTurnsAway (gate_view (G.answered context.now.gate.now) G.lets_all context.now.service.now.shape) worker
+        → K.run.turned worker }
+    requires ours { SeatsAreOfService context.now.service.now downs.items }
+    requires all { AreAllDowns context.now.service.now.shape downs.items }
+    requires good { AreWorkerPlans context.now.schedule.plans.now (length downs.items) }
+    ensures attended { IfOk result (λ attended. IsAttended context.now.service.now K.run attended) }
+    ensures unattended { IfErr result (λ unattended. IsUnattended context.now.service.now K.run unattended) }
 {
     let Ok((slots, settled)) = room_for::<K>(alloc, downs.len()) else {
         return Err(Unattended {
@@ -124,8 +126,13 @@ fn run<K: RunTag + Send + Sync, G: Gate + Sync, R: Threads + Wait + Sync>(
     };
     let fresh = are_fresh(&downs);
     let slots = fill(downs, slots);
-    keep_all(rt, &slots, service, schedule, gate);
-    finish_run::<K>(service, schedule, collect_results(slots, settled), fresh)
+    keep_all(rt, &slots, context);
+    finish_run::<K>(
+        context.service,
+        &context.schedule,
+        collect_results(slots, settled),
+        fresh,
+    )
 }
 
 /// Room for `count` slots, and for their final contents.

@@ -61,7 +61,7 @@ one_room shape locks later room have has grows k x at =
     ]
 
 -- A lock's turn determines the number of its finished sections.
-owned_finished : (s : Shape) (words : LockWords) (es : List Entry) (lock worker : ℕ) (own : WorkerWords) (pending : Bool) → OwnedLockInvariant s words es lock worker own pending
+owned_finished : (s : Shape) (words : LockWords) (es : List Entry) (lock worker : ℕ) (own : WorkerWords) (pending : Bool) → OwnedLockInvariant s words es lock record { worker = worker; words = own } pending
     → finished_by_turn (not pending) words.turn ≡ place_of es lock
 owned_finished s words es lock worker own true stands = elim stands [
   | inl settled ↦ (let turn = settled.turn in omega (arith, turn))

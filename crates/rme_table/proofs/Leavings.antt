@@ -67,6 +67,7 @@ module _ (seat self : SeatView) (words service : ServiceId) (b lock : ℕ) (way 
       ident = fell.ident;
       own = fell.own;
       entries = fell.entries;
+      section = fell.section;
     }
 
   whole : (now : SeatView) (old new : ChanceCounts) (left : Result (Unit {0}) Fell) → Left now old new left → HasLeft (seat_call words.shape unchanged_part seat now old new) b left

@@ -8,5 +8,6 @@ pub mod Numbers
 pub mod Lasts
 pub mod Drafts
 pub mod Owners
+pub mod Sectioning
 pub mod Leavings
 pub mod GoingOn

@@ -5,6 +5,7 @@ use Rattle.rme_words.specs.declared.address.Address.TheVariants.{Begun, Place}
 use Rattle.rme_tree.specs.Nodes.{held_levels_in, owner_in}
 use Rattle.rme_script.specs.declared.job.Job.{Job}
 use Rattle.rme_script.specs.JobRefusals.{job_refusal}
+use Rattle.rme_machine.specs.Histories.{history_of_lock}
 use Rattle.rme_program.specs.declared.kinds.Phase.{Phase}
 use Rattle.rme_program.specs.declared.kinds.Phase.TheVariants as phase
 use Rattle.rme_program.specs.declared.note.Entry.{Entry}
@@ -16,7 +17,7 @@ use Rattle.rme_program.specs.declared.stage.Departure.TheVariants.{Clear}
 use Rattle.rme_program.specs.Phases.{phase_of}
 use Rattle.rme_program.specs.Steps.{withdrawn_place}
 use Rattle.rme_service_steps.specs.declared.seat_record.Part.{Part}
-use Rattle.rme_service_steps.specs.Parts.{unchanged_part, submitted_part}
+use Rattle.rme_service_steps.specs.Parts.{unchanged_part, submitted_part, part_with_section}
 use Rattle.rme_service_steps.specs.Rule.{ServiceInvariant, table_memory}
 use Rattle.rme_service_steps.specs.Steps.{PartReadsWord}
 use Rattle.rme_service_steps.specs.Chances.{ChanceCounts}
@@ -142,6 +143,24 @@ TryEnterContract shape start old new (sweep.Fell down) =
 
 -- SECTION
 
+-- In every world of words and records with this part, so many sections of the lock are finished.
+abbrev pub PartHasSection : Shape → Part → ℕ → ℕ → Type 0
+PartHasSection shape part lock section =
+    (words : List ℕ) (parts : ℕ → Part) (history : List Entry) → ServiceInvariant shape words parts history
+    → parts part.worker ≡ part
+    → length (history_of_lock history lock) ≡ section
+
+-- The section of a Held, from its seat before and after the call: the place of the last entry's receipt, for a finished
+-- one; otherwise the number of finished sections of its lock, which its part then knows.
+abbrev pub SectionContract : Bool → SeatView → SeatView → ℕ → Type 0
+SectionContract true old new section =
+    (new ≡ old)
+    × ((before : List Entry) × (last : Entry) × (old.part.entries ≡ before ++ last ∷ [])
+    × (last.receipt.place ≡ section))
+SectionContract false old new section =
+    (new ≡ record { ident = old.ident; part = part_with_section old.part section })
+    × ((job : Job) × (old.part.draft ≡ Some job) × PartHasSection old.ident.shape new.part job.lock section)
+
 -- A finished Held answers its last entry's receipt.
 pub record FinishedPerformContract (call : SeatCall) (receipt : Receipt) : Type 0 where
   pub idles : CallIsIdle call
@@ -150,7 +169,8 @@ pub record FinishedPerformContract (call : SeatCall) (receipt : Receipt) : Type 
   pub entries : call.start.part.entries ≡ before ++ last ∷ []
   pub receipt_is : last.receipt ≡ receipt
 
--- An unfinished one performs the section of its job, on the job's lock, which it still owns.
+-- An unfinished one performs the section of its job, on the job's lock, which it still owns. If its part knows the
+-- section, the receipt has that place.
 abbrev pub PerformContract : Bool → SeatCall → Receipt → Type 0
 PerformContract true call receipt = FinishedPerformContract call receipt
 PerformContract false call receipt =

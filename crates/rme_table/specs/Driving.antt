@@ -74,9 +74,9 @@ pub record GateWasAsked (answered : ℕ → ℕ → Bool → Type 0) (shape : Sh
   pub owns : PartOwnsLock shape part lock
   pub asked : answered worker lock answer
 
--- What the gate was asked and told about a driven worker, whose job may already be finished. If the drive ends with the
--- job done, the gate admitted the worker to its section, unless that had been finished before, and was told of the job;
--- if the worker was stopped, the gate did not admit it.
+-- What the gate was asked and notified of for a driven worker, whose job may already be finished. If the drive ends
+-- with the job done, the gate admitted the worker to its section, unless that had been finished before, and was
+-- notified of the job; if the worker was stopped, the gate did not admit it.
 abbrev pub GateWatches : (ℕ → ℕ → Bool → Type 0) → (ℕ → ℕ → ℕ → Type 0) → Shape → Bool → ℕ → Driven → Type 0
 GateWatches answered told shape over worker (Done ready receipt) =
     (over ≡ false → GateWasAsked answered shape worker true) × told receipt.worker receipt.lock receipt.number

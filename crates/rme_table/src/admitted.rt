@@ -38,7 +38,8 @@ impl Admitted<'_> {
     /// Posts the job: it gets its number, and the worker waits for its lock. `Err` is a crash.
     pub fn post<C: Chance>(self, service: &Service, chance: &mut C) -> Result<Climb, Down>
         requires ours { self.ready.ident ≡ service.now }
-        ensures posted { MatchResult result (λ climb. ClimbHasJob self.entry.ready climb self.entry.job) (λ _. Unit {0}) }
+        ensures posted { MatchResult result (λ climb. ClimbHasJob self.entry.ready climb self.entry.job)
+            (λ _. Unit {0}) }
         ensures lead { ChangeIsServiceRun service.now.shape self.entry.ready.part (submitted_part self.entry.job)
             (submit_labels self.entry.ready.part self.entry.job) }
         ensures made { let call_to = λ (end : SeatView). seat_call service.now.shape (submitted_part self.entry.job)

@@ -92,7 +92,8 @@ impl Climb {
         ensures lead { ChangeIsServiceRun service.now.shape self.part withdrawing_part (withdraw_labels self.part) }
         ensures number { MatchResult result (λ ready. ready.part.private.begun ≡ self.part.private.begun)
             (λ _. Unit {0}) }
-        ensures holds_none { MatchResult result (λ ready. PartHoldsNoNode service.now.shape ready.part) (λ _. Unit {0}) }
+        ensures holds_none { MatchResult result (λ ready. PartHoldsNoNode service.now.shape ready.part)
+            (λ _. Unit {0}) }
     {
         let Climb {
             mut seat,

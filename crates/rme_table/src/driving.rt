@@ -14,8 +14,8 @@ pub trait Gate {
     // Whether it is known to admit every worker.
     ghost lets_all: { Bool } = { false };
 
-    // The facts that it records: it was asked about this worker and lock and answered this; it was told that the worker
-    // has left the lock after the job of this number. A gate that records nothing states nothing.
+    // The facts that it records: it was asked about this worker and lock and answered this; it was notified that the
+    // worker has left the lock after the job of this number. A gate that records nothing states nothing.
     ghost answered: { Self → ℕ → ℕ → Bool → Type 0 } = { λ _ _ _ _. ⊤ };
 
     ghost told: { Self → ℕ → ℕ → ℕ → Type 0 } = { λ _ _ _ _. ⊤ };
@@ -129,7 +129,7 @@ impl Held {
     ghost use Rattle.rme_table.specs.Driving.{DriveDoesNotWait, DriveOutcome, GateLetsPass, GateStopsAtEntry, GateWatches};
 
     /// Drives the worker until it is ready: the section, if the gate admits the worker, and the exit. A section that is
-    /// already finished is not begun, and the gate is only told that it is over.
+    /// already finished is not begun, and the gate is only notified that it is over.
     pub fn drive_owner<C: Chance, G: Gate>(
         self,
         service: &Service,

@@ -85,7 +85,8 @@ pub(crate) fn put_cells(cells: &mut Vec<u64>, bank: &Bank, lock: u32)
 /// Whether a lock has no owner, or its owner's section is finished.
 pub(crate) fn is_lock_settled_by_words(bank: &Bank, lock: u32) -> bool
     requires { lock < bank.now.shape.locks }
-    ensures { result ≡ is_lock_settled_by_words (memory_of bank.now) (owner_in bank.now.shape (memory_of bank.now) lock) }
+    ensures { result ≡ is_lock_settled_by_words (memory_of bank.now)
+        (owner_in bank.now.shape (memory_of bank.now) lock) }
 {
     match owner(bank, lock) {
         None => true,

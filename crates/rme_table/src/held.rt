@@ -8,7 +8,7 @@ use crate::service::Service;
 use rme_program::Receipt;
 use rme_script::Job;
 use rme_service_phases::perform;
-use rme_service_steps::Chance;
+use rme_service_steps::{Chance, layout};
 
 impl Held {
     ghost use Rattle.std.specs.Prelude.{◌≡◌, ◌≢◌, ◌+◌, ◌*◌, ◌<◌, MatchResult};
@@ -19,12 +19,13 @@ impl Held {
     ghost use Rattle.std.specs.Prelude.{Some, false, true, List, [], ◌∷◌, ◌++◌};
     ghost use Rattle.rme_program.specs.declared.note.Entry.{Entry};
     ghost use Rattle.rme_service_steps.specs.Parts.{unchanged_part};
-    ghost use Rattle.rme_table.specs.Calls.{PartOwnsLock, PerformContract, FinishedPerformContract, is_section_over, held_phase};
+    ghost use Rattle.rme_table.specs.Calls.{PartOwnsLock, PerformContract, FinishedPerformContract, SectionContract, is_section_over, held_phase};
 
     /// The worker's number.
     pub fn worker(&self) -> u32
         ensures worker { result ≡ self.now.part.worker }
-        ensures phase { phase_of self.now.part.private.stage ≡ held_phase (is_section_over self.now.part.private.stage) }
+        ensures phase { phase_of self.now.part.private.stage
+            ≡ held_phase (is_section_over self.now.part.private.stage) }
     {
         self.seat.worker()
     }
@@ -48,6 +49,33 @@ impl Held {
         ensures { result ≡ is_section_over self.now.part.private.stage }
     {
         !self.pending
+    }
+
+    /// The number of finished sections of its lock: the place that the receipt of its job has. It is the same for each
+    /// `Held` of one job, and larger for each later job of the lock. A reader's load finds it, or the last entry of a
+    /// finished job; no own step is made.
+    pub fn section(&mut self, service: &Service) -> u32
+        requires ours { self.old.ident ≡ service.now }
+        ensures section { SectionContract (is_section_over self.old.part.private.stage) self.old self.new result }
+        ensures ours { self.new.ident ≡ self.old.ident }
+    {
+        if !self.pending {
+            return self.last_place();
+        }
+        let at = layout::turn_at(service.words.shape(), self.lock);
+        self.seat.load_section(&service.words, at) as u32
+    }
+
+    /// The place of the last entry's receipt.
+    fn last_place(&self) -> u32
+        requires over { is_section_over self.now.part.private.stage ≡ true }
+        ensures { (before : List Entry) × (last : Entry) × (self.now.part.entries ≡ before ++ last ∷ [])
+            × (last.receipt.place ≡ result) }
+    {
+        let Some(entry) = self.seat.entries().last() else {
+            unreachable!();
+        };
+        entry.receipt.place
     }
 
     /// The job with which it is inside, read from its slate; the job is unfinished.

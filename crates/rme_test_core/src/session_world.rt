@@ -58,11 +58,12 @@ fn receipt(worker: u32, place: u32, reply: u64) -> JobOutcome {
 fn ask(
     rt: &impl Abort,
     executor: &mut Executor,
-    stand: &mut SessionState,
+    session: &mut SessionState,
     order: Order,
     wanted: SessionReply,
 ) -> Result<(), NoMemory> {
-    let done = executor.execute(stand, &order)?;
+    let view = executor.session(session);
+    let done = executor.execute(session, &view, &order)?;
     assert!(rt; done.reply == wanted);
     Ok(())
 }

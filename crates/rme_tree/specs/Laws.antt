@@ -74,7 +74,8 @@ abbrev pub OwnerStepLaw : Type 0
 OwnerStepLaw =
     (old new : ℕ → ℕ) (leaves height workers worker levels : ℕ) → leaves ≡ 2 ^ height → workers ≤ leaves
     → worker < workers
-    → TreeStep (tree_size leaves height workers) old new worker levels → OwnerStep (tree_size leaves height workers) old new worker levels
+    → TreeStep (tree_size leaves height workers) old new worker levels
+    → OwnerStep (tree_size leaves height workers) old new worker levels
 
 -- A worker holds the same levels if no word of its path changed.
 abbrev pub SameLevelsLaw : Type 0

@@ -3,6 +3,7 @@ pub use Rattle.rme_line_io.specs.Pieces
 pub use Rattle.rme_line_io.specs.Cuts
 pub use Rattle.rme_line_io.specs.BufferedWrites
 pub use Rattle.rme_line_io.specs.Readers
+pub use Rattle.rme_line_io.specs.StreamCalls
 pub use Rattle.rme_line_io.specs.LineRuns
 pub use Rattle.rme_line_io.specs.Names
 pub mod Values

@@ -51,7 +51,7 @@ job_same old new worker value wrote =
 
 -- The history after a step is the same, whether the slate is read before the step or after it.
 history_same : (shape : Shape) (old new : Address → ℕ) (history : List Entry) (worker begun value : ℕ) (stage : Stage) (note : Note)
-    → ActionEffect old new (stage_action shape worker begun stage) value → NoteMeaning shape worker begun stage value (outcome_at shape worker begun stage value).0 note
+    → ActionEffect old new (stage_action shape worker begun stage) value → NoteMeaning shape record { worker = worker; begun = begun; stage = stage } value (outcome_at shape worker begun stage value).0 note
     → history_after history new worker note ≡ history_after history old worker note
 history_same shape old new history worker begun value stage Quiet did tells = refl
 history_same shape old new history worker begun value stage (Asked k) did tells = refl
@@ -191,7 +191,7 @@ module _ (old : WorldView) (worker : ℕ) (private : Private) (kept : WorldInvar
       before_it : history_after old.history (world_memory new) worker note ≡ history_after old.history (world_memory old) worker note
       before_it = history_same old.shape (world_memory old) (world_memory new) old.history worker private.begun value private.stage note
           (let P : ℕ → Type 0 = λ (w : ℕ). ActionEffect (world_memory old) (world_memory new) (stage_action old.shape w private.begun private.stage) value in subst P worker_is did_here)
-          (let P : Note → Type 0 = λ (n : Note). NoteMeaning old.shape worker private.begun private.stage value (outcome_at old.shape worker private.begun private.stage value).0 n in
+          (let P : Note → Type 0 = λ (n : Note). NoteMeaning old.shape record { worker = worker; begun = private.begun; stage = private.stage } value (outcome_at old.shape worker private.begun private.stage value).0 n in
           let Q : ℕ → Type 0 = λ (w : ℕ). note_after old.shape private value ≡ (outcome_at old.shape w private.begun private.stage value).1 in
           let at : note_after old.shape private value ≡ (outcome_at old.shape worker private.begun private.stage value).1 = subst Q worker_is refl in
           subst P (sym (says ∙ at)) (note_law old.shape worker private.begun private.stage value))

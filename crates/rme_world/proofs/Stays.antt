@@ -217,8 +217,8 @@ module _ (shape : Shape) (private : Private) (value : ℕ) (old new : Counts) (i
 
   blocked : note_after shape private value ≡ Blocked → new ≡ old → GoOn shape (private_after shape private value).stage new
   blocked stuck e =
-      let T : Note → Type 0 = λ (n : Note). NoteMeaning shape private.worker private.begun private.stage value (private_after shape private value).stage n in
-      let tells : NoteMeaning shape private.worker private.begun private.stage value (private_after shape private value).stage Blocked = subst T stuck (note_law shape private.worker private.begun private.stage value) in
+      let T : Note → Type 0 = λ (n : Note). NoteMeaning shape private value (private_after shape private value).stage n in
+      let tells : NoteMeaning shape private value (private_after shape private value).stage Blocked = subst T stuck (note_law shape private.worker private.begun private.stage value) in
       let same : (private_after shape private value).stage ≡ private.stage = tells.3 in
       let P : Counts → Type 0 = λ (c : Counts). GoOn shape (private_after shape private value).stage c in
       let Q : Stage → Type 0 = λ (s : Stage). GoOn shape s old in

@@ -92,9 +92,9 @@ module _ (old new : WorldView) (worker : ℕ) (note : Note) (kept : WorldInvaria
   pub its : (steps.private.worker ≡ worker) × IsPrivate old.shape steps.private
   its = fitting old.shape (world_memory old) (world_privates old) old.history worker steps.private kept.fact within up
 
-  pub tells : (n : Note) → note ≡ n → NoteMeaning old.shape steps.private.worker steps.private.begun steps.private.stage steps.value (private_after old.shape steps.private steps.value).stage n
+  pub tells : (n : Note) → note ≡ n → NoteMeaning old.shape steps.private steps.value (private_after old.shape steps.private steps.value).stage n
   tells n e =
-      subst (λ (m : Note). NoteMeaning old.shape steps.private.worker steps.private.begun steps.private.stage steps.value (private_after old.shape steps.private steps.value).stage m) (sym steps.says ∙ e)
+      subst (λ (m : Note). NoteMeaning old.shape steps.private steps.value (private_after old.shape steps.private steps.value).stage m) (sym steps.says ∙ e)
       (note_law old.shape steps.private.worker steps.private.begun steps.private.stage steps.value)
 
   pub stopped : note ≡ Blocked → WorkerIsBlocked old worker

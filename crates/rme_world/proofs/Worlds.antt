@@ -21,7 +21,7 @@ use Rattle.rme_machine.specs.Machine.{MachineStep}
 use Rattle.rme_machine.specs.AbstractState.{act_of_note}
 use Rattle.rme_machine.specs.Invariant.{Invariant}
 use Rattle.rme_machine.specs.Changes.{PrivateChange, history_after}
-use Rattle.rme_machine.specs.Laws.{RefinementStep}
+use Rattle.rme_machine.specs.Laws.{RefinementStep, concrete_state}
 use Rattle.rme_machine.proofs.Further.{fitting}
 use Rattle.rme_machine.proofs.Own_step.{own_step}
 use Rattle.rme_machine.proofs.Rowed.{rowed}
@@ -69,8 +69,7 @@ became seen worker private counts words history room long within = record {
 }
 
 pub goes_as : (seen : WorldView) (worker : ℕ) (private : Option Private) (counts : Counts) (words : List ℕ) (history : List Entry) (room : ℕ) (act : Act) → IsSound seen
-    → RefinementStep seen.shape (world_memory seen) (world_memory (changed seen worker private counts words history room)) (world_privates seen)
-    (world_privates (changed seen worker private counts words history room)) seen.history history worker act
+    → RefinementStep seen.shape (concrete_state (world_memory seen) (world_privates seen) seen.history) (concrete_state (world_memory (changed seen worker private counts words history room)) (world_privates (changed seen worker private counts words history room)) history) worker act
     → GoesAs seen (changed seen worker private counts words history room) worker act
 goes_as seen worker private counts words history room act sound goes = record {
   shape = refl;
@@ -149,10 +148,10 @@ module _ (old new : WorldView) (worker : ℕ) (note : Note) (steps : StepChange 
   did : ActionEffect (world_memory old) (world_memory after) (private_action old.shape steps.private) steps.value
   did = subst (λ (s : WorldView). ActionEffect (world_memory old) (world_memory s) (private_action old.shape steps.private) steps.value) steps.goes steps.did
 
-  went : IsSound old → RefinementStep old.shape (world_memory old) (world_memory after) (world_privates old) (world_privates after) old.history after.history worker (act_of_note note)
+  went : IsSound old → RefinementStep old.shape (concrete_state (world_memory old) (world_privates old) old.history) (concrete_state (world_memory after) (world_privates after) after.history) worker (act_of_note note)
   went sound =
       let within : worker < old.shape.workers = is_worker old worker (Some steps.private) sound.all_privates steps.found in
-      let P : Note → Type 0 = λ (n : Note). RefinementStep old.shape (world_memory old) (world_memory after) (world_privates old) (world_privates after) old.history (history_after old.history (world_memory old) worker n) worker (act_of_note n) in
+      let P : Note → Type 0 = λ (n : Note). RefinementStep old.shape (concrete_state (world_memory old) (world_privates old) old.history) (concrete_state (world_memory after) (world_privates after) (history_after old.history (world_memory old) worker n)) worker (act_of_note n) in
       subst P (sym steps.says)
       (own_step old.shape (world_memory old) (world_memory after) (world_privates old) (world_privates after) old.history worker steps.private steps.value sound.fact within
       (up_at old worker (Some steps.private) steps.found) busy_at did

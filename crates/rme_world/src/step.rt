@@ -54,7 +54,8 @@ impl World {
     pub fn step_with_report(&mut self, worker: u32) -> Result<StepReport, Refusal>
         ensures stepped { StepContract self.old worker (note_of_report result) self.new }
         ensures phase { IfOk result (λ stride. world_phase self.old worker ≡ Some stride.phase) }
-        ensures steps { IfOk result (λ stride. stride.steps ≡ phase_count (worker_counts self.new worker) stride.phase) }
+        ensures steps { IfOk result (λ stride. stride.steps
+            ≡ phase_count (worker_counts self.new worker) stride.phase) }
     {
         if let Err(refusal) = self.may_step(worker) {
             return Err(refusal);

@@ -36,7 +36,7 @@ def try_one_thread():
         copied(folder)
         ran = subprocess.run(
             ["rt", "try", "--test"],
-            cwd=os.path.join(folder, "crates", "rme_test_caller"),
+            cwd=os.path.join(folder, "crates", "rme_test_service"),
             stdin=subprocess.DEVNULL,
             stdout=subprocess.PIPE,
             stderr=subprocess.STDOUT,

@@ -8,7 +8,7 @@ ghost use Rattle.rme_script.specs.Slates.{script_from_words};
 ghost use Rattle.rme_program.specs.declared.stage.Stage.{Stage};
 ghost use Rattle.rme_program.specs.declared.stage.Log.{Log};
 ghost use Rattle.rme_program.specs.declared.stage.Visit.{Visit};
-ghost use Rattle.rme_program.specs.Steps.{log_action, after_log, log_or_copy_stage, turn_stage, slate_stage, script_stage, shadow_stage_from, even_visit, run_stage};
+ghost use Rattle.rme_program.specs.Steps.{log_action, after_log, log_or_copy_stage, turn_stage, slate_stage, script_stage, shadow_stage_from, even_visit, run_stage, logging_section};
 ghost use Rattle.rme_program.specs.Masks.{first_cell};
 ghost use Rattle.rme_script.specs.Eval.{eval_of};
 ghost use Rattle.rme_program.specs.Conditions.{IsLogStage, IsStage, IsValidLoad};
@@ -215,7 +215,7 @@ fn run_script(shape: Shape, log: &Log) -> Log
     requires stage { IsLogStage shape log.now }
     ensures after { (lock : ℕ) (turn : ℕ) (script : Program) (named : ℕ) (row : List ℕ) (cell : ℕ)
         → log.now ≡ Log.LoadCells lock turn script named row cell
-        → Stage.Logging result ≡ run_stage shape lock turn script named row }
+        → Stage.Logging result ≡ run_stage shape (logging_section lock turn script named) row }
     ensures stage { IsLogStage shape result }
 {
     match log {

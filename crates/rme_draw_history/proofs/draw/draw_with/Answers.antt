@@ -1,5 +1,5 @@
 use Rattle.rme_line_io.specs.Readers.{bytes_left}
-use Rattle.rme_draw_history.proofs.Sights.{drawn_by}
+use Rattle.rme_draw_history.proofs.Observing.{drawn_by}
 use Rattle.rme_draw_history.proofs.draw.draw_with.Goals as goal
 
 pub returns-in-Ok-clause-drawn : goal.returns-in-Ok-clause-drawn

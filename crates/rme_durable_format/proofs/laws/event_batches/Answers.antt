@@ -1,5 +1,5 @@
-use Rattle.rme_durable_format.proofs.Asking.{deed_asks}
+use Rattle.rme_durable_format.proofs.Asking.{batch_asks}
 use Rattle.rme_durable_format.proofs.laws.event_batches.Goals as goal
 
 pub returns : goal.returns
-returns c batch = deed_asks batch
+returns c batch = batch_asks batch

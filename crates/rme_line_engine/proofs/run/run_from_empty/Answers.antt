@@ -1,20 +1,24 @@
-use Rattle.std.proofs.Common.{subst}
-use Rattle.rme_line_io.specs.Readers.{ReadsMadeAt, bytes_left}
+use Rattle.std.proofs.Common.{◌≡◌, Err, subst}
+use Rattle.rme_line_io.specs.declared.fault.EngineFault.TheVariants.{NoMemory, WriteFailed}
 use Rattle.rme_line_engine.specs.Outputs.{LineOutputBytes}
 use Rattle.rme_line_engine.specs.EngineStates.{EngineState, nothing_open}
-use Rattle.rme_line_io.specs.LineRuns.{AnswersArePrompt}
-use Rattle.rme_line_io.proofs.MomentLemmas.{read_none}
+use Rattle.rme_line_io.specs.LineRuns.{AnswersArePrompt, stream_moment}
+use Rattle.rme_line_io.specs.StreamCalls.{CallReads}
+use Rattle.rme_line_io.proofs.CallLemmas.{no_reads, no_writes}
 use Rattle.rme_line_io.proofs.RunLemmas.{failed_first}
 use Rattle.rme_line_engine.proofs.run.run_from_empty.Goals as goal
 
 pub returns-in_default-clause-err : goal.returns-in_default-clause-err
-returns-in_default-clause-err g c = failed_first (LineOutputBytes c.args.output) nothing_open (bytes_left g.R.Source.remaining c.args.lines.now) (g.W.Sink.contents c.args.writer.now)
+returns-in_default-clause-err g c = failed_first (LineOutputBytes c.args.output) nothing_open (stream_moment g.R.Source.remaining c.args.lines.now (g.W.Sink.contents c.args.writer.now))
 
-pub returns-in_default-clause-prompt : goal.returns-in_default-clause-prompt
-returns-in_default-clause-prompt g c = read_none g.R.Source.moments c.args.lines.now (AnswersArePrompt (LineOutputBytes c.args.output) nothing_open (bytes_left g.R.Source.remaining c.args.lines.now) (g.W.Sink.contents c.args.writer.now))
+pub returns-in_default-clause-reads : goal.returns-in_default-clause-reads
+returns-in_default-clause-reads g c = no_reads g.R.Source.gave g.R.Source.moments c.args.lines.now _
 
-pub returns-clause-prompt : goal.returns-clause-prompt
-returns-clause-prompt g c =
-    let left = bytes_left g.R.Source.remaining in
-    let P : EngineState → Type 0 = λ first. ReadsMadeAt g.R.Source.moments c.args.lines.now c.run_engine.new.lines (AnswersArePrompt (LineOutputBytes c.args.output) first (left c.args.lines.now) (g.W.Sink.contents c.args.writer.now)) in
-    subst P c.in-Ok.ensures c.run_engine.ensures.prompt
+pub returns-in_default-clause-writes : goal.returns-in_default-clause-writes
+returns-in_default-clause-writes g c = no_writes (g.W.Sink.took c.args.writer.now) (Err NoMemory) (λ e. let s : NoMemory ≡ WriteFailed = e in cc)
+
+pub returns-clause-reads : goal.returns-clause-reads
+returns-clause-reads g c =
+    let start = stream_moment g.R.Source.remaining c.args.lines.now (g.W.Sink.contents c.args.writer.now) in
+    let P : EngineState → Type 0 = λ first. CallReads g.R.Source.gave g.R.Source.moments c.args.lines.now c.run_engine.new.lines (AnswersArePrompt (LineOutputBytes c.args.output) first start) c.run_engine.result in
+    subst P c.in-Ok.ensures c.run_engine.ensures.reads

@@ -4,7 +4,7 @@ use Rattle.rme_program.specs.declared.private.Private.{Private}
 use Rattle.rme_program.specs.declared.stage.Stage.TheVariants.{Logging}
 use Rattle.rme_program.specs.declared.stage.Log.TheVariants.{LoadTurn}
 use Rattle.rme_program.specs.Masks.{first_cell}
-use Rattle.rme_program.specs.Steps.{cell_stage_from}
+use Rattle.rme_program.specs.Steps.{cell_stage_from, logging_section}
 use Rattle.rme_process_abi.specs.Runs.{ValuesLeadTo, private_at_stage}
 use Rattle.rme_process_abi.specs.ExpectedSlates.{ValuesMatchSlate}
 use Rattle.rme_process_abi.proofs.Led.{takes_none, takes_run}
@@ -15,11 +15,11 @@ pub returns-in-Some-clause-loads : goal.returns-in-Some-clause-loads
 returns-in-Some-clause-loads c = λ worker begun.
     let shape = c.args.shape.now in let guess = c.args.guess.now in let values : List ℕ = c.args.values.now in let cells = c.in-Some.cells in let lock = c.args.lock in let turn : ℕ = slice_index values 0 in
     let start : Private = private_at_stage worker begun (Logging (LoadTurn lock)) in let next : Private = private_at_stage worker begun c.run_expected_script.new.stage in
-    let mid : Private = private_at_stage worker begun (cell_stage_from shape lock turn guess.script guess.named (replicate shape.cells 0) (first_cell guess.named 0 shape.cells)) in
+    let mid : Private = private_at_stage worker begun (cell_stage_from shape (logging_section lock turn guess.script guess.named) (replicate shape.cells 0) (first_cell guess.named 0 shape.cells)) in
     let finds : ValuesMatchSlate guess values = c.matches_slate.ensures c.if-matches_slate.true in
     let J : ℕ → Type 0 = λ k. ValuesLeadTo shape start (take (2 + 3 * k + cells) values) [] next in
     let K : ℕ → Type 0 = λ k. ValuesLeadTo shape mid (take cells (drop (2 + 3 * k) values)) [] next in
-    let at : ℕ → ℕ → Private = λ l t. private_at_stage worker begun (cell_stage_from shape l t guess.script guess.named (replicate shape.cells 0) (first_cell guess.named 0 shape.cells)) in
+    let at : ℕ → ℕ → Private = λ l t. private_at_stage worker begun (cell_stage_from shape (logging_section l t guess.script guess.named) (replicate shape.cells 0) (first_cell guess.named 0 shape.cells)) in
     let L : ℕ → Type 0 = λ l. ValuesLeadTo shape (at l c.visit-visit.result.turn) (take cells (take (length values - (2 + 3 * c.n.result)) (drop (2 + 3 * c.n.result) values))) [] next in
     let T : ℕ → Type 0 = λ t. ValuesLeadTo shape (at lock t) (take cells (take (length values - (2 + 3 * c.n.result)) (drop (2 + 3 * c.n.result) values))) [] next in
     let read : K c.n.result = led_rest shape mid values (2 + 3 * c.n.result) cells [] next (subst T c.visit-visit.ensures.turn (subst L c.visit-visit.ensures.lock (c.in-Some.ensures.takes worker begun))) in

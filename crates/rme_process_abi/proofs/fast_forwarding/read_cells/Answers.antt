@@ -3,7 +3,7 @@ use Rattle.std.specs.Prelude.{slice_index, slice_set}
 use Rattle.std.proofs.lemmas.List.{length-set}
 use Rattle.rme_program.proofs.Firsts.{first_some}
 use Rattle.rme_program.specs.Masks.{first_cell}
-use Rattle.rme_program.specs.Steps.{cell_stage_from}
+use Rattle.rme_program.specs.Steps.{cell_stage_from, logging_section}
 use Rattle.rme_process_abi.specs.Runs.{private_at_stage}
 use Rattle.rme_process_abi.proofs.Led.{ReadsCells, takes_none, takes_one}
 use Rattle.rme_process_abi.proofs.Loading.{cell_goes}
@@ -11,7 +11,7 @@ use Rattle.rme_process_abi.proofs.fast_forwarding.read_cells.Goals as goal
 
 pub loop-cell-init : goal.loop-cell-init
 loop-cell-init c = record {
-  takes = λ worker begun lock turn script. takes_none c.args.shape.now (private_at_stage worker begun (cell_stage_from c.args.shape.now lock turn script c.args.named c.args.row.now (first_cell c.args.named 0 c.args.shape.now.cells)));
+  takes = λ worker begun lock turn script. takes_none c.args.shape.now (private_at_stage worker begun (cell_stage_from c.args.shape.now (logging_section lock turn script c.args.named) c.args.row.now (first_cell c.args.named 0 c.args.shape.now.cells)));
   within = omega arith;
   from_within = omega arith;
   whole = c.requires.row;
@@ -30,9 +30,9 @@ loop-cell-preserved c =
     let P : List ℕ → Type 0 = λ r. ReadsCells shape named (cell + 1) c.args.row.now values (count + 1) r in
     subst P (sym c.set.ensures) record {
       takes = λ worker begun lock turn script.
-          takes_one shape (private_at_stage worker begun (cell_stage_from shape lock turn script named c.args.row.now (first_cell named 0 shape.cells))) values count
-          (private_at_stage worker begun (cell_stage_from shape lock turn script named c.loop-cell.row (first_cell named from shape.cells)))
-          (private_at_stage worker begun (cell_stage_from shape lock turn script named (slice_set c.loop-cell.row cell value) (first_cell named (cell + 1) shape.cells)))
+          takes_one shape (private_at_stage worker begun (cell_stage_from shape (logging_section lock turn script named) c.args.row.now (first_cell named 0 shape.cells))) values count
+          (private_at_stage worker begun (cell_stage_from shape (logging_section lock turn script named) c.loop-cell.row (first_cell named from shape.cells)))
+          (private_at_stage worker begun (cell_stage_from shape (logging_section lock turn script named) (slice_set c.loop-cell.row cell value) (first_cell named (cell + 1) shape.cells)))
           (c.loop-cell.invariant.takes worker begun lock turn script) c.if-count-values.false
           (cell_goes shape worker begun lock turn script named c.loop-cell.row from cell value (sym c.in-Some.ensures.first));
       within = omega (arith, c.if-count-values.false);

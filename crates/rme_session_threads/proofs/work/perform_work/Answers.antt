@@ -18,19 +18,11 @@ returns-in-Repeat-clause-plan c =
 
 pub returns-in-Post-clause-tried : goal.returns-in-Post-clause-tried
 returns-in-Post-clause-tried c =
-    let P : ℕ → Type 0 = λ n. WorkWaitsAfterTries n c.in-Post.admitted.ready.part.steps c.post_and_finish.result in rw c.in-Post.is (λ most has. subst P has c.post_and_finish.ensures.tried)
+    let P : ℕ → Type 0 = λ n. WorkWaitsAfterTries n c.in-Post.admitted.ready.part.steps c.post.result in rw c.in-Post.is (λ most has. subst P has c.post.ensures.tried)
 
 pub returns-in-GoIn-clause-tried : goal.returns-in-GoIn-clause-tried
 returns-in-GoIn-clause-tried c =
-    let P : ℕ → Type 0 = λ n. WorkWaitsAfterTries n c.in-GoIn.climb.part.steps c.climb_and_finish.result in rw c.in-GoIn.is (λ most has. subst P has c.climb_and_finish.ensures.tried)
-
-pub returns-in-PostInside-clause-tried : goal.returns-in-PostInside-clause-tried
-returns-in-PostInside-clause-tried c =
-    let P : ℕ → Type 0 = λ n. WorkWaitsAfterTries n c.in-PostInside.admitted.ready.part.steps c.post_and_enter.result in rw c.in-PostInside.is (λ most has. subst P has c.post_and_enter.ensures.tried)
-
-pub returns-in-GoInside-clause-tried : goal.returns-in-GoInside-clause-tried
-returns-in-GoInside-clause-tried c =
-    let P : ℕ → Type 0 = λ n. WorkWaitsAfterTries n c.in-GoInside.climb.part.steps c.climb_and_enter.result in rw c.in-GoInside.is (λ most has. subst P has c.climb_and_enter.ensures.tried)
+    let P : ℕ → Type 0 = λ n. WorkWaitsAfterTries n c.in-GoIn.climb.part.steps c.climb_to.result in rw c.in-GoIn.is (λ most has. subst P has c.climb_to.ensures.tried)
 
 pub returns-in-Stay-clause-plan : goal.returns-in-Stay-clause-plan
 returns-in-Stay-clause-plan c =

@@ -1,6 +1,6 @@
 use Rattle.std.proofs.Common.{sym, ◌∙◌}
 use Rattle.rme_world.proofs.Stopping.{found_up}
-use Rattle.rme_session_world.proofs.Sighting.{sees_climb, sees_held, sees_ready}
+use Rattle.rme_session_world.proofs.Viewing.{sees_climb, sees_held, sees_ready}
 use Rattle.rme_session_world.proofs.session_of_worker.worker_session.Goals as goal
 
 pub returns-in-Ready-clause-sight : goal.returns-in-Ready-clause-sight

@@ -14,5 +14,5 @@ returns-in_default-clause-unattended g c =
 
 pub keep_all-requires-clause-orders : goal.keep_all-requires-clause-orders
 keep_all-requires-clause-orders g c = λ κs within worker plan at.
-    ordered g.K.Tag.ident g.K.RunTag.run c.args.service.now c.args.schedule.now.rounds c.args.schedule.now.plans.now (g.G.Gate.answered c.args.gate.now) g.G.Gate.lets_all (length c.args.downs.items) c.requires.named.0 c.requires.named.3
+    ordered g.K.Tag.ident g.K.RunTag.run c.args.context.now.service.now c.args.context.now.schedule.rounds c.args.context.now.schedule.plans.now (g.G.Gate.answered c.args.context.now.gate.now) g.G.Gate.lets_all (length c.args.downs.items) c.requires.named.0 c.requires.named.3
     c.requires.named.1 c.requires.good c.requires.away worker plan at

@@ -1,5 +1,5 @@
 use Rattle.std.proofs.Common.{arith}
-use Rattle.rme_core_checker.proofs.Ledgers.{cells_reach, row_read}
+use Rattle.rme_core_checker.proofs.StateReads.{cells_reach, row_read}
 use Rattle.rme_core_checker.proofs.checker_state.CheckerState.cells.Goals as goal
 
 pub index-requires : goal.index-requires

@@ -3,7 +3,7 @@ use Rattle.rme_program.specs.declared.note.Entry.{Entry}
 use Rattle.rme_machine.specs.Machine.{WorkerState}
 use Rattle.rme_history.specs.Folds.{IsReplayFold}
 use Rattle.rme_core_checker.specs.Deciding.{is_section_receipt, entry_of_section}
-use Rattle.rme_core_checker.proofs.Ledgers.{read_fits, read_same, finish_follows, follows_last, take_whole, done_fits, fits_set}
+use Rattle.rme_core_checker.proofs.StateReads.{read_fits, read_same, finish_follows, follows_last, take_whole, done_fits, fits_set}
 use Rattle.rme_core_checker.proofs.checker_state.CheckerState.finish.Goals as goal
 
 pub push-requires-clause-few : goal.push-requires-clause-few

@@ -1,7 +1,7 @@
 use Rattle.std.proofs.Common.{◌<◌, ℕ, length, subst, sym, ◌∙◌, ap, arith}
 use Rattle.rme_script.specs.Scripts.{IsScript}
 use Rattle.rme_machine.specs.Machine.{WorkerState}
-use Rattle.rme_core_checker.proofs.Ledgers.{inside_fits, read_same, counts_reach, cells_reach, count_read, row_read, row_long, receipt_read}
+use Rattle.rme_core_checker.proofs.StateReads.{inside_fits, read_same, counts_reach, cells_reach, count_read, row_read, row_long, receipt_read}
 use Rattle.rme_core_checker.proofs.checker_state.CheckerState.is_section_receipt.Goals as goal
 
 pub index-count-requires : goal.index-count-requires

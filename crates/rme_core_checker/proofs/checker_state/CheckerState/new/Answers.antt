@@ -3,7 +3,7 @@ use Rattle.rme_program.specs.declared.note.Entry.{Entry}
 use Rattle.rme_machine.specs.Machine.{opening_worker}
 use Rattle.rme_machine.proofs.Lists.{made_of_one}
 use Rattle.rme_history.specs.Folds.{IsReplayFold}
-use Rattle.rme_core_checker.proofs.Ledgers.{opening_fits}
+use Rattle.rme_core_checker.proofs.StateReads.{opening_fits}
 use Rattle.rme_core_checker.proofs.checker_state.CheckerState.new.Goals as goal
 
 pub invariant_of-result : goal.invariant_of-result

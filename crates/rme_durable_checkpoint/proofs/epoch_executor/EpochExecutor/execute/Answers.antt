@@ -1,7 +1,7 @@
 use Rattle.std.proofs.Common.{◌≡◌, ◌∙◌, ap, subst, sym}
 use Rattle.std.specs.Prelude.{Option, option_map}
 use Rattle.rme_session_world.specs.Executors.{executor_session_view}
-use Rattle.rme_durable_checkpoint.specs.EpochStates.{EpochState, SessionStepAcrossCheckpoints}
+use Rattle.rme_durable_checkpoint.specs.EpochStates.{EpochState, SessionStepAcrossCheckpoints, executor_session}
 use Rattle.rme_durable_checkpoint.specs.ClientValues.{client_reply, client_session}
 use Rattle.rme_durable_checkpoint.specs.declared.epoch_base.Base.{Base}
 use Rattle.rme_durable_checkpoint.specs.ImmediateReplies.{immediate_reply}
@@ -12,9 +12,14 @@ use Rattle.rme_session_protocol.specs.declared.client_reply.ClientReply.{ClientR
 use Rattle.rme_durable_checkpoint.proofs.Telling.{told_as_found, told_as_known}
 use Rattle.rme_durable_checkpoint.proofs.epoch_executor.EpochExecutor.execute.Goals as goal
 
+pub execute_in_epoch-requires : goal.execute_in_epoch-requires
+execute_in_epoch-requires c =
+    let V = λ (e : EpochState). c.session-view.result ≡ (executor_session_view e.executor c.args.session.now).session in
+    record { view = subst V c.self.view_is c.session-view.ensures }
+
 pub returns-in-Some-clause-obeys : goal.returns-in-Some-clause-obeys
 returns-in-Some-clause-obeys c =
-    let P = λ (e : EpochState). SessionStepAcrossCheckpoints e.base e.executor c.args.session.now c.args.order.now e.executor c.args.session.now (reply_of_client c.in-Some.reply) in
+    let P = λ (e : EpochState). SessionStepAcrossCheckpoints e.base (executor_session e.executor c.args.session.now) c.args.order.now (executor_session e.executor c.args.session.now) (reply_of_client c.in-Some.reply) in
     let T = λ (e : EpochState). option_map reply_of_client c.in_ok-reply.field-0 ≡ immediate_reply (client_session e.base c.session-view.result) c.args.order.now in
     let told = subst T (sym c.self.view_is) c.in_ok-reply.ensures.told in
     let at = c.session-view.ensures in
@@ -23,7 +28,7 @@ returns-in-Some-clause-obeys c =
 
 pub returns-in-Some-client_reply-clause-obeys : goal.returns-in-Some-client_reply-clause-obeys
 returns-in-Some-client_reply-clause-obeys c =
-    let P = λ (e : EpochState). SessionStepAcrossCheckpoints e.base e.executor c.args.session.now c.args.order.now c.execute_in_epoch.new.self.executor c.execute_in_epoch.new.session (reply_of_client c.in-Some-client_reply.reply) in
+    let P = λ (e : EpochState). SessionStepAcrossCheckpoints e.base (executor_session e.executor c.args.session.now) c.args.order.now (executor_session c.execute_in_epoch.new.self.executor c.execute_in_epoch.new.session) (reply_of_client c.in-Some-client_reply.reply) in
     let T = λ (e : EpochState). option_map reply_of_client c.in_ok-reply.field-0 ≡ immediate_reply (client_session e.base c.session-view.result) c.args.order.now in
     let told = subst T (sym c.self.view_is) c.in_ok-reply.ensures.told in
     let at = c.session-view.ensures in

@@ -5,4 +5,4 @@ use Rattle.rme_durable_server.proofs.durable_server.DurableServer.execute_and_co
 pub returns : goal.returns
 returns g c =
     let executor = c.deref_mut.result.now in
-    tries_by c.execute-acted.result (λ acted. reply_of_client acted.answered.reply) (λ acted. acted.end) c.args.self.now.names executor.base executor.executor c.execute-acted.new.self.executor executor.lines c.execute-acted.new.self.lines c.args.stand.now c.execute-acted.new.stand c.args.order.now c.execute-acted.ensures.obeys c.execute-acted.ensures.written c.execute-acted.ensures.told
+    tries_by c.execute-acted.result (λ acted. reply_of_client acted.answered.reply) (λ acted. acted.end) c.args.self.now.names executor.base executor.executor c.execute-acted.new.self.executor executor.lines c.execute-acted.new.self.lines c.args.session.now c.execute-acted.new.session c.args.order.now c.execute-acted.ensures.obeys c.execute-acted.ensures.written c.execute-acted.ensures.told

@@ -16,9 +16,9 @@ use Rattle.rme_server.proofs.service_backend.ServiceBackendBackend.answer.Goals 
 
 pub returns-in-Ok-Err-clause-answers : goal.returns-in-Ok-Err-clause-answers
 returns-in-Ok-Err-clause-answers g c =
-    let obeys = SessionStepUntilGone (g.C.Client.gone c.args.client.now) g.K.Tag.ident c.args.self.now.slots.now in
+    let obeys = SessionStepUntilGone (g.C.Client.gone c.args.client.now) (ThreadSessionStep g.K.Tag.ident c.args.self.now.slots.now) in
     let names = c.args.self.now.names.now in
-    let line = input_line_of c.args.cut c.args.buffers.now.exchange.line.items in
+    let line = input_line_of c.args.buffers.now.cut c.args.buffers.now.exchange.line.items in
     let asked : parsed_order names world_numbers line ≡ Err c.in-Ok-Err.why = search rules in
     answered obeys names world_numbers c.args.stand c.write_reply.result line (Refused c.in-Ok-Err.why) c.args.stand (string_bytes c.write_reply.new.self.text) (refused obeys names world_numbers c.args.stand line c.in-Ok-Err.why asked) c.write_reply.ensures.says
 
@@ -27,9 +27,9 @@ returns-in-Ok-clause-answers g c =
     let gone = g.C.Client.gone c.args.client.now in
     let ident = g.K.Tag.ident in
     let count = c.args.self.now.slots.now in
-    let obeys = SessionStepUntilGone gone ident count in
+    let obeys = SessionStepUntilGone gone (ThreadSessionStep ident count) in
     let names = c.args.self.now.names.now in
-    let line = input_line_of c.args.cut c.args.buffers.now.exchange.line.items in
+    let line = input_line_of c.args.buffers.now.cut c.args.buffers.now.exchange.line.items in
     let now = c.execute-stand.result.0 in
     let its = c.in-Ok-Ok.order in
     let asked : parsed_order names world_numbers line ≡ Ok its = search rules in

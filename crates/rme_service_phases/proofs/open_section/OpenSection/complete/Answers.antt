@@ -1,8 +1,10 @@
-use Rattle.std.proofs.Common.{refl, ap, sym, ◌∙◌, arith}
+use Rattle.std.proofs.Common.{ℕ, refl, ap, sym, ◌∙◌, arith}
 use Rattle.rme_program.specs.declared.stage.Visit.{Visit}
 use Rattle.rme_program.specs.declared.stage.Stage.TheVariants.{Copying}
 use Rattle.rme_program.specs.declared.stage.Redo.TheVariants.{StoreDone}
 use Rattle.rme_script.proofs.Rising.{cells_named_most}
+use Rattle.rme_words.specs.declared.address.Address.TheVariants.{Done}
+use Rattle.rme_service_steps.specs.Layout.{position_of_address}
 use Rattle.rme_service_steps.proofs.Chains.{falls_at, falls_on}
 use Rattle.rme_service_phases.proofs.Outcomes.{passed_on}
 use Rattle.rme_service_phases.proofs.Parts.{then_as, visit_at}
@@ -22,7 +24,8 @@ finish-requires-clause-may g c =
     let one = c.in_ok-mask.ensures in
     let same = visit_at c.args.self.lock c.args.self.turn _ one.at refl in
     let two = then_as one c.in_ok-reply.ensures (ap (λ (x : Visit). Copying (StoreDone x c.in_ok-mask.mask c.in_ok-reply.reply)) same) refl in
-    finish_may _ _ _ _ _ _ two.at _ _ _ _ c.shape.ensures (c.worker-worker.ensures.worker ∙ sym two.stays.own) c.requires.begun c.done_at-at.ensures
+    let own = c.worker-worker.ensures.worker ∙ sym two.stays.own in
+    finish_may _ _ _ _ _ _ two.at _ _ _ _ refl own c.requires.begun (ap (λ (w : ℕ). position_of_address c.args.service.now.shape (Done w)) (sym own))
 
 pub returns-in_err-finish : goal.returns-in_err-finish
 returns-in_err-finish g c =

@@ -4,7 +4,7 @@ use Rattle.rme_service_phases.proofs.Slated.{read_begins, read_may, read_more, r
 use Rattle.rme_service_phases.proofs.open_section.OpenSection.load_slate.Goals as goal
 
 pub loop-i-init : goal.loop-i-init
-loop-i-init g c = read_begins _ _ _ _ _ _ _ c.requires.long c.requires.ours c.requires.at
+loop-i-init g c = read_begins _ _ _ _ _ _ _ refl c.requires.ours c.requires.at
 
 pub load-requires-clause-ours : goal.load-requires-clause-ours
 load-requires-clause-ours g c = c.loop-i.invariant.ours

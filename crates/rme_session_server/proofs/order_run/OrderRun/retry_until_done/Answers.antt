@@ -17,7 +17,7 @@ loop-made-init g c = record {
 pub returns-then-not-is_waiting-clause-executes : goal.returns-then-not-is_waiting-clause-executes
 returns-then-not-is_waiting-clause-executes g c old first =
     let does = g.A.OrderAttempts.executes c.args.self.now.backend.now in
-    let its = c.args.self.now.order in
+    let its = c.args.self.now.request.order in
     let P : g.row.A-Reply.Denot → Type 0 =
     λ last. (tries : ℕ) (begun : g.row.A-Session.Denot) → 1 ≤ tries → does tries begun its c.loop-made.session c.loop-made.reply → does (tries + 1) begun its c.retry-next.result.0 last in
     let more = IfOk-at_ok P c.in-Ok.is c.retry-next.ensures.executes in
@@ -25,13 +25,13 @@ returns-then-not-is_waiting-clause-executes g c old first =
       c.loop-made.made + 1,
       omega arith,
       more c.loop-made.made old inv.some (inv.executes old first),
-      stops_settled (g.C.Client.gone c.args.self.now.client.now) its (c.loop-made.made + 1) (g.A.OrderAttempts.says c.in-Ok.reply) (sym c.is_waiting.ensures ∙ c.if-not-is_waiting.true),
+      stops_settled (g.C.Client.gone c.args.self.now.request.client.now) its (c.loop-made.made + 1) (g.A.OrderAttempts.says c.in-Ok.reply) (sym c.is_waiting.ensures ∙ c.if-not-is_waiting.true),
     )
 
 pub returns-then-is_over-clause-executes : goal.returns-then-is_over-clause-executes
 returns-then-is_over-clause-executes g c old first =
     let does = g.A.OrderAttempts.executes c.args.self.now.backend.now in
-    let its = c.args.self.now.order in
+    let its = c.args.self.now.request.order in
     let P : g.row.A-Reply.Denot → Type 0 =
     λ last. (tries : ℕ) (begun : g.row.A-Session.Denot) → 1 ≤ tries → does tries begun its c.loop-made.session c.loop-made.reply → does (tries + 1) begun its c.retry-next.result.0 last in
     let more = IfOk-at_ok P c.in-Ok.is c.retry-next.ensures.executes in
@@ -49,7 +49,7 @@ returns-then-is_over-clause-executes g c old first =
 pub loop-made-preserved : goal.loop-made-preserved
 loop-made-preserved g c =
     let does = g.A.OrderAttempts.executes c.args.self.now.backend.now in
-    let its = c.args.self.now.order in
+    let its = c.args.self.now.request.order in
     let P : g.row.A-Reply.Denot → Type 0 =
     λ last. (tries : ℕ) (begun : g.row.A-Session.Denot) → 1 ≤ tries → does tries begun its c.loop-made.session c.loop-made.reply → does (tries + 1) begun its c.retry-next.result.0 last in
     let more = IfOk-at_ok P c.in-Ok.is c.retry-next.ensures.executes in

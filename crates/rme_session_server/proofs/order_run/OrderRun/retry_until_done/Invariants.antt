@@ -8,8 +8,8 @@ abbrev pub invariant-loop-made : goal.invariant-loop-made
 invariant-loop-made g l = record {
   may_have : g.A.OrderAttempts.may_have l.fn.self.backend.now l.session;
   waits : is_still_waiting (g.A.OrderAttempts.says l.reply) ≡ true;
-  may : MayContinueOrder l.fn.self.order (g.A.OrderAttempts.says l.reply);
+  may : MayContinueOrder l.fn.self.request.order (g.A.OrderAttempts.says l.reply);
   some : 1 ≤ l.made;
-  executes : (old : g.row.A-Session.Denot) → g.A.OrderAttempts.executes l.fn.self.backend.now l.fn.first.tries old l.fn.self.order l.fn.session l.fn.first.reply
-      → g.A.OrderAttempts.executes l.fn.self.backend.now l.made old l.fn.self.order l.session l.reply;
+  executes : (old : g.row.A-Session.Denot) → g.A.OrderAttempts.executes l.fn.self.backend.now l.fn.first.tries old l.fn.self.request.order l.fn.session l.fn.first.reply
+      → g.A.OrderAttempts.executes l.fn.self.backend.now l.made old l.fn.self.request.order l.session l.reply;
 }

@@ -14,8 +14,8 @@ loop-init g c = record {
 pub returns-then-not-is_taken-clause-executes : goal.returns-then-not-is_taken-clause-executes
 returns-then-not-is_taken-clause-executes g c old first =
     let does = g.A.OrderAttempts.executes c.args.self.now.backend.now in
-    let its = c.args.self.now.order in
-    let gone = g.C.Client.gone c.args.self.now.client.now in
+    let its = c.args.self.now.request.order in
+    let gone = g.C.Client.gone c.args.self.now.request.client.now in
     let P : g.row.A-Reply.Denot → Type 0 =
     λ last. (tries : ℕ) (begun : g.row.A-Session.Denot) → 1 ≤ tries → does tries begun its c.loop.session c.loop.reply → does (tries + 1) begun its c.retry-next.result.0 last in
     let more = IfOk-at_ok P c.in-Ok.is c.retry-next.ensures.executes in
@@ -29,7 +29,7 @@ returns-then-not-is_taken-clause-executes g c old first =
 pub loop-preserved : goal.loop-preserved
 loop-preserved g c =
     let does = g.A.OrderAttempts.executes c.args.self.now.backend.now in
-    let its = c.args.self.now.order in
+    let its = c.args.self.now.request.order in
     let P : g.row.A-Reply.Denot → Type 0 =
     λ last. (tries : ℕ) (begun : g.row.A-Session.Denot) → 1 ≤ tries → does tries begun its c.loop.session c.loop.reply → does (tries + 1) begun its c.retry-next.result.0 last in
     let more = IfOk-at_ok P c.in-Ok.is c.retry-next.ensures.executes in record {

@@ -8,6 +8,6 @@ abbrev pub invariant-loop : goal.invariant-loop
 invariant-loop g l = record {
   may_have : g.A.OrderAttempts.may_have l.fn.self.backend.now l.session;
   taken : g.A.OrderAttempts.says l.reply ≡ Refused Taken;
-  executes : (old : g.row.A-Session.Denot) → g.A.OrderAttempts.executes l.fn.self.backend.now l.fn.first.tries old l.fn.self.order l.fn.session l.fn.first.reply
-      → (tries : ℕ) × (1 ≤ tries) × g.A.OrderAttempts.executes l.fn.self.backend.now tries old l.fn.self.order l.session l.reply;
+  executes : (old : g.row.A-Session.Denot) → g.A.OrderAttempts.executes l.fn.self.backend.now l.fn.first.tries old l.fn.self.request.order l.fn.session l.fn.first.reply
+      → (tries : ℕ) × (1 ≤ tries) × g.A.OrderAttempts.executes l.fn.self.backend.now tries old l.fn.self.request.order l.session l.reply;
 }

@@ -3,13 +3,13 @@ use Rattle.rme_session_protocol.specs.SessionSteps.{SessionStep}
 use Rattle.rme_session_protocol.specs.Attempts.{with_tries}
 use Rattle.rme_session_world.specs.Executors.{owned_worker, executor_session_view}
 use Rattle.rme_session_world.specs.ExecutorStates.{ExecutorState}
-use Rattle.rme_session_world.proofs.Seating.{desk_obeys, desk_tended, desk_waits}
+use Rattle.rme_session_world.proofs.Seating.{executor_obeys, executor_tended, executor_waits}
 use Rattle.rme_session_world.proofs.executor.Executor.execute.Goals as goal
 
 pub invariant_of-self-2 : goal.invariant_of-self-2
 invariant_of-self-2 c =
     let S = λ (executor : ExecutorState). c.owned_worker-seat.result ≡ owned_worker executor c.args.stand.now in
-    desk_tended c.self.inside.world c.apply_order.new.world c.self.inside.holders.items c.update_holders.new.holders.items c.args.stand.now c.owned_worker-seat.result c.args.order.now c.in-Ok.carried c.recall_invariant.ensures c.self.invariant
+    executor_tended c.self.inside.world c.apply_order.new.world c.self.inside.holders.items c.update_holders.new.holders.items c.args.stand.now c.owned_worker-seat.result c.args.order.now c.in-Ok.carried c.recall_invariant.ensures c.self.invariant
     (subst S (sym c.self.view_is) c.owned_worker-seat.ensures) c.update_holders.ensures c.in-Ok.ensures.carries
 
 pub returns-clause-obeys : goal.returns-clause-obeys
@@ -18,10 +18,10 @@ returns-clause-obeys c =
     let P = λ (executor : ExecutorState). SessionStep executor.world.shape (executor_session_view executor c.args.stand.now) (with_tries 1 c.args.order.now)
     (executor_session_view record { world = c.apply_order.new.world; holders = c.update_holders.new.holders.items } record { session = c.args.stand.now.session; worker = c.in-Ok.carried.seat; planned = c.in-Ok.carried.planned }) c.in-Ok.carried.reply in
     subst P c.self.view_is
-    (desk_obeys c.self.inside.world c.apply_order.new.world c.self.inside.holders.items c.update_holders.new.holders.items c.args.stand.now c.owned_worker-seat.result c.args.order.now c.in-Ok.carried c.recall_invariant.ensures c.self.invariant
+    (executor_obeys c.self.inside.world c.apply_order.new.world c.self.inside.holders.items c.update_holders.new.holders.items c.args.stand.now c.owned_worker-seat.result c.args.order.now c.in-Ok.carried c.recall_invariant.ensures c.self.invariant
     (subst S (sym c.self.view_is) c.owned_worker-seat.ensures) c.update_holders.ensures c.in-Ok.ensures.carries)
 
 pub returns-clause-waits : goal.returns-clause-waits
 returns-clause-waits c waits =
-    desk_waits c.self.inside.world c.apply_order.new.world c.self.inside.holders.items c.update_holders.new.holders.items c.args.stand.now c.owned_worker-seat.result c.args.order.now c.in-Ok.carried c.recall_invariant.ensures c.self.invariant
+    executor_waits c.self.inside.world c.apply_order.new.world c.self.inside.holders.items c.update_holders.new.holders.items c.args.stand.now c.owned_worker-seat.result c.args.order.now c.in-Ok.carried c.recall_invariant.ensures c.self.invariant
     c.update_holders.ensures c.in-Ok.ensures.carries waits
