@@ -1,6 +1,7 @@
 //! `rme serve --state`: sessions over a world that is logged to a file.
 
-ghost use Rattle.std.specs.Prelude.{◌≡◌};
+ghost use Rattle.std.specs.Prelude.{◌≡◌, [], IfOk};
+ghost use Rattle.rme_durable_server.specs.ServerHistories.{server_state};
 
 use rme_cli_listen::{BoundAddresses, StderrObserver, listen};
 use rme_cli_messages::{BadArgument, CliFault, escape_controls, why_not_locks, why_not_sizes};
@@ -8,8 +9,8 @@ use rme_cli_options::{Diagnostics, DurableServeTask, ListenAddresses, SyncPolicy
 use rme_durable_checkpoint::{EpochExecutor, MOST_SET};
 use rme_durable_file::{StateFile, StateName, check_replaceable, make_state, read_state};
 use rme_durable_format::{LogHeader, RecoveredLog, append_crashes, push_header, whole_lines};
-use rme_durable_log::{LogTag, OpenLog};
-use rme_durable_server::{DurableServer, RecoveredState, clients_of};
+use rme_durable_log::OpenLog;
+use rme_durable_server::{DurableServer, RecoveredState, ServerTag, clients_of};
 use rme_line_diagnose::Reason;
 use rme_line_text::{lock_name, push_opening};
 use rme_session_server::{Backend, Closer, Listener, ServerLimits, ServerObserver, serve};
@@ -114,14 +115,17 @@ struct OpenedState<'a> {
     opened: OpenLog<StateFile<'a>>,
 }
 
-/// Serves a state on these listeners, with a tag for its log.
-fn serve_opened<J: LogTag + Send + Sync, R: Threads + Wait + Clock + Sync>(
+/// Serves a state on these listeners, with a tag for its log and its opening.
+fn serve_opened<J: ServerTag + Send + Sync, R: Threads + Wait + Clock + Sync>(
     threads: &R,
     site: &DurableServeContext<'_>,
     listeners: (Listener, Option<Listener>),
     state: OpenedState<'_>,
 ) -> Result<u8, CliFault>
-    requires { state.opened ≡ J.book }
+    requires log { state.opened ≡ J.book }
+    requires lines { state.executor.lines ≡ [] }
+    requires named { state.names ≡ J.opening.names }
+    requires begins { J.opening.begins (server_state state.executor.executor state.executor.base) }
 {
     let OpenedState {
         names,
@@ -174,7 +178,7 @@ fn split_task(task: DurableServeTask) -> (ServerConfig, ListenAddresses) {
 }
 
 /// Serves a durable state on these listeners. If an event cannot be logged, this is reported at the end.
-fn serve_durable_state<J: LogTag + Send + Sync, R: Threads + Wait + Clock + Sync>(
+fn serve_durable_state<J: ServerTag + Send + Sync, R: Threads + Wait + Clock + Sync>(
     threads: &R,
     site: &DurableServeContext<'_>,
     listeners: (Listener, Option<Listener>),
@@ -201,14 +205,14 @@ fn serve_durable_state<J: LogTag + Send + Sync, R: Threads + Wait + Clock + Sync
 /// Observes a durable server: each second it checks whether the state's file still has its name, without which nothing
 /// may be answered, and reports faults of the file.
 #[derive(Drop)]
-struct StateObserver<'a, 'f, J: LogTag, R> {
+struct StateObserver<'a, 'f, J: ServerTag, R> {
     complaints: &'a StderrObserver<'a>,
     threads: &'a R,
     name: &'a StateName,
     kept: &'a DurableServer<StateFile<'f>, Closer, J>,
 }
 
-impl<J: LogTag, R: Wait> ServerObserver for StateObserver<'_, '_, J, R> {
+impl<J: ServerTag, R: Wait> ServerObserver for StateObserver<'_, '_, J, R> {
     fn not_accepted(&self, why: io::Error) {
         self.complaints.not_accepted(why);
     }
@@ -275,7 +279,9 @@ fn open_or_create<'a>(
     asked: &ServerConfig,
     name: &'a StateName,
     planned: StartPlan<'a>,
-) -> Result<OpenedState<'a>, CliFault> {
+) -> Result<OpenedState<'a>, CliFault>
+    ensures { IfOk result (λ state. state.executor.lines ≡ []) }
+{
     let lines = match planned {
         StartPlan::GoOn(found) => return open_state(rt.alloc(), found),
         StartPlan::Make(lines) => lines,
@@ -289,7 +295,9 @@ fn open_or_create<'a>(
 }
 
 /// Cuts off the torn line, and logs a crash of each worker that was up.
-fn open_state<'a>(alloc: Global, found: RecoveredFile<'a>) -> Result<OpenedState<'a>, CliFault> {
+fn open_state<'a>(alloc: Global, found: RecoveredFile<'a>) -> Result<OpenedState<'a>, CliFault>
+    ensures { IfOk result (λ state. state.executor.lines ≡ []) }
+{
     let RecoveredFile {
         file,
         recovered,
@@ -318,7 +326,9 @@ fn opened_state_of<'a>(
     recovered: RecoveredState,
     length: u64,
     file: StateFile<'a>,
-) -> Result<OpenedState<'a>, NoMemory> {
+) -> Result<OpenedState<'a>, NoMemory>
+    ensures { IfOk result (λ state. state.executor.lines ≡ []) }
+{
     let RecoveredState { log, base } = recovered;
     let RecoveredLog {
         header,

@@ -1,7 +1,7 @@
 -- An executor and the lines of its events.
 use Rattle.std.specs.Prelude.{ℕ, List, Option}
-use Rattle.rme_session_world.specs.EventBatches.{AppliesEvents, batch_events_if}
 use Rattle.rme_session_world.specs.ExecutorStates.{ExecutorState}
+use Rattle.rme_session_world.specs.SessionBatches.{AppliesSessionOrder}
 use Rattle.rme_session_world.specs.declared.event_batch.EventBatch.{EventBatch}
 use Rattle.rme_durable_format.specs.BatchCommands.{batch_commands_if}
 use Rattle.rme_durable_format.specs.CommandLines.{AppendsCommands}
@@ -14,9 +14,9 @@ pub record LoggedState : Type 0 where
 abbrev pub logged_state : ExecutorState → List ℕ → LoggedState
 logged_state executor lines = record { executor = executor; lines = lines }
 
--- One event batch was applied, or none: the world changed by its events, and the lines grew by the commands of these
--- events.
-abbrev pub LoggedStep : List (List ℕ) → LoggedState → LoggedState → Type 0
-LoggedStep names old new =
-    (batch : Option EventBatch) × AppliesEvents old.executor.world (batch_events_if batch) new.executor.world
+-- One event batch of a session was applied, or none: the executor changed by it alone, and the lines grew by the
+-- commands of its events.
+abbrev pub LoggedStep : List (List ℕ) → ℕ → LoggedState → LoggedState → Type 0
+LoggedStep names session old new =
+    (batch : Option EventBatch) × AppliesSessionOrder session old.executor batch new.executor
     × AppendsCommands names old.lines (batch_commands_if batch) new.lines

@@ -5,6 +5,7 @@ ghost use Rattle.std.specs.Prelude.{◌≡◌, IsTrue};
 use crate::client_session::{ClientPending, ClientReady, ClientSession};
 use rme_line_text::ClientReceipt;
 use rme_script::{Job, Row};
+use rme_wire::Names;
 
 /// Whether two sessions are equal.
 pub(crate) fn same_session(one: &ClientSession, other: &ClientSession) -> bool
@@ -63,6 +64,21 @@ pub(crate) fn same_job(one: Option<Job>, other: Option<Job>) -> bool
         (Some(one), Some(other)) => one.lock == other.lock && one.script.same(&other.script),
         _ => false,
     }
+}
+
+/// Whether two lists of names are equal.
+pub(crate) fn same_names(one: &Names, other: &Names) -> bool
+    ensures { IsTrue result → one.now ≡ other.now }
+{
+    if one.len() != other.len() {
+        return false;
+    }
+    for lock in 0..one.len() {
+        if one.name(lock) != other.name(lock) {
+            return false;
+        }
+    }
+    true
 }
 
 /// Whether two lists of rows are equal.

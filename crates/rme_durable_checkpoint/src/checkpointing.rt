@@ -3,6 +3,7 @@
 ghost use Rattle.std.specs.Prelude.{◌≡◌, IfOk, string_bytes};
 ghost use Rattle.rme_history.specs.Legal.{rows_of_locks};
 
+use crate::alike::same_names;
 use crate::checkpoint_builder::{CheckpointBuilder, CheckpointFailed, JobProgress};
 use crate::epoch_base::Base;
 use crate::epoch_executor::EpochExecutor;
@@ -33,20 +34,20 @@ impl RecoveryProgress for NoProgress {
 }
 
 impl EpochExecutor {
-    ghost use Rattle.std.specs.Prelude.{◌≡◌, [], IfOk, List, ℕ, string_bytes};
+    ghost use Rattle.std.specs.Prelude.{◌≡◌, [], IfOk, string_bytes};
     ghost use Rattle.rme_durable_checkpoint.specs.Checkpoints.{CheckpointShowsSame};
     ghost use Rattle.rme_durable_format.specs.Recovery.{RecoversWorld};
 
     /// Builds a new epoch of the same locks and workers, in which clients see the same state: each worker with a job
     /// has it again, and is inside its lock if it was; the same sessions have the same workers; and the cells have the
-    /// values that the finished scripts left. Its world is the one that recovery reads from its bytes.
+    /// values that the finished scripts left. Recovery from its bytes leads to its world.
     ///
     /// After an error nothing is changed.
     pub fn checkpoint(&self, alloc: Global, names: &Names) -> Result<Checkpoint, CheckpointFailed>
         ensures same { IfOk result (λ renewed. CheckpointShowsSame self.now.base self.now.executor renewed.executor.base
             renewed.executor.executor) }
-        ensures starts { IfOk result (λ renewed. (own : List (List ℕ))
-            × RecoversWorld (string_bytes renewed.bytes) own renewed.executor.executor.world) }
+        ensures starts { IfOk result (λ renewed. RecoversWorld (string_bytes renewed.bytes) names.now
+            renewed.executor.executor.world) }
         ensures lines { IfOk result (λ renewed. renewed.executor.lines ≡ []) }
     {
         let rows = rows_of(alloc, self.executor().world())?;
@@ -54,7 +55,15 @@ impl EpochExecutor {
         let Ok(started) = recover_log(alloc, bytes.as_bytes(), &NoProgress) else {
             return Err(CheckpointFailed);
         };
-        let RecoveredLog { header, world, .. } = started;
+        let RecoveredLog {
+            header,
+            names: own,
+            world,
+            ..
+        } = started;
+        if !same_names(&own, names) {
+            return Err(CheckpointFailed);
+        }
         let base = base_of(alloc, &header)?;
         let after = rows_of(alloc, &world)?;
         let holders = copy_holders(alloc, self.executor().holders())?;

@@ -65,8 +65,9 @@ impl Model for EpochExecutor {
 }
 
 impl EpochExecutor {
-    ghost use Rattle.std.specs.Prelude.{◌≡◌, [], IfOk, IfErr, IfSome, OnOk, OnSome, option_map, string_bytes};
-    ghost use Rattle.rme_session_world.specs.Executors.{executor_session_view};
+    ghost use Rattle.std.specs.Prelude.{◌≡◌, [], IfOk, IfErr, IfSome, None, OnOk, OnSome, Some, option_map, slice_get, string_bytes};
+    ghost use Rattle.rme_session_world.specs.Downs.{IsWorkerDown};
+    ghost use Rattle.rme_session_world.specs.Executors.{executor_session_view, owned_worker};
     ghost use Rattle.rme_session_protocol.specs.Attempts.{with_tries};
     ghost use Rattle.rme_session_protocol.specs.ClientReplies.{reply_of_client};
     ghost use Rattle.rme_session_protocol.specs.SessionSteps.{SessionStep};
@@ -148,8 +149,9 @@ impl EpochExecutor {
         ensures obeys { IfOk result (λ answered. SessionStepAcrossCheckpoints self.old.base
             (executor_session self.old.executor session.old) order.now
             (executor_session self.new.executor session.new) (reply_of_client answered.reply)) }
-        ensures written { OnOk result (LoggedStep names.now (logged_state self.old.executor self.old.lines)
-            (logged_state self.new.executor self.new.lines)) }
+        ensures written { OnOk result (LoggedStep names.now session.old.session
+            (logged_state self.old.executor self.old.lines) (logged_state self.new.executor self.new.lines)) }
+        ensures session { session.new.session ≡ session.old.session }
         ensures base { self.new.base ≡ self.old.base }
         ensures unchanged { IfErr result (λ why. why ≡ error.NoMemory
             → (self.new ≡ self.old) × (session.new ≡ session.old)) }
@@ -201,8 +203,9 @@ impl EpochExecutor {
         ensures obeys { IfOk result (λ executed. SessionStep self.old.executor.world.shape
             (executor_session_view self.old.executor session.old) (with_tries 1 order.now)
             (executor_session_view self.new.executor session.new) executed.reply) }
-        ensures written { OnOk result (LoggedStep names.now (logged_state self.old.executor self.old.lines)
-            (logged_state self.new.executor self.new.lines)) }
+        ensures written { OnOk result (LoggedStep names.now session.old.session
+            (logged_state self.old.executor self.old.lines) (logged_state self.new.executor self.new.lines)) }
+        ensures session { session.new.session ≡ session.old.session }
         ensures base { self.new.base ≡ self.old.base }
         ensures unchanged { IfErr result (λ why. why ≡ error.NoMemory
             → (self.new ≡ self.old) × (session.new ≡ session.old)) }
@@ -233,8 +236,11 @@ impl EpochExecutor {
         names: &Names,
         session: &mut SessionState,
     ) -> Result<(), ApplyError>
-        ensures written { OnOk result (LoggedStep names.now (logged_state self.old.executor self.old.lines)
-            (logged_state self.new.executor self.new.lines)) }
+        ensures down { IfSome (owned_worker self.old.executor session.old) (λ worker.
+            IsWorkerDown self.new.executor.world worker × (slice_get self.new.executor.holders worker ≡ Some None)) }
+        ensures written { OnOk result (LoggedStep names.now session.old.session
+            (logged_state self.old.executor self.old.lines) (logged_state self.new.executor self.new.lines)) }
+        ensures session { session.new.session ≡ session.old.session }
         ensures base { self.new.base ≡ self.old.base }
     {
         let batch = self.executor.detach_session(session);

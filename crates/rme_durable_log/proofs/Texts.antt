@@ -1,87 +1,116 @@
--- The bytes of log entries, and the pending lines.
-use Rattle.std.proofs.Common.{◌≡◌, ◌⊎◌, ℕ, List, [], ◌∷◌, ◌++◌, length, drop, refl, sym, ap, ◌∙◌, inl, inr, arith, append_assoc, length-append}
-use Rattle.std.specs.List.{concat}
+-- The bytes of log entries, the pending lines, and the authors.
+use Rattle.std.proofs.Common.{◌≡◌, ◌⊎◌, ℕ, ◌<◌, ◌≤◌, List, [], ◌∷◌, ◌++◌, length, drop, refl, sym, ap, ◌∙◌, subst, inl, inr, arith, append_assoc, length-append}
 use Rattle.std.proofs.lemmas.List.{append-nil}
-use Rattle.std.proofs.lemmas.List.Folds.{concat-append}
 use Rattle.std.proofs.Math.Seq.{drop-append_seam}
 use mathlib.Core.List.{IsPrefix}
 use Rattle.logbook.specs.Pages.{Book, Named}
 use Rattle.rme_durable_log.specs.declared.log_entry.LogEntry.{LogEntry}
 use Rattle.rme_durable_log.specs.declared.log_entry.LogEntry.TheVariants.{Lines, Whole}
-use Rattle.rme_durable_log.specs.Logs.{IsAppended, log_bytes_after, log_bytes, line_entries}
-use Rattle.rme_durable_log.specs.LogRules.{AppenderInvariant, entries_behind, entry_lines}
-use Rattle.rme_durable_log.proofs.Fronts.{prefix_self}
+use Rattle.rme_durable_log.specs.Logs.{AreAllLines, log_bytes_after, log_bytes}
+use Rattle.rme_durable_log.specs.LogRules.{AppenderInvariant, AreAuthorsBelow, entries_behind, entry_lines}
 
-pub lines_in-told : (texts : List (List ℕ)) → entry_lines (line_entries texts) ≡ concat texts
-lines_in-told [] = refl
-lines_in-told (t ∷ texts) = ap (λ w. t ++ w) (lines_in-told texts)
+-- ---- entries that are lines
 
-pub told-append : (xs ys : List (List ℕ)) → line_entries (xs ++ ys) ≡ line_entries xs ++ line_entries ys
-told-append [] ys = refl
-told-append (x ∷ xs) ys = ap (λ w. Lines x ∷ w) (told-append xs ys)
+pub all_lines-append : (xs ys : List LogEntry) → AreAllLines xs → AreAllLines ys → AreAllLines (xs ++ ys)
+all_lines-append [] ys all more = more
+all_lines-append (Lines a l ∷ xs) ys all more = all_lines-append xs ys all more
+all_lines-append (Whole b ∷ xs) ys all more = absurd all
+
+all_lines-rest : (x : LogEntry) (xs : List LogEntry) → AreAllLines (x ∷ xs) → AreAllLines xs
+all_lines-rest (Lines a l) xs all = all
+all_lines-rest (Whole b) xs all = absurd all
+
+pub entry_lines-append : (xs ys : List LogEntry) → entry_lines (xs ++ ys) ≡ entry_lines xs ++ entry_lines ys
+entry_lines-append [] ys = refl
+entry_lines-append (Lines a l ∷ xs) ys = ap (λ w. l ++ w) (entry_lines-append xs ys) ∙ sym (append_assoc l (entry_lines xs) (entry_lines ys))
+entry_lines-append (Whole b ∷ xs) ys = entry_lines-append xs ys
+
+-- ---- bytes
 
 pub bytes_after-append : (before : List ℕ) (xs ys : List LogEntry) → log_bytes_after before (xs ++ ys) ≡ log_bytes_after (log_bytes_after before xs) ys
 bytes_after-append before [] ys = refl
-bytes_after-append before (Lines l ∷ xs) ys = bytes_after-append (before ++ l) xs ys
+bytes_after-append before (Lines a l ∷ xs) ys = bytes_after-append (before ++ l) xs ys
 bytes_after-append before (Whole b ∷ xs) ys = bytes_after-append b xs ys
 
-pub bytes_after-told : (before : List ℕ) (texts : List (List ℕ)) → log_bytes_after before (line_entries texts) ≡ before ++ concat texts
-bytes_after-told before [] = sym (append-nil before)
-bytes_after-told before (t ∷ texts) = bytes_after-told (before ++ t) texts ∙ append_assoc before t (concat texts)
+bytes_after-lines : (before : List ℕ) (entries : List LogEntry) → AreAllLines entries → log_bytes_after before entries ≡ before ++ entry_lines entries
+bytes_after-lines before [] all = sym (append-nil before)
+bytes_after-lines before (Lines a l ∷ entries) all = bytes_after-lines (before ++ l) entries all ∙ append_assoc before l (entry_lines entries)
+bytes_after-lines before (Whole b ∷ entries) all = absurd all
 
-pub bytes_of-more : (log : List LogEntry) (texts : List (List ℕ)) → log_bytes (log ++ line_entries texts) ≡ log_bytes log ++ concat texts
-bytes_of-more log texts = bytes_after-append [] log (line_entries texts) ∙ bytes_after-told (log_bytes log) texts
+pub bytes_of-more : (log entries : List LogEntry) → AreAllLines entries → log_bytes (log ++ entries) ≡ log_bytes log ++ entry_lines entries
+bytes_of-more log entries all = bytes_after-append [] log entries ∙ bytes_after-lines (log_bytes log) entries all
 
 pub bytes_of-whole : (log : List LogEntry) (bytes : List ℕ) → log_bytes (log ++ Whole bytes ∷ []) ≡ bytes
 bytes_of-whole log bytes = bytes_after-append [] log (Whole bytes ∷ [])
 
--- the pending lines
-pub waits_as : (taken log : List LogEntry) (texts : List (List ℕ)) → log ≡ taken ++ line_entries texts → entry_lines (entries_behind taken log) ≡ concat texts
-waits_as taken log texts is = ap (λ l. entry_lines (drop (length taken) l)) is ∙ ap entry_lines (drop-append_seam taken (line_entries texts)) ∙ lines_in-told texts
+-- ---- authors
 
-since_more : (taken log log' : List LogEntry) (lines : List ℕ) (texts : List (List ℕ)) → log ≡ taken ++ line_entries texts → log' ≡ log ++ Lines lines ∷ [] → log' ≡ taken ++ line_entries (texts ++ lines ∷ [])
-since_more taken log log' lines texts is more = more ∙ (ap (λ l. l ++ Lines lines ∷ []) is ∙ (append_assoc taken (line_entries texts) (Lines lines ∷ []) ∙ ap (λ w. taken ++ w) (sym (told-append texts (lines ∷ [])))))
+pub authors-append : (authors : ℕ) (xs ys : List LogEntry) → AreAuthorsBelow authors xs → AreAuthorsBelow authors ys → AreAuthorsBelow authors (xs ++ ys)
+authors-append authors [] ys by more = more
+authors-append authors (x ∷ xs) ys by more = (by.0, authors-append authors xs ys by.1 more)
 
-pub teller_tells : (book : Book) (head : Named) (taken log log' : List LogEntry) (lines : List ℕ) → AppenderInvariant book head taken log → log' ≡ log ++ Lines lines ∷ [] → AppenderInvariant book head taken log'
-teller_tells book head taken log log' lines is more =
-    let told = since_more taken log log' lines is.since.texts is.since.told more in
+pub authors-more : (authors more : ℕ) (log : List LogEntry) → authors ≤ more → AreAuthorsBelow authors log → AreAuthorsBelow more log
+authors-more authors more [] le by = tt
+authors-more authors more (Lines a l ∷ log) le by = (omega (arith, by.0, le), authors-more authors more log le by.1)
+authors-more authors more (Whole b ∷ log) le by = (tt, authors-more authors more log le by.1)
+
+-- ---- the pending lines
+
+waits_as : (taken log entries : List LogEntry) → log ≡ taken ++ entries → entry_lines (entries_behind taken log) ≡ entry_lines entries
+waits_as taken log entries is = ap (λ l. entry_lines (drop (length taken) l)) is ∙ ap entry_lines (drop-append_seam taken entries)
+
+module _ (book : Book) (head : Named) (taken log after : List LogEntry) (authors author : ℕ) (lines : List ℕ) (is : AppenderInvariant book head taken log authors) (more : after ≡ log ++ Lines author lines ∷ []) where
+  since_more : after ≡ taken ++ (is.since.entries ++ Lines author lines ∷ [])
+  since_more = more ∙ (ap (λ l. l ++ Lines author lines ∷ []) is.since.told ∙ append_assoc taken is.since.entries (Lines author lines ∷ []))
+
+  pub appender_appends : author < authors → AppenderInvariant book head taken after authors
+  appender_appends less =
+      record {
+        head_is = is.head_is;
+        some = is.some;
+        since = record {
+          entries = is.since.entries ++ Lines author lines ∷ [];
+          all = all_lines-append is.since.entries (Lines author lines ∷ []) is.since.all tt;
+          told = since_more;
+          come = waits_as taken after (is.since.entries ++ Lines author lines ∷ []) since_more;
+        };
+        by = subst (λ (l : List LogEntry). AreAuthorsBelow authors l) (sym more) (authors-append authors log (Lines author lines ∷ []) is.by (less, tt));
+      }
+
+  pub waits_more : entry_lines (entries_behind taken after) ≡ entry_lines (entries_behind taken log) ++ lines
+  waits_more =
+      let last : lines ++ [] ≡ lines = append-nil lines in
+      waits_as taken after (is.since.entries ++ Lines author lines ∷ []) since_more ∙ (entry_lines-append is.since.entries (Lines author lines ∷ []) ∙ (ap (λ w. entry_lines is.since.entries ++ w) last ∙ ap (λ w. w ++ lines) (sym is.since.come)))
+
+pub appender_authors : (book : Book) (head : Named) (taken log : List LogEntry) (authors more : ℕ) → AppenderInvariant book head taken log authors → authors ≤ more → AppenderInvariant book head taken log more
+appender_authors book head taken log authors more is le = record { head_is = is.head_is; some = is.some; since = is.since; by = authors-more authors more log le is.by }
+
+-- all entries are taken once other bytes replaced them
+pub appender_replaces : (book : Book) (head : Named) (taken log one two : List LogEntry) (authors : ℕ) (bytes : List ℕ) → AppenderInvariant book head taken log authors → one ≡ log ++ Whole bytes ∷ [] → two ≡ one → AppenderInvariant book head one two authors
+appender_replaces book head taken log one two authors bytes is whole same =
+    let told : two ≡ one ++ [] = same ∙ sym (append-nil one) in
     record {
       head_is = is.head_is;
-      some = is.some;
-      since = record { texts = is.since.texts ++ lines ∷ []; told = told; come = waits_as taken log' (is.since.texts ++ lines ∷ []) told };
+      some = omega (arith, ap length whole, length-append log (Whole bytes ∷ []));
+      since = record { entries = []; all = tt; told = told; come = waits_as one two [] told };
+      by = subst (λ (l : List LogEntry). AreAuthorsBelow authors l) (sym (same ∙ whole)) (authors-append authors log (Whole bytes ∷ []) is.by (tt, tt));
     }
 
-pub waits_more : (book : Book) (head : Named) (taken log log' : List LogEntry) (lines : List ℕ) → AppenderInvariant book head taken log → log' ≡ log ++ Lines lines ∷ [] → entry_lines (entries_behind taken log') ≡ entry_lines (entries_behind taken log) ++ lines
-waits_more book head taken log log' lines is more =
-    let texts = is.since.texts in
-    let told = since_more taken log log' lines texts is.since.told more in
-    let last : concat (lines ∷ []) ≡ lines = append-nil lines in
-    waits_as taken log' (texts ++ lines ∷ []) told ∙ (concat-append texts (lines ∷ []) ∙ (ap (λ w. concat texts ++ w) last ∙ ap (λ w. w ++ lines) (sym is.since.come)))
+-- ---- prefixes
 
-pub waits_told : (book : Book) (head : Named) (taken log : List LogEntry) → AppenderInvariant book head taken log → IsAppended log (entry_lines (entries_behind taken log))
-waits_told book head taken log is = record {
-  start = log;
-  begins = prefix_self log;
-  some = omega (arith, is.some, ap length is.since.told, length-append taken (line_entries is.since.texts));
-  before = log_bytes taken;
-  ends = ap log_bytes is.since.told ∙ (bytes_of-more taken is.since.texts ∙ ap (λ w. log_bytes taken ++ w) (sym is.since.come));
-}
-
--- a prefix of appended lines, and the rest of them
-rest_told : (p : List LogEntry) (texts : List (List ℕ)) → IsPrefix p (line_entries texts) → (later : List (List ℕ)) × (p ++ line_entries later ≡ line_entries texts)
-rest_told [] texts pre = (texts, refl)
-rest_told (x ∷ p) [] pre = absurd (cc (pre.1))
-rest_told (x ∷ p) (t ∷ texts) pre =
-    let rest = rest_told p texts (pre.0, cc (pre.1)) in
-    (rest.0, cc (pre.1, rest.1))
+-- a prefix of lines, and the rest of them
+rest_lines : (p entries : List LogEntry) → AreAllLines entries → (pre : IsPrefix p entries) → AreAllLines pre.0
+rest_lines [] entries all pre = subst AreAllLines (sym pre.1) all
+rest_lines (x ∷ p) [] all pre = absurd (cc (pre.1))
+rest_lines (x ∷ p) (e ∷ entries) all pre = rest_lines p entries (all_lines-rest e entries all) (pre.0, cc (pre.1))
 
 -- a prefix of a log with lines after it is a prefix of the log, or has some of the lines
-pub prefix_split : (p log : List LogEntry) (texts : List (List ℕ)) → IsPrefix p (log ++ line_entries texts) → IsPrefix p log ⊎ ((later : List (List ℕ)) × (p ++ line_entries later ≡ log ++ line_entries texts))
-prefix_split [] log texts pre = inl (log, refl)
-prefix_split (x ∷ p) [] texts pre = inr (rest_told (x ∷ p) texts pre)
-prefix_split (x ∷ p) (y ∷ log) texts pre = elim (prefix_split p log texts (pre.0, cc (pre.1))) [
+pub prefix_split : (p log entries : List LogEntry) → AreAllLines entries → IsPrefix p (log ++ entries) → IsPrefix p log ⊎ ((later : List LogEntry) × AreAllLines later × (p ++ later ≡ log ++ entries))
+prefix_split [] log entries all pre = inl (log, refl)
+prefix_split (x ∷ p) [] entries all pre = inr (pre.0, rest_lines (x ∷ p) entries all pre, pre.1)
+prefix_split (x ∷ p) (y ∷ log) entries all pre = elim (prefix_split p log entries all (pre.0, cc (pre.1))) [
   | inl q ↦ inl (q.0, cc (pre.1, q.1))
-  | inr q ↦ inr (q.0, cc (pre.1, q.1))
+  | inr q ↦ inr (q.0, q.1, cc (pre.1, q.2))
 ]
 
 -- a prefix of a log with one more entry is a prefix of the log, or the whole

@@ -1,11 +1,10 @@
 -- The log as threads share it: its rule, and what the appender and the writer know of it.
 use Rattle.std.specs.Prelude.{◌≡◌, ◌<◌, ℕ, suc, true, false, List, [], ◌∷◌, ◌++◌, length, drop, Option, Some, None}
-use Rattle.std.specs.List.{concat}
 use mathlib.Core.List.{IsPrefix}
 use Rattle.logbook.specs.Pages.{Cell, Step, View, Book, Named}
 use Rattle.rme_durable_log.specs.declared.log_entry.LogEntry.{LogEntry}
 use Rattle.rme_durable_log.specs.declared.log_entry.LogEntry.TheVariants.{Lines, Whole}
-use Rattle.rme_durable_log.specs.Logs.{IsLogDurable, line_entries}
+use Rattle.rme_durable_log.specs.Logs.{IsLogDurable, AreAllLines}
 
 -- The first entry has the store's initial contents. One word has the number of entries appended after it.
 pub record IsLogState (cells : List Cell) (log : List LogEntry) : Type 0 where
@@ -35,28 +34,41 @@ known_bytes (Some bytes) = bytes
 -- The lines among entries.
 abbrev pub entry_lines : List LogEntry → List ℕ
 entry_lines [] = []
-entry_lines (Lines lines ∷ log) = lines ++ entry_lines log
+entry_lines (Lines author lines ∷ log) = lines ++ entry_lines log
 entry_lines (Whole bytes ∷ log) = entry_lines log
 
 -- The entries after those that were taken.
 abbrev pub entries_behind : List LogEntry → List LogEntry → List LogEntry
 entries_behind taken told = drop (length taken) told
 
--- Only lines were appended since, and their bytes are this text.
+-- Only lines were appended since, and this is their text.
 pub record AreLinesSince (taken : List LogEntry) (log : List LogEntry) (lines : List ℕ) : Type 0 where
-  pub texts : List (List ℕ)
-  pub told : log ≡ taken ++ line_entries texts
-  pub come : lines ≡ concat texts
+  pub entries : List LogEntry
+  pub all : AreAllLines entries
+  pub told : log ≡ taken ++ entries
+  pub come : lines ≡ entry_lines entries
 
--- The log, and the pending lines, which nobody has taken yet.
+-- The author of an entry is one of the first `authors`.
+abbrev pub IsAuthorBelow : ℕ → LogEntry → Type 0
+IsAuthorBelow authors (Lines author lines) = author < authors
+IsAuthorBelow authors (Whole bytes) = Unit {0}
+
+abbrev pub AreAuthorsBelow : ℕ → List LogEntry → Type 0
+AreAuthorsBelow authors [] = Unit {0}
+AreAuthorsBelow authors (entry ∷ log) = IsAuthorBelow authors entry × AreAuthorsBelow authors log
+
+-- The log, the pending lines, which nobody has taken yet, and the number of authors.
 pub record AppenderState : Type 0 where
   pub log : List LogEntry
   pub waits : List ℕ
+  pub authors : ℕ
 
-pub record AppenderInvariant (book : Book) (head : Named) (taken : List LogEntry) (told : List LogEntry) : Type 0 where
+pub record AppenderInvariant (book : Book) (head : Named) (taken : List LogEntry) (told : List LogEntry) (authors : ℕ) :
+    Type 0 where
   pub head_is : head ≡ log_head book
   pub some : 0 < length taken
   pub since : AreLinesSince taken told (entry_lines (entries_behind taken told))
+  pub by : AreAuthorsBelow authors told
 
 -- A log that was just opened over a store.
 pub record OpenLogInvariant {X : Type 0} (holds : X → Option (List ℕ)) (store : X) (head : Named) (kept : Named)

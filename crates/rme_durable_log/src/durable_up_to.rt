@@ -25,7 +25,7 @@ pub(crate) struct DurableUpTo<L: LogStore, J: LogTag> {
 
 impl<L: LogStore, J: LogTag> DurableUpTo<L, J> {
     ghost use Rattle.std.specs.Prelude.{◌≡◌, IsTrue, false};
-    ghost use Rattle.rme_durable_log.specs.Logs.{IsLogDurable, StoreHadAllLines};
+    ghost use Rattle.rme_durable_log.specs.Logs.{IsLogDurable};
 
     /// The durable mark of this word, with no thread writing.
     pub(crate) fn new(kept: Word<LogEntry, u64, LogRule<L>>) -> DurableUpTo<L, J>
@@ -58,8 +58,7 @@ impl<L: LogStore, J: LogTag> DurableUpTo<L, J> {
 
     /// Whether everything before this position is durable, as far as was noted.
     pub(crate) fn is_durable(&self, end: &LogPosition<L, J>) -> bool
-        ensures held { IsTrue result → IsLogDurable L.holds end.now }
-        ensures lines { IsTrue result → StoreHadAllLines L.holds end.now }
+        ensures { IsTrue result → IsLogDurable L.holds end.now }
     {
         end.is_durable(&self.kept)
     }

@@ -43,7 +43,7 @@ struct CommitState<L: LogStore, J: LogTag> {
 
 impl<L: LogStore, J: LogTag> GroupCommit<L, J> {
     ghost use Rattle.std.specs.Prelude.{OnOk};
-    ghost use Rattle.rme_durable_log.specs.Logs.{IsLogDurable, StoreHadAllLines};
+    ghost use Rattle.rme_durable_log.specs.Logs.{IsLogDurable};
 
     /// A group commit without a writing thread.
     pub(crate) fn new(
@@ -71,8 +71,7 @@ impl<L: LogStore, J: LogTag> GroupCommit<L, J> {
         front: &Mutex<F>,
         end: &LogPosition<L, J>,
     ) -> Result<(), NotDurable>
-        ensures held { OnOk result (IsLogDurable L.holds end.now) }
-        ensures lines { OnOk result (StoreHadAllLines L.holds end.now) }
+        ensures { OnOk result (IsLogDurable L.holds end.now) }
     {
         for _ in rt.forever() {
             let is_behind = self.marks.is_behind(end);

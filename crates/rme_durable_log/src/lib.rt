@@ -14,6 +14,7 @@
 mod durable_up_to;
 mod group_commit;
 mod log_appender;
+mod log_author;
 mod log_entry;
 mod log_position;
 mod log_rule;
@@ -24,6 +25,7 @@ mod spinning;
 
 pub use group_commit::{GroupCommit, PendingLines};
 pub use log_appender::{LogAppender, PendingBatch};
+pub use log_author::LogAuthor;
 pub use log_entry::LogEntry;
 pub use log_position::LogPosition;
 pub use log_rule::LogTag;

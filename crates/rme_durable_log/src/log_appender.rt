@@ -1,5 +1,6 @@
 //! The appender of the log, under the executor's lock.
 
+use crate::log_author::LogAuthor;
 use crate::log_entry::LogEntry;
 use crate::log_position::LogPosition;
 use crate::log_rule::{LinesEntry, LogRule, LogTag, WholeEntry};
@@ -7,14 +8,16 @@ use crate::log_store::LogStore;
 use logbook::Word;
 use std::marker::Model;
 
-/// The appender. It is under the executor's lock, beside the text of the pending lines. In contracts it is the log, and
-/// the lines that were appended and not yet taken.
+/// The appender. It is under the executor's lock, beside the text of the pending lines. In contracts it is the log, the
+/// lines that were appended and not yet taken, and the number of authors.
 #[derive(Drop)]
 pub struct LogAppender<L: LogStore, J: LogTag> {
     /// The number of appended entries. Nobody else appends, which no contract says.
     head: Word<LogEntry, u64, LogRule<L>>,
     taken: LogPosition<L, J>,
     told: LogPosition<L, J>,
+    /// The number of authors.
+    authors: u64,
 }
 
 impl<L: LogStore, J: LogTag> Model for LogAppender<L, J> {
@@ -26,9 +29,11 @@ impl<L: LogStore, J: LogTag> Model for LogAppender<L, J> {
       log = appender.told;
       waits = entry_lines
           (entries_behind appender.taken appender.told);
+      authors = appender.authors;
     } };
 
-    ghost invariant = { λ appender. AppenderInvariant J.book appender.head appender.taken appender.told };
+    ghost invariant = { λ appender. AppenderInvariant J.book appender.head appender.taken appender.told
+        appender.authors };
 }
 
 /// A batch of lines, taken to be stored.
@@ -52,17 +57,18 @@ impl<L: LogStore, J: LogTag> Model for PendingBatch<L, J> {
 }
 
 impl<L: LogStore, J: LogTag> LogAppender<L, J> {
-    ghost use Rattle.std.specs.Prelude.{◌≡◌, ◌++◌, ◌∷◌, [], IfNone, IfSome, IsTrue, MatchBool, OnSome, string_bytes};
-    ghost use Rattle.rme_durable_log.specs.Logs.{IsAppended};
-    ghost use Rattle.rme_durable_log.specs.LogRules.{log_head};
+    ghost use Rattle.std.specs.Prelude.{◌≡◌, ◌++◌, ◌∷◌, [], IfNone, IfSome, IsTrue, MatchBool, OnSome, string_bytes, suc};
+    ghost use mathlib.Core.List.{IsPrefix};
+    ghost use Rattle.rme_durable_log.specs.LogRules.{AreAuthorsBelow, log_head};
     ghost use Rattle.rme_durable_log.specs.declared.log_entry.LogEntry.TheVariants.{Lines, Whole};
 
-    /// The appender after this prefix of the log, all of which was taken.
+    /// The appender of a log with only its first entry, and without authors.
     pub(crate) fn new(
         head: Word<LogEntry, u64, LogRule<L>>,
         told: LogPosition<L, J>,
     ) -> LogAppender<L, J>
         requires head { head ≡ log_head J.book }
+        requires first { AreAuthorsBelow 0 told }
         ensures log { result.log ≡ told }
         ensures waits { result.waits ≡ [] }
     {
@@ -70,26 +76,56 @@ impl<L: LogStore, J: LogTag> LogAppender<L, J> {
             head,
             taken: told.again(),
             told,
+            authors: 0,
         }
     }
 
     /// The current end of the log.
     pub fn position(&self) -> LogPosition<L, J>
         ensures told { result ≡ self.now.log }
-        ensures waits { IsAppended result self.now.waits }
     {
         self.told.again()
     }
 
-    /// Appends these lines to the log. Answers whether it did. It always does, since only the owner of this value
-    /// appends; the contract does not say so. On false it is unchanged.
-    pub fn append(&mut self, lines: &[u8]) -> bool
-        ensures { MatchBool result ((self.new.log ≡ self.old.log ++ Lines lines.now ∷ [])
+    /// The current end of the log, which is not before an earlier position. `None` if it is, which cannot be, since
+    /// only the owner of this value appends; the contract does not say so.
+    pub fn position_after(&self, earlier: &LogPosition<L, J>) -> Option<LogPosition<L, J>>
+        ensures told { IfSome result (λ told. told ≡ self.now.log) }
+        ensures later { OnSome result (IsPrefix earlier.now self.now.log) }
+    {
+        if earlier.is_within(&self.told) {
+            Some(self.told.again())
+        } else {
+            None
+        }
+    }
+
+    /// A further author. Each entry of the log so far is by an author with a smaller number. `None` if there are 2^64
+    /// - 1 authors.
+    pub fn new_author(&mut self) -> Option<LogAuthor<J>>
+        ensures new { IfSome result (λ author. (author ≡ self.old.authors) × AreAuthorsBelow author self.old.log) }
+        ensures authors { OnSome result (self.new.authors ≡ suc self.old.authors) }
+        ensures log { self.new.log ≡ self.old.log }
+        ensures waits { self.new.waits ≡ self.old.waits }
+    {
+        let number = self.authors;
+        self.authors = number.checked_add(1)?;
+        Some(LogAuthor::new(number))
+    }
+
+    /// Appends lines of an author to the log. Answers whether it did. It always does, since only the owner of this
+    /// value appends, and makes authors; the contract does not say so. On false it is unchanged.
+    pub fn append(&mut self, author: &LogAuthor<J>, lines: &[u8]) -> bool
+        ensures { MatchBool result ((self.new.log ≡ self.old.log ++ Lines author.now lines.now ∷ [])
             × (self.new.waits ≡ self.old.waits ++ lines.now)) (self.new ≡ self.old) }
     {
+        let number = author.number();
+        if number >= self.authors {
+            return false;
+        }
         match self
             .told
-            .append_entry::<&[u8], LinesEntry>(&self.head, &lines)
+            .append_entry::<(u64, &[u8]), LinesEntry>(&self.head, &(number, lines))
         {
             Some(told) => {
                 self.told = told;

@@ -27,9 +27,9 @@ impl<L: LogStore, J: LogTag> Model for LogPosition<L, J> {
 }
 
 impl<L: LogStore, J: LogTag> LogPosition<L, J> {
-    ghost use Rattle.std.specs.Prelude.{◌≡◌, ◌++◌, ◌∷◌, [], IfSome, IsTrue, None, false, length};
+    ghost use Rattle.std.specs.Prelude.{◌≡◌, ◌++◌, ◌∷◌, [], IfSome, IsTrue, MatchBool, None, false, length};
     ghost use mathlib.Core.List.{IsPrefix};
-    ghost use Rattle.rme_durable_log.specs.Logs.{IsLogDurable, StoreHadAllLines};
+    ghost use Rattle.rme_durable_log.specs.Logs.{IsLogDurable};
     ghost use Rattle.rme_durable_log.specs.LogRules.{log_head};
 
     /// The position after the first entry.
@@ -68,6 +68,15 @@ impl<L: LogStore, J: LogTag> LogPosition<L, J> {
         } else {
             self.again()
         }
+    }
+
+    /// Whether this position is not after another one. Of two positions of a log one is a prefix of the other.
+    pub fn is_within(&self, other: &LogPosition<L, J>) -> bool
+        ensures { MatchBool result (IsPrefix self.now other.now) (IsPrefix other.now self.now) }
+    {
+        let mut both = self.seen.again();
+        both.learn(&other.seen);
+        self.count <= other.count
     }
 
     /// Whether two positions are equal.
@@ -120,8 +129,7 @@ impl<L: LogStore, J: LogTag> LogPosition<L, J> {
     /// Whether the durable mark covers everything before this position.
     pub(crate) fn is_durable(&self, mark: &Word<LogEntry, u64, LogRule<L>>) -> bool
         requires mark { (mark.now.tracked ≡ false) × (mark.now.book ≡ J.book) }
-        ensures held { IsTrue result → IsLogDurable L.holds self.now }
-        ensures lines { IsTrue result → StoreHadAllLines L.holds self.now }
+        ensures { IsTrue result → IsLogDurable L.holds self.now }
     {
         let mut seen = self.seen.again();
         mark.load_hint(&mut seen) >= self.count

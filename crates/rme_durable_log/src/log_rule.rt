@@ -53,16 +53,16 @@ impl Play<LogEntry, u64> for AppendPlay {
     ghost then = { AppendsEntry };
 }
 
-/// Bytes that are appended as lines.
+/// Bytes that an author appends as lines.
 pub(crate) struct LinesEntry;
 
-impl<'a> Plain<&'a [u8], LogEntry, u64> for LinesEntry {
+impl<'a> Plain<(u64, &'a [u8]), LogEntry, u64> for LinesEntry {
     ghost use Rattle.std.specs.Prelude.{None};
     ghost use Rattle.rme_durable_log.specs.declared.log_entry.LogEntry.TheVariants.{Lines};
 
-    ghost ask = { λ bytes. Lines bytes.now };
+    ghost ask = { λ lines. Lines lines.0 lines.1.now };
 
-    ghost state = { λ bytes. None };
+    ghost state = { λ lines. None };
 }
 
 /// Bytes that are appended as a replacement of all earlier ones.

@@ -81,9 +81,9 @@ impl<L: LogStore, J: LogTag> LogWriter<L, J> {
         appender: &mut LogAppender<L, J>,
         bytes: &[u8],
     ) -> Result<(LogWriter<L, J>, bool), L>
-        ensures is { IfOk result (λ now. MatchBool now.1 (now.0 ≡ self ++ Whole bytes.now ∷ []) (now.0 ≡ self)) }
-        ensures told { IfOk result (λ now. MatchBool now.1 ((appender.new.log ≡ now.0) × (appender.new.waits ≡ []))
-            (appender.new ≡ appender.old)) }
+        ensures is { IfOk result (λ now. MatchBool now.1 (now.0 ≡ appender.new.log) (now.0 ≡ self)) }
+        ensures told { IfOk result (λ now. MatchBool now.1 ((appender.new.log ≡ appender.old.log ++ Whole bytes.now ∷ [])
+            × (appender.new.waits ≡ [])) (appender.new ≡ appender.old)) }
         ensures lost { IfErr result (λ store. appender.new ≡ appender.old) }
     {
         if !appender.is_at(&self.upto) {

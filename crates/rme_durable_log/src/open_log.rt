@@ -36,7 +36,8 @@ impl<L: LogStore> Model for OpenLog<L> {
 }
 
 impl<L: LogStore> OpenLog<L> {
-    ghost use Rattle.std.specs.Prelude.{◌≡◌, []};
+    ghost use Rattle.std.specs.Prelude.{◌≡◌, ◌∷◌, [], List, ℕ};
+    ghost use Rattle.rme_durable_log.specs.declared.log_entry.LogEntry.TheVariants.{Whole};
 
     /// Opens a log over a store.
     pub fn new(store: L) -> OpenLog<L> {
@@ -53,7 +54,8 @@ impl<L: LogStore> OpenLog<L> {
     /// The appender and the writer of a log with this tag.
     pub fn split<J: LogTag>(self, alloc: Global) -> (LogAppender<L, J>, GroupCommit<L, J>)
         requires { self ≡ J.book }
-        ensures { result.0.waits ≡ [] }
+        ensures log { (bytes : List ℕ) × (result.0.log ≡ Whole bytes ∷ []) }
+        ensures waits { result.0.waits ≡ [] }
     {
         let OpenLog {
             store,

@@ -1,6 +1,6 @@
 //! Two threads that append and commit at once, over a store in memory.
 
-ghost use Rattle.std.specs.Prelude.{◌≡◌};
+ghost use Rattle.std.specs.Prelude.{◌≡◌, []};
 
 use super::*;
 use std::alloc::Global;
@@ -62,6 +62,7 @@ impl LogStore for Pages {
 struct LineSource<J: LogTag> {
     lines: String,
     appender: Option<LogAppender<Pages, J>>,
+    author: LogAuthor<J>,
 }
 
 impl<J: LogTag> Model for LineSource<J> {
@@ -86,6 +87,19 @@ impl<J: LogTag> PendingLines<Pages, J> for LineSource<J> {
 }
 
 impl<J: LogTag> LineSource<J> {
+    /// A source without pending lines, with an author of its own.
+    fn new(alloc: Global, appender: LogAppender<Pages, J>) -> Option<LineSource<J>>
+        requires { appender.waits ≡ [] }
+    {
+        let mut appender = appender;
+        let author = appender.new_author()?;
+        Some(LineSource {
+            lines: String::new(alloc),
+            appender: Some(appender),
+            author,
+        })
+    }
+
     /// Writes a line and appends it, if there is memory.
     fn write(&mut self, line: &str) -> Option<LogPosition<Pages, J>> {
         let mut appender = self.appender.take()?;
@@ -93,7 +107,7 @@ impl<J: LogTag> LineSource<J> {
             self.appender = Some(appender);
             return None;
         }
-        if !appender.append(line.as_bytes()) {
+        if !appender.append(&self.author, line.as_bytes()) {
             return None;
         }
         let position = appender.position();
@@ -154,10 +168,7 @@ fn kept_by_two<J: LogTag + Send + Sync, R: Threads + Wait + Abort + Sync>(
     requires { opened ≡ J.book }
 {
     let (appender, commits) = opened.split::<J>(alloc);
-    let source = Mutex::new(LineSource {
-        lines: String::new(alloc),
-        appender: Some(appender),
-    });
+    let source = Mutex::new(LineSource::new(alloc, appender).ok_or("author")?);
     let (one, two) = join(
         rt,
         || append_and_commit(rt, &source, &commits, "one\n"),
@@ -190,10 +201,7 @@ fn replaced<J: LogTag, R: Wait + Abort>(
     requires { opened ≡ J.book }
 {
     let (appender, commits) = opened.split::<J>(alloc);
-    let source = Mutex::new(LineSource {
-        lines: String::new(alloc),
-        appender: Some(appender),
-    });
+    let source = Mutex::new(LineSource::new(alloc, appender).ok_or("author")?);
     assert!(rt; append_and_commit(rt, &source, &commits, "one\n"));
     let (held, spare) = commits.take_writer(rt).ok_or("taken")?;
     let held = source.lock(rt).replace(held, b"all\n").ok_or("replaced")?;
@@ -223,10 +231,7 @@ fn broken<J: LogTag, R: Wait + Abort>(
     requires { opened ≡ J.book }
 {
     let (appender, commits) = opened.split::<J>(alloc);
-    let source = Mutex::new(LineSource {
-        lines: String::new(alloc),
-        appender: Some(appender),
-    });
+    let source = Mutex::new(LineSource::new(alloc, appender).ok_or("author")?);
     let position = source.lock(rt).write("one\n").ok_or("appended")?;
     commits.fail(rt);
     assert!(rt; commits.is_failed());
@@ -254,10 +259,7 @@ fn kept_at_once<J: LogTag, R: Wait + Abort>(
     requires { opened ≡ J.book }
 {
     let (appender, commits) = opened.split::<J>(alloc);
-    let source = Mutex::new(LineSource {
-        lines: String::new(alloc),
-        appender: Some(appender),
-    });
+    let source = Mutex::new(LineSource::new(alloc, appender).ok_or("author")?);
     let mut front = source.lock(rt);
     let position = front.write("one\n").ok_or("appended")?;
     commits.commit_inline(rt, &mut *front, &position);

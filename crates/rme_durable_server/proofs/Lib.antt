@@ -1,3 +1,5 @@
--- The lines that an event batch adds, and orders that are executed try by try.
+-- The lines that an event batch adds; the state to which the log leads; and orders that are executed try by try.
 pub mod Growing
+pub mod Leading
 pub mod Extending
+pub mod Keeping

@@ -1,12 +1,11 @@
 -- How the lines of a session of the durable server are answered.
-use Rattle.std.specs.Prelude.{◌≡◌, ◌⊎◌, ℕ, zero, suc, nat_le, Bool, true, false, List, Option, Some, None, Result, Ok, Err}
-use Rattle.rme_session_world.specs.ExecutorStates.{ExecutorState}
+use Rattle.std.specs.Prelude.{◌≡◌, ◌⊎◌, ℕ, zero, suc, nat_le, Bool, true, false, List, [], ◌∷◌, ◌++◌, Option, Some, None, Result, Ok, Err}
+use mathlib.Core.List.{IsPrefix}
 use Rattle.rme_session_world.specs.declared.executor.SessionState.{SessionState}
 use Rattle.rme_line_io.specs.Pieces.{InputLine}
 use Rattle.rme_durable_checkpoint.specs.EpochStates.{SessionStepAcrossCheckpoints, executor_session}
-use Rattle.rme_durable_checkpoint.specs.LoggedStates.{LoggedStep, logged_state}
-use Rattle.rme_durable_checkpoint.specs.declared.epoch_base.Base.{Base}
-use Rattle.rme_durable_log.specs.Logs.{StoreHadLines}
+use Rattle.rme_durable_log.specs.Logs.{IsLogDurable}
+use Rattle.rme_durable_log.specs.declared.log_entry.LogEntry.{LogEntry}
 use Rattle.rme_session_protocol.specs.Attempts.{merged_reply, retry_order, is_still_waiting}
 use Rattle.rme_session_protocol.specs.SessionLines.{session_reply_line}
 use Rattle.rme_session_protocol.specs.declared.planned_crash.PlannedCrash.TheVariants.{Nothing}
@@ -18,87 +17,126 @@ use Rattle.rme_session_protocol.specs.declared.reply.SessionReply.{SessionReply}
 use Rattle.rme_session_protocol.specs.declared.reply.SessionReply.TheVariants.{Refused}
 use Rattle.rme_words.specs.declared.refusal.Refusal.{Refusal}
 use Rattle.rme_words.specs.declared.refusal.Refusal.TheVariants.{BadLine, NoWorker, Taken}
+use Rattle.rme_line_text.specs.Replies.{reply_text}
+use Rattle.rme_line_text.specs.declared.reply.Reply.{Reply}
+use Rattle.rme_line_text.specs.declared.reply.Reply.TheVariants as line
+use Rattle.rme_world.specs.Calls.{CellsContract, OwnerContract}
+use Rattle.rme_world.specs.WorldViews.{WorldView}
+use Rattle.rme_durable_server.specs.declared.lookup.SessionLookup.{SessionLookup}
+use Rattle.rme_durable_server.specs.declared.lookup.SessionLookup.TheVariants.{Owner, Cells, Status}
+use Rattle.rme_durable_server.specs.ServerHistories.{LogLeads, ServerOpening, ServerState, SessionActs, SessionEnds, SessionMoment}
 
--- One try: in some epoch, between two states of the executor, with no other session between them, the session executed
--- the order, as its client sees it over all epochs. The lines of its events came after the pending lines (`waited`),
--- and of all these something is known: that they were appended, or that the store had them.
-pub record DurableAttempt (knows : List ℕ → Type 0) (names : List (List ℕ)) (old : SessionState) (its : Order)
-    (now : SessionState) (answer : SessionReply) : Type 0 where
-  pub base : Base
-  pub before : ExecutorState
-  pub after : ExecutorState
-  pub obeys : SessionStepAcrossCheckpoints base (executor_session before old) its (executor_session after now) answer
-  pub waited : List ℕ
-  pub lines : List ℕ
-  pub written : LoggedStep names (logged_state before waited) (logged_state after lines)
-  pub known : knows lines
+-- One try: at one moment of the log, with no other session between, the session executed the order, as its client sees
+-- it over all epochs.
+pub record DurableAttempt (opening : ServerOpening) (old : SessionMoment) (its : Order) (now : SessionMoment)
+    (answer : SessionReply) : Type 0 where
+  pub before : ServerState
+  pub after : ServerState
+  pub acts : SessionActs opening old before now after
+  pub obeys : SessionStepAcrossCheckpoints before.base (executor_session before.executor old.session) its
+      (executor_session after.executor now.session) answer
 
 -- An order with this reply is continued: its job waits, or another session has the worker that it would take over.
 abbrev pub IsAnswerUnfinished : SessionReply → Type 0
 IsAnswerUnfinished first = (is_still_waiting first ≡ true) ⊎ (first ≡ Refused Taken)
 
 -- An order is executed by one try, and by this number of further tries; between tries other sessions may act.
-abbrev pub DurableAttempts : (SessionState → Order → SessionState → SessionReply → Type 0) → ℕ → SessionState → Order
-    → SessionState → SessionReply → Type 0
-DurableAttempts attempt zero old its now answer = attempt old its now answer
-DurableAttempts attempt (suc more) old its now answer =
-    (mid : SessionState) × (first : SessionReply) × (last : SessionReply)
-    × DurableAttempts attempt more old its mid first × IsAnswerUnfinished first
-    × attempt mid (retry_order its) now last × (answer ≡ merged_reply first last)
-
-abbrev pub DurableOrder : (List ℕ → Type 0) → List (List ℕ) → SessionState → Order → SessionState → SessionReply
-    → Type 0
-DurableOrder known names old its now answer =
-    (more : ℕ) × DurableAttempts (DurableAttempt known names) more old its now answer
+abbrev pub DurableAttempts : ServerOpening → ℕ → SessionMoment → Order → SessionMoment → SessionReply → Type 0
+DurableAttempts opening zero old its now answer = DurableAttempt opening old its now answer
+DurableAttempts opening (suc more) old its now answer =
+    (mid : SessionMoment) × (first : SessionReply) × (last : SessionReply)
+    × DurableAttempts opening more old its mid first × IsAnswerUnfinished first
+    × DurableAttempt opening mid (retry_order its) now last × (answer ≡ merged_reply first last)
 
 -- An order is executed by this number of tries.
-abbrev pub DurableTries : (SessionState → Order → SessionState → SessionReply → Type 0) → ℕ → SessionState → Order
-    → SessionState → SessionReply → Type 0
-DurableTries attempt zero old its now answer = ⊥
-DurableTries attempt (suc more) old its now answer = DurableAttempts attempt more old its now answer
+abbrev pub DurableTries : ServerOpening → ℕ → SessionMoment → Order → SessionMoment → SessionReply → Type 0
+DurableTries opening zero old its now answer = ⊥
+DurableTries opening (suc more) old its now answer = DurableAttempts opening more old its now answer
+
+abbrev pub DurableOrder : ServerOpening → SessionMoment → Order → SessionMoment → SessionReply → Type 0
+DurableOrder opening old its now answer = (more : ℕ) × DurableAttempts opening more old its now answer
 
 -- An order that would attach the checkpoint worker. The workers below `clients` can be attached.
 abbrev pub asks_checkpoint_worker : ℕ → Order → Bool
 asks_checkpoint_worker clients (Attach asked) = nat_le clients asked.worker
 asks_checkpoint_worker clients its = false
 
--- What the answers of a durable server depend on: the number of workers that clients can attach, and the lock names.
-pub record ClientTerms : Type 0 where
+-- What the answers of a durable server depend on: the number of workers that clients can attach, and the opening.
+pub record ClientTerms : Type 1 where
   pub clients : ℕ
-  pub names : List (List ℕ)
+  pub opening : ServerOpening
 
-abbrev pub client_terms : ℕ → List (List ℕ) → ClientTerms
-client_terms clients names = record { clients = clients; names = names }
+abbrev pub client_terms : ℕ → ServerOpening → ClientTerms
+client_terms clients opening = record { clients = clients; opening = opening }
 
--- An order that would attach the checkpoint worker is refused as if there were no such worker.
-abbrev pub DurableOrderEffect : (List ℕ → Type 0) → ClientTerms → SessionState → Order → SessionState → SessionReply
-    → Type 0
-DurableOrderEffect known terms old its now answer =
+-- An order that would attach the checkpoint worker is refused as if there were no such worker. Any other is executed,
+-- and answered once everything before its moment is durable.
+abbrev pub DurableOrderEffect : {X : Type 0} → (X → Option (List ℕ)) → ClientTerms → SessionMoment → Order
+    → SessionMoment → SessionReply → Type 0
+DurableOrderEffect holds terms old its now answer =
     ((asks_checkpoint_worker terms.clients its ≡ true) × (answer ≡ Refused NoWorker) × (now ≡ old))
-    ⊎ DurableOrder known terms.names old its now answer
+    ⊎ (DurableOrder terms.opening old its now answer × IsLogDurable holds now.log)
 
 -- A session has no worker before its first line.
-abbrev pub IsSessionBegun : Option SessionState → SessionState → Type 0
-IsSessionBegun None stand = (stand.worker ≡ None) × (stand.planned ≡ Nothing)
+abbrev pub IsSessionBegun : Option SessionMoment → SessionMoment → Type 0
+IsSessionBegun None stand = (stand.session.worker ≡ None) × (stand.session.planned ≡ Nothing)
 IsSessionBegun (Some old) stand = stand ≡ old
 
--- A line that is an order is answered by its reply, once the store had the lines of each try: there was a moment at
--- which all lines pending after the try were in the store, those of the try at their end. A line that is no order is
--- answered by its look-up, of which nothing is said here, or by why it is refused. Without an order the session is
--- unchanged.
-abbrev pub DurableLineReply : {X : Type 0} → (X → Option (List ℕ)) → ClientTerms → SessionState → Result Order Refusal
-    → List ℕ → SessionState → Type 0
+-- The answers of the world's own look-ups.
+abbrev pub owner_reply : Result (Option ℕ) Refusal → Reply
+owner_reply (Ok owner) = line.Owner owner
+owner_reply (Err why) = line.Refused why
+
+abbrev pub cells_reply : Result (List ℕ × Bool) Refusal → Reply
+cells_reply (Ok cells) = line.Cells cells.0 cells.1
+cells_reply (Err why) = line.Refused why
+
+-- What a look-up shows of a state: the answer of the world's own call. Of a status nothing is said here.
+abbrev pub LookupShows : List (List ℕ) → WorldView → SessionLookup → List ℕ → Type 0
+LookupShows names seen (Owner lock) bytes =
+    (found : Result (Option ℕ) Refusal) × OwnerContract seen lock found
+    × (bytes ≡ reply_text names seen.history (owner_reply found) ++ 10 ∷ [])
+LookupShows names seen (Cells lock) bytes =
+    (found : Result (List ℕ × Bool) Refusal) × CellsContract seen lock found
+    × (bytes ≡ reply_text names seen.history (cells_reply found) ++ 10 ∷ [])
+LookupShows names seen Status bytes = Unit {0}
+
+-- The log leads to a state in which the look-up shows this.
+pub record LookupMoment (opening : ServerOpening) (look : SessionLookup) (bytes : List ℕ) (log : List LogEntry) : Type 0
+  where
+    pub state : ServerState
+    pub leads : LogLeads opening log state
+    pub shows : LookupShows opening.names state.executor.world look bytes
+
+-- A look-up is answered with what it shows at one moment of the log, once everything before that moment is durable.
+pub record DurableLookup {X : Type 0} (holds : X → Option (List ℕ)) (opening : ServerOpening) (old : SessionMoment)
+    (look : SessionLookup) (bytes : List ℕ) (now : SessionMoment) : Type 0 where
+  pub session : now.session ≡ old.session
+  pub later : IsPrefix old.log now.log
+  pub moment : LookupMoment opening look bytes now.log
+  pub held : IsLogDurable holds now.log
+
+-- A session ended at some moment of the log, and everything before that is durable.
+abbrev pub IsSessionEndDurable : {X : Type 0} → (X → Option (List ℕ)) → ServerOpening → SessionMoment → Type 0
+IsSessionEndDurable holds opening old = (log : List LogEntry) × SessionEnds opening old log × IsLogDurable holds log
+
+-- A line that is an order is answered by its reply, once everything before the moments of its tries is durable. A line
+-- that is no order is answered as a look-up, or by why it is refused.
+abbrev pub DurableLineReply : {X : Type 0} → (X → Option (List ℕ)) → ClientTerms → SessionMoment → Result Order Refusal
+    → List ℕ → SessionMoment → Type 0
 DurableLineReply holds terms old (Ok its) bytes now =
-    (reply : SessionReply) × DurableOrderEffect (StoreHadLines holds) terms old its now reply
-    × (bytes ≡ session_reply_line terms.names reply)
-DurableLineReply holds terms old (Err BadLine) bytes now = now ≡ old
+    (reply : SessionReply) × DurableOrderEffect holds terms old its now reply
+    × (bytes ≡ session_reply_line terms.opening.names reply)
+DurableLineReply holds terms old (Err BadLine) bytes now =
+    ((look : SessionLookup) × DurableLookup holds terms.opening old look bytes now)
+    ⊎ ((now ≡ old) × (bytes ≡ session_reply_line terms.opening.names (Refused BadLine)))
 DurableLineReply holds terms old (Err why) bytes now =
-    (now ≡ old) × (bytes ≡ session_reply_line terms.names (Refused why))
+    (now ≡ old) × (bytes ≡ session_reply_line terms.opening.names (Refused why))
 
 pub record DurableLineAnswer {X : Type 0} (holds : X → Option (List ℕ)) (terms : ClientTerms)
-    (old : Option SessionState) (line : InputLine) (bytes : List ℕ) (now : Option SessionState) : Type 0 where
-  pub start : SessionState
-  pub end : SessionState
+    (old : Option SessionMoment) (line : InputLine) (bytes : List ℕ) (now : Option SessionMoment) : Type 0 where
+  pub start : SessionMoment
+  pub end : SessionMoment
   pub begun : IsSessionBegun old start
   pub is : now ≡ Some end
-  pub answers : DurableLineReply holds terms start (parsed_order terms.names service_numbers line) bytes end
+  pub answers : DurableLineReply holds terms start (parsed_order terms.opening.names service_numbers line) bytes end

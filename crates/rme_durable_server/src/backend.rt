@@ -6,15 +6,14 @@ ghost use Rattle.rme_line_io.specs.BufferedWrites.{BufferedWrite};
 ghost use Rattle.rme_line_io.specs.StreamEvents.{LastWriteFailed, WritesMade};
 ghost use Rattle.rme_session_server.specs.SessionAnswers.{AnswerFailure};
 
-use crate::durable_executor::DurableReply;
 use crate::durable_server::DurableServer;
 use crate::lookup::{SessionLookup, parse_lookup};
-use rme_durable_log::{LogStore, LogTag};
-use rme_session_protocol::{SERVICE_NUMBERS, SessionReply};
+use crate::session::{DurableSession, ServerTag};
+use rme_durable_log::LogStore;
+use rme_session_protocol::{ClientReply, SERVICE_NUMBERS, SessionReply};
 use rme_session_server::{
-    AnswerError, Backend, Buffers, Client, CloseHandle, OrderRequest, OrderRun,
+    AnswerError, AttemptError, Backend, Buffers, Client, CloseHandle, OrderRequest, OrderRun,
 };
-use rme_session_world::SessionState;
 use rme_wire::{Names, Sink};
 use rme_words::Refusal;
 use std::alloc::Global;
@@ -23,12 +22,12 @@ use std::time::Clock;
 
 /// A line is executed as an order of a session, or answered as a look-up. It is answered once all log lines that the
 /// answer depends on are durable. A session whose lines can't be logged ends without an answer, and with it the server.
-impl<L: LogStore, H: CloseHandle, J: LogTag> Backend for DurableServer<L, H, J> {
-    ghost use Rattle.std.specs.Prelude.{⊤, None};
-    ghost use Rattle.rme_durable_server.specs.DurableAnswers.{DurableLineAnswer, client_terms};
+impl<L: LogStore, H: CloseHandle, J: ServerTag> Backend for DurableServer<L, H, J> {
+    ghost use Rattle.std.specs.Prelude.{⊤, IfSome, None};
+    ghost use Rattle.rme_durable_server.specs.DurableAnswers.{DurableLineAnswer, IsSessionEndDurable, client_terms};
 
     /// `None` before its first line.
-    type Stand = Option<SessionState>;
+    type Stand = Option<DurableSession<L, J>>;
 
     type Handle = H;
 
@@ -38,7 +37,9 @@ impl<L: LogStore, H: CloseHandle, J: LogTag> Backend for DurableServer<L, H, J> 
 
     ghost nobody = { λ _. None };
 
-    ghost answers = { λ kept _. DurableLineAnswer L.holds (client_terms kept.clients kept.names) };
+    ghost ends = { λ _ stand. IfSome stand (IsSessionEndDurable L.holds J.opening) };
+
+    ghost answers = { λ kept _. DurableLineAnswer L.holds (client_terms kept.clients J.opening) };
 
     fn alloc(&self) -> Global {
         self.alloc
@@ -53,62 +54,76 @@ impl<L: LogStore, H: CloseHandle, J: LogTag> Backend for DurableServer<L, H, J> 
         self.is_failed()
     }
 
-    fn begin_session(&self) -> Option<SessionState> {
+    fn begin_session(&self) -> Option<DurableSession<L, J>> {
         None
     }
 
     fn answer<R: Wait + Clock, O: Sink, C: Client<Handle = H>>(
         &self,
         rt: &R,
-        stand: Option<SessionState>,
+        stand: Option<DurableSession<L, J>>,
         buffers: &mut Buffers,
         writer: &mut O,
         client: &C,
-    ) -> (Option<SessionState>, Result<(), AnswerError>) {
-        let stand = self.session_or_new(stand);
+    ) -> (Option<DurableSession<L, J>>, Result<(), AnswerError>) {
+        let Some(session) = self.session_or_new(rt, stand) else {
+            return (None, Err(AnswerError::NotLogged));
+        };
         let order = match buffers.parse_order(&self.names, SERVICE_NUMBERS) {
             Ok(Ok(order)) => order,
-            Ok(Err(why)) => return (Some(stand), self.answer_non_order(rt, why, buffers)),
-            Err(_) => return (Some(stand), Err(AnswerError::NoMemory)),
+            Ok(Err(why)) => {
+                let (session, answered) = self.answer_non_order(rt, session, why, buffers);
+                return (Some(session), answered);
+            }
+            Err(_) => return (Some(session), Err(AnswerError::NoMemory)),
         };
         let run = OrderRun {
             backend: self,
             request: OrderRequest { client, order },
         };
-        let (stand, answered) = answer_order(rt, stand, &run, buffers, writer);
-        (Some(stand), answered)
+        let (session, answered) = answer_order(rt, session, &run, buffers, writer);
+        (Some(session), answered)
     }
 
-    fn end_session<R: Wait>(&self, rt: &R, stand: Option<SessionState>) {
-        if let Some(stand) = stand {
-            self.detach_session(rt, stand);
+    fn end_session<R: Wait>(
+        &self,
+        rt: &R,
+        stand: Option<DurableSession<L, J>>,
+    ) -> Result<(), AttemptError> {
+        let Some(session) = stand else {
+            return Ok(());
+        };
+        match self.detach_session(rt, session) {
+            Ok(()) => Ok(()),
+            Err(_) => Err(AttemptError::NotLogged),
         }
     }
 }
 
-impl<L: LogStore, H: CloseHandle, J: LogTag> DurableServer<L, H, J> {
-    ghost use Rattle.std.specs.Prelude.{◌≡◌, ◌≢◌, IfErr, OnOk, string_bytes, Err};
-    ghost use Rattle.rme_session_world.specs.declared.executor.SessionState.{SessionState as Session};
-    ghost use Rattle.rme_durable_server.specs.DurableAnswers.{DurableLineReply, IsSessionBegun, client_terms};
-    ghost use Rattle.rme_durable_log.specs.Logs.{StoreHadAllLines};
+impl<L: LogStore, H: CloseHandle, J: ServerTag> DurableServer<L, H, J> {
+    ghost use Rattle.std.specs.Prelude.{◌≡◌, ◌≢◌, IfErr, IfOk, IfSome, OnOk, string_bytes, Err};
+    ghost use mathlib.Core.List.{IsPrefix};
+    ghost use Rattle.rme_durable_server.specs.DurableAnswers.{DurableLineReply, DurableLookup, IsSessionBegun, client_terms};
+    ghost use Rattle.rme_durable_log.specs.Logs.{IsLogDurable};
     ghost use Rattle.rme_session_protocol.specs.SessionLines.{session_reply_line};
     ghost use Rattle.rme_session_protocol.specs.ClientReplies.{reply_of_client};
 
-    /// Answers the reply to an order, once its lines are durable.
+    /// Answers the reply to an order of a session, once everything before the session's position is durable.
     fn answer_committed<R: Wait>(
         &self,
         rt: &R,
-        executed: DurableReply<L, J>,
+        session: &DurableSession<L, J>,
+        reply: ClientReply,
         buffers: &mut Buffers,
     ) -> Result<(), AnswerError>
         ensures says { OnOk result (string_bytes buffers.new.text ≡ session_reply_line self.now.names
-            (reply_of_client executed.answered.reply)) }
-        ensures kept { OnOk result (StoreHadAllLines L.holds executed.end) }
+            (reply_of_client reply)) }
+        ensures kept { OnOk result (IsLogDurable L.holds session.now.log) }
         ensures same { buffers.new.exchange ≡ buffers.old.exchange }
         ensures err { IfErr result (λ why. why ≢ AnswerError.WriteFailed) }
     {
-        match self.commit(rt, &executed.end) {
-            Ok(()) => buffers.write_client_reply(&self.names, executed.answered.reply),
+        match self.commit(rt, &session.end) {
+            Ok(()) => buffers.write_client_reply(&self.names, reply),
             Err(_) => Err(AnswerError::NotLogged),
         }
     }
@@ -117,22 +132,23 @@ impl<L: LogStore, H: CloseHandle, J: LogTag> DurableServer<L, H, J> {
     fn answer_non_order<R: Wait>(
         &self,
         rt: &R,
+        session: DurableSession<L, J>,
         why: Refusal,
         buffers: &mut Buffers,
-    ) -> Result<(), AnswerError>
-        ensures answers { OnOk result ((stand : Session)
-            → DurableLineReply L.holds (client_terms self.now.clients self.now.names) stand (Err why)
-            (string_bytes buffers.new.text) stand) }
+    ) -> (DurableSession<L, J>, Result<(), AnswerError>)
+        ensures answers { OnOk result.1 (DurableLineReply L.holds (client_terms self.now.clients J.opening) session
+            (Err why) (string_bytes buffers.new.text) result.0) }
         ensures same { buffers.new.exchange ≡ buffers.old.exchange }
-        ensures err { IfErr result (λ why. why ≢ AnswerError.WriteFailed) }
+        ensures err { IfErr result.1 (λ why. why ≢ AnswerError.WriteFailed) }
     {
+        let refused = SessionReply::Refused(why);
         if why != Refusal::BadLine {
-            return buffers.write_reply(&self.names, SessionReply::Refused(why));
+            return (session, buffers.write_reply(&self.names, refused));
         }
         match parse_lookup(self.alloc, &self.names, buffers.exchange.line()) {
-            Ok(Some(look)) => self.answer_lookup(rt, look, &mut buffers.text),
-            Ok(None) => buffers.write_reply(&self.names, SessionReply::Refused(why)),
-            Err(_) => Err(AnswerError::NoMemory),
+            Ok(Some(look)) => self.answer_lookup(rt, session, look, &mut buffers.text),
+            Ok(None) => (session, buffers.write_reply(&self.names, refused)),
+            Err(_) => (session, Err(AnswerError::NoMemory)),
         }
     }
 
@@ -140,33 +156,36 @@ impl<L: LogStore, H: CloseHandle, J: LogTag> DurableServer<L, H, J> {
     fn answer_lookup<R: Wait>(
         &self,
         rt: &R,
+        session: DurableSession<L, J>,
         look: SessionLookup,
         text: &mut String,
-    ) -> Result<(), AnswerError>
-        ensures err { IfErr result (λ why. why ≢ AnswerError.WriteFailed) }
+    ) -> (DurableSession<L, J>, Result<(), AnswerError>)
+        ensures answers { OnOk result.1 (DurableLookup L.holds J.opening session look (string_bytes text.new)
+            result.0) }
+        ensures err { IfErr result.1 (λ why. why ≢ AnswerError.WriteFailed) }
     {
-        text.clear();
-        let end = match self.append_lookup(rt, look, text) {
+        let end = match self.write_lookup(rt, look, &session.end, text) {
             Ok(Some(end)) => end,
-            Ok(None) => return Err(AnswerError::NotLogged),
-            Err(_) => return Err(AnswerError::NoMemory),
+            Ok(None) => return (session, Err(AnswerError::NotLogged)),
+            Err(_) => return (session, Err(AnswerError::NoMemory)),
         };
-        if text.push_str("\n").is_err() {
-            return Err(AnswerError::NoMemory);
-        }
         match self.commit(rt, &end) {
-            Ok(()) => Ok(()),
-            Err(_) => Err(AnswerError::NotLogged),
+            Ok(()) => (session.moved_to(end), Ok(())),
+            Err(_) => (session, Err(AnswerError::NotLogged)),
         }
     }
 
-    /// The session, or a new one without a worker before the first line.
-    fn session_or_new(&self, stand: Option<SessionState>) -> SessionState
-        ensures { IsSessionBegun stand result }
+    /// The session, or a new one without a worker before the first line; `None` once an event could not be logged.
+    fn session_or_new<R: Wait>(
+        &self,
+        rt: &R,
+        stand: Option<DurableSession<L, J>>,
+    ) -> Option<DurableSession<L, J>>
+        ensures { IfSome result (λ session. IsSessionBegun stand session) }
     {
         match stand {
-            Some(stand) => stand,
-            None => self.new_session(),
+            Some(session) => Some(session),
+            None => self.begin_durable_session(rt),
         }
     }
 }
@@ -176,20 +195,19 @@ impl<L: LogStore, H: CloseHandle, J: LogTag> DurableServer<L, H, J> {
 fn answer_order<
     L: LogStore,
     H: CloseHandle,
-    J: LogTag,
+    J: ServerTag,
     R: Wait + Clock,
     O: Sink,
     C: Client<Handle = H>,
 >(
     rt: &R,
-    session: SessionState,
+    session: DurableSession<L, J>,
     run: &OrderRun<'_, DurableServer<L, H, J>, C>,
     buffers: &mut Buffers,
     writer: &mut O,
-) -> (SessionState, Result<(), AnswerError>)
-    ensures answers { OnOk result.1 (DurableLineReply L.holds
-        (client_terms run.now.backend.now.clients run.now.backend.now.names) session (Ok run.now.request.order)
-        (string_bytes buffers.new.text) result.0) }
+) -> (DurableSession<L, J>, Result<(), AnswerError>)
+    ensures answers { OnOk result.1 (DurableLineReply L.holds (client_terms run.now.backend.now.clients J.opening)
+        session (Ok run.now.request.order) (string_bytes buffers.new.text) result.0) }
     ensures gathers { OnOk result.1 (BufferedWrite (O.contents writer.old) buffers.old.exchange.pending []
         (O.contents writer.new) buffers.new.exchange.pending) }
     ensures err { IfErr result.1 (λ why. AnswerFailure why (O.contents writer.old) buffers.old.exchange.pending
@@ -205,7 +223,10 @@ fn answer_order<
     }
     let (session, replied) = run.execute(rt, session, &mut buffers.exchange, writer);
     match replied {
-        Ok(reply) => (session, server.answer_committed(rt, reply, buffers)),
+        Ok(answered) => {
+            let told = server.answer_committed(rt, &session, answered.reply, buffers);
+            (session, told)
+        }
         Err(why) => (session, Err(why)),
     }
 }

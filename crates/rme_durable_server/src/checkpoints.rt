@@ -1,14 +1,14 @@
 //! Checkpoints: a new epoch begins once the log of one has grown long.
 
-ghost use Rattle.std.specs.Prelude.{◌≡◌, [], IfSome};
+ghost use Rattle.std.specs.Prelude.{◌≡◌};
 
 use crate::durable_executor::DurableExecutor;
 use crate::durable_server::DurableServer;
-use rme_durable_checkpoint::{Checkpoint, EpochExecutor};
-use rme_durable_log::{LogStore, LogTag, LogWriter, PendingLines};
+use crate::session::ServerTag;
+use rme_durable_checkpoint::EpochExecutor;
+use rme_durable_log::{LogStore, LogWriter, PendingLines};
 use rme_session_protocol::{Attachment, Order};
 use rme_session_server::CloseHandle;
-use rme_session_world::SessionState;
 use std::sync::atomic::{AtomicBool, AtomicU64, Ordering};
 use std::sync::{Mutex, Wait};
 use std::time::{Clock, Duration, Instant};
@@ -127,8 +127,8 @@ impl CheckpointPolicy {
     }
 }
 
-impl<L: LogStore, H: CloseHandle, J: LogTag> DurableServer<L, H, J> {
-    ghost use Rattle.std.specs.Prelude.{◌≡◌, [], IfSome};
+impl<L: LogStore, H: CloseHandle, J: ServerTag> DurableServer<L, H, J> {
+    ghost use Rattle.std.specs.Prelude.{◌≡◌};
 
     /// Makes a checkpoint, if one is still due, or if this worker has used all job numbers of the epoch. Meanwhile no
     /// other session does anything. None is tried soon after one that failed. Answers true if a new epoch began, or if
@@ -142,11 +142,7 @@ impl<L: LogStore, H: CloseHandle, J: LogTag> DurableServer<L, H, J> {
         };
         let mut executor = self.executor.lock(rt);
         let is_due = self.is_checkpoint_due(rt, &executor, spent);
-        let renewed = if is_due {
-            self.build_checkpoint(&mut executor)
-        } else {
-            None
-        };
+        let is_possible = is_due && self.finish_exits(&mut executor).is_some();
         let Some(taken) = executor.take_lines(spare) else {
             self.observe(&executor);
             drop(executor);
@@ -154,7 +150,10 @@ impl<L: LogStore, H: CloseHandle, J: LogTag> DurableServer<L, H, J> {
             self.commits.fail(rt);
             return false;
         };
-        let (kept, is_new) = install_checkpoint(&mut executor, held.append(&taken), renewed);
+        let (kept, is_new) = match held.append(&taken) {
+            Ok(held) if is_possible => self.begin_epoch(&mut executor, held),
+            kept => (kept, false),
+        };
         if is_due {
             self.due.note_attempt(rt, executor.executor(), is_new);
         }
@@ -176,46 +175,43 @@ impl<L: LogStore, H: CloseHandle, J: LogTag> DurableServer<L, H, J> {
         is_due && self.due.may_try(rt)
     }
 
-    /// The checkpoint, if it could be built and its state is validated against this epoch's.
-    fn build_checkpoint(&self, executor: &mut DurableExecutor<L, J>) -> Option<Checkpoint>
-        ensures { IfSome result (λ renewed. renewed.executor.lines ≡ []) }
-    {
+    /// Lets each worker leave the lock of its finished job that crashed before it left: a new epoch cannot have it
+    /// inside. `None` if an event could not be logged, or memory was refused.
+    fn finish_exits(&self, executor: &mut DurableExecutor<L, J>) -> Option<()> {
         for _ in 0..self.names.len() {
             match executor.executor().crashed_before_exit() {
                 Some(worker) => self.finish_exit(executor, worker)?,
                 None => break,
             }
         }
-        executor.executor().checkpoint(self.alloc, &self.names).ok()
+        Some(())
+    }
+
+    /// Replaces the epoch by its checkpoint, in the log first, once all earlier lines are stored. Answers whether it did:
+    /// not if the checkpoint could not be built.
+    fn begin_epoch(
+        &self,
+        executor: &mut DurableExecutor<L, J>,
+        held: LogWriter<L, J>,
+    ) -> (Result<LogWriter<L, J>, L>, bool) {
+        match executor.build_checkpoint(self.alloc, &self.names) {
+            Some(renewed) => executor.install_checkpoint(held, renewed),
+            None => (Ok(held), false),
+        }
     }
 
     /// Attaches a crashed worker, which leaves the lock of its finished job, and detaches it again.
     fn finish_exit(&self, executor: &mut DurableExecutor<L, J>, worker: u32) -> Option<()> {
-        let mut stand = self.new_session();
+        let mut session = executor.begin_session()?;
         let order = Order::Attach(Attachment {
             worker,
             take: false,
         });
-        executor.execute(&self.names, &mut stand, &order).ok()?;
-        executor.detach_session(&self.names, &mut stand).ok()?;
-        Some(())
-    }
-}
-
-/// Replaces the epoch by the checkpoint, in the log first, once all earlier lines are stored. Answers whether it did.
-fn install_checkpoint<L: LogStore, J: LogTag>(
-    durable: &mut DurableExecutor<L, J>,
-    kept: Result<LogWriter<L, J>, L>,
-    renewed: Option<Checkpoint>,
-) -> (Result<LogWriter<L, J>, L>, bool)
-    requires { IfSome renewed (λ renewed. renewed.executor.lines ≡ []) }
-{
-    match (kept, renewed) {
-        (Ok(held), Some(Checkpoint { bytes, executor })) => durable.install_checkpoint(
-            held,
-            bytes.as_bytes(),
-            executor,
-        ),
-        (kept, _) => (kept, false),
+        let answered = match executor.execute(&self.names, &session, &order) {
+            Ok(done) => Some(session.advance(done)),
+            Err(_) => None,
+        };
+        executor.detach_session(&self.names, session).ok()?;
+        answered.map(|_| ())
     }
 }

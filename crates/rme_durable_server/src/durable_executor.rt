@@ -1,66 +1,68 @@
 //! The executor of the durable server: the lines of its event batches are appended to the log.
 
-ghost use Rattle.std.specs.Prelude.{◌≡◌, ◌≤◌, ◌++◌, IsTrue, drop, length};
+ghost use Rattle.std.specs.Prelude.{◌≡◌, ◌≤◌, IfSome, OnSome, drop, length};
+ghost use Rattle.rme_durable_server.specs.ServerHistories.{AppendsIfAny};
 
-use rme_durable_checkpoint::{ApplyError, ClientAnswer, EpochExecutor};
+use crate::session::{DurableSession, ServerTag};
+use rme_durable_checkpoint::{ApplyError, Checkpoint, ClientAnswer, EpochExecutor};
 use rme_durable_log::{
-    LogAppender, LogPosition, LogStore, LogTag, LogWriter, PendingBatch, PendingLines,
+    LogAppender, LogAuthor, LogPosition, LogStore, LogTag, LogWriter, PendingBatch, PendingLines,
 };
 use rme_session_protocol::Order;
 use rme_session_world::SessionState;
 use rme_wire::Names;
+use std::alloc::Global;
 use std::marker::Model;
 
-/// The reply to an order, and a position of the log: once the log is durable up to it, the lines of the order are.
+/// The reply to an order, the state of its session afterwards, and the end of the log then.
 #[derive(Drop)]
-pub struct DurableReply<L: LogStore, J: LogTag> {
+pub(crate) struct DurableReply<L: LogStore, J: LogTag> {
     pub(crate) answered: ClientAnswer,
+    pub(crate) state: SessionState,
     pub(crate) end: LogPosition<L, J>,
 }
 
 /// An executor, and the appender of its lines. In contracts it is the executor.
 #[derive(Drop)]
-pub(crate) struct DurableExecutor<L: LogStore, J: LogTag> {
+pub(crate) struct DurableExecutor<L: LogStore, J: ServerTag> {
     executor: EpochExecutor,
     /// `None` once an event batch could not be logged. Then no order is executed any more.
     appender: Option<LogAppender<L, J>>,
 }
 
-impl<L: LogStore, J: LogTag> Model for DurableExecutor<L, J> {
-    ghost use Rattle.std.specs.Prelude.{◌≡◌, IfSome};
+impl<L: LogStore, J: ServerTag> Model for DurableExecutor<L, J> {
+    ghost use Rattle.std.specs.Prelude.{IfSome};
     ghost use Rattle.rme_durable_checkpoint.specs.EpochStates.{EpochState};
+    ghost use Rattle.rme_durable_server.specs.ServerHistories.{IsLogged};
 
     ghost Value = { EpochState };
 
     ghost view = { λ executor. executor.executor };
 
-    // The pending lines of the appender are those of the executor.
-    ghost invariant = { λ executor. IfSome executor.appender (λ appender. appender.waits ≡ executor.executor.lines) };
+    // The log leads to the state of the executor, whose pending lines are those of the appender.
+    ghost invariant = { λ executor. IfSome executor.appender (λ appender. IsLogged J.opening executor.executor
+        appender.log appender.waits) };
 }
 
-impl<L: LogStore, J: LogTag> DurableExecutor<L, J> {
-    ghost use Rattle.std.specs.Prelude.{◌≡◌, [], IfOk, OnOk};
-    ghost use Rattle.rme_durable_checkpoint.specs.EpochStates.{SessionStepAcrossCheckpoints, executor_session};
-    ghost use Rattle.rme_durable_checkpoint.specs.LoggedStates.{LoggedStep, logged_state};
-    ghost use Rattle.rme_durable_log.specs.Logs.{IsAppended};
+impl<L: LogStore, J: ServerTag> DurableExecutor<L, J> {
+    ghost use Rattle.std.specs.Prelude.{◌≡◌, ◌∷◌, [], IfOk, IfSome, List, None, ℕ, string_bytes};
+    ghost use mathlib.Core.List.{IsPrefix};
+    ghost use Rattle.rme_durable_log.specs.declared.log_entry.LogEntry.TheVariants.{Whole};
+    ghost use Rattle.rme_durable_server.specs.DurableAnswers.{DurableAttempt, IsSessionBegun};
+    ghost use Rattle.rme_durable_server.specs.ServerHistories.{BeginsEpoch, LogLeads, SessionEnds, server_state, session_moment};
     ghost use Rattle.rme_session_protocol.specs.ClientReplies.{reply_of_client};
 
-    /// An executor whose lines so far are appended.
+    /// The executor of a server's opening, with a log that begins there.
     pub(crate) fn new(executor: EpochExecutor, appender: LogAppender<L, J>) -> DurableExecutor<L, J>
-        requires { appender.waits ≡ [] }
+        requires waits { appender.waits ≡ [] }
+        requires first { (bytes : List ℕ) × (appender.log ≡ Whole bytes ∷ []) }
+        requires lines { executor.lines ≡ [] }
+        requires begins { J.opening.begins (server_state executor.executor executor.base) }
         ensures { result ≡ executor }
     {
-        let mut appender = appender;
-        if append_new_lines(&mut appender, &executor, 0) {
-            DurableExecutor {
-                executor,
-                appender: Some(appender),
-            }
-        } else {
-            DurableExecutor {
-                executor,
-                appender: None,
-            }
+        DurableExecutor {
+            executor,
+            appender: Some(appender),
         }
     }
 
@@ -76,10 +78,27 @@ impl<L: LogStore, J: LogTag> DurableExecutor<L, J> {
         self.executor.is_failed() || self.appender.is_none()
     }
 
-    /// The end of the log; `None` once an event batch could not be logged.
-    pub(crate) fn position(&self) -> Option<LogPosition<L, J>> {
+    /// A new session without a worker, at the current end of the log. `None` once an event batch could not be logged,
+    /// and if there are no more numbers of sessions.
+    pub(crate) fn begin_session(&mut self) -> Option<DurableSession<L, J>>
+        ensures begun { IfSome result (λ session. IsSessionBegun None session) }
+        ensures same { self.new ≡ self.old }
+    {
+        let appender = self.appender.take()?;
+        let mut appender = appender;
+        let session = DurableSession::begin(&mut appender);
+        self.appender = Some(appender);
+        session
+    }
+
+    /// The end of the log, which is not before this position; `None` once an event batch could not be logged.
+    pub(crate) fn position_after(&self, earlier: &LogPosition<L, J>) -> Option<LogPosition<L, J>>
+        ensures leads { IfSome result (λ end. LogLeads J.opening end
+            (server_state self.now.executor self.now.base)) }
+        ensures later { IfSome result (λ end. IsPrefix earlier.now end) }
+    {
         match &self.appender {
-            Some(appender) => Some(appender.position()),
+            Some(appender) => appender.position_after(earlier),
             None => None,
         }
     }
@@ -91,22 +110,23 @@ impl<L: LogStore, J: LogTag> DurableExecutor<L, J> {
     pub(crate) fn execute(
         &mut self,
         names: &Names,
-        session: &mut SessionState,
+        session: &DurableSession<L, J>,
         order: &Order,
     ) -> Result<DurableReply<L, J>, ApplyError>
-        ensures obeys { IfOk result (λ obeyed. SessionStepAcrossCheckpoints self.old.base
-            (executor_session self.old.executor session.old) order.now (executor_session self.new.executor session.new)
-            (reply_of_client obeyed.answered.reply)) }
-        ensures written { OnOk result (LoggedStep names.now (logged_state self.old.executor self.old.lines)
-            (logged_state self.new.executor self.new.lines)) }
-        ensures told { IfOk result (λ obeyed. IsAppended obeyed.end self.new.lines) }
+        requires names { names.now ≡ J.opening.names }
+        ensures { IfOk result (λ done. DurableAttempt J.opening session.now order.now
+            (session_moment done.state done.end) (reply_of_client done.answered.reply)) }
     {
         let Some(appender) = self.appender.take() else {
             return Err(ApplyError::NotLogged);
         };
         let mut appender = appender;
+        let Some(_moment) = appender.position_after(&session.end) else {
+            return Err(ApplyError::NotLogged);
+        };
         let before = self.executor.lines().len();
-        let answered = match self.executor.execute(names, session, order) {
+        let mut state = session.state;
+        let answered = match self.executor.execute(names, &mut state, order) {
             Ok(answered) => answered,
             Err(ApplyError::NoMemory) => {
                 self.appender = Some(appender);
@@ -114,52 +134,76 @@ impl<L: LogStore, J: LogTag> DurableExecutor<L, J> {
             }
             Err(ApplyError::NotLogged) => return Err(ApplyError::NotLogged),
         };
-        if !append_new_lines(&mut appender, &self.executor, before) {
+        let appended = append_new_lines(&mut appender, &session.author, &self.executor, before);
+        let Some(end) = appended else {
             return Err(ApplyError::NotLogged);
-        }
-        let end = appender.position();
+        };
         self.appender = Some(appender);
-        Ok(DurableReply { answered, end })
+        Ok(DurableReply {
+            answered,
+            state,
+            end,
+        })
     }
 
     /// Ends a session: its worker, if it has one, crashes, and the lines of that are appended. Answers the position
-    /// after them.
+    /// after them. After an error no order is executed any more.
     pub(crate) fn detach_session(
         &mut self,
         names: &Names,
-        session: &mut SessionState,
-    ) -> Result<LogPosition<L, J>, ApplyError> {
+        session: DurableSession<L, J>,
+    ) -> Result<LogPosition<L, J>, ApplyError>
+        requires names { names.now ≡ J.opening.names }
+        ensures { IfOk result (λ end. SessionEnds J.opening session end) }
+    {
+        let DurableSession { state, author, end } = session;
         let Some(appender) = self.appender.take() else {
             return Err(ApplyError::NotLogged);
         };
         let mut appender = appender;
-        let before = self.executor.lines().len();
-        let Ok(()) = self.executor.detach_session(names, session) else {
+        let Some(_moment) = appender.position_after(&end) else {
             return Err(ApplyError::NotLogged);
         };
-        if !append_new_lines(&mut appender, &self.executor, before) {
+        let before = self.executor.lines().len();
+        let mut state = state;
+        let Ok(()) = self.executor.detach_session(names, &mut state) else {
             return Err(ApplyError::NotLogged);
-        }
-        let end = appender.position();
+        };
+        let Some(end) = append_new_lines(&mut appender, &author, &self.executor, before) else {
+            return Err(ApplyError::NotLogged);
+        };
         self.appender = Some(appender);
         Ok(end)
     }
 
-    /// Replaces the log's bytes by these, once the store holds all lines, and the executor by the one that they lead
-    /// to. Answers whether it did. If the log can't be written any more, the caller gets the store, to drop it.
+    /// A new epoch, if it could be built: recovery of its bytes leads to its world, and clients see the same in it.
+    pub(crate) fn build_checkpoint(&self, alloc: Global, names: &Names) -> Option<Checkpoint>
+        requires names { names.now ≡ J.opening.names }
+        ensures lines { IfSome result (λ renewed. renewed.executor.lines ≡ []) }
+        ensures begins { IfSome result (λ renewed. BeginsEpoch J.opening.names
+            (server_state self.now.executor self.now.base) (string_bytes renewed.bytes)
+            (server_state renewed.executor.executor renewed.executor.base)) }
+    {
+        self.executor.checkpoint(alloc, names).ok()
+    }
+
+    /// Replaces the log's bytes by those of a new epoch, once the store holds all lines, and the executor by that of the
+    /// epoch. Answers whether it did. If the log can't be written any more, the caller gets the store, to drop it.
     pub(crate) fn install_checkpoint(
         &mut self,
         held: LogWriter<L, J>,
-        bytes: &[u8],
-        executor: EpochExecutor,
+        renewed: Checkpoint,
     ) -> (Result<LogWriter<L, J>, L>, bool)
-        requires { executor.lines ≡ [] }
+        requires lines { renewed.executor.lines ≡ [] }
+        requires begins { BeginsEpoch J.opening.names (server_state self.old.executor self.old.base)
+            (string_bytes renewed.bytes) (server_state renewed.executor.executor renewed.executor.base) }
     {
         let Some(appender) = self.appender.take() else {
             return (Ok(held), false);
         };
         let mut appender = appender;
-        match held.replace(&mut appender, bytes) {
+        let Checkpoint { bytes, executor } = renewed;
+        match held.replace(&mut appender, bytes.as_bytes()) {
             Ok((held, true)) => {
                 self.executor = executor;
                 self.appender = Some(appender);
@@ -174,7 +218,7 @@ impl<L: LogStore, J: LogTag> DurableExecutor<L, J> {
     }
 }
 
-impl<L: LogStore, J: LogTag> PendingLines<L, J> for DurableExecutor<L, J> {
+impl<L: LogStore, J: ServerTag> PendingLines<L, J> for DurableExecutor<L, J> {
     fn take_lines(&mut self, empty: String) -> Option<PendingBatch<L, J>> {
         let appender = self.appender.take()?;
         let mut appender = appender;
@@ -187,18 +231,22 @@ impl<L: LogStore, J: LogTag> PendingLines<L, J> for DurableExecutor<L, J> {
     }
 }
 
-/// Appends the lines of an executor after this number of bytes, if there are any. Answers whether they are appended.
+/// Appends the lines of an executor after this number of bytes, if there are any. Answers the end of the log then;
+/// `None` if they could not be appended.
 fn append_new_lines<L: LogStore, J: LogTag>(
     appender: &mut LogAppender<L, J>,
+    author: &LogAuthor<J>,
     executor: &EpochExecutor,
     before: usize,
-) -> bool
+) -> Option<LogPosition<L, J>>
     requires { before ≤ length executor.now.lines }
-    ensures { IsTrue result → appender.new.waits ≡ appender.old.waits ++ drop before executor.now.lines }
+    ensures end { IfSome result (λ end. end ≡ appender.new.log) }
+    ensures appends { OnSome result (AppendsIfAny author.now (drop before executor.now.lines) appender.old
+        appender.new) }
 {
     let lines = executor.lines().as_bytes();
-    if lines.len() == before {
-        return true;
+    if lines.len() > before && !appender.append(author, &lines[before..]) {
+        return None;
     }
-    appender.append(&lines[before..])
+    Some(appender.position())
 }

@@ -1,10 +1,14 @@
 //! The durable server: the executor that sessions share, its log, and the registry of the sessions.
 
+ghost use Rattle.std.specs.Prelude.{◌≡◌};
+
 use crate::checkpoints::CheckpointPolicy;
 use crate::durable_executor::{DurableExecutor, DurableReply};
-use crate::lookup::{SessionLookup, push_cells, push_owner};
-use crate::status::{StatusSource, clients_of, push_status};
-use rme_durable_checkpoint::{ApplyError, EpochExecutor};
+use crate::lookup::SessionLookup;
+use crate::lookup_answer::write_lookup;
+use crate::session::{DurableSession, ServerTag};
+use crate::status::clients_of;
+use rme_durable_checkpoint::{ApplyError, ClientAnswer, EpochExecutor};
 use rme_durable_log::{
     GroupCommit, LogPosition, LogStore, LogTag, NotDurable, OpenLog, lock_with_spin,
 };
@@ -14,13 +18,12 @@ use rme_session_world::SessionState;
 use rme_wire::Names;
 use rme_words::{NoMemory, Refusal};
 use std::alloc::{AllocError, Global};
-use std::sync::atomic::{AtomicU64, Ordering};
 use std::sync::{Mutex, Wait};
 use std::time::Clock;
 
 /// A world that sessions share, and the log of its events.
 #[derive(Drop)]
-pub struct DurableServer<L: LogStore, H: CloseHandle, J: LogTag> {
+pub struct DurableServer<L: LogStore, H: CloseHandle, J: ServerTag> {
     pub(crate) alloc: Global,
     pub(crate) names: Names,
     /// The number of workers that sessions may attach.
@@ -29,14 +32,15 @@ pub struct DurableServer<L: LogStore, H: CloseHandle, J: LogTag> {
     pub(crate) due: CheckpointPolicy,
     pub(crate) executor: Mutex<DurableExecutor<L, J>>,
     pub(crate) commits: GroupCommit<L, J>,
-    /// The number of sessions that began.
-    sessions: AtomicU64,
+    ghost named: { names ≡ J.opening.names },
 }
 
-impl<L: LogStore, H: CloseHandle, J: LogTag> DurableServer<L, H, J> {
-    ghost use Rattle.std.specs.Prelude.{◌≡◌, IfOk, OnOk, None, true};
-    ghost use Rattle.rme_durable_server.specs.DurableAnswers.{IsSessionBegun, DurableAttempt, asks_checkpoint_worker};
-    ghost use Rattle.rme_durable_log.specs.Logs.{StoreHadAllLines, IsAppended};
+impl<L: LogStore, H: CloseHandle, J: ServerTag> DurableServer<L, H, J> {
+    ghost use Rattle.std.specs.Prelude.{◌≡◌, [], IfOk, IfSome, OnOk, None, string_bytes};
+    ghost use mathlib.Core.List.{IsPrefix};
+    ghost use Rattle.rme_durable_server.specs.DurableAnswers.{IsSessionBegun, IsSessionEndDurable, DurableAttempt, LookupMoment, asks_checkpoint_worker};
+    ghost use Rattle.rme_durable_server.specs.ServerHistories.{server_state, session_moment};
+    ghost use Rattle.rme_durable_log.specs.Logs.{IsLogDurable};
     ghost use Rattle.rme_session_protocol.specs.ClientReplies.{reply_of_client};
 
     /// A server of an executor whose state is in the opened log, with the names of its locks. A checkpoint is made
@@ -48,7 +52,10 @@ impl<L: LogStore, H: CloseHandle, J: LogTag> DurableServer<L, H, J> {
         sections: u32,
         opened: OpenLog<L>,
     ) -> Result<DurableServer<L, H, J>, NoMemory>
-        requires named { opened ≡ J.book }
+        requires log { opened ≡ J.book }
+        requires lines { executor.lines ≡ [] }
+        requires named { names ≡ J.opening.names }
+        requires begins { J.opening.begins (server_state executor.executor executor.base) }
     {
         let registry = SessionRegistry::new(alloc, executor.executor().world().shape())?;
         let (appender, commits) = opened.split::<J>(alloc);
@@ -60,7 +67,6 @@ impl<L: LogStore, H: CloseHandle, J: LogTag> DurableServer<L, H, J> {
             due: CheckpointPolicy::after_sections(sections),
             executor: Mutex::new(DurableExecutor::new(executor, appender)),
             commits,
-            sessions: AtomicU64::new(0),
         })
     }
 
@@ -74,11 +80,11 @@ impl<L: LogStore, H: CloseHandle, J: LogTag> DurableServer<L, H, J> {
         }
     }
 
-    /// A session that has no worker yet.
-    pub(crate) fn new_session(&self) -> SessionState
-        ensures { IsSessionBegun None result }
+    /// A session that has no worker yet; `None` once an event could not be logged.
+    pub(crate) fn begin_durable_session<R: Wait>(&self, rt: &R) -> Option<DurableSession<L, J>>
+        ensures { IfSome result (λ session. IsSessionBegun None session) }
     {
-        SessionState::new(self.sessions.fetch_add(1, Ordering::SeqCst))
+        lock_with_spin(rt, &self.executor).begin_session()
     }
 
     /// Executes an order with one try. A checkpoint is made first if one is due, or if the worker has used all job
@@ -86,42 +92,61 @@ impl<L: LogStore, H: CloseHandle, J: LogTag> DurableServer<L, H, J> {
     pub(crate) fn execute_once<R: Wait + Clock, C: Client<Handle = H>>(
         &self,
         rt: &R,
-        session: &mut SessionState,
+        session: &mut DurableSession<L, J>,
         order: &Order,
         client: &C,
-    ) -> Result<DurableReply<L, J>, ApplyError>
-        ensures { IfOk result (λ obeyed. DurableAttempt (IsAppended obeyed.end) self.now.names session.old order.now
-            session.new (reply_of_client obeyed.answered.reply)) }
+    ) -> Result<ClientAnswer, ApplyError>
+        ensures { IfOk result (λ answered. DurableAttempt J.opening session.old order.now session.new
+            (reply_of_client answered.reply)) }
     {
         if self.due.is_seen_due() {
             self.checkpoint(rt, None);
         }
-        let mut tried = *session;
-        let acted = self.execute_in_epoch(rt, &mut tried, order, client);
-        if has_spent_jobs(&acted) && self.checkpoint(rt, session.worker) {
+        let done = self.execute_numbered(rt, session, order, client)?;
+        Ok(session.advance(done))
+    }
+
+    /// Executes an order in this epoch; or in the next one, if the worker has used all job numbers of this one.
+    fn execute_numbered<R: Wait + Clock, C: Client<Handle = H>>(
+        &self,
+        rt: &R,
+        session: &DurableSession<L, J>,
+        order: &Order,
+        client: &C,
+    ) -> Result<DurableReply<L, J>, ApplyError>
+        ensures { IfOk result (λ done. DurableAttempt J.opening session.now order.now
+            (session_moment done.state done.end) (reply_of_client done.answered.reply)) }
+    {
+        let tried = self.execute_in_epoch(rt, session, order, client);
+        if has_spent_jobs(&tried) && self.checkpoint(rt, session.state.worker) {
             return self.execute_in_epoch(rt, session, order, client);
         }
-        *session = tried;
-        acted
+        tried
     }
 
     /// Executes an order in this epoch with its worker's claim locked, and updates the claim.
     fn execute_in_epoch<R: Wait, C: Client<Handle = H>>(
         &self,
         rt: &R,
-        session: &mut SessionState,
+        session: &DurableSession<L, J>,
         order: &Order,
         client: &C,
     ) -> Result<DurableReply<L, J>, ApplyError>
-        ensures { IfOk result (λ obeyed. DurableAttempt (IsAppended obeyed.end) self.now.names session.old order.now
-            session.new (reply_of_client obeyed.answered.reply)) }
+        ensures { IfOk result (λ done. DurableAttempt J.opening session.now order.now
+            (session_moment done.state done.end) (reply_of_client done.answered.reply)) }
     {
-        let had = session.worker.is_some();
-        let claim = self.registry.claim_worker(rt, order_worker(session, order));
+        let had = session.state.worker.is_some();
+        let claim = self
+            .registry
+            .claim_worker(rt, order_worker(&session.state, order));
         let acted = self.execute_and_commit(rt, session, order);
-        update_claim(claim, client, had, session.worker.is_some());
-        if let Ok(obeyed) = &acted {
-            self.registry.notify_reply(rt, obeyed.answered.reply);
+        let has = match &acted {
+            Ok(done) => done.state.worker.is_some(),
+            Err(_) => had,
+        };
+        update_claim(claim, client, had, has);
+        if let Ok(done) = &acted {
+            self.registry.notify_reply(rt, done.answered.reply);
         }
         acted
     }
@@ -130,17 +155,17 @@ impl<L: LogStore, H: CloseHandle, J: LogTag> DurableServer<L, H, J> {
     fn execute_and_commit<R: Wait>(
         &self,
         rt: &R,
-        session: &mut SessionState,
+        session: &DurableSession<L, J>,
         order: &Order,
     ) -> Result<DurableReply<L, J>, ApplyError>
-        ensures { IfOk result (λ obeyed. DurableAttempt (IsAppended obeyed.end) self.now.names session.old order.now
-            session.new (reply_of_client obeyed.answered.reply)) }
+        ensures { IfOk result (λ done. DurableAttempt J.opening session.now order.now
+            (session_moment done.state done.end) (reply_of_client done.answered.reply)) }
     {
         let mut executor = lock_with_spin(rt, &self.executor);
         let acted = executor.execute(&self.names, session, order);
         self.observe(&executor);
-        if let Ok(obeyed) = &acted {
-            self.commits.commit_inline(rt, &mut *executor, &obeyed.end);
+        if let Ok(done) = &acted {
+            self.commits.commit_inline(rt, &mut *executor, &done.end);
         }
         acted
     }
@@ -154,12 +179,17 @@ impl<L: LogStore, H: CloseHandle, J: LogTag> DurableServer<L, H, J> {
         }
     }
 
-    /// Detaches the worker of a session that ends.
-    pub(crate) fn detach_session<R: Wait>(&self, rt: &R, session: SessionState) {
-        let mut session = session;
-        let claim = self.registry.claim_worker(rt, session.worker);
+    /// Detaches the worker of a session that ends, and waits until that is durable.
+    pub(crate) fn detach_session<R: Wait>(
+        &self,
+        rt: &R,
+        session: DurableSession<L, J>,
+    ) -> Result<(), NotDurable>
+        ensures { OnOk result (IsSessionEndDurable L.holds J.opening session) }
+    {
+        let claim = self.registry.claim_worker(rt, session.state.worker);
         let mut executor = lock_with_spin(rt, &self.executor);
-        let gone = executor.detach_session(&self.names, &mut session);
+        let gone = executor.detach_session(&self.names, session);
         self.observe(&executor);
         drop(executor);
         if let Some(mut claim) = claim {
@@ -167,15 +197,17 @@ impl<L: LogStore, H: CloseHandle, J: LogTag> DurableServer<L, H, J> {
         }
         self.registry.notify_worker_free(rt);
         match gone {
-            // If this commit fails, the next commit finds that too.
-            Ok(end) => drop(self.commit(rt, &end)),
-            Err(_) => self.commits.fail(rt),
+            Ok(end) => self.commit(rt, &end),
+            Err(_) => {
+                self.commits.fail(rt);
+                Err(NotDurable)
+            }
         }
     }
 
     /// Waits until everything before this position is durable; writes it if no other session does.
     pub(crate) fn commit<R: Wait>(&self, rt: &R, end: &LogPosition<L, J>) -> Result<(), NotDurable>
-        ensures { OnOk result (StoreHadAllLines L.holds end.now) }
+        ensures { OnOk result (IsLogDurable L.holds end.now) }
     {
         self.commits.commit(rt, &self.executor, end)
     }
@@ -190,33 +222,29 @@ impl<L: LogStore, H: CloseHandle, J: LogTag> DurableServer<L, H, J> {
         self.commits.fail(rt);
     }
 
-    /// Appends the answer of a look-up to `out`, and answers the end of the log then; `None` once an event could not be
-    /// logged.
-    pub(crate) fn append_lookup<R: Wait>(
+    /// Writes the line that answers a look-up, and answers the end of the log then, which is not before this position;
+    /// `None` once an event could not be logged.
+    pub(crate) fn write_lookup<R: Wait>(
         &self,
         rt: &R,
         look: SessionLookup,
+        earlier: &LogPosition<L, J>,
         out: &mut String,
-    ) -> Result<Option<LogPosition<L, J>>, AllocError> {
+    ) -> Result<Option<LogPosition<L, J>>, AllocError>
+        ensures later { IfOk result (λ found. IfSome found (λ end. IsPrefix earlier.now end)) }
+        ensures moment { IfOk result (λ found. IfSome found (λ end. LookupMoment J.opening look (string_bytes out.new)
+            end)) }
+    {
         let executor = self.executor.lock(rt);
-        let world = executor.executor().executor().world();
-        match look {
-            SessionLookup::Owner(lock) => push_owner(out, &self.names, world, lock)?,
-            SessionLookup::Cells(lock) => push_cells(out, &self.names, world, lock)?,
-            SessionLookup::Status => push_status(
-                out,
-                &self.names,
-                &StatusSource::of(executor.executor()),
-            )?,
-        }
-        Ok(executor.position())
+        write_lookup(out, &self.names, executor.executor(), look)?;
+        Ok(executor.position_after(earlier))
     }
 }
 
 /// Whether a job was refused because its worker has used all job numbers of the epoch.
 fn has_spent_jobs<L: LogStore, J: LogTag>(acted: &Result<DurableReply<L, J>, ApplyError>) -> bool {
     match acted {
-        Ok(obeyed) => obeyed.answered.reply == ClientReply::Refused(Refusal::TooManyJobs),
+        Ok(done) => done.answered.reply == ClientReply::Refused(Refusal::TooManyJobs),
         Err(_) => false,
     }
 }

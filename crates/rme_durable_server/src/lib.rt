@@ -14,14 +14,17 @@ mod checkpoints;
 mod durable_executor;
 mod durable_server;
 mod lookup;
+mod lookup_answer;
 mod order_attempts;
 mod recovery;
+mod session;
 mod status;
 
 pub use durable_server::DurableServer;
 pub use lookup::{SessionLookup, parse_lookup};
 pub use recovery::{RecoveredState, VERSION, other_version, recover};
 pub use rme_durable_log::{LogStore, NotDurable};
+pub use session::ServerTag;
 pub use status::{
     LockStatus, StatusSource, WorkerStance, WorkerStatus, clients_of, lock_status, push_row,
     push_status, worker_status,

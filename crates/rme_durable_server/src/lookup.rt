@@ -1,10 +1,8 @@
 //! Look-ups, which a session may make with or without a worker.
 
-use rme_line_text::{Reply, push_reply};
 use rme_wire::{Names, Value, ValueReader, ValueStorage, do_member, lock_member};
 use rme_words::NoMemory;
-use rme_world::World;
-use std::alloc::{AllocError, Global};
+use std::alloc::Global;
 
 /// A look-up. A lock is its number; for a lock that does not exist, the number of locks.
 #[derive(Clone, Copy, Debug, PartialEq, Eq)]
@@ -39,32 +37,4 @@ fn lookup_of_value(names: &Names, value: &Value<'_>) -> Option<SessionLookup> {
         ("status", 1) => Some(SessionLookup::Status),
         _ => None,
     }
-}
-
-/// Appends the owner of a lock of a world.
-pub(crate) fn push_owner(
-    out: &mut String,
-    names: &Names,
-    world: &World,
-    lock: u32,
-) -> Result<(), AllocError> {
-    let reply = match world.owner(lock) {
-        Ok(owner) => Reply::Owner(owner),
-        Err(refusal) => Reply::Refused(refusal),
-    };
-    push_reply(out, names, world.history(), &reply)
-}
-
-/// Appends the cells of a lock.
-pub(crate) fn push_cells(
-    out: &mut String,
-    names: &Names,
-    world: &World,
-    lock: u32,
-) -> Result<(), AllocError> {
-    let reply = match world.cells(lock) {
-        Ok((row, settled)) => Reply::Cells(row, settled),
-        Err(refusal) => Reply::Refused(refusal),
-    };
-    push_reply(out, names, world.history(), &reply)
 }

@@ -38,7 +38,7 @@ pub struct ServiceBackend<'a, K: Tag, H: CloseHandle> {
 /// it is not tried again, whatever its order says, and is answered as waiting. However a session ends, its worker
 /// crashes, and the worker's Down is back in its slot.
 impl<K: Tag, H: CloseHandle> Backend for ServiceBackend<'_, K, H> {
-    ghost use Rattle.std.specs.Prelude.{◌≡◌};
+    ghost use Rattle.std.specs.Prelude.{◌≡◌, ⊤};
     ghost use Rattle.rme_session_protocol.specs.SessionLines.{SessionLineAnswer};
     ghost use Rattle.rme_server.specs.ServiceAttempts.{SessionStepUntilGone};
     ghost use Rattle.rme_session_protocol.specs.Orders.{world_numbers};
@@ -50,6 +50,8 @@ impl<K: Tag, H: CloseHandle> Backend for ServiceBackend<'_, K, H> {
     type Handle = H;
 
     ghost fits = { λ host. host.service.now ≡ K.ident };
+
+    ghost ends = { λ _ _. ⊤ };
 
     ghost may_hold = { λ host stand. stands.IsValidHolding K.ident host.slots.now stand.value };
 
@@ -102,13 +104,14 @@ impl<K: Tag, H: CloseHandle> Backend for ServiceBackend<'_, K, H> {
         }
     }
 
-    fn end_session<R: Wait>(&self, rt: &R, stand: Stand) {
+    fn end_session<R: Wait>(&self, rt: &R, stand: Stand) -> Result<(), AttemptError> {
         let claim = self.registry.claim_worker(rt, stand.worker());
         detach_session(rt, stand, self.slots);
         if let Some(mut claim) = claim {
             *claim = None;
         }
         self.registry.notify_worker_free(rt);
+        Ok(())
     }
 }
 

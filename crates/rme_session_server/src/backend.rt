@@ -1,6 +1,6 @@
 //! The backend, which answers the lines of sessions.
 
-use crate::attempt_error::AnswerError;
+use crate::attempt_error::{AnswerError, AttemptError};
 use crate::buffers::Buffers;
 use crate::client::{Client, CloseHandle};
 use rme_wire::{Names, Sink};
@@ -35,6 +35,9 @@ pub trait Backend {
     // How a line is answered: what is known once the client was found to be gone, the session before, the line, the
     // bytes of the answer with its newline, and the session after.
     ghost answers: { Self → Type 0 → Self.Stand → InputLine → List ℕ → Self.Stand → Type 0 };
+
+    // How a session in this state ended.
+    ghost ends: { Self → Self.Stand → Type 0 };
 
     /// The allocator of the sessions' buffers.
     fn alloc(&self) -> Global;
@@ -73,8 +76,10 @@ pub trait Backend {
         ensures broke { IfErr result.1 (λ why. why ≡ AnswerError.WriteFailed
             → LastWriteFailed (O.took writer.old) (O.took writer.new)) };
 
-    /// Ends a session, for whatever reason, and takes back what it has.
-    fn end_session<R: Wait>(&self, rt: &R, stand: Self::Stand)
+    /// Ends a session, for whatever reason, and takes back what it has. An error if that could not be logged: then the
+    /// backend is over.
+    fn end_session<R: Wait>(&self, rt: &R, stand: Self::Stand) -> Result<(), AttemptError>
         requires fits { fits self.now }
-        requires may_hold { may_hold self.now stand };
+        requires may_hold { may_hold self.now stand }
+        ensures ends { OnOk result (ends self.now stand) };
 }

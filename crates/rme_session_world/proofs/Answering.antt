@@ -58,6 +58,8 @@ detached old new worker planned kept rests crashed =
       others = leaves.others;
       long = leaves.long;
       alone = λ none other. absurd (none-some worker (sym none));
+      seats = refl;
+      kept = λ none. cc;
       untaken = λ q. cc;
       waits = λ waits. cc;
     }
@@ -116,6 +118,8 @@ attaches old mid new worker steps planned asked is within kept rests restarted w
       others = λ other apart. leaves.others other (λ e. apart (e ∙ sym is));
       long = leaves.long;
       alone = λ none other. absurd (none-some worker (sym other));
+      seats = refl;
+      kept = λ none. cc;
       untaken = attached_untaken (worker_session new worker);
       waits = λ waits. absurd (let e : false ≡ true = sym (attached_still (worker_session new worker)) ∙ waits in cc);
     }

@@ -100,6 +100,8 @@ done_carries goal old start new worker planned before its begins worked answer f
       others = all.others;
       long = all.long;
       alone = λ none other. absurd (none-some worker (sym none));
+      seats = refl;
+      kept = λ none. cc;
       untaken = tells_untaken answer worked.outcome tells;
       waits = λ still. work_waits goal worker planned start new worked further went (tells_waits answer worked.outcome tells still);
     }

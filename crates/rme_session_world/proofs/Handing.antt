@@ -64,6 +64,8 @@ kept_carries old worker before after its answer rests untaken still obeys = reco
   others = λ other apart. refl;
   long = refl;
   alone = λ none other. absurd (none-some worker (sym none));
+  seats = tt;
+  kept = λ none. refl;
   untaken = untaken;
   waits = λ waits. absurd (let e : false ≡ true = sym still ∙ waits in cc);
 }

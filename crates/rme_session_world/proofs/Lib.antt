@@ -17,5 +17,6 @@ pub mod Answering
 pub mod Handing
 pub mod Sorting
 pub mod Seating
+pub mod Batching
 pub mod Falling
 pub mod Places

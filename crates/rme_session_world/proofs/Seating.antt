@@ -23,12 +23,12 @@ use Rattle.rme_session_world.specs.declared.orders.AppliedOrder.{AppliedOrder}
 
 -- ---- the holder of a worker
 
-held_some : (session : ℕ) (found : Option (Option ℕ)) → is_held_by session found ≡ true → found ≡ Some (Some session)
+pub held_some : (session : ℕ) (found : Option (Option ℕ)) → is_held_by session found ≡ true → found ≡ Some (Some session)
 held_some session None held = absurd (cc)
 held_some session (Some None) held = absurd (cc)
 held_some session (Some (Some holder)) held = ap (λ (s : ℕ). Some (Some s)) (eqb-true holder session held)
 
-seat_held : (executor : ExecutorState) (session : ℕ) (own : Option ℕ) (worker : ℕ) → owned_worker_by executor session own ≡ Some worker → slice_get executor.holders worker ≡ Some (Some session)
+pub seat_held : (executor : ExecutorState) (session : ℕ) (own : Option ℕ) (worker : ℕ) → owned_worker_by executor session own ≡ Some worker → slice_get executor.holders worker ≡ Some (Some session)
 seat_held executor session None worker is = absurd (none-some worker is)
 seat_held executor session (Some its) worker is = elim (cases_Bool (is_held_by session (slice_get executor.holders its))) [
   | inl held ↦
@@ -44,7 +44,7 @@ seat_within executor stand (Some worker) is = slice_get_within executor.holders 
 
 -- ---- after an order
 
-rests_still : (old new : WorldView) (worker : ℕ) → slice_get new.privates worker ≡ slice_get old.privates worker → IsAtRest old worker → IsAtRest new worker
+pub rests_still : (old new : WorldView) (worker : ℕ) → slice_get new.privates worker ≡ slice_get old.privates worker → IsAtRest old worker → IsAtRest new worker
 rests_still old new worker same rests = (rests.0, same ∙ rests.1, rests.2)
 
 is_one : (seat : Option ℕ) (its : Order) (worker other : ℕ) → IsOrderWorker seat its worker → IsOrderWorker seat its other → other ≡ worker
@@ -82,7 +82,7 @@ module _ (old new : WorldView) (holders : List (Option ℕ)) (session : ℕ) (te
   pub tended_after : (seat now : Option ℕ) (planned : PlannedCrash) (its : Order) (carried : AppliedOrder) → carried.seat ≡ now → IfSome seat (λ worker. worker < length holders) → IfSome now (λ worker. worker < length holders)
       → AppliesOrder old seat planned its carried new → ExecutorInvariant record { world = new; holders = holders_after holders seat now session }
   tended_after None None planned its carried is own then_ carries =
-      subst (λ (s : WorldView). ExecutorInvariant record { world = s; holders = holders }) (sym (carries.alone refl is)) tended
+      subst (λ (s : WorldView). ExecutorInvariant record { world = s; holders = holders }) (sym (carries.alone refl is).0) tended
   tended_after (Some worker) None planned its carried is own then_ carries =
       put_tended worker None carries.shape own (λ s some. absurd (none-some s some)) (λ none. carries.gone is) (λ other apart. carries.others other apart)
   tended_after None (Some worker) planned its carried is own then_ carries =

@@ -177,6 +177,8 @@ refused_carries old worker planned its why rests refuses = record {
   others = λ other apart. refl;
   long = refl;
   alone = λ none other. absurd (none-some worker (sym none));
+  seats = tt;
+  kept = λ none. refl;
   untaken = untaken_why old.shape (worker_session old worker) its why refuses;
   waits = λ waits. cc;
 }

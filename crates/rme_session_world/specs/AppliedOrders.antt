@@ -15,6 +15,7 @@ use Rattle.rme_session_world.specs.declared.orders.AppliedOrder.{AppliedOrder}
 use Rattle.rme_session_world.specs.declared.event_batch.EventBatch.{EventBatch}
 use Rattle.rme_session_world.specs.EventBatches.{AppliesEvents, batch_events_if}
 use Rattle.rme_session_world.specs.Downs.{IsWorkerDown}
+use Rattle.rme_session_world.specs.Replies.{worker_after_run}
 use Rattle.rme_session_world.specs.WorkerSessions.{IsAtRest, worker_session}
 
 -- The session view, from the session's worker, if any, and the planned crash.
@@ -55,6 +56,8 @@ pub record AppliesOrder (old : WorldView) (seat : Option ℕ) (planned : Planned
   pub others : (other : ℕ) → (IsOrderWorker seat its other → ⊥)
       → slice_get new.privates other ≡ slice_get old.privates other
   pub long : length new.privates ≡ length old.privates
-  pub alone : seat ≡ None → carried.seat ≡ None → new ≡ old
+  pub alone : seat ≡ None → carried.seat ≡ None → (new ≡ old) × (carried.batch ≡ None)
+  pub seats : IfSome carried.batch (λ (batch : EventBatch). carried.seat ≡ worker_after_run batch.falls batch.worker)
+  pub kept : carried.batch ≡ None → carried.seat ≡ seat
   pub untaken : carried.reply ≢ reply.Refused Taken
   pub waits : is_still_waiting carried.reply ≡ true → IsSessionStopped new carried.seat

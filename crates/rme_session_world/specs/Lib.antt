@@ -1,5 +1,5 @@
 -- In reading order: the session view; own steps of one worker; a worker's work on its job; the event batch of an order;
--- the effect of an order; an executor.
+-- the effect of an order; an executor; the event batch of a session.
 pub mod WorkerSessions
 pub mod Downs
 pub mod Outcomes
@@ -10,3 +10,4 @@ pub mod Replies
 pub mod AppliedOrders
 pub mod ExecutorStates
 pub mod Executors
+pub mod SessionBatches

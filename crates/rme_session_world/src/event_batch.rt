@@ -1,5 +1,8 @@
 //! The event batch of an order.
 
+ghost use Rattle.std.specs.Prelude.{◌≡◌};
+ghost use Rattle.rme_session_world.specs.SessionBatches.{batch_with_events, has_events};
+
 use rme_script::Job;
 
 /// The first event of an order.
@@ -24,4 +27,25 @@ pub struct EventBatch {
     pub steps: u32,
     /// Whether a crash follows.
     pub falls: bool,
+}
+
+impl EventBatch {
+    /// Whether the batch has an event.
+    fn has_events(&self) -> bool
+        ensures { result ≡ has_events self.now }
+    {
+        !matches!(self.begins, BatchStart::GoOn) || self.steps > 0 || self.falls
+    }
+}
+
+/// A batch that has events, or none.
+pub(crate) fn batch_with_events(batch: Option<EventBatch>) -> Option<EventBatch>
+    ensures { result ≡ batch_with_events batch }
+{
+    let batch = batch?;
+    if batch.has_events() {
+        Some(batch)
+    } else {
+        None
+    }
 }

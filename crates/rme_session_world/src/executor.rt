@@ -5,7 +5,7 @@ ghost use Rattle.rme_session_world.specs.Executors.{HasCrashedAll, holders_after
 ghost use Rattle.rme_world.specs.WorldInvariants.{WorldInvariant};
 
 use crate::at_rest::are_workers_in_place;
-use crate::event_batch::EventBatch;
+use crate::event_batch::{EventBatch, batch_with_events};
 use crate::orders::{apply_order, detach};
 use crate::session_of_worker::worker_session;
 use crate::work::{crash_worker, recall_invariant};
@@ -27,7 +27,7 @@ pub struct SessionState {
 #[derive(Clone, Copy)]
 pub struct ExecutedOrder {
     pub reply: SessionReply,
-    /// The events, if there were any.
+    /// The events, if there were any: never a batch without an event.
     pub batch: Option<EventBatch>,
 }
 
@@ -67,11 +67,11 @@ impl SessionState {
 }
 
 impl Executor {
-    ghost use Rattle.std.specs.Prelude.{◌≡◌, ◌<◌, ◌↔◌, IfOk, IfSome, OnErr, None, replicate, true};
+    ghost use Rattle.std.specs.Prelude.{◌≡◌, ◌<◌, ◌↔◌, IfOk, IfSome, OnErr, None, Some, replicate, slice_get, true};
     ghost use Rattle.rme_session_protocol.specs.SessionSteps.{SessionStep};
     ghost use Rattle.rme_session_protocol.specs.Attempts.{is_still_waiting, with_tries};
     ghost use Rattle.rme_session_world.specs.AppliedOrders.{IsOrderWorker, IsSessionStopped};
-    ghost use Rattle.rme_session_world.specs.EventBatches.{AppliesEvents, batch_events_if};
+    ghost use Rattle.rme_session_world.specs.SessionBatches.{AppliesSessionOrder};
     ghost use Rattle.rme_session_world.specs.Executors.{HasCrashedAll, is_worker_taken, owned_worker, held_session, executor_session_view};
     ghost use Rattle.rme_session_protocol.specs.SessionViews.{detached_view};
     ghost use Rattle.rme_session_world.specs.Downs.{IsWorkerDown};
@@ -139,8 +139,10 @@ impl Executor {
     /// Releases the worker of a session, if it has one: the worker crashes. This ends the session.
     pub fn detach_session(&mut self, stand: &mut SessionState) -> Option<EventBatch>
         ensures gone { executor_session_view self.new stand.new ≡ detached_view }
-        ensures down { IfSome (owned_worker self.old stand.old) (λ worker. IsWorkerDown self.new.world worker) }
-        ensures happened { AppliesEvents self.old.world (batch_events_if result) self.new.world }
+        ensures down { IfSome (owned_worker self.old stand.old) (λ worker. IsWorkerDown self.new.world worker
+            × (slice_get self.new.holders worker ≡ Some None)) }
+        ensures applies { AppliesSessionOrder stand.old.session self.old result self.new }
+        ensures session { stand.new.session ≡ stand.old.session }
     {
         let seat = self.owned_worker(stand);
         let session = stand.session;
@@ -151,7 +153,7 @@ impl Executor {
         recall_invariant(&self.world, worker);
         let carried = detach(&mut self.world, worker);
         update_holders(&mut self.holders, seat, None, session);
-        carried.batch
+        batch_with_events(carried.batch)
     }
 
     /// The worker of a session, if the executor agrees: another session may have taken it over.
@@ -179,8 +181,8 @@ impl Executor {
         requires view { view.now ≡ (executor_session_view self.old stand.old).session }
         ensures obeys { IfOk result (λ done. SessionStep self.old.world.shape (executor_session_view self.old stand.old)
             (with_tries 1 order.now) (executor_session_view self.new stand.new) done.reply) }
-        ensures happened { IfOk result (λ done. AppliesEvents self.old.world (batch_events_if done.batch)
-            self.new.world) }
+        ensures applies { IfOk result (λ done. AppliesSessionOrder stand.old.session self.old done.batch self.new) }
+        ensures session { stand.new.session ≡ stand.old.session }
         ensures own { IfOk result (λ done. IfSome done.batch
             (λ batch. IsOrderWorker (owned_worker self.old stand.old) order.now batch.worker)) }
         ensures taken { IfOk result (λ done. (done.reply ≡ SessionReply.Refused Refusal.Taken)
@@ -204,7 +206,7 @@ impl Executor {
         stand.planned = carried.planned;
         Ok(ExecutedOrder {
             reply: carried.reply,
-            batch: carried.batch,
+            batch: batch_with_events(carried.batch),
         })
     }
 

@@ -2,16 +2,12 @@ use Rattle.std.proofs.Common.{◌≤◌, ap, subst, List, arith}
 use Rattle.std.proofs.lemmas.Bool.Decides.{nat_tests}
 use mathlib.Core.List.{IsPrefix}
 use Rattle.rme_durable_log.specs.declared.log_entry.LogEntry.{LogEntry}
-use Rattle.rme_durable_log.proofs.Holding.{had_all_lines}
 use Rattle.rme_durable_log.proofs.Marking.{held_by_mark}
 use Rattle.rme_durable_log.proofs.log_position.LogPosition.is_durable.Goals as goal
 
-pub returns-clause-held : goal.returns-clause-held
-returns-clause-held g c = λ yes.
+pub returns : goal.returns
+returns g c = λ yes.
     let seen = c.load_hint.ensures in
     let this : IsPrefix c.self.inside.seen.log c.load_hint.new.seen.log = subst (λ (l : List LogEntry). IsPrefix l c.load_hint.new.seen.log) (ap (λ s. s.log) c.again-seen.ensures) seen.2 in
     let far : c.self.inside.count ≤ c.load_hint.result = grind (arith, nat_tests) in
     rw (← c.self.view_is) (held_by_mark g.L.LogStore.holds c.load_hint.result c.self.inside.seen.log c.load_hint.new.seen.log c.self.inside.count seen.3 this c.self.invariant.0 far)
-
-pub returns-clause-lines : goal.returns-clause-lines
-returns-clause-lines g c = λ yes. had_all_lines g.L.LogStore.holds c.args.self.now (returns-clause-held g c yes)

@@ -1,17 +1,27 @@
-use Rattle.std.proofs.Common.{List, ℕ, refl, sym, subst, ◌∙◌}
-use Rattle.rme_durable_log.specs.Logs.{IsAppended}
-use Rattle.rme_durable_server.proofs.Growing.{waits_again, waits_some}
+use Rattle.std.proofs.Common.{sym, subst, ◌∙◌}
+use Rattle.rme_session_protocol.specs.ClientReplies.{reply_of_client}
+use Rattle.rme_durable_server.specs.DurableAnswers.{DurableAttempt}
+use Rattle.rme_durable_server.specs.ServerHistories.{SessionMoment, session_moment}
+use Rattle.rme_durable_server.proofs.Leading.{acted, logged_some, logged_step, state_of}
 use Rattle.rme_durable_server.proofs.durable_executor.DurableExecutor.execute.Goals as goal
 
 pub invariant_of-self-2 : goal.invariant_of-self-2
 invariant_of-self-2 g c =
-    let executor = c.self.inside.executor in
-    let waits = waits_some c.self.inside.appender c.in-Some.appender executor.lines (sym c.take.ensures.value ∙ c.in-Some.is) c.self.invariant in
-    waits_again c.args.names.now executor.executor executor.lines c.execute.new.self.executor c.execute.new.self.lines c.in-Ok.ensures.written c.lines-before.result.now c.in-Some.appender.waits c.append_new_lines.new.appender.waits c.lines-before.ensures waits (c.if-not-append_new_lines.ensures refl)
+    let epoch = c.self.inside.executor in
+    let logged = logged_some g.J.ServerTag.opening c.self.inside.appender c.in-Some.appender epoch (sym c.take.ensures.value ∙ c.in-Some.is) c.self.invariant in
+    let step = logged_step g.J.ServerTag.opening c.args.names.now c.session.inside.state.session c.session.inside.author epoch c.execute.new.self c.in-Some.appender c.append_new_lines-appended.new.appender c.lines-before.result.now logged c.requires.names c.session.invariant c.lines-before.ensures c.in-Ok.ensures.base c.in-Ok.ensures.written c.in-Some-appended.ensures.appends in
+    step.1
 
-pub returns-clause-told : goal.returns-clause-told
-returns-clause-told g c =
-    let executor = c.self.inside.executor in
-    let waits = waits_some c.self.inside.appender c.in-Some.appender executor.lines (sym c.take.ensures.value ∙ c.in-Some.is) c.self.invariant in
-    let again = waits_again c.args.names.now executor.executor executor.lines c.execute.new.self.executor c.execute.new.self.lines c.in-Ok.ensures.written c.lines-before.result.now c.in-Some.appender.waits c.append_new_lines.new.appender.waits c.lines-before.ensures waits (c.if-not-append_new_lines.ensures refl) in
-    subst (λ (lines : List ℕ). IsAppended c.position-end.result lines) again c.position-end.ensures.waits
+pub returns : goal.returns
+returns g c =
+    let epoch = c.self.inside.executor in
+    let opening = g.J.ServerTag.opening in
+    let logged = logged_some opening c.self.inside.appender c.in-Some.appender epoch (sym c.take.ensures.value ∙ c.in-Some.is) c.self.invariant in
+    let step = logged_step opening c.args.names.now c.session.inside.state.session c.session.inside.author epoch c.execute.new.self c.in-Some.appender c.append_new_lines-appended.new.appender c.lines-before.result.now logged c.requires.names c.session.invariant c.lines-before.ensures c.in-Ok.ensures.base c.in-Ok.ensures.written c.in-Some-appended.ensures.appends in
+    let P = λ (old : SessionMoment). DurableAttempt opening old c.args.order.now (session_moment c.execute.new.session c.in-Some-appended.end) (reply_of_client c.in-Ok.answered.reply) in
+    subst P c.session.view_is record {
+      before = state_of epoch;
+      after = state_of c.execute.new.self;
+      acts = acted opening (session_moment c.session.inside.state c.session.inside.end) c.execute.new.session c.in-Some-appended.end epoch c.execute.new.self c.in-Some.appender c.append_new_lines-appended.new.appender c.in-Some-position_after.ensures.later logged step.0 c.in-Some-appended.ensures.end c.execute.ensures.session;
+      obeys = c.in-Ok.ensures.obeys;
+    }

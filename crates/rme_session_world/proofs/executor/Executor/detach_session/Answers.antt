@@ -1,11 +1,14 @@
-use Rattle.std.proofs.Common.{◌≡◌, subst, sym, ◌∙◌}
-use Rattle.std.specs.Prelude.{IfSome, List, None, Option, Some, ℕ}
+use Rattle.std.proofs.Common.{◌≡◌, ap, refl, subst, sym, ◌∙◌}
+use Rattle.std.specs.Prelude.{IfSome, List, None, Option, Some, slice_get, ℕ}
 use Rattle.rme_session_protocol.specs.declared.planned_crash.PlannedCrash.TheVariants.{Nothing}
 use Rattle.rme_session_protocol.specs.declared.order.Order.TheVariants.{Detach}
-use Rattle.rme_session_world.specs.EventBatches.{AppliesEvents, batch_events_if}
-use Rattle.rme_session_world.specs.Executors.{owned_worker}
+use Rattle.rme_session_world.specs.declared.event_batch.EventBatch.{EventBatch}
+use Rattle.rme_session_world.specs.SessionBatches.{AppliesSessionOrder, batch_with_events}
+use Rattle.rme_session_world.specs.Executors.{holders_after, owned_worker}
 use Rattle.rme_session_world.specs.Downs.{IsWorkerDown}
 use Rattle.rme_session_world.specs.ExecutorStates.{ExecutorInvariant, ExecutorState}
+use Rattle.rme_machine.proofs.Lists.{get_set}
+use Rattle.rme_session_world.proofs.Batching.{executor_applies}
 use Rattle.rme_session_world.proofs.Seating.{seat_within, tended_after}
 use Rattle.rme_session_world.proofs.executor.Executor.detach_session.Goals as goal
 
@@ -20,10 +23,18 @@ invariant_of-self c =
 
 pub returns-clause-down : goal.returns-clause-down
 returns-clause-down c =
-    let D = λ (seat : Option ℕ). IfSome seat (λ worker. IsWorkerDown c.detach-carried.new.world worker) in
-    subst D (sym c.in-Some.is ∙ c.owned_worker-seat.ensures) ((c.detach-carried.ensures.carries Nothing).gone c.detach-carried.ensures.nobody)
+    let S = λ (executor : ExecutorState). Some c.in-Some.worker ≡ owned_worker executor c.args.stand.now in
+    let own = seat_within record { world = c.self.inside.world; holders = c.self.inside.holders.items } c.args.stand.now (Some c.in-Some.worker) (subst S (sym c.self.view_is) (sym c.in-Some.is ∙ c.owned_worker-seat.ensures)) in
+    let free = ap (λ (holders : List (Option ℕ)). slice_get holders c.in-Some.worker) c.update_holders.ensures ∙ get_set c.self.inside.holders.items c.in-Some.worker None own in
+    let D = λ (seat : Option ℕ). IfSome seat (λ worker. IsWorkerDown c.detach-carried.new.world worker × (slice_get c.update_holders.new.holders.items worker ≡ Some None)) in
+    subst D (sym c.in-Some.is ∙ c.owned_worker-seat.ensures) ((c.detach-carried.ensures.carries Nothing).gone c.detach-carried.ensures.nobody, free)
 
-pub returns-clause-happened : goal.returns-clause-happened
-returns-clause-happened c =
-    let O = λ (executor : ExecutorState). AppliesEvents executor.world (batch_events_if c.detach-carried.result.batch) c.detach-carried.new.world in
-    subst O c.self.view_is (c.detach-carried.ensures.carries Nothing).happened
+pub returns-clause-applies : goal.returns-clause-applies
+returns-clause-applies c =
+    let S = λ (executor : ExecutorState). Some c.in-Some.worker ≡ owned_worker executor c.args.stand.now in
+    let is = subst S (sym c.self.view_is) (sym c.in-Some.is ∙ c.owned_worker-seat.ensures) in
+    let after = c.update_holders.ensures ∙ ap (λ (seat : Option ℕ). holders_after c.self.inside.holders.items (Some c.in-Some.worker) seat c.args.stand.now.session) (sym c.detach-carried.ensures.nobody) in
+    let N = λ (executor : ExecutorState) (batch : Option EventBatch). AppliesSessionOrder c.args.stand.now.session executor batch record { world = c.detach-carried.new.world; holders = c.update_holders.new.holders.items } in
+    let applies = executor_applies c.self.inside.world c.detach-carried.new.world c.self.inside.holders.items c.update_holders.new.holders.items c.args.stand.now (Some c.in-Some.worker) Detach c.detach-carried.result
+    c.recall_invariant.ensures c.self.invariant is refl after (c.detach-carried.ensures.carries c.args.stand.now.planned) in
+    subst (λ (executor : ExecutorState). N executor c.batch_with_events.result) c.self.view_is (subst (λ (batch : Option EventBatch). N record { world = c.self.inside.world; holders = c.self.inside.holders.items } batch) (sym c.batch_with_events.ensures) applies)

@@ -1,8 +1,12 @@
-use Rattle.std.proofs.Common.{◌≡◌, sym, subst}
+use Rattle.std.proofs.Common.{◌≡◌, false, sym, subst, ◌∙◌}
+use Rattle.std.specs.Prelude.{Option}
 use Rattle.rme_session_protocol.specs.SessionSteps.{SessionStep}
 use Rattle.rme_session_protocol.specs.Attempts.{with_tries}
-use Rattle.rme_session_world.specs.Executors.{owned_worker, executor_session_view}
+use Rattle.rme_session_world.specs.Executors.{is_worker_taken, owned_worker, executor_session_view}
 use Rattle.rme_session_world.specs.ExecutorStates.{ExecutorState}
+use Rattle.rme_session_world.specs.SessionBatches.{AppliesSessionOrder, batch_with_events}
+use Rattle.rme_session_world.specs.declared.event_batch.EventBatch.{EventBatch}
+use Rattle.rme_session_world.proofs.Batching.{executor_applies}
 use Rattle.rme_session_world.proofs.Seating.{executor_obeys, executor_tended, executor_waits}
 use Rattle.rme_session_world.proofs.executor.Executor.execute.Goals as goal
 
@@ -25,3 +29,12 @@ pub returns-clause-waits : goal.returns-clause-waits
 returns-clause-waits c waits =
     executor_waits c.self.inside.world c.apply_order.new.world c.self.inside.holders.items c.update_holders.new.holders.items c.args.stand.now c.owned_worker-seat.result c.args.order.now c.in-Ok.carried c.recall_invariant.ensures c.self.invariant
     c.update_holders.ensures c.in-Ok.ensures.carries waits
+
+pub returns-clause-applies : goal.returns-clause-applies
+returns-clause-applies c =
+    let S = λ (executor : ExecutorState). c.owned_worker-seat.result ≡ owned_worker executor c.args.stand.now in
+    let F = λ (executor : ExecutorState). is_worker_taken executor c.owned_worker-seat.result c.args.order.now ≡ false in
+    let N = λ (executor : ExecutorState) (batch : Option EventBatch). AppliesSessionOrder c.args.stand.now.session executor batch record { world = c.apply_order.new.world; holders = c.update_holders.new.holders.items } in
+    let applies = executor_applies c.self.inside.world c.apply_order.new.world c.self.inside.holders.items c.update_holders.new.holders.items c.args.stand.now c.owned_worker-seat.result c.args.order.now c.in-Ok.carried c.recall_invariant.ensures c.self.invariant
+    (subst S (sym c.self.view_is) c.owned_worker-seat.ensures) (subst F (sym c.self.view_is) (sym c.is_worker_taken.ensures.taken ∙ c.if-is_worker_taken.false)) c.update_holders.ensures c.in-Ok.ensures.carries in
+    subst (λ (executor : ExecutorState). N executor c.batch_with_events.result) c.self.view_is (subst (λ (batch : Option EventBatch). N record { world = c.self.inside.world; holders = c.self.inside.holders.items } batch) (sym c.batch_with_events.ensures) applies)
