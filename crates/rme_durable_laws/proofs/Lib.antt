@@ -7,3 +7,6 @@ pub mod Walks
 pub mod Lines
 pub mod Written
 pub mod Reading
+pub mod Others
+pub mod Batches
+pub mod Histories

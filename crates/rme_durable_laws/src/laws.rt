@@ -1,6 +1,6 @@
-//! Laws of replay.
+//! Laws of replay, and of a server's history.
 
-ghost use Rattle.std.specs.Prelude.{◌≡◌, ℕ, List, map};
+ghost use Rattle.std.specs.Prelude.{◌≡◌, ◌+◌, ◌<◌, ℕ, List, Some, map, slice_get};
 ghost use Rattle.rme_program.specs.declared.event.Event.{Event};
 ghost use Rattle.rme_world.specs.WorldViews.{WorldView};
 ghost use Rattle.rme_session_world.specs.EventBatches.{AppliesEvents};
@@ -9,7 +9,10 @@ ghost use Rattle.rme_line_io.specs.Pieces.{text};
 ghost use Rattle.rme_wire.specs.declared.command.Command.{Command};
 ghost use Rattle.rme_durable_format.specs.BatchCommands.{all_asked_events};
 ghost use Rattle.rme_durable_format.specs.Recovery.{AcceptsLines, RecoversWorld};
+ghost use Rattle.rme_durable_log.specs.declared.log_entry.LogEntry.{LogEntry};
+ghost use Rattle.rme_durable_server.specs.ServerHistories.{AreNotOfSession, EntriesLead, KeepsWorker, ServerState};
 ghost use Rattle.rme_durable_laws.specs.AlikeWorlds.{AreWorldsAlike};
+ghost use Rattle.rme_durable_laws.specs.Histories.{AreStatesAlike};
 ghost use Rattle.rme_durable_laws.specs.LoggedLines.{AreCommandLines, HasAlikeWorldOpen};
 
 /// The same events, applied to the same world, lead to alike worlds, if no event was refused for want of memory.
@@ -35,4 +38,24 @@ pub fn replay_restores_world()
         → AreCommandLines names commands lines → HasAlikeWorldOpen names old from
         → AppliesEvents old (all_asked_events commands) new
         → AcceptsLines from (map text lines) to → HasAlikeWorldOpen names new to }
+{}
+
+/// The log determines the history: the same entries lead from alike states to alike states. So the state in which an
+/// order was executed is the one to which the log before it leads, whoever's order that was.
+pub fn log_determines_state()
+    ensures { (names : List (List ℕ)) (log : List LogEntry) (old again one other : ServerState)
+        → AreStatesAlike old again → EntriesLead names old log one → EntriesLead names again log other
+        → AreStatesAlike one other }
+{}
+
+/// Between two moments of the log between which a session appended nothing, the session keeps its worker, and its client
+/// sees the same of it. So from `held` to the commit the worker stays inside its lock, whatever other sessions order,
+/// and across checkpoints.
+///
+/// The worker is not the checkpoint worker, which no session has.
+pub fn session_keeps_worker()
+    ensures { (names : List (List ℕ)) (session worker : ℕ) (log : List LogEntry) (old new : ServerState)
+        → EntriesLead names old log new → AreNotOfSession session log
+        → worker + 1 < old.executor.world.shape.workers
+        → slice_get old.executor.holders worker ≡ Some (Some session) → KeepsWorker session worker old new }
 {}

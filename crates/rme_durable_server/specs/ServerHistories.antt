@@ -1,8 +1,8 @@
 -- A server's life as one history: the entries of its log, and the states between them.
-use Rattle.std.specs.Prelude.{◌≡◌, ◌⊎◌, ℕ, List, [], ◌∷◌, ◌++◌, Some, None, IfSome, slice_get, ⊤}
+use Rattle.std.specs.Prelude.{◌≡◌, ◌≢◌, ◌⊎◌, ℕ, List, [], ◌∷◌, ◌++◌, Some, None, IfSome, slice_get, ⊤}
 use mathlib.Core.List.{IsPrefix}
 use Rattle.rme_session_world.specs.Downs.{IsWorkerDown}
-use Rattle.rme_session_world.specs.Executors.{owned_worker}
+use Rattle.rme_session_world.specs.Executors.{held_session, owned_worker}
 use Rattle.rme_session_world.specs.ExecutorStates.{ExecutorState}
 use Rattle.rme_session_world.specs.SessionBatches.{AppliesSessionBatch}
 use Rattle.rme_session_world.specs.declared.event_batch.EventBatch.{EventBatch}
@@ -14,6 +14,7 @@ use Rattle.rme_durable_format.specs.BatchCommands.{batch_commands}
 use Rattle.rme_durable_format.specs.CommandLines.{AppendsCommands}
 use Rattle.rme_durable_format.specs.Recovery.{RecoversWorld}
 use Rattle.rme_durable_checkpoint.specs.Checkpoints.{CheckpointShowsSame}
+use Rattle.rme_durable_checkpoint.specs.ClientValues.{client_session}
 use Rattle.rme_durable_checkpoint.specs.EpochStates.{EpochState}
 use Rattle.rme_durable_checkpoint.specs.declared.epoch_base.Base.{Base}
 
@@ -76,6 +77,21 @@ abbrev pub AppendsAtMostOne : List (List ℕ) → ℕ → List LogEntry → Serv
 AppendsAtMostOne names session log old after new =
     ((after ≡ log) × (new ≡ old))
     ⊎ ((lines : List ℕ) × (after ≡ log ++ Lines session lines ∷ []) × AppendsSessionBatch names session old lines new)
+
+-- No entry is an event batch of this session.
+abbrev pub IsNotOfSession : ℕ → LogEntry → Type 0
+IsNotOfSession session (Lines author lines) = author ≢ session
+IsNotOfSession session (Whole bytes) = Unit {0}
+
+abbrev pub AreNotOfSession : ℕ → List LogEntry → Type 0
+AreNotOfSession session [] = Unit {0}
+AreNotOfSession session (entry ∷ log) = IsNotOfSession session entry × AreNotOfSession session log
+
+-- A session still has its worker, and its client sees the same of it: ready, waiting or inside, with the same job.
+pub record KeepsWorker (session worker : ℕ) (old new : ServerState) : Type 0 where
+  pub has : slice_get new.executor.holders worker ≡ Some (Some session)
+  pub shown : client_session new.base (held_session new.executor worker) ≡ client_session old.base
+      (held_session old.executor worker)
 
 -- These lines of an author are appended, if there are any.
 abbrev pub AppendsIfAny : ℕ → List ℕ → AppenderState → AppenderState → Type 0
