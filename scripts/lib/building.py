@@ -18,7 +18,13 @@ from concurrent.futures import FIRST_COMPLETED, ThreadPoolExecutor, wait
 from lib.sources import TOP, MadeOf, below, folder_of, library_of, sources_of, time_of
 
 MEMORY_OF_A_LANE = 3_500_000_000
-MOST_JOBS = 4
+# A crate's functions are proved in some six batches: with four jobs that is two rounds as with three, for more work in all.
+MOST_JOBS = 3
+# A crate is a group of processes, which `stop` can end. It is no session: the system shares the processors among sessions
+# first, and by niceness only inside of one. (An older Python has only sessions, and so only a slower build.)
+GROUP = {"process_group": 0} if sys.version_info >= (3, 11) else {"start_new_session": True}
+# What can wait is this nice at least, and by one more for so many seconds that it can wait.
+LEAST_NICE, MOST_NICE, SECONDS_A_NICE = 5, 19, 15
 # The processor seconds that crates took when this was written. Only their order matters: which chain of crates is the longest.
 SECONDS = {
     "rme_words": 55, "rme_tree": 31, "rme_script": 60, "rme_line_io": 128, "rme_cli_options": 152, "rme_program": 148,
@@ -110,9 +116,13 @@ def move_all(source, target, but=()):
             os.rename(os.path.join(source, part), to)
 
 
-def make(crates, name, is_program, jobs, leads):
-    """Builds a crate in a room, and answers whether it was built, and what was said. One that does not lead leaves the
-    processors to the one that does."""
+def niceness(slack):
+    """How nice a crate is that can wait for so many seconds: at 0 it leads, and gets all processors that it can use."""
+    return min(MOST_NICE, LEAST_NICE + slack // SECONDS_A_NICE) if slack else 0
+
+
+def make(crates, name, is_program, jobs, nice):
+    """Builds a crate in a room, and answers whether it was built, and what was said."""
     out = os.path.join(folder_of(name), "out")
     room = os.path.join(out, "room")
     inside = os.path.join(room, "crates", name)
@@ -122,9 +132,9 @@ def make(crates, name, is_program, jobs, leads):
     furnish(room, crates, name)
     move_all(out, os.path.join(inside, "out"), ("room",))
     verb, ending = ("run", ["--", FIRST_WORDS.get(name, "--version")]) if is_program else ("lib", [])
-    words = [*([] if leads else ["nice", "-n", "5"]), "rt", verb, "--jobs", str(jobs), *ending]
+    words = ["nice", "-n", str(nice), "rt", verb, "--jobs", str(jobs), *ending]
     how = {"cwd": inside, "stdin": subprocess.DEVNULL, "stdout": subprocess.PIPE, "stderr": subprocess.STDOUT}
-    with subprocess.Popen(words, text=True, errors="replace", start_new_session=True, **how) as ran:
+    with subprocess.Popen(words, text=True, errors="replace", **GROUP, **how) as ran:
         running.add(ran)
         told = ran.stdout.read()
     running.discard(ran)
@@ -212,13 +222,13 @@ def build(crates, names, program):
             waiting = {*left, *working.values()}
             ready = [it for it in left if not waiting & {*below(crates, it)}]
             ready.sort(key=lambda it: -first[it])
-            # The longest chain decides when all is done, so it gets all processors but one.
+            # The longest chain decides when all is done, so its crate comes first, and the others take what it leaves.
             longest = max((first[it] for it in waiting), default=0)
             for name, jobs in zip(ready, shares(places - len(working), len(ready))):
-                leads = first[name] == longest
-                jobs = max(jobs, min(MOST_JOBS, places - 1)) if leads else jobs
+                slack = longest - first[name]
+                jobs = jobs if slack else max(jobs, min(MOST_JOBS, places - 1))
                 left.remove(name)
-                working[pool.submit(make, crates, name, name == program, jobs, leads)] = name
+                working[pool.submit(make, crates, name, name == program, jobs, niceness(slack))] = name
             for it in wait(working, return_when=FIRST_COMPLETED).done:
                 name = working.pop(it)
                 well, told = it.result()

@@ -1,11 +1,10 @@
-//! `rme serve --state` and `rme look`: the part of the program `rme` for a first durable server.
+//! `rme serve --state`: the part of the program `rme` for a first durable server.
 //!
-//! It is a separate program so that a first durable server need not build the running service, the checker and the
-//! pictures. It has only these commands, and help; `rme_cli` is the whole program.
+//! It is a separate program so that a first durable server need not build the running service, the checker, the
+//! pictures and `rme look`. It has only this command, and help; `rme_cli` is the whole program.
 #![tactic(auto)]
 
 use rme_cli_durable::run_serve_durable;
-use rme_cli_look::run_look;
 use rme_cli_messages::CliFault;
 use rme_cli_options::{CliTask, ParsedCommandLine, finish_process, read_words};
 use std::process::ExitCode;
@@ -29,10 +28,9 @@ fn run_command_line<R: Threads + Wait + Clock + Sync>(
         ParsedCommandLine::Task(CliTask::ServeDurable(task)) => run_serve_durable(
             rt, threads, task,
         ),
-        ParsedCommandLine::Task(CliTask::Look(task)) => run_look(rt, task),
         ParsedCommandLine::Task(_) => {
             let _ = eprintln!(rt;
-                "rme_cli_state does only serve --state and look: the whole program is rme_cli"
+                "rme_cli_state does only serve --state: the whole program is rme_cli"
             );
             Ok(NOT_HERE)
         }

@@ -6,6 +6,7 @@ was built; and it is left where only times changed, or something that it is not 
 import contextlib
 import os
 import shutil
+import signal
 import subprocess
 import sys
 import time
@@ -16,7 +17,7 @@ from lib.programs import SCRIPTS, TOP
 # What stands in for the toolchain. It writes down what it is asked for, and makes what the toolchain would.
 RT = """\
 #!{python}
-import os, sys
+import os, sys, time
 
 def write(path, text):
     os.makedirs(os.path.dirname(path), exist_ok=True)
@@ -30,6 +31,11 @@ if verb == "doc":
     sys.exit(print("/kit/page.md"))
 with open(os.environ["RT_LOG"], "a") as log:
     print(verb, crate, file=log)
+with open(os.environ["RT_LOG"] + ".nice", "a") as log:
+    print(crate, os.nice(0), file=log)
+if os.environ.get("RT_WAITS") == crate:
+    write(os.environ["RT_LOG"] + ".waits", str(os.getpid()))
+    time.sleep(60)
 if os.environ.get("RT_FAILS") == crate:
     sys.exit("".join(f"goal {{number}}\\n" for number in range(100)) + "no proof")
 if os.environ.get("RT_EDITS") == crate:
@@ -81,11 +87,14 @@ class Tree:
             file.write(RT.format(python=sys.executable, version=version))
         os.chmod(file.name, 0o755)
 
+    def environment(self, **more):
+        path = f"{self.bin}:{os.path.dirname(sys.executable)}:{os.environ['PATH']}"
+        return {**os.environ, "PATH": path, "RT_LOG": self.log, "RT_TREE": self.top, **more}
+
     def run(self, *words, program="rme", **environment):
         """Runs `./rme`, or another program of the tree, and answers how it ended and what `rt` was asked for."""
         open(self.log, "w", encoding="utf-8").close()
-        path = f"{self.bin}:{os.path.dirname(sys.executable)}:{os.environ['PATH']}"
-        environment = {**os.environ, "PATH": path, "RT_LOG": self.log, "RT_TREE": self.top, **environment}
+        environment = self.environment(**environment)
         ran = subprocess.run([self.path(program), *words], env=environment, capture_output=True, text=True, timeout=60)
         with open(self.log, encoding="utf-8") as file:
             return ran, file.read().splitlines()
@@ -236,6 +245,48 @@ def try_failures(folder):
     tree.builds("counts at the next call", ALL)
 
 
+def is_alive(number):
+    try:
+        with open(f"/proc/{number}/stat", encoding="utf-8") as file:
+            return file.read().rpartition(")")[2].split()[0] != "Z"
+    except OSError:
+        return False
+
+
+def try_order(folder):
+    """The crates that decide when all is done come first, and others take what they leave."""
+    tree = Tree(folder)
+    tree.write("crates.txt", CRATES.replace("rme_cli: mid low", "rme_cli: mid other low"))
+    tree.write("crates/other/src/lib.rt", "\n" * 6000)
+    tree.run("--version")
+    with open(f"{tree.log}.nice", encoding="utf-8") as file:
+        nice = {crate: int(it) for crate, it in map(str.split, file)}
+    least = os.nice(0)
+    leads = {crate: it == least for crate, it in nice.items()}
+    same("which crates lead", leads, {"low": True, "other": True, "mid": False, "rme_cli": True})
+
+
+def try_signals(folder):
+    """A run that is ended ends what it started, and what was built stays."""
+    tree = Tree(folder)
+    held = {"cwd": tree.top, "start_new_session": True, "stdout": subprocess.DEVNULL, "stderr": subprocess.DEVNULL}
+    for name in (signal.SIGINT, signal.SIGTERM):
+        with subprocess.Popen([tree.path("rme")], env=tree.environment(RT_WAITS="mid"), **held) as ran:
+            started, ends = f"{tree.log}.waits", time.monotonic() + 30
+            while not os.path.exists(started) and time.monotonic() < ends:
+                time.sleep(0.05)
+            time.sleep(0.2)
+            with open(started, encoding="utf-8") as file:
+                number = file.read()
+            os.killpg(ran.pid, name)
+        os.remove(started)
+        ends = time.monotonic() + 10
+        while is_alive(number) and time.monotonic() < ends:
+            time.sleep(0.05)
+        check(f"{name.name} ends what it started", not is_alive(number))
+    tree.builds("and what was built stays", ["lib mid", "run rme_cli"])
+
+
 def try_smaller(folder):
     """Until the program was built once, lines are run by a smaller one, and so is a durable server."""
     tree = Tree(folder)
@@ -286,6 +337,8 @@ def part():
         try_toolchain,
         try_without_stamp,
         try_failures,
+        try_order,
+        try_signals,
         try_smaller,
         try_library,
         minutes=5,
