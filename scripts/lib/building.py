@@ -25,22 +25,23 @@ MOST_JOBS = 3
 GROUP = {"process_group": 0} if sys.version_info >= (3, 11) else {"start_new_session": True}
 # What can wait is this nice at least, and by one more for so many seconds that it can wait.
 LEAST_NICE, MOST_NICE, SECONDS_A_NICE = 5, 19, 15
-# The processor seconds that crates took when this was written. Only their order matters: which chain of crates is the longest.
+# The processor seconds that crates take with one job, about. They say which chain of crates is the longest, and how long a
+# build takes.
 SECONDS = {
-    "rme_words": 55, "rme_tree": 31, "rme_script": 60, "rme_line_io": 128, "rme_cli_options": 152, "rme_program": 148,
-    "rme_machine": 27, "rme_history": 47, "rme_core_image": 108, "rme_core_image_check": 68, "rme_core_checker": 99,
-    "rme_world": 143, "rme_line_json": 56, "rme_line_text": 170, "rme_wire": 170, "rme_session_protocol": 140,
-    "rme_line_diagnose": 100, "rme_line_check": 110, "rme_cli_messages": 200, "rme_draw_picture": 242,
-    "rme_service_steps": 96, "rme_service_phases": 174, "rme_table": 222, "rme_supervisor": 230,
-    "rme_session_threads": 230, "rme_session_server": 250, "rme_server": 110, "rme_line_engine": 190,
-    "rme_draw_history": 120, "rme_cli_lines": 130, "rme_cli_run": 90, "rme_session_world": 180, "rme_durable_log": 110,
-    "rme_durable_format": 200, "rme_durable_checkpoint": 250, "rme_durable_server": 240, "rme_process_file": 150,
-    "rme_durable_file": 120, "rme_cli_listen": 120, "rme_cli_look": 180, "rme_cli_durable": 180,
-    "rme_cli_commands": 250, "rme_cli": 400,
+    "rme_words": 38, "rme_tree": 16, "rme_script": 38, "rme_line_io": 75, "rme_cli_options": 90, "rme_program": 85,
+    "rme_machine": 18, "rme_history": 45, "rme_core_image": 65, "rme_core_image_check": 40, "rme_core_checker": 60,
+    "rme_world": 95, "rme_line_json": 35, "rme_line_text": 100, "rme_wire": 100, "rme_session_protocol": 130,
+    "rme_line_diagnose": 60, "rme_line_check": 110, "rme_cli_messages": 120, "rme_draw_picture": 145,
+    "rme_service_steps": 60, "rme_service_phases": 100, "rme_table": 135, "rme_supervisor": 140,
+    "rme_session_threads": 140, "rme_session_server": 150, "rme_server": 65, "rme_line_engine": 88,
+    "rme_draw_history": 70, "rme_cli_lines": 80, "rme_cli_run": 49, "rme_session_world": 95, "rme_durable_log": 65,
+    "rme_durable_format": 160, "rme_durable_checkpoint": 190, "rme_durable_server": 210, "rme_process_file": 90,
+    "rme_durable_file": 120, "rme_cli_listen": 70, "rme_cli_look": 150, "rme_cli_durable": 150, "rme_cli_state": 200,
+    "rme_cli_commands": 250, "rme_cli": 300,
 }  # fmt: skip
-# Side by side crates keep some 2.7 processors busy, where there are four, and a crate that leads with several jobs takes about
-# seven tenths of its seconds.
-BUSY, OF_LEADER = 2.7, 0.7
+# Side by side crates keep some 2.7 processors busy, where there are four, and the longest chain takes about four fifths of
+# its seconds.
+BUSY, OF_CHAIN = 2.7, 0.8
 LAST_LINES = 40  # of a log, where a crate failed
 # What a program is run with once it is built, on no input; any other is asked for its version.
 FIRST_WORDS = {"rme_cli_run": "run"}
@@ -153,7 +154,7 @@ def lanes():
 def expected(weight, chain, places):
     """How many seconds so much work takes at pace 1, with so many crates side by side, where this is the chain of crates that
     is the longest."""
-    return max(weight / min(places, BUSY), (OF_LEADER if places > 2 else 1) * chain)
+    return max(weight / min(places, BUSY), (OF_CHAIN if places > 2 else 1) * chain)
 
 
 def minutes_for(crates, names):
@@ -227,6 +228,8 @@ def build(crates, names, program):
             for name, jobs in zip(ready, shares(places - len(working), len(ready))):
                 slack = longest - first[name]
                 jobs = jobs if slack else max(jobs, min(MOST_JOBS, places - 1))
+                # A program has few functions, and each job would read all the libraries again.
+                jobs = 1 if name == program else jobs
                 left.remove(name)
                 working[pool.submit(make, crates, name, name == program, jobs, niceness(slack))] = name
             for it in wait(working, return_when=FIRST_COMPLETED).done:
