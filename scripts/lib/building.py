@@ -18,15 +18,15 @@ from concurrent.futures import FIRST_COMPLETED, ThreadPoolExecutor, wait
 from lib.sources import TOP, MadeOf, below, folder_of, library_of, sources_of, time_of
 
 MEMORY_OF_A_LANE = 3_500_000_000
-# A crate's functions are proved in some six batches: with four jobs that is two rounds as with three, for more work in all.
+# A crate's functions are proved in some six batches: two rounds with three jobs, and with four, which take more work.
 MOST_JOBS = 3
-# A crate is a group of processes, which `stop` can end. It is no session: the system shares the processors among sessions
-# first, and by niceness only inside of one. (An older Python has only sessions, and so only a slower build.)
+# A crate's processes are a group, which `stop` can end, and no session: the system shares the processors among sessions
+# first, and by niceness only inside a session. (An older Python can only make sessions: the build is then slower.)
 GROUP = {"process_group": 0} if sys.version_info >= (3, 11) else {"start_new_session": True}
 # What can wait is this nice at least, and by one more for so many seconds that it can wait.
 LEAST_NICE, MOST_NICE, SECONDS_A_NICE = 5, 19, 15
-# The processor seconds that crates take with one job, about. They say which chain of crates is the longest, and how long a
-# build takes.
+# The processor seconds that crates take with one job, some measured and some estimated. They say which chain of crates
+# is the longest, and about how long a build takes.
 SECONDS = {
     "rme_words": 38, "rme_tree": 16, "rme_script": 38, "rme_line_io": 75, "rme_cli_options": 90, "rme_program": 85,
     "rme_machine": 18, "rme_history": 45, "rme_core_image": 65, "rme_core_image_check": 40, "rme_core_checker": 60,
@@ -39,8 +39,8 @@ SECONDS = {
     "rme_durable_file": 120, "rme_cli_listen": 70, "rme_cli_look": 150, "rme_cli_durable": 150, "rme_cli_state": 200,
     "rme_cli_commands": 250, "rme_cli": 300,
 }  # fmt: skip
-# Side by side crates keep some 2.7 processors busy, where there are four, and the longest chain takes about four fifths of
-# its seconds.
+# Side by side crates keep some 2.7 processors busy, where there are four. The longest chain takes about four fifths of
+# its seconds (an estimate).
 BUSY, OF_CHAIN = 2.7, 0.8
 LAST_LINES = 40  # of a log, where a crate failed
 # What a program is run with once it is built, on no input; any other is asked for its version.
