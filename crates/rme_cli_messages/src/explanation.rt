@@ -1,5 +1,8 @@
 //! The output of `rme explain`.
 
+ghost use Rattle.std.specs.Prelude.{◌≡◌, ◌++◌, ◌∷◌, [], OnOk, codes, string_bytes};
+ghost use Rattle.rme_cli_messages.specs.Explanations.{refusal_advice};
+
 use crate::argument::escape_controls;
 use crate::exit_status::{ExitStatus, LAST_STATUS};
 use crate::explain::{LAST_CODE, refusal_advice, refusal_of, refusal_when};
@@ -103,13 +106,15 @@ fn push_explained(out: &mut String, asked: ExplainQuery<'_>) -> Result<(), Alloc
 /// Appends the explanations of the refusals that match the query.
 fn push_refusals(out: &mut String, asked: &str) -> Result<(), AllocError> {
     for code in 1..=LAST_CODE {
-        if let Some(refusal) = refusal_of(code) {
-            push_refusal(out, asked, code, &refusal)?;
-        }
+        let Some(refusal) = refusal_of(code) else {
+            unreachable!();
+        };
+        push_refusal(out, asked, code, &refusal)?;
     }
     Ok(())
 }
-/// Appends the explanation of a refusal, if it matches the query.
+
+/// Appends the explanation of a refusal, if it matches the query; without advice in the list that has one line for each.
 fn push_refusal(
     out: &mut String,
     asked: &str,
@@ -121,10 +126,21 @@ fn push_refusal(
         return Ok(());
     }
     writeln!(out, "{code} {name}: {}", refusal_when(refusal))?;
-    push_advice(out, asked, refusal_advice(refusal))
+    if asked.is_empty() {
+        return Ok(());
+    }
+    push_refusal_advice(out, refusal)
 }
 
-/// Appends the explanation of a status, if it matches the query.
+/// Appends the advice on a refusal, indented, and a newline.
+fn push_refusal_advice(out: &mut String, refusal: &Refusal) -> Result<(), AllocError>
+    ensures { OnOk result (string_bytes out.new ≡ string_bytes out.old
+        ++ (codes "  " ++ (refusal_advice refusal.now ++ 10 ∷ []))) }
+{
+    writeln!(out, "  {}", refusal_advice(refusal))
+}
+
+/// Appends the explanation of a status, in the same way.
 fn push_exit_status(
     out: &mut String,
     asked: &str,
@@ -136,15 +152,10 @@ fn push_exit_status(
         return Ok(());
     }
     writeln!(out, "status {status} {name}: {}", ending.when())?;
-    push_advice(out, asked, ending.advice())
-}
-
-/// Appends the advice; not in the list that has one line for each.
-fn push_advice(out: &mut String, asked: &str, advice: &str) -> Result<(), AllocError> {
     if asked.is_empty() {
         return Ok(());
     }
-    writeln!(out, "  {advice}")
+    writeln!(out, "  {}", ending.advice())
 }
 
 /// Whether this number or this name matches the query.
