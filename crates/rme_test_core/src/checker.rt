@@ -4,7 +4,7 @@
 use rme_core_checker::Machine;
 use rme_program::{Answer, Event, Note};
 use rme_script::{Job, Script};
-use rme_words::{Refusal, Shape};
+use rme_words::{NoMemory, Refusal, Shape};
 use rme_world::World;
 use std::alloc::Global;
 use std::process::Abort;
@@ -27,7 +27,7 @@ fn all_admit(
     machine: &mut Machine,
     pairs: &[Pair],
     wanted: bool,
-) -> Result<(), Fail> {
+) -> Result<(), NoMemory> {
     for (event, answer) in pairs {
         assert!(rt; machine.admits(event, answer)? == wanted);
     }
@@ -40,8 +40,15 @@ fn pairs_of_a_job(alloc: Global, shape: Shape) -> Result<Vec<Pair>, Fail> {
     let mut events = [Event::Step(0); 20];
     events[0] = submit(0);
     let answers = world.run(&events)?;
-    let pairs = events.iter().copied().zip(answers.iter().copied());
-    Ok(pairs.collect(alloc)?)
+    pairs_of(alloc, &events, &answers)
+}
+
+fn pairs_of(alloc: Global, events: &[Event], answers: &[Answer]) -> Result<Vec<Pair>, Fail> {
+    let mut pairs = Vec::new(alloc);
+    for (event, answer) in events.iter().zip(answers.iter()) {
+        pairs.push((*event, *answer))?;
+    }
+    Ok(pairs)
 }
 
 /// Row `run and admits`: the machine has each step of a world.
@@ -61,7 +68,13 @@ fn run_and_admits(rt: HostRuntime) -> Result<(), Fail> {
 #[test]
 fn labels(rt: HostRuntime) -> Result<(), Fail> {
     let mut machine = Machine::new(rt.alloc(), Shape::new(2, 2, 1, 10)?)?;
-    let unlabelled = [
+    all_admit(&rt, &mut machine, &unlabelled(), false)?;
+    all_admit(&rt, &mut machine, &refused(), true)?;
+    Ok(())
+}
+
+fn unlabelled() -> [Pair; 9] {
+    [
         (submit(0), QUIET),
         (submit(0), Answer::Crashed),
         (submit(2), Answer::Handed(1)),
@@ -71,14 +84,15 @@ fn labels(rt: HostRuntime) -> Result<(), Fail> {
         (Event::Crash(0), Answer::Restarted),
         (Event::Restart(0), Answer::Withdrawing),
         (Event::Withdraw(0), Answer::Stepped(Note::Withdrew(1))),
-    ];
-    all_admit(&rt, &mut machine, &unlabelled, false)?;
-    let refused = [
+    ]
+}
+
+fn refused() -> [Pair; 5] {
+    [
         (submit(0), Answer::Refused(Refusal::Busy)),
         (Event::Step(7), Answer::Refused(Refusal::NoMemory)),
         (Event::Crash(0), Answer::Refused(Refusal::Down)),
         (Event::Restart(0), Answer::Refused(Refusal::Busy)),
         (Event::Withdraw(1), Answer::Refused(Refusal::Down)),
-    ];
-    all_admit(&rt, &mut machine, &refused, true)
+    ]
 }

@@ -1,6 +1,6 @@
 //! The calls that write, read and check an image, each by itself.
 
-use rme_core_image::{encode, parse};
+use rme_core_image::{Parsed, encode, parse};
 use rme_core_image_check::is_valid_memory;
 use rme_history::EntryList;
 use rme_words::{Bank, Refusal, Shape};
@@ -34,15 +34,17 @@ fn encoded(rt: HostRuntime) -> Result<(), Fail> {
 #[test]
 fn parsed(rt: HostRuntime) -> Result<(), Fail> {
     let mut image = smallest(rt.alloc())?;
-    let parsed = parse(rt.alloc(), &image)?;
-    assert!(rt; parsed.version == 2);
-    assert!(rt; parsed.shape.workers() == 1 && parsed.shape.locks() == 1);
-    assert!(rt; parsed.shape.cells() == 1 && parsed.shape.jobs() == 1);
-    assert!(rt; parsed.words.as_slice() == [0; 37].as_slice());
-    assert!(rt; parsed.entries.len() == 0);
+    check_parsed(&rt, &parse(rt.alloc(), &image)?);
     let _ = image.pop();
     assert!(rt; parse(rt.alloc(), &image).err() == Some(Refusal::BadImage));
     Ok(())
+}
+
+fn check_parsed(rt: &impl Abort, parsed: &Parsed) {
+    let shape = parsed.shape;
+    assert!(rt; (shape.workers(), shape.locks(), shape.cells(), shape.jobs()) == (1, 1, 1, 1));
+    assert!(rt; (parsed.version, parsed.entries.len()) == (2, 0));
+    assert!(rt; parsed.words.as_slice() == [0; 37].as_slice());
 }
 
 /// Whether these words are valid, in a world of one worker, one lock, one cell and one job that has no entries.

@@ -1,11 +1,16 @@
 //! Sessions over a world: two clients in turn, and planned crashes.
 
+ghost use Rattle.std.specs.Prelude.{◌≡◌, ◌<◌, ◌↔◌, ℕ, IfOk, IfSome, None, Some, slice_get, true};
+ghost use Rattle.rme_session_protocol.specs.Attempts.{is_still_waiting};
+ghost use Rattle.rme_session_world.specs.AppliedOrders.{IsOrderWorker, IsSessionStopped};
+ghost use Rattle.rme_session_world.specs.Executors.{is_worker_taken, owned_worker};
+
 use rme_program::Receipt;
 use rme_script::{Job, Op, Script};
 use rme_session_protocol::{
     Attachment, JobOutcome, Order, Patience, SessionReply, SessionStance, Submission,
 };
-use rme_session_world::{Executor, SessionState};
+use rme_session_world::{ExecutedOrder, Executor, SessionState};
 use rme_words::{NoMemory, Refusal, Shape};
 use rme_world::World;
 use std::alloc::Global;
@@ -18,10 +23,18 @@ fn new_world_executor(alloc: Global) -> Result<Executor, Refusal> {
     let Ok(world) = World::new(alloc, shape) else {
         return Err(Refusal::NoMemory);
     };
-    match Executor::new(alloc, world) {
+    match executor_over(alloc, world) {
         Ok(executor) => Ok(executor),
         Err(_) => Err(Refusal::NoMemory),
     }
+}
+
+/// An executor over a world: every worker is down.
+fn executor_over(alloc: Global, world: World) -> Result<Executor, NoMemory>
+    ensures { (worker : ℕ) → worker < world.shape.workers
+        → IfOk result (λ executor. slice_get executor.world.privates worker ≡ Some None) }
+{
+    Executor::new(alloc, world)
 }
 
 fn attach(worker: u32) -> Order {
@@ -54,91 +67,123 @@ fn receipt(worker: u32, place: u32, reply: u64) -> JobOutcome {
     })
 }
 
-/// An order must have this answer.
-fn ask(
-    rt: &impl Abort,
+/// Executes an order of a session. Its events are of the session's worker, or of the one to attach; `Taken` answers
+/// exactly where another session has that one; and a job that waits is blocked.
+fn execute(
     executor: &mut Executor,
     session: &mut SessionState,
-    order: Order,
-    wanted: SessionReply,
-) -> Result<(), NoMemory> {
+    order: &Order,
+) -> Result<ExecutedOrder, NoMemory>
+    ensures own { IfOk result (λ done. IfSome done.batch
+        (λ batch. IsOrderWorker (owned_worker executor.old session.old) order.now batch.worker)) }
+    ensures taken { IfOk result (λ done. (done.reply ≡ SessionReply.Refused Refusal.Taken)
+        ↔ (is_worker_taken executor.old (owned_worker executor.old session.old) order.now ≡ true)) }
+    ensures waits { IfOk result (λ done. is_still_waiting done.reply ≡ true
+        → IsSessionStopped executor.new.world (owned_worker executor.new session.new)) }
+{
     let view = executor.session(session);
-    let done = executor.execute(session, &view, &order)?;
-    assert!(rt; done.reply == wanted);
+    executor.execute(session, &view, order)
+}
+
+/// A session, by its place in a list of two; its order; and the reply that it must have.
+type Exchange = (usize, Order, SessionReply);
+
+fn new_sessions() -> [SessionState; 2] {
+    [SessionState::new(1), SessionState::new(2)]
+}
+
+/// Plays these exchanges in turn.
+fn play(
+    rt: &impl Abort,
+    executor: &mut Executor,
+    sessions: &mut [SessionState; 2],
+    exchanges: &[Exchange],
+) -> Result<(), NoMemory> {
+    for (session, order, wanted) in exchanges {
+        assert!(rt; *session < 2);
+        let done = execute(executor, &mut sessions[*session], order)?;
+        assert!(rt; done.reply == *wanted);
+    }
     Ok(())
 }
 
+const READY: SessionReply = SessionReply::Attached(0, SessionStance::Ready);
+
+const HELD: SessionReply = SessionReply::Attached(1, SessionStance::Held);
+
+const WITHIN: SessionReply = SessionReply::Entered(JobOutcome::Inside(1));
+
 /// One worker is inside while the other waits; then the other is inside.
+fn one_after_the_other() -> [Exchange; 7] {
+    let waits = SessionReply::Entered(JobOutcome::Waiting);
+    let not_inside = SessionReply::Refused(Refusal::NotInside);
+    [
+        (0, attach(0), READY),
+        (0, Order::Enter(adding(5)), WITHIN),
+        (1, attach(1), READY),
+        (1, Order::Enter(adding(1)), waits),
+        (1, Order::Commit, not_inside),
+        (0, Order::Commit, SessionReply::Committed(receipt(0, 0, 5))),
+        (
+            1,
+            Order::Resume(Patience::Tries(1)),
+            SessionReply::Resumed(receipt(1, 1, 6)),
+        ),
+    ]
+}
+
 #[test]
 fn inside(rt: HostRuntime) -> Result<(), Fail> {
     let mut executor = new_world_executor(rt.alloc())?;
-    let (mut one, mut two) = (SessionState::new(1), SessionState::new(2));
-    let ready = SessionReply::Attached(0, SessionStance::Ready);
-    let (first, second) = (Order::Enter(adding(5)), Order::Enter(adding(1)));
-    let within = SessionReply::Entered(JobOutcome::Inside(1));
-    let waits = SessionReply::Entered(JobOutcome::Waiting);
-    let not_inside = SessionReply::Refused(Refusal::NotInside);
-    ask(&rt, &mut executor, &mut one, attach(0), ready)?;
-    ask(&rt, &mut executor, &mut one, first, within)?;
-    ask(&rt, &mut executor, &mut two, attach(1), ready)?;
-    ask(&rt, &mut executor, &mut two, second, waits)?;
-    ask(&rt, &mut executor, &mut two, Order::Commit, not_inside)?;
-    let done = SessionReply::Committed(receipt(0, 0, 5));
-    ask(&rt, &mut executor, &mut one, Order::Commit, done)?;
-    let done = SessionReply::Resumed(receipt(1, 1, 6));
-    let resume = Order::Resume(Patience::Tries(1));
-    ask(&rt, &mut executor, &mut two, resume, done)?;
+    let exchanges = one_after_the_other();
+    play(&rt, &mut executor, &mut new_sessions(), &exchanges)?;
     Ok(())
 }
 
-/// A worker belongs to one session, until that detaches it; after that it is still inside.
+/// A worker belongs to one session, until that detaches it.
+fn taken_worker() -> [Exchange; 3] {
+    [
+        (0, attach(0), READY),
+        (1, attach(0), SessionReply::Refused(Refusal::Taken)),
+        (0, Order::Enter(adding(5)), WITHIN),
+    ]
+}
+
+/// Another session finds it inside, and finishes its job.
+fn found_inside() -> [Exchange; 2] {
+    [
+        (1, attach(0), HELD),
+        (1, Order::Commit, SessionReply::Committed(receipt(0, 0, 5))),
+    ]
+}
+
+/// A session that ends detaches its worker, which is still inside then.
 #[test]
 fn handed_on(rt: HostRuntime) -> Result<(), Fail> {
     let mut executor = new_world_executor(rt.alloc())?;
-    let (mut one, mut two) = (SessionState::new(1), SessionState::new(2));
-    let ready = SessionReply::Attached(0, SessionStance::Ready);
-    let taken = SessionReply::Refused(Refusal::Taken);
-    let within = SessionReply::Entered(JobOutcome::Inside(1));
-    let held = SessionReply::Attached(1, SessionStance::Held);
-    ask(&rt, &mut executor, &mut one, attach(0), ready)?;
-    ask(&rt, &mut executor, &mut two, attach(0), taken)?;
-    ask(
-        &rt,
-        &mut executor,
-        &mut one,
-        Order::Enter(adding(5)),
-        within,
-    )?;
-    assert!(rt; executor.detach_session(&mut one).is_some());
+    let mut sessions = new_sessions();
+    play(&rt, &mut executor, &mut sessions, &taken_worker())?;
+    assert!(rt; executor.detach_session(&mut sessions[0]).is_some());
     assert!(rt; executor.world().owner(0) == Ok(Some(0)));
-    ask(&rt, &mut executor, &mut two, attach(0), held)?;
-    let done = SessionReply::Committed(receipt(0, 0, 5));
-    ask(&rt, &mut executor, &mut two, Order::Commit, done)?;
+    play(&rt, &mut executor, &mut sessions, &found_inside())?;
     Ok(())
 }
 
 /// A worker that crashes as planned is still inside.
+fn planned_crash() -> [Exchange; 6] {
+    [
+        (0, attach(0), READY),
+        (0, Order::CrashAfter(7), SessionReply::CrashPlanned),
+        (0, Order::Enter(adding(5)), WITHIN),
+        (0, Order::Commit, SessionReply::Committed(JobOutcome::Fell)),
+        (0, attach(0), HELD),
+        (0, Order::Commit, SessionReply::Committed(receipt(0, 0, 5))),
+    ]
+}
+
 #[test]
 fn planned(rt: HostRuntime) -> Result<(), Fail> {
     let mut executor = new_world_executor(rt.alloc())?;
-    let mut one = SessionState::new(1);
-    let ready = SessionReply::Attached(0, SessionStance::Ready);
-    let within = SessionReply::Entered(JobOutcome::Inside(1));
-    let fell = SessionReply::Committed(JobOutcome::Fell);
-    let held = SessionReply::Attached(1, SessionStance::Held);
-    let done = SessionReply::Committed(receipt(0, 0, 5));
-    let planned = SessionReply::CrashPlanned;
-    ask(&rt, &mut executor, &mut one, attach(0), ready)?;
-    ask(&rt, &mut executor, &mut one, Order::CrashAfter(7), planned)?;
-    ask(
-        &rt,
-        &mut executor,
-        &mut one,
-        Order::Enter(adding(5)),
-        within,
-    )?;
-    ask(&rt, &mut executor, &mut one, Order::Commit, fell)?;
-    ask(&rt, &mut executor, &mut one, attach(0), held)?;
-    ask(&rt, &mut executor, &mut one, Order::Commit, done)?;
+    play(&rt, &mut executor, &mut new_sessions(), &planned_crash())?;
     Ok(())
 }

@@ -192,13 +192,22 @@ fn gives_up_and_recovers(rt: HostRuntime) -> Result<(), Fail> {
     let script = Script::of(&[]);
     script.check(shape)?;
     let first = Private::submit(Private::ready(0, 0), Job { lock: 0, script });
-    let climbing = walk(&rt, &mut bank, first, &ONE_LEVEL);
-    assert!(rt; phase(&climbing) == Phase::Enter);
-    if let Stage::Climbing(_) = climbing.stage {
-        let given_up = walk(&rt, &mut bank, Private::withdraw(climbing), &WITHDRAWAL);
-        assert!(rt; phase(&given_up) == Phase::Ready);
-        let restarted = walk(&rt, &mut bank, Private::restart(0), &RECOVERY);
-        assert!(rt; phase(&restarted) == Phase::Ready);
-    }
+    give_up(&rt, &mut bank, first);
+    let restarted = walk(&rt, &mut bank, Private::restart(0), &RECOVERY);
+    assert!(rt; phase(&restarted) == Phase::Ready);
     Ok(())
+}
+
+/// A worker that posts its job takes one node and gives up.
+fn give_up(rt: &impl Abort, bank: &mut Bank, first: Private)
+    requires { IsPrivate bank.old.shape first }
+    ensures { bank.new.shape ≡ bank.old.shape }
+{
+    let climbing = walk(rt, bank, first, &ONE_LEVEL);
+    assert!(rt; phase(&climbing) == Phase::Enter);
+    let Stage::Climbing(_) = climbing.stage else {
+        panic!(rt; "it waits for its lock");
+    };
+    let given_up = walk(rt, bank, Private::withdraw(climbing), &WITHDRAWAL);
+    assert!(rt; phase(&given_up) == Phase::Ready);
 }

@@ -5,6 +5,7 @@ use rme_line_check::event_of_line;
 use rme_line_text::push_event;
 use rme_wire::{Names, ValueReader};
 use std::alloc::Global;
+use std::process::Abort;
 use std::test::Fail;
 
 /// The lines of a transcript after its opening; and then others, some of which no machine accepts.
@@ -45,9 +46,12 @@ fn written_again(alloc: Global, names: &Names, line: &str) -> Result<String, Fai
 
 #[test]
 fn written_back(rt: HostRuntime) -> Result<(), Fail> {
-    let names = lock_names(&rt, rt.alloc());
+    check_lines(&rt, rt.alloc(), &lock_names(&rt, rt.alloc()))
+}
+
+fn check_lines(rt: &impl Abort, alloc: Global, names: &Names) -> Result<(), Fail> {
     for line in LINES {
-        let text = written_again(rt.alloc(), &names, line)?;
+        let text = written_again(alloc, names, line)?;
         assert!(rt; text.as_str() == *line);
     }
     Ok(())

@@ -42,16 +42,25 @@ fn check_add(rt: &impl Abort, names: &mut Names, text: &str, wanted: Result<u32,
     assert!(rt; names.add(text) == wanted);
 }
 
-#[test]
-fn added(rt: HostRuntime) -> Result<(), Fail> {
-    let mut names = Names::new(rt.alloc())?;
+/// Adds all of them, to no names.
+fn add_all(rt: &impl Abort, names: &mut Names) {
     for (text, is, wanted) in ADDED {
         assert!(rt; is_name(text) == *is);
-        check_add(&rt, &mut names, text, *wanted);
+        check_add(rt, names, text, *wanted);
     }
+}
+
+fn check_names(rt: &impl Abort, names: &Names) {
     assert!(rt; names.len() == 16);
     assert!(rt; names.number("shop_2-b") == Some(1));
     assert!(rt; names.number("b").is_none());
     assert!(rt; names.name(1) == "shop_2-b");
+}
+
+#[test]
+fn added(rt: HostRuntime) -> Result<(), Fail> {
+    let mut names = Names::new(rt.alloc())?;
+    add_all(&rt, &mut names);
+    check_names(&rt, &names);
     Ok(())
 }

@@ -6,6 +6,7 @@ use rme_session_protocol::{
     Attachment, Order, Patience, SERVICE_NUMBERS, Submission, WORLD_NUMBERS, parse_order,
 };
 use rme_wire::{Names, ValueReader};
+use rme_words::NoMemory;
 use std::alloc::Global;
 use std::process::Abort;
 use std::test::Fail;
@@ -44,7 +45,7 @@ fn check_order(
     names: &Names,
     line: &str,
     wanted: Order,
-) -> Result<(), Fail> {
+) -> Result<(), NoMemory> {
     let order = parse_order(
         &mut ValueReader::new(alloc),
         names,
@@ -55,11 +56,12 @@ fn check_order(
     Ok(())
 }
 
-/// The orders without a script. An order without a number of tries asks for 1,000.
-#[test]
-fn orders(rt: HostRuntime) -> Result<(), Fail> {
-    let names = lock_names(&rt, rt.alloc());
-    for (line, wanted) in [
+/// A line and its order.
+type OrderLine = (&'static str, Order);
+
+/// The orders without a script and with no number of tries or time to wait.
+fn plain_lines() -> [OrderLine; 9] {
+    [
         (r#"{"do":"attach","worker":0}"#, attach(0, false)),
         (r#"{"worker":9,"do":"attach"}"#, attach(9, false)),
         (
@@ -67,6 +69,17 @@ fn orders(rt: HostRuntime) -> Result<(), Fail> {
             attach(1, false),
         ),
         (r#"{"do":"attach","take":true,"worker":1}"#, attach(1, true)),
+        (r#"{"do":"commit"}"#, Order::Commit),
+        (r#"{"do":"withdraw"}"#, Order::Withdraw),
+        (r#"{"do":"last"}"#, Order::Last),
+        (r#"{"do":"crash_after","steps":0}"#, Order::CrashAfter(0)),
+        (r#"{"do":"detach"}"#, Order::Detach),
+    ]
+}
+
+/// Numbers at their limits. An order without a number of tries asks for 1,000.
+fn numbered_lines() -> [OrderLine; 6] {
+    [
         (r#"{"do":"resume"}"#, Order::Resume(Patience::Tries(1_000))),
         (
             r#"{"do":"resume","tries":1}"#,
@@ -84,25 +97,42 @@ fn orders(rt: HostRuntime) -> Result<(), Fail> {
             r#"{"do":"resume","wait":3600000}"#,
             Order::Resume(Patience::Wait(3_600_000)),
         ),
-        (r#"{"do":"commit"}"#, Order::Commit),
-        (r#"{"do":"withdraw"}"#, Order::Withdraw),
-        (r#"{"do":"last"}"#, Order::Last),
-        (r#"{"do":"crash_after","steps":0}"#, Order::CrashAfter(0)),
         (
             r#"{"do":"crash_after","steps":1000000}"#,
             Order::CrashAfter(1_000_000),
         ),
-        (r#"{"do":"detach"}"#, Order::Detach),
-    ] {
-        check_order(&rt, rt.alloc(), &names, line, wanted)?;
+    ]
+}
+
+/// Each line must give its order.
+fn check_orders(
+    rt: &impl Abort,
+    alloc: Global,
+    names: &Names,
+    lines: &[OrderLine],
+) -> Result<(), NoMemory> {
+    for (line, wanted) in lines {
+        check_order(rt, alloc, names, line, *wanted)?;
     }
+    Ok(())
+}
+
+#[test]
+fn orders(rt: HostRuntime) -> Result<(), Fail> {
+    let names = lock_names(&rt, rt.alloc());
+    check_orders(&rt, rt.alloc(), &names, &plain_lines())?;
+    check_orders(&rt, rt.alloc(), &names, &numbered_lines())?;
     Ok(())
 }
 
 /// The line of `enter` has the form of that of `submit`.
 #[test]
 fn entering(rt: HostRuntime) -> Result<(), Fail> {
-    let names = lock_names(&rt, rt.alloc());
+    check_entering(&rt, rt.alloc(), &lock_names(&rt, rt.alloc()))?;
+    Ok(())
+}
+
+fn check_entering(rt: &impl Abort, alloc: Global, names: &Names) -> Result<(), NoMemory> {
     let line = r#"{"do":"enter","lock":"a","number":1,"script":[["add",0,5]],"tries":3}"#;
     let submission = Submission {
         number: 1,
@@ -112,46 +142,55 @@ fn entering(rt: HostRuntime) -> Result<(), Fail> {
         },
         patience: Patience::Tries(3),
     };
-    check_order(&rt, rt.alloc(), &names, line, Order::Enter(submission))
+    check_order(rt, alloc, names, line, Order::Enter(submission))
 }
 
-/// Lines that lack a key, have an extra one, or a value of another kind, are no orders.
+/// Lines that lack a key, have an extra one, or a value of another kind.
+const NO_ORDERS: [&str; 15] = [
+    r#"{"do":"commit","number":1}"#,
+    r#"{"do":"commit","tries":1}"#,
+    r#"{"do":"enter","lock":"a","number":1}"#,
+    r#"{"do":"enter","lock":"a","script":[]}"#,
+    r#"{"do":"enter","number":1,"script":[]}"#,
+    r#"{"do":"enter","lock":0,"number":1,"script":[]}"#,
+    r#"{"do":"enter","lock":"a","number":1,"script":[],"tries":0}"#,
+    r#"{"do":"enter","lock":"a","number":1,"script":[],"worker":0}"#,
+    r#"{"do":"enter","lock":"a","number":1,"script":[],"wait":3600001}"#,
+    r#"{"do":"enter","lock":"a","number":1,"script":[],"tries":1,"wait":1}"#,
+    r#"{"do":"resume","tries":1,"wait":1}"#,
+    r#"{"do":"resume","wait":-1}"#,
+    r#"{"do":"attach","take":1,"worker":0}"#,
+    r#"{"do":"attach","take":true}"#,
+    r#"{"do":"submit","lock":"a","number":4294967296,"script":[]}"#,
+];
+
+/// Whether a line is no order.
+fn is_no_order(alloc: Global, names: &Names, line: &str) -> Result<bool, NoMemory> {
+    let mut values = ValueReader::new(alloc);
+    let order = parse_order(&mut values, names, WORLD_NUMBERS, line.as_bytes())?;
+    Ok(order.is_none())
+}
+
 #[test]
 fn no_orders(rt: HostRuntime) -> Result<(), Fail> {
-    let names = lock_names(&rt, rt.alloc());
-    for line in [
-        r#"{"do":"commit","number":1}"#,
-        r#"{"do":"commit","tries":1}"#,
-        r#"{"do":"enter","lock":"a","number":1}"#,
-        r#"{"do":"enter","lock":"a","script":[]}"#,
-        r#"{"do":"enter","number":1,"script":[]}"#,
-        r#"{"do":"enter","lock":0,"number":1,"script":[]}"#,
-        r#"{"do":"enter","lock":"a","number":1,"script":[],"tries":0}"#,
-        r#"{"do":"enter","lock":"a","number":1,"script":[],"worker":0}"#,
-        r#"{"do":"enter","lock":"a","number":1,"script":[],"wait":3600001}"#,
-        r#"{"do":"enter","lock":"a","number":1,"script":[],"tries":1,"wait":1}"#,
-        r#"{"do":"resume","tries":1,"wait":1}"#,
-        r#"{"do":"resume","wait":-1}"#,
-        r#"{"do":"attach","take":1,"worker":0}"#,
-        r#"{"do":"attach","take":true}"#,
-        r#"{"do":"submit","lock":"a","number":4294967296,"script":[]}"#,
-    ] {
-        assert!(rt;
-            parse_order(
-                &mut ValueReader::new(rt.alloc()),
-                &names,
-                WORLD_NUMBERS,
-                line.as_bytes()
-            )?
-            .is_none()
-        );
+    check_no_orders(&rt, rt.alloc(), &lock_names(&rt, rt.alloc()))?;
+    Ok(())
+}
+
+fn check_no_orders(rt: &impl Abort, alloc: Global, names: &Names) -> Result<(), NoMemory> {
+    for line in &NO_ORDERS {
+        assert!(rt; is_no_order(alloc, names, line)?);
     }
     Ok(())
 }
 
 #[test]
 fn submissions(rt: HostRuntime) -> Result<(), Fail> {
-    let names = lock_names(&rt, rt.alloc());
+    check_submissions(&rt, rt.alloc(), &lock_names(&rt, rt.alloc()))?;
+    Ok(())
+}
+
+fn check_submissions(rt: &impl Abort, alloc: Global, names: &Names) -> Result<(), NoMemory> {
     let script = Script::of(&[Op::Add(0, 5)]);
     for (line, number, lock, tries) in SUBMISSIONS {
         let submission = Submission {
@@ -162,36 +201,32 @@ fn submissions(rt: HostRuntime) -> Result<(), Fail> {
             },
             patience: Patience::Tries(*tries),
         };
-        check_order(&rt, rt.alloc(), &names, line, Order::Submit(submission))?;
+        check_order(rt, alloc, names, line, Order::Submit(submission))?;
     }
     Ok(())
+}
+
+/// The number of the job that a line of a client of a service over epochs submits.
+fn submitted_number(alloc: Global, names: &Names, line: &str) -> Result<Option<u64>, NoMemory> {
+    let mut values = ValueReader::new(alloc);
+    match parse_order(&mut values, names, SERVICE_NUMBERS, line.as_bytes())? {
+        Some(Order::Submit(its)) => Ok(Some(its.number)),
+        _ => Ok(None),
+    }
 }
 
 /// The client of a service over epochs may give its jobs numbers up to 2^53.
 #[test]
 fn large_numbers(rt: HostRuntime) -> Result<(), Fail> {
-    let names = lock_names(&rt, rt.alloc());
-    for (line, number) in [
-        (
-            r#"{"do":"submit","lock":"a","number":9007199254740992,"script":[]}"#,
-            Some(9_007_199_254_740_992),
-        ),
-        (
-            r#"{"do":"submit","lock":"a","number":9007199254740993,"script":[]}"#,
-            None,
-        ),
-    ] {
-        let order = parse_order(
-            &mut ValueReader::new(rt.alloc()),
-            &names,
-            SERVICE_NUMBERS,
-            line.as_bytes(),
-        )?;
-        let given = match order {
-            Some(Order::Submit(its)) => Some(its.number),
-            _ => None,
-        };
-        assert!(rt; given == number);
-    }
+    check_large_numbers(&rt, rt.alloc(), &lock_names(&rt, rt.alloc()))?;
+    Ok(())
+}
+
+fn check_large_numbers(rt: &impl Abort, alloc: Global, names: &Names) -> Result<(), NoMemory> {
+    let largest = r#"{"do":"submit","lock":"a","number":9007199254740992,"script":[]}"#;
+    let number = submitted_number(alloc, names, largest)?;
+    assert!(rt; number == Some(9_007_199_254_740_992));
+    let larger = r#"{"do":"submit","lock":"a","number":9007199254740993,"script":[]}"#;
+    assert!(rt; submitted_number(alloc, names, larger)? == None);
     Ok(())
 }

@@ -1,7 +1,9 @@
 //! The values of lines, read one after another by one reader.
 
-use rme_wire::{ValueReader, ValueStorage, lend};
+use rme_wire::{Value as LentValue, ValueReader, ValueStorage, lend};
+use rme_words::NoMemory;
 use serde_json::Value;
+use std::process::Abort;
 use std::test::Fail;
 
 /// Lines of all forms, some of them without a value; each is read with the state that the one before it left.
@@ -23,7 +25,7 @@ const LINES: [&str; 14] = [
 ];
 
 /// Whether a reader finds a value in a line.
-fn finds(values: &mut ValueReader, line: &str) -> Result<bool, Fail> {
+fn finds(values: &mut ValueReader, line: &str) -> Result<bool, NoMemory> {
     let mut room = ValueStorage::new();
     Ok(values.read(&mut room, line.as_bytes())?.is_some())
 }
@@ -39,23 +41,38 @@ fn one_after_another(rt: HostRuntime) -> Result<(), Fail> {
     Ok(())
 }
 
-/// Of two members with one name the last counts; an incomplete text, or more than one value, is no value.
+/// Texts and the number that each is, or that its member `a` is. Of two members with one name the last counts; an
+/// incomplete text, or more than one value, is no value.
+const NUMBERS: [(&[u8], Option<u64>); 5] = [
+    (br#"{"a":1,"a":2}"#, Some(2)),
+    (br#"{"a":1"#, None),
+    (b"1 2", None),
+    (b"\"\xff\"", None),
+    (b"18446744073709551615", Some(18_446_744_073_709_551_615)),
+];
+
+/// The number of a text, read into storage that earlier texts used.
+fn number_in(
+    values: &mut ValueReader,
+    room: &mut ValueStorage,
+    text: &[u8],
+) -> Result<Option<u64>, NoMemory> {
+    let Some(value) = values.read(room, text)? else {
+        return Ok(None);
+    };
+    match value.get("a") {
+        Some(member) => Ok(member.as_u64()),
+        None => Ok(value.as_u64()),
+    }
+}
+
 #[test]
 fn what_is_read(rt: HostRuntime) -> Result<(), Fail> {
     let mut values = ValueReader::new(rt.alloc());
     let mut room = ValueStorage::new();
-    let twice = values
-        .read(&mut room, br#"{"a":1,"a":2}"#)?
-        .expect(&rt, "a value");
-    assert!(rt; twice.get("a").and_then(|a| a.as_u64()) == Some(2));
-    drop(twice);
-    assert!(rt; values.read(&mut room, br#"{"a":1"#)?.is_none());
-    assert!(rt; values.read(&mut room, b"1 2")?.is_none());
-    assert!(rt; values.read(&mut room, b"\"\xff\"")?.is_none());
-    let whole = values
-        .read(&mut room, b"18446744073709551615")?
-        .expect(&rt, "a value");
-    assert!(rt; whole.as_u64() == Some(18_446_744_073_709_551_615));
+    for (text, number) in NUMBERS {
+        assert!(rt; number_in(&mut values, &mut room, text)? == number);
+    }
     Ok(())
 }
 
@@ -65,12 +82,15 @@ fn what_is_lent(rt: HostRuntime) -> Result<(), Fail> {
     let Ok(owned) = Value::from_slice(rt.alloc(), br#"[true,-1,1.5,null,{"a":1}]"#) else {
         return Err(Fail::from("no value"));
     };
-    let lent = lend(rt.alloc(), &owned).expect(&rt, "room");
+    check_lent(&rt, &lend(rt.alloc(), &owned).expect(&rt, "room"));
+    Ok(())
+}
+
+fn check_lent(rt: &impl Abort, lent: &LentValue<'_>) {
     assert!(rt; lent.item_count() == Some(5));
     assert!(rt; lent.at(0).and_then(|it| it.as_bool()) == Some(true));
     assert!(rt; lent.at(1).and_then(|it| it.as_i64()) == Some(-1));
     assert!(rt; lent.at(2).and_then(|it| it.as_u64()).is_none());
     assert!(rt; lent.at(3).map(|it| it.is_null()) == Some(true));
     assert!(rt; lent.at(4).and_then(|it| it.key_count()) == Some(1));
-    Ok(())
 }

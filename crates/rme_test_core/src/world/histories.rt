@@ -1,11 +1,15 @@
 //! Histories as an observer reads them: in the order of their places, replayed, and the steps tallied.
 
+ghost use Rattle.std.specs.Prelude.{IfSome};
+ghost use Rattle.rme_history.specs.Legal.{IsFirstBrokenEntry};
+
 use crate::world::walks::cells_are;
 use rme_history::{EntryList, ReplayFault, Tally, by_place, replay};
 use rme_program::{Entry, Phase, Receipt};
 use rme_script::{Op, Script};
 use rme_words::{Refusal, Shape};
 use std::alloc::Global;
+use std::process::Abort;
 use std::test::Fail;
 
 /// The receipt of an entry: worker, lock, number, place and reply.
@@ -39,20 +43,26 @@ fn re_entry(alloc: Global, reply: u64) -> Result<EntryList, Fail> {
 /// A list answers each entry that was put to it, and none past its end.
 #[test]
 fn listed(rt: HostRuntime) -> Result<(), Fail> {
-    let entries = re_entry(rt.alloc(), 6)?;
-    let second = receipt((1, 0, 1, 1, 6));
-    assert!(rt; entries.receipt(1) == Some(second) && entries.receipt(2) == None);
-    let (Some(entry), Some(last)) = (entries.get(1), entries.last()) else {
-        return Err(Refusal::NoMemory.into());
-    };
-    let script = Script::of(&[Op::Add(0, 1)]);
-    assert!(rt; entry.receipt == second && entry.script == script);
-    assert!(rt; last.receipt == second && last.script == script);
-    let Some(operations) = entries.operations(0) else {
-        return Err(Refusal::NoMemory.into());
-    };
-    assert!(rt; operations == [Op::Add(0, 5)].as_slice());
+    check_second(&rt, &re_entry(rt.alloc(), 6)?);
     Ok(())
+}
+
+fn check_second(rt: &impl Abort, entries: &EntryList) {
+    let second = receipt((1, 0, 1, 1, 6));
+    assert!(rt; entries.receipt(1) == Some(second));
+    assert!(rt; entries.receipt(2) == None);
+    for entry in [entries.get(1), entries.last()] {
+        assert!(rt; is_entry(entry, second, Op::Add(0, 1)));
+    }
+    assert!(rt; entries.operations(0) == Some([Op::Add(0, 5)].as_slice()));
+}
+
+/// Whether there is an entry, of this receipt and this only operation.
+fn is_entry(entry: Option<Entry>, receipt: Receipt, op: Op) -> bool {
+    match entry {
+        Some(entry) => entry.receipt == receipt && entry.script == Script::of(&[op]),
+        None => false,
+    }
 }
 
 /// A list with room for two entries has no entry yet.
@@ -77,12 +87,21 @@ fn replayed(rt: HostRuntime) -> Result<(), Fail> {
     Ok(())
 }
 
+/// The index of the first entry that does not follow from those before it.
+fn first_broken(alloc: Global, shape: Shape, entries: &EntryList) -> Option<usize>
+    ensures { IfSome result (λ i. IsFirstBrokenEntry shape entries.now.entries i) }
+{
+    match replay(alloc, shape, entries) {
+        Err(ReplayFault::Broken(i)) => Some(i),
+        _ => None,
+    }
+}
+
 /// Row `small calls`: the replay of the history of `re-entry` with a wrong reply finds the fault.
 #[test]
 fn replayed_with_another_reply(rt: HostRuntime) -> Result<(), Fail> {
     let entries = re_entry(rt.alloc(), 7)?;
-    let broken = replay(rt.alloc(), Shape::new(2, 1, 1, 10)?, &entries).err();
-    assert!(rt; broken == Some(ReplayFault::Broken(1)));
+    assert!(rt; first_broken(rt.alloc(), Shape::new(2, 1, 1, 10)?, &entries) == Some(1));
     Ok(())
 }
 
