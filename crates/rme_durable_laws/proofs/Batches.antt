@@ -103,6 +103,7 @@ batch_of commands = None
 
 found_in : (worker : ℕ) (begins : BatchStart) (steps : ℕ) (falls : Bool) → (has_start begins || (nat_lt 0 steps || falls)) ≡ true
     → batch_of (start_commands worker begins ++ (step_commands worker steps ++ crash_commands worker falls)) ≡ Some record { worker = worker; begins = begins; steps = steps; falls = falls }
+unfolding batch_of with_steps with_crash
 found_in worker Restart zero true some = refl
 found_in worker Restart zero false some = refl
 found_in worker Restart (suc steps) true some = refl
