@@ -3,3 +3,4 @@ pub mod Numbering
 pub mod Refusals
 pub mod Overs
 pub mod Telling
+pub mod Places

@@ -1,8 +1,9 @@
 -- What a checkpoint preserves: everything that clients can see.
-use Rattle.std.specs.Prelude.{◌≡◌, ℕ, ◌+◌, ◌<◌, Bool, true, false, Option, Some, None, Ok}
+use Rattle.std.specs.Prelude.{◌≡◌, ℕ, ◌+◌, ◌<◌, Bool, true, false, List, [], ◌∷◌, ◌++◌, ◌==◌, if◌then◌else◌, Option, Some, None, Ok}
 use Rattle.rme_tree.specs.Nodes.{owner_in}
 use Rattle.rme_script.specs.declared.job.Job.{Job}
 use Rattle.rme_program.specs.declared.note.Receipt.{Receipt}
+use Rattle.rme_machine.specs.Histories.{place_of}
 use Rattle.rme_machine.specs.Views.{is_pending, slate_job}
 use Rattle.rme_history.specs.Legal.{rows_of_locks}
 use Rattle.rme_world.specs.Calls.{LastContract}
@@ -10,7 +11,10 @@ use Rattle.rme_world.specs.Queries.{world_worker_words}
 use Rattle.rme_world.specs.WorldViews.{WorldView, world_memory}
 use Rattle.rme_session_world.specs.Executors.{held_session}
 use Rattle.rme_session_world.specs.ExecutorStates.{ExecutorState}
-use Rattle.rme_durable_checkpoint.specs.ClientValues.{client_last, worker_base, client_session}
+use Rattle.rme_durable_checkpoint.specs.ClientValues.{client_last, client_place, worker_base, client_session}
+use Rattle.rme_durable_format.specs.Headers.{HeaderValues}
+use Rattle.rme_durable_format.specs.Recovery.{BeginsWithHeader}
+use Rattle.rme_durable_checkpoint.specs.EpochStates.{EpochState}
 use Rattle.rme_durable_checkpoint.specs.declared.epoch_base.Base.{Base}
 
 -- The pending job of a worker: begun, and neither finished nor withdrawn, whether the worker is up or down.
@@ -48,8 +52,16 @@ pub record IsWorkerAlike (base : Base) (before : ExecutorState) (later : Base) (
   pub number : client_number later after.world worker ≡ client_number base before.world worker
   pub last : IsLastAlike (pending_job_of before.world worker) base before.world later after.world worker
 
+-- A receipt is of this lock.
+abbrev pub sections_in : Receipt → ℕ → ℕ
+sections_in receipt lock = if receipt.lock == lock then 1 else 0
+
+-- The place of a lock's next section, as clients see it.
+abbrev pub next_client_place : Base → WorldView → ℕ → ℕ
+next_client_place base seen lock = client_place base lock (place_of seen.history lock)
+
 -- A world of the same sizes, in which the same sessions have the same workers, each worker but the last is alike, each
--- lock has the same owner, and the finished scripts left the same cells.
+-- lock has the same owner, the finished scripts left the same cells, and the places go on.
 pub record CheckpointShowsSame (base : Base) (before : ExecutorState) (later : Base) (after : ExecutorState) : Type 0
   where
     pub workers : after.world.shape.workers ≡ before.world.shape.workers
@@ -62,3 +74,15 @@ pub record CheckpointShowsSame (base : Base) (before : ExecutorState) (later : B
         (world_memory before.world) lock
     pub cells : rows_of_locks after.world.shape after.world.history ≡ rows_of_locks before.world.shape
         before.world.history
+    pub places : (lock : ℕ) → lock < before.world.shape.locks
+        → next_client_place later after.world lock ≡ next_client_place base before.world lock
+
+-- Bytes that end with a newline.
+abbrev pub AreWholeLines : List ℕ → Type 0
+AreWholeLines bytes = (front : List ℕ) × (bytes ≡ front ++ 10 ∷ [])
+
+-- Bytes begin with a header of an executor's world, and with the number of its epoch.
+pub record BeginsEpochHeader (bytes : List ℕ) (names : List (List ℕ)) (epoch : EpochState) : Type 0 where
+  pub past : HeaderValues
+  pub begins : BeginsWithHeader bytes names epoch.executor.world.shape past
+  pub number : past.epoch ≡ epoch.epoch

@@ -10,11 +10,12 @@ use Rattle.rme_session_protocol.specs.declared.reply.SessionReply.{SessionReply}
 use Rattle.rme_durable_checkpoint.specs.ClientValues.{numbers_for, client_sizes, client_view}
 use Rattle.rme_durable_checkpoint.specs.declared.epoch_base.Base.{Base}
 
--- The executor, the pending lines, and the base.
+-- The executor, the pending lines, the base, and the number of earlier epochs.
 pub record EpochState : Type 0 where
   pub executor : ExecutorState
   pub lines : List ℕ
   pub base : Base
+  pub epoch : ℕ
 
 -- An executor, and one of its sessions.
 pub record ExecutorSession : Type 0 where

@@ -1,6 +1,7 @@
 //! The checkpoint: a new epoch, in which clients see the same state.
 
-ghost use Rattle.std.specs.Prelude.{◌≡◌, IfOk, string_bytes};
+ghost use Rattle.std.specs.Prelude.{◌≡◌, ◌+◌, IfOk, IsTrue, string_bytes};
+ghost use Rattle.rme_durable_checkpoint.specs.Checkpoints.{AreWholeLines};
 ghost use Rattle.rme_history.specs.Legal.{rows_of_locks};
 
 use crate::alike::same_names;
@@ -34,8 +35,8 @@ impl RecoveryProgress for NoProgress {
 }
 
 impl EpochExecutor {
-    ghost use Rattle.std.specs.Prelude.{◌≡◌, [], IfOk, string_bytes};
-    ghost use Rattle.rme_durable_checkpoint.specs.Checkpoints.{CheckpointShowsSame};
+    ghost use Rattle.std.specs.Prelude.{◌≡◌, ◌+◌, [], IfOk, string_bytes};
+    ghost use Rattle.rme_durable_checkpoint.specs.Checkpoints.{AreWholeLines, BeginsEpochHeader, CheckpointShowsSame};
     ghost use Rattle.rme_durable_format.specs.Recovery.{RecoversWorld};
 
     /// Builds a new epoch of the same locks and workers, in which clients see the same state: each worker with a job
@@ -48,6 +49,10 @@ impl EpochExecutor {
             renewed.executor.executor) }
         ensures starts { IfOk result (λ renewed. RecoversWorld (string_bytes renewed.bytes) names.now
             renewed.executor.executor.world) }
+        ensures whole { IfOk result (λ renewed. AreWholeLines (string_bytes renewed.bytes)) }
+        ensures epoch { IfOk result (λ renewed. renewed.executor.epoch ≡ self.now.epoch + 1) }
+        ensures header { IfOk result (λ renewed. BeginsEpochHeader (string_bytes renewed.bytes) names.now
+            renewed.executor) }
         ensures lines { IfOk result (λ renewed. renewed.executor.lines ≡ []) }
     {
         let rows = rows_of(alloc, self.executor().world())?;
@@ -61,7 +66,10 @@ impl EpochExecutor {
             world,
             ..
         } = started;
-        if !same_names(&own, names) {
+        if !same_names(&own, names) || !are_whole_lines(bytes.as_bytes()) {
+            return Err(CheckpointFailed);
+        }
+        if !is_next_epoch(self.epoch(), header.epoch) {
             return Err(CheckpointFailed);
         }
         let base = base_of(alloc, &header)?;
@@ -101,6 +109,21 @@ impl EpochExecutor {
         }
         None
     }
+}
+
+/// Whether an epoch follows another one, by the numbers of epochs before them.
+fn is_next_epoch(epoch: u64, next: u64) -> bool
+    ensures { IsTrue result → next ≡ epoch + 1 }
+{
+    epoch < next && next - epoch == 1
+}
+
+/// Whether the last byte is a newline.
+fn are_whole_lines(bytes: &[u8]) -> bool
+    ensures { IsTrue result → AreWholeLines bytes.now }
+{
+    let count = bytes.len();
+    count > 0 && bytes[count - 1] == b'\n'
 }
 
 /// The cells of each lock that the finished scripts left.

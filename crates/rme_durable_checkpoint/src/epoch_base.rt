@@ -58,7 +58,7 @@ impl Base {
     }
 
     /// A place of a lock, as clients see it; `None` if it is not a number of 64 bits.
-    fn client_place(&self, lock: u32, place: u32) -> Option<u64>
+    pub(crate) fn client_place(&self, lock: u32, place: u32) -> Option<u64>
         ensures { IfSome result (λ over. over ≡ spec.client_place self.now lock place) }
     {
         match self.places.get(lock as usize) {

@@ -61,6 +61,7 @@ impl Model for EpochExecutor {
       executor = epoch.executor;
       lines = string_bytes epoch.lines;
       base = epoch.base;
+      epoch = epoch.epoch;
     } };
 }
 
@@ -89,6 +90,7 @@ impl EpochExecutor {
         ensures executor { result.executor ≡ executor }
         ensures lines { result.lines ≡ [] }
         ensures base { result.base ≡ base }
+        ensures epoch { result.epoch ≡ epoch }
     {
         EpochExecutor {
             executor,
@@ -123,7 +125,9 @@ impl EpochExecutor {
     }
 
     /// The number of earlier epochs.
-    pub fn epoch(&self) -> u64 {
+    pub fn epoch(&self) -> u64
+        ensures { result ≡ self.now.epoch }
+    {
         self.epoch
     }
 

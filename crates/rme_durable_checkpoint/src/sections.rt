@@ -1,6 +1,11 @@
 //! The numbers of finished sections of a world, and the last receipt of each worker.
 
+ghost use Rattle.std.specs.Prelude.{◌≡◌};
+ghost use Rattle.rme_machine.specs.Histories.{place_of};
+ghost use Rattle.rme_durable_checkpoint.specs.Checkpoints.{sections_in};
+
 use crate::epoch_executor::EpochExecutor;
+use rme_history::EntryList;
 use rme_program::Receipt;
 use rme_words::MOST_LOCKS;
 use rme_world::World;
@@ -32,6 +37,27 @@ impl Sections {
     pub fn at(&self, lock: u32) -> u64 {
         self.counts.get(lock as usize).copied().unwrap_or(0)
     }
+}
+
+/// The number of entries of a lock: the place of its next section.
+pub(crate) fn next_place(history: &EntryList, lock: u32) -> u64
+    ensures { result ≡ place_of history.now.entries lock }
+{
+    let mut count: u64 = 0;
+    for at in 0..history.len() {
+        let Some(receipt) = history.receipt(at) else {
+            unreachable!();
+        };
+        count += sections_in(receipt, lock);
+    }
+    count
+}
+
+/// 1 for a receipt of this lock, else 0.
+fn sections_in(receipt: Receipt, lock: u32) -> u64
+    ensures { result ≡ sections_in receipt lock }
+{
+    u64::from(receipt.lock == lock)
 }
 
 /// The receipt of each worker's last finished section, if it finished any.

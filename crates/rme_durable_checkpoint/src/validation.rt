@@ -14,6 +14,7 @@ ghost use Rattle.rme_durable_checkpoint.specs.Checkpoints as spec;
 
 use crate::alike::{same_job, same_last, same_rows, same_session};
 use crate::epoch_base::Base;
+use crate::sections::next_place;
 use rme_line_text::ClientReceipt;
 use rme_script::Row;
 use rme_session_world::Executor;
@@ -45,7 +46,7 @@ pub(crate) fn is_checkpoint_same(before: &ComparedState<'_>, after: &ComparedSta
     if !same_owners(one, other) || !same_rows(after.rows, before.rows) {
         return false;
     }
-    same_workers(before, after)
+    same_workers(before, after) && same_places(before, after)
 }
 
 fn same_sizes(one: &World, other: &World) -> bool
@@ -81,6 +82,42 @@ fn same_owner(one: &World, other: &World, lock: u32) -> bool
         (Ok(one), Ok(other)) => other == one,
         _ => false,
     }
+}
+
+/// Whether clients see the same place of the next section of each lock.
+fn same_places(before: &ComparedState<'_>, after: &ComparedState<'_>) -> bool
+    ensures { IsTrue result → (lock : ℕ) → lock < before.now.executor.now.world.shape.locks
+        → spec.next_client_place after.now.base.now after.now.executor.now.world lock ≡ spec.next_client_place
+        before.now.base.now before.now.executor.now.world lock }
+{
+    for lock in 0..before.executor.world().shape().locks {
+        if !is_place_alike(before, after, lock) {
+            return false;
+        }
+    }
+    true
+}
+
+fn is_place_alike(before: &ComparedState<'_>, after: &ComparedState<'_>, lock: u32) -> bool
+    ensures { IsTrue result → spec.next_client_place after.now.base.now after.now.executor.now.world lock
+        ≡ spec.next_client_place before.now.base.now before.now.executor.now.world lock }
+{
+    match (
+        next_client_place(before, lock),
+        next_client_place(after, lock),
+    ) {
+        (Some(one), Some(other)) => other == one,
+        _ => false,
+    }
+}
+
+/// The place of a lock's next section, as clients see it.
+fn next_client_place(shown: &ComparedState<'_>, lock: u32) -> Option<u64>
+    ensures { IfSome result (λ place. place ≡ spec.next_client_place shown.now.base.now
+        shown.now.executor.now.world lock) }
+{
+    let place = next_place(shown.executor.world().history(), lock);
+    shown.base.client_place(lock, u32::try_from(place).ok()?)
 }
 
 /// Whether all workers are alike, except the last, which is the checkpoint worker.
