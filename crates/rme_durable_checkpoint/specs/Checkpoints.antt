@@ -15,6 +15,7 @@ use Rattle.rme_durable_checkpoint.specs.ClientValues.{client_last, client_place,
 use Rattle.rme_durable_format.specs.Headers.{HeaderValues}
 use Rattle.rme_durable_format.specs.Recovery.{BeginsWithHeader}
 use Rattle.rme_durable_checkpoint.specs.EpochStates.{EpochState}
+use Rattle.rme_durable_checkpoint.specs.HeaderBases.{IsHeaderBase}
 use Rattle.rme_durable_checkpoint.specs.declared.epoch_base.Base.{Base}
 
 -- The pending job of a worker: begun, and neither finished nor withdrawn, whether the worker is up or down.
@@ -81,8 +82,9 @@ pub record CheckpointShowsSame (base : Base) (before : ExecutorState) (later : B
 abbrev pub AreWholeLines : List ℕ → Type 0
 AreWholeLines bytes = (front : List ℕ) × (bytes ≡ front ++ 10 ∷ [])
 
--- Bytes begin with a header of an executor's world, and with the number of its epoch.
+-- Bytes begin with the header of an executor's world: it has the number of the epoch, and the base.
 pub record BeginsEpochHeader (bytes : List ℕ) (names : List (List ℕ)) (epoch : EpochState) : Type 0 where
   pub past : HeaderValues
   pub begins : BeginsWithHeader bytes names epoch.executor.world.shape past
   pub number : past.epoch ≡ epoch.epoch
+  pub base : IsHeaderBase past epoch.base

@@ -2,6 +2,8 @@
 
 ghost use Rattle.std.specs.Prelude.{◌≡◌, ◌+◌, IfOk, IsTrue, string_bytes};
 ghost use Rattle.rme_durable_checkpoint.specs.Checkpoints.{AreWholeLines};
+ghost use Rattle.rme_durable_checkpoint.specs.HeaderBases.{IsHeaderBase};
+ghost use Rattle.rme_durable_format.specs.Headers.{header_values};
 ghost use Rattle.rme_history.specs.Legal.{rows_of_locks};
 
 use crate::alike::same_names;
@@ -136,7 +138,9 @@ fn rows_of(alloc: Global, world: &World) -> Result<Vec<Row>, CheckpointFailed>
     }
 }
 
-fn base_of(alloc: Global, header: &LogHeader) -> Result<Base, CheckpointFailed> {
+fn base_of(alloc: Global, header: &LogHeader) -> Result<Base, CheckpointFailed>
+    ensures { IfOk result (IsHeaderBase (header_values header.now)) }
+{
     match Base::from_header(alloc, header) {
         Ok(Some(base)) => Ok(base),
         _ => Err(CheckpointFailed),

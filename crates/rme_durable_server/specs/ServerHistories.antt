@@ -12,8 +12,10 @@ use Rattle.rme_durable_log.specs.declared.log_entry.LogEntry.{LogEntry}
 use Rattle.rme_durable_log.specs.declared.log_entry.LogEntry.TheVariants.{Lines, Whole}
 use Rattle.rme_durable_format.specs.BatchCommands.{batch_commands}
 use Rattle.rme_durable_format.specs.CommandLines.{AppendsCommands}
-use Rattle.rme_durable_format.specs.Recovery.{RecoversWorld}
-use Rattle.rme_durable_checkpoint.specs.Checkpoints.{CheckpointShowsSame}
+use Rattle.rme_durable_format.specs.Headers.{HeaderValues}
+use Rattle.rme_durable_format.specs.Recovery.{BeginsWithHeader, RecoversWorld}
+use Rattle.rme_durable_checkpoint.specs.Checkpoints.{AreWholeLines, CheckpointShowsSame}
+use Rattle.rme_durable_checkpoint.specs.HeaderBases.{IsHeaderBase}
 use Rattle.rme_durable_checkpoint.specs.ClientValues.{client_session}
 use Rattle.rme_durable_checkpoint.specs.EpochStates.{EpochState}
 use Rattle.rme_durable_checkpoint.specs.declared.epoch_base.Base.{Base}
@@ -44,9 +46,18 @@ pub record AppendsSessionBatch (names : List (List ℕ)) (session : ℕ) (old : 
   pub written : AppendsCommands names [] (batch_commands batch) lines
   pub base : new.base ≡ old.base
 
--- A new epoch: recovery of these bytes leads to its world, and clients see the same in it.
+-- Bytes begin with a header from which the base is.
+pub record HasBaseInHeader (names : List (List ℕ)) (bytes : List ℕ) (state : ServerState) : Type 0 where
+  pub past : HeaderValues
+  pub begins : BeginsWithHeader bytes names state.executor.world.shape past
+  pub base : IsHeaderBase past state.base
+
+-- A new epoch: its bytes are whole lines, recovery of them leads to its world and its base, and clients see the same in
+-- it.
 pub record BeginsEpoch (names : List (List ℕ)) (old : ServerState) (bytes : List ℕ) (new : ServerState) : Type 0 where
+  pub whole : AreWholeLines bytes
   pub recovers : RecoversWorld bytes names new.executor.world
+  pub header : HasBaseInHeader names bytes new
   pub same : CheckpointShowsSame old.base old.executor new.base new.executor
 
 -- An entry of the log leads from one state to the next.

@@ -1,6 +1,7 @@
 //! Recovery: the world that the bytes of a file lead to, and the base of its epoch.
 
 ghost use Rattle.std.specs.Prelude.{◌≡◌, IfOk};
+ghost use Rattle.rme_durable_checkpoint.specs.HeaderBases.{IsHeaderBase};
 ghost use Rattle.rme_durable_format.specs.Headers.{header_values};
 ghost use Rattle.rme_durable_format.specs.Recovery.{BeginsWithHeader, RecoversWorld};
 
@@ -32,6 +33,7 @@ pub fn recover<P: RecoveryProgress>(
     ensures ok { IfOk result (λ recovered. RecoversWorld bytes.now recovered.log.names recovered.log.world) }
     ensures header { IfOk result (λ recovered. BeginsWithHeader bytes.now recovered.log.names recovered.log.world.shape
         (header_values recovered.log.header)) }
+    ensures base { IfOk result (λ recovered. IsHeaderBase (header_values recovered.log.header) recovered.base) }
 {
     match recover_log(alloc, bytes, progress) {
         Ok(log) => with_base(alloc, log),
@@ -42,7 +44,8 @@ pub fn recover<P: RecoveryProgress>(
 
 /// The recovered log, with the base of its header.
 fn with_base(alloc: Global, log: RecoveredLog) -> Result<RecoveredState, BadLog>
-    ensures { IfOk result (λ recovered. recovered.log ≡ log) }
+    ensures same { IfOk result (λ recovered. recovered.log ≡ log) }
+    ensures base { IfOk result (λ recovered. IsHeaderBase (header_values recovered.log.header) recovered.base) }
 {
     match Base::from_header(alloc, &log.header)? {
         Some(base) => Ok(RecoveredState { log, base }),

@@ -6,6 +6,7 @@ use Rattle.rme_session_world.specs.ExecutorStates.{ExecutorState}
 use Rattle.rme_durable_format.specs.Headers.{header_values}
 use Rattle.rme_durable_format.specs.Recovery.{BeginsWithHeader}
 use Rattle.rme_durable_checkpoint.specs.Checkpoints.{AreWholeLines, BeginsEpochHeader}
+use Rattle.rme_durable_checkpoint.specs.HeaderBases.{IsHeaderBase}
 use Rattle.rme_durable_checkpoint.proofs.epoch_executor.EpochExecutor.checkpoint.Goals as goal
 
 pub returns-clause-whole : goal.returns-clause-whole
@@ -22,4 +23,4 @@ returns-clause-header c =
     let told = subst (λ (b : List ℕ). B b c.in-Ok.started.names c.in-Ok.started.world.shape) c.as_bytes.ensures.value c.in-Ok.ensures.header in
     let named = subst (λ (n : List (List ℕ)). B bytes n c.in-Ok.started.world.shape) (c.if-not-same_names.ensures refl) told in
     let world = sym (ap (λ (e : ExecutorState). e.world.shape) c.new-executor.ensures.executor ∙ ap (λ (w : WorldView). w.shape) c.in-Some.ensures.0) in
-    record { past = past; begins = subst (B bytes c.args.names.now) world named; number = sym c.new-executor.ensures.epoch }
+    record { past = past; begins = subst (B bytes c.args.names.now) world named; number = sym c.new-executor.ensures.epoch; base = subst (IsHeaderBase past) (sym c.new-executor.ensures.base) c.in_ok-base.ensures }
