@@ -10,3 +10,4 @@ pub mod Reading
 pub mod Others
 pub mod Batches
 pub mod Histories
+pub mod Prefixes

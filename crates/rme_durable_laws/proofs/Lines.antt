@@ -60,12 +60,12 @@ module _ (old again one other : TalliedWorld) (alike : AreWorldsAlike old.world 
   command_one Save says also kept first second taken too = no_change kept
 
 -- Both have alike worlds open, or neither has one.
-abbrev OpenAlike : Option TalliedWorld → Option TalliedWorld → Type 0
+abbrev pub OpenAlike : Option TalliedWorld → Option TalliedWorld → Type 0
 OpenAlike None None = Unit {0}
 OpenAlike (Some one) (Some other) = AreWorldsAlike one.world other.world
 OpenAlike one other = ⊥
 
-abbrev Same : EngineState → EngineState → Type 0
+abbrev pub Same : EngineState → EngineState → Type 0
 Same one other = (one.names ≡ other.names) × OpenAlike one.world other.world
 
 same_by : (one other : EngineState) (was too : EngineState) → one ≡ was → other ≡ too → Same was too → Same one other
@@ -108,7 +108,7 @@ accept_one line old again one other same first second =
     let P : Request → Type 0 = λ r. RequestEffect again (Some r) second.reply other in
     obeys_one old again one other same.0 first.reply second.reply first.taken second.taken first.request first.kept same.1 first.obeys (subst P (sym is) second.obeys)
 
-accept_all : (lines : List InputLine) (old again one other : EngineState) → Same old again → AcceptsLines old lines one → AcceptsLines again lines other → Same one other
+pub accept_all : (lines : List InputLine) (old again one other : EngineState) → Same old again → AcceptsLines old lines one → AcceptsLines again lines other → Same one other
 accept_all [] old again one other same first second = same_by one other old again first second same
 accept_all (line ∷ lines) old again one other same first second =
     accept_all lines first.0 second.0 one other (accept_one line old again first.0 second.0 same first.1 second.1) first.2 second.2

@@ -9,10 +9,12 @@ ghost use Rattle.rme_line_io.specs.Pieces.{text};
 ghost use Rattle.rme_wire.specs.declared.command.Command.{Command};
 ghost use Rattle.rme_durable_format.specs.BatchCommands.{all_asked_events};
 ghost use Rattle.rme_durable_format.specs.Recovery.{AcceptsLines, RecoversWorld};
+ghost use Rattle.rme_durable_checkpoint.specs.Checkpoints.{AreWholeLines};
+ghost use Rattle.rme_durable_log.specs.Logs.{log_bytes_after};
 ghost use Rattle.rme_durable_log.specs.declared.log_entry.LogEntry.{LogEntry};
 ghost use Rattle.rme_durable_server.specs.ServerHistories.{AreNotOfSession, EntriesLead, KeepsWorker, ServerState};
 ghost use Rattle.rme_durable_laws.specs.AlikeWorlds.{AreWorldsAlike};
-ghost use Rattle.rme_durable_laws.specs.Histories.{AreStatesAlike};
+ghost use Rattle.rme_durable_laws.specs.Histories.{AreStatesAlike, RecoversState};
 ghost use Rattle.rme_durable_laws.specs.LoggedLines.{AreCommandLines, HasAlikeWorldOpen};
 
 /// The same events, applied to the same world, lead to alike worlds, if no event was refused for want of memory.
@@ -46,6 +48,19 @@ pub fn log_determines_state()
     ensures { (names : List (List ℕ)) (log : List LogEntry) (old again one other : ServerState)
         → AreStatesAlike old again → EntriesLead names old log one → EntriesLead names again log other
         → AreStatesAlike one other }
+{}
+
+/// RECOVERY IS PREFIX-CLOSED: what recovery reads from the bytes of any prefix of a server's log, the first entry
+/// included, is the state to which that prefix leads. So an order is done in it whose entry is in the prefix, and no
+/// other one.
+///
+/// `first` are the bytes at the opening, `log` the entries after them.
+pub fn recovery_is_prefix_closed()
+    ensures { (names others : List (List ℕ)) (first : List ℕ) (log : List LogEntry) (start state : ServerState)
+        (world : WorldView)
+        → AreWholeLines first → RecoversState names first start → EntriesLead names start log state
+        → RecoversWorld (log_bytes_after first log) others world
+        → (names ≡ others) × AreWorldsAlike state.executor.world world }
 {}
 
 /// Between two moments of the log between which a session appended nothing, the session keeps its worker, and its client
