@@ -11,3 +11,4 @@ pub mod Others
 pub mod Batches
 pub mod Histories
 pub mod Prefixes
+pub mod Crashes

@@ -45,7 +45,7 @@ pieces_whole seen (b ∷ front) more = elim (cases_Bool (b == 10)) [
   | inr f ↦ rw f (pieces_whole (seen ++ b ∷ []) front more)
 ]
 
-lines_whole : (first more : List ℕ) → AreWholeLines first → lines_of (first ++ more) ≡ lines_of first ++ lines_of more
+pub lines_whole : (first more : List ℕ) → AreWholeLines first → lines_of (first ++ more) ≡ lines_of first ++ lines_of more
 unfolding lines_of
 lines_whole first more (front, is) =
     let cut = pieces_whole [] front more ∙ ap (λ (b : List ℕ). pieces [] b ++ pieces [] more) (sym is) in
@@ -53,7 +53,7 @@ lines_whole first more (front, is) =
 
 -- ---- the lines of a batch
 
-abbrev AreOrders : List Command → Type 0
+abbrev pub AreOrders : List Command → Type 0
 AreOrders [] = Unit {0}
 AreOrders (command ∷ commands) = IsOrderCommand command × AreOrders commands
 
@@ -112,7 +112,7 @@ short_line : (line : List ℕ) → length line ≤ 65536 → line_of line ≡ te
 short_line line short = rw (le-leb (length line) 65536 short) refl
 
 -- The lines of the commands, before more bytes.
-command_lines : (names : List (List ℕ)) (commands : List Command) (bytes more : List ℕ) → AppendsCommands names [] commands bytes → AreOrders commands
+pub command_lines : (names : List (List ℕ)) (commands : List Command) (bytes more : List ℕ) → AppendsCommands names [] commands bytes → AreOrders commands
     → (lines : List (List ℕ)) × AreCommandLines names commands lines × (lines_of (bytes ++ more) ≡ map text lines ++ lines_of more)
 command_lines names [] bytes more writes orders = ([], tt, ap (λ (b : List ℕ). lines_of (b ++ more)) writes)
 command_lines names (command ∷ commands) bytes more writes orders =
@@ -126,7 +126,7 @@ command_lines names (command ∷ commands) bytes more writes orders =
 
 -- ---- accepted lines
 
-split_accepts : (one two : List InputLine) (old new : EngineState) → AcceptsLines old (one ++ two) new → (mid : EngineState) × AcceptsLines old one mid × AcceptsLines mid two new
+pub split_accepts : (one two : List InputLine) (old new : EngineState) → AcceptsLines old (one ++ two) new → (mid : EngineState) × AcceptsLines old one mid × AcceptsLines mid two new
 split_accepts [] two old new accepts = (old, refl, accepts)
 split_accepts (line ∷ one) two old new accepts =
     let rest = split_accepts one two accepts.0 new accepts.2 in
@@ -153,26 +153,26 @@ entries_read names (Whole bytes ∷ log) old new from to all lead opened accepts
 
 -- ---- a log that only grew
 
-open_by : (names : List (List ℕ)) (state : ServerState) (tallied : TalliedWorld) (mid : EngineState) (world : Option TalliedWorld) → mid.world ≡ world → Same record { names = names; world = Some tallied } mid → AreWorldsAlike state.executor.world tallied.world → HasAlikeWorldOpen names state.executor.world mid
-open_by names state tallied mid None is same alike = absurd (subst (λ (w : Option TalliedWorld). OpenAlike (Some tallied) w) is same.1)
-open_by names state tallied mid (Some found) is same alike =
+pub open_by : (names : List (List ℕ)) (seen : WorldView) (tallied : TalliedWorld) (mid : EngineState) (world : Option TalliedWorld) → mid.world ≡ world → Same record { names = names; world = Some tallied } mid → AreWorldsAlike seen tallied.world → HasAlikeWorldOpen names seen mid
+open_by names seen tallied mid None is same alike = absurd (subst (λ (w : Option TalliedWorld). OpenAlike (Some tallied) w) is same.1)
+open_by names seen tallied mid (Some found) is same alike =
     let opened = subst (λ (w : Option TalliedWorld). OpenAlike (Some tallied) w) is same.1 in
     let left : mid ≡ record { names = names; world = Some found } = ap (λ (w : Option TalliedWorld). record { names = mid.names; world = w }) is ∙ ap (λ (n : List (List ℕ)). record { names = n; world = Some found }) (sym same.0) in
-    record { tallied = found; is = left; alike = alike_then state.executor.world tallied.world found.world alike opened }
+    record { tallied = found; is = left; alike = alike_then seen tallied.world found.world alike opened }
 
-rest_of : List InputLine → List InputLine
+unfoldable pub rest_of : List InputLine → List InputLine
 rest_of [] = []
 rest_of (line ∷ lines) = lines
 
-rest_front : (header : InputLine) (lines more whole : List InputLine) → whole ≡ header ∷ lines → rest_of (whole ++ more) ≡ lines ++ more
+pub rest_front : (header : InputLine) (lines more whole : List InputLine) → whole ≡ header ∷ lines → rest_of (whole ++ more) ≡ lines ++ more
 unfolding rest_of
 rest_front header lines more whole is = ap (λ (w : List InputLine). rest_of (w ++ more)) is
 
-rest_is : (header : InputLine) (lines whole : List InputLine) → whole ≡ header ∷ lines → rest_of whole ≡ lines
+pub rest_is : (header : InputLine) (lines whole : List InputLine) → whole ≡ header ∷ lines → rest_of whole ≡ lines
 unfolding rest_of
 rest_is header lines whole is = ap rest_of is
 
-final_alike : (names others : List (List ℕ)) (seen : WorldView) (tallied : TalliedWorld) (world : WorldView) → tallied.world ≡ world → HasAlikeWorldOpen names seen record { names = others; world = Some tallied } → (names ≡ others) × AreWorldsAlike seen world
+pub final_alike : (names others : List (List ℕ)) (seen : WorldView) (tallied : TalliedWorld) (world : WorldView) → tallied.world ≡ world → HasAlikeWorldOpen names seen record { names = others; world = Some tallied } → (names ≡ others) × AreWorldsAlike seen world
 final_alike names others seen tallied world its opened =
     let named = ap (λ (s : EngineState). s.names) opened.is in
     let same : tallied ≡ opened.tallied = same_Some _ _ (ap (λ (s : EngineState). s.world) opened.is) in
@@ -188,7 +188,7 @@ grown_recovers names others first log start state world all whole from lead reco
     let parts = split_accepts before.lines (lines_of (entry_lines log)) nothing_open final (subst (λ (ls : List InputLine). AcceptsLines nothing_open ls final) lines recovers.accepts) in
     let same = accept_all before.lines nothing_open nothing_open begun parts.0 (refl, tt) before.accepts parts.1 in
     let alike : AreWorldsAlike start.executor.world before.tallied.world = subst (AreWorldsAlike start.executor.world) (sym before.its) from.alike in
-    let opened = open_by names start before.tallied parts.0 parts.0.world refl same alike in
+    let opened = open_by names start.executor.world before.tallied parts.0 parts.0.world refl same alike in
     final_alike names others state.executor.world recovers.tallied world recovers.its (entries_read names log start state parts.0 final all lead opened parts.2)
 
 -- ---- the last checkpoint

@@ -1,13 +1,15 @@
 //! Laws of replay, and of a server's history.
 
-ghost use Rattle.std.specs.Prelude.{◌≡◌, ◌+◌, ◌<◌, ℕ, List, Some, map, slice_get};
+ghost use Rattle.std.specs.Prelude.{◌≡◌, ◌+◌, ◌++◌, ◌<◌, ℕ, List, [], Some, length, map, slice_get};
 ghost use Rattle.rme_program.specs.declared.event.Event.{Event};
 ghost use Rattle.rme_world.specs.WorldViews.{WorldView};
 ghost use Rattle.rme_session_world.specs.EventBatches.{AppliesEvents};
 ghost use Rattle.rme_line_engine.specs.EngineStates.{EngineState};
 ghost use Rattle.rme_line_io.specs.Pieces.{text};
 ghost use Rattle.rme_wire.specs.declared.command.Command.{Command};
-ghost use Rattle.rme_durable_format.specs.BatchCommands.{all_asked_events};
+ghost use Rattle.rme_session_world.specs.Executors.{HasCrashedAll};
+ghost use Rattle.rme_durable_format.specs.BatchCommands.{all_asked_events, crash_commands_from};
+ghost use Rattle.rme_durable_format.specs.CommandLines.{AppendsCommands};
 ghost use Rattle.rme_durable_format.specs.Recovery.{AcceptsLines, RecoversWorld};
 ghost use Rattle.rme_durable_checkpoint.specs.Checkpoints.{AreWholeLines};
 ghost use Rattle.rme_durable_log.specs.Logs.{log_bytes_after};
@@ -61,6 +63,17 @@ pub fn recovery_is_prefix_closed()
         → AreWholeLines first → RecoversState names first start → EntriesLead names start log state
         → RecoversWorld (log_bytes_after first log) others world
         → (names ≡ others) × AreWorldsAlike state.executor.world world }
+{}
+
+/// RECOVERY IS IDEMPOTENT: a start appends a crash line for each worker that is up. What recovery reads then is the world
+/// with which that start began, in which all workers are down.
+pub fn recovery_is_idempotent()
+    ensures { (names others : List (List ℕ)) (bytes crashes : List ℕ) (found begun again : WorldView)
+        → AreWholeLines bytes → RecoversWorld bytes names found
+        → length found.privates ≡ found.shape.workers
+        → AppendsCommands names [] (crash_commands_from 0 found.privates) crashes
+        → HasCrashedAll found begun → RecoversWorld (bytes ++ crashes) others again
+        → (names ≡ others) × AreWorldsAlike begun again }
 {}
 
 /// Between two moments of the log between which a session appended nothing, the session keeps its worker, and its client
