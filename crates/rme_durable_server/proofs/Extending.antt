@@ -12,7 +12,7 @@ use Rattle.rme_session_protocol.specs.declared.reply.SessionReply.TheVariants.{R
 use Rattle.rme_words.specs.declared.refusal.Refusal.TheVariants.{NoWorker}
 use Rattle.std.proofs.lemmas.Result.{IfOk-at_ok}
 use Rattle.rme_durable_log.specs.Logs.{IsLogDurable}
-use Rattle.rme_durable_server.specs.DurableAnswers.{DurableLineReply, IsAnswerUnfinished, DurableOrder, DurableAttempt, DurableTries, asks_checkpoint_worker, client_terms}
+use Rattle.rme_durable_server.specs.DurableAnswers.{DurableLineReply, IsAnswerUnfinished, ask_order, DurableOrder, DurableAttempt, DurableTries, asks_checkpoint_worker, client_terms}
 use Rattle.rme_durable_server.specs.ServerHistories.{ServerOpening, SessionMoment}
 
 -- An order that may be tried again is unfinished.
@@ -43,12 +43,12 @@ order_at {R} replied reply says stops opening old its now is executed =
 -- The answer to an order, by its reply, once everything before its moment is durable.
 pub says_it : {A E X : Type 0} (result : Result A E) (holds : X → Option (List ℕ)) (clients : ℕ) (opening : ServerOpening) (old : SessionMoment) (its : Order) (reply : SessionReply) (bytes : List ℕ) (now : SessionMoment)
     → DurableOrder opening old its now reply → OnOk result (bytes ≡ session_reply_line opening.names reply) → OnOk result (IsLogDurable holds now.log)
-    → OnOk result (DurableLineReply holds (client_terms clients opening) old (Ok its) bytes now)
+    → OnOk result (DurableLineReply holds (client_terms clients opening) old (ask_order its) bytes now)
 says_it (Ok value) holds clients opening old its reply bytes now served says held = (reply, inr (served, held), says)
 says_it (Err error) holds clients opening old its reply bytes now served says held = says
 
 -- The answer to an order that asks for the checkpoint worker.
 pub refuses_it : {A E X : Type 0} (result : Result A E) (holds : X → Option (List ℕ)) (clients : ℕ) (opening : ServerOpening) (old : SessionMoment) (its : Order) (bytes : List ℕ) (now : SessionMoment) → asks_checkpoint_worker clients its ≡ true → now ≡ old
-    → OnOk result (bytes ≡ session_reply_line opening.names (Refused NoWorker)) → OnOk result (DurableLineReply holds (client_terms clients opening) old (Ok its) bytes now)
+    → OnOk result (bytes ≡ session_reply_line opening.names (Refused NoWorker)) → OnOk result (DurableLineReply holds (client_terms clients opening) old (ask_order its) bytes now)
 refuses_it (Ok value) holds clients opening old its bytes now is same says = (Refused NoWorker, inl (is, refl, same), says)
 refuses_it (Err error) holds clients opening old its bytes now is same says = says

@@ -24,6 +24,7 @@ use Rattle.rme_world.specs.Calls.{CellsContract, OwnerContract}
 use Rattle.rme_world.specs.WorldViews.{WorldView}
 use Rattle.rme_durable_server.specs.declared.lookup.SessionLookup.{SessionLookup}
 use Rattle.rme_durable_server.specs.declared.lookup.SessionLookup.TheVariants.{Owner, Cells, Status}
+use Rattle.rme_durable_server.specs.Lookups.{lookup_of_line}
 use Rattle.rme_durable_server.specs.ServerHistories.{LogLeads, ServerOpening, ServerState, SessionActs, SessionEnds, SessionMoment}
 
 -- One try: at one moment of the log, with no other session between, the session executed the order, as its client sees
@@ -120,17 +121,33 @@ pub record DurableLookup {X : Type 0} (holds : X → Option (List ℕ)) (opening
 abbrev pub IsSessionEndDurable : {X : Type 0} → (X → Option (List ℕ)) → ServerOpening → SessionMoment → Type 0
 IsSessionEndDurable holds opening old = (log : List LogEntry) × SessionEnds opening old log × IsLogDurable holds log
 
--- A line that is an order is answered by its reply, once everything before the moments of its tries is durable. A line
--- that is no order is answered as a look-up, or by why it is refused.
-abbrev pub DurableLineReply : {X : Type 0} → (X → Option (List ℕ)) → ClientTerms → SessionMoment → Result Order Refusal
-    → List ℕ → SessionMoment → Type 0
-DurableLineReply holds terms old (Ok its) bytes now =
+-- What a line asks: an order, a look-up, or neither, with why it is refused.
+pub data LineAsk : Type 0 where
+  ask_order : Order → LineAsk
+  ask_lookup : SessionLookup → LineAsk
+  ask_nothing : Refusal → LineAsk
+
+-- A line that is refused as no order may be a look-up.
+abbrev pub ask_if_bad : Refusal → Option SessionLookup → LineAsk
+ask_if_bad BadLine (Some look) = ask_lookup look
+ask_if_bad why look = ask_nothing why
+
+abbrev pub ask_by : Result Order Refusal → Option SessionLookup → LineAsk
+ask_by (Ok its) look = ask_order its
+ask_by (Err why) look = ask_if_bad why look
+
+abbrev pub line_ask : List (List ℕ) → InputLine → LineAsk
+line_ask names line = ask_by (parsed_order names service_numbers line) (lookup_of_line names line)
+
+-- An order is answered by its reply, once everything before the moments of its tries is durable; a look-up likewise; and
+-- any other line by why it is refused.
+abbrev pub DurableLineReply : {X : Type 0} → (X → Option (List ℕ)) → ClientTerms → SessionMoment → LineAsk → List ℕ
+    → SessionMoment → Type 0
+DurableLineReply holds terms old (ask_order its) bytes now =
     (reply : SessionReply) × DurableOrderEffect holds terms old its now reply
     × (bytes ≡ session_reply_line terms.opening.names reply)
-DurableLineReply holds terms old (Err BadLine) bytes now =
-    ((look : SessionLookup) × DurableLookup holds terms.opening old look bytes now)
-    ⊎ ((now ≡ old) × (bytes ≡ session_reply_line terms.opening.names (Refused BadLine)))
-DurableLineReply holds terms old (Err why) bytes now =
+DurableLineReply holds terms old (ask_lookup look) bytes now = DurableLookup holds terms.opening old look bytes now
+DurableLineReply holds terms old (ask_nothing why) bytes now =
     (now ≡ old) × (bytes ≡ session_reply_line terms.opening.names (Refused why))
 
 pub record DurableLineAnswer {X : Type 0} (holds : X → Option (List ℕ)) (terms : ClientTerms)
@@ -139,4 +156,4 @@ pub record DurableLineAnswer {X : Type 0} (holds : X → Option (List ℕ)) (ter
   pub end : SessionMoment
   pub begun : IsSessionBegun old start
   pub is : now ≡ Some end
-  pub answers : DurableLineReply holds terms start (parsed_order terms.opening.names service_numbers line) bytes end
+  pub answers : DurableLineReply holds terms start (line_ask terms.opening.names line) bytes end

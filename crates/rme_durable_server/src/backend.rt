@@ -1,7 +1,7 @@
 //! The durable server as a backend of sessions.
 
 ghost use Rattle.std.specs.Prelude.{◌≡◌, [], IfErr, OnOk, string_bytes, Ok};
-ghost use Rattle.rme_durable_server.specs.DurableAnswers.{DurableLineReply, client_terms};
+ghost use Rattle.rme_durable_server.specs.DurableAnswers.{DurableLineReply, ask_order, client_terms};
 ghost use Rattle.rme_line_io.specs.BufferedWrites.{BufferedWrite};
 ghost use Rattle.rme_line_io.specs.StreamEvents.{LastWriteFailed, WritesMade};
 ghost use Rattle.rme_session_server.specs.SessionAnswers.{AnswerFailure};
@@ -103,7 +103,8 @@ impl<L: LogStore, H: CloseHandle, J: ServerTag> Backend for DurableServer<L, H, 
 impl<L: LogStore, H: CloseHandle, J: ServerTag> DurableServer<L, H, J> {
     ghost use Rattle.std.specs.Prelude.{◌≡◌, ◌≢◌, IfErr, IfOk, IfSome, OnOk, string_bytes, Err};
     ghost use mathlib.Core.List.{IsPrefix};
-    ghost use Rattle.rme_durable_server.specs.DurableAnswers.{DurableLineReply, DurableLookup, IsSessionBegun, client_terms};
+    ghost use Rattle.rme_durable_server.specs.DurableAnswers.{DurableLineReply, DurableLookup, IsSessionBegun, ask_if_bad, client_terms};
+    ghost use Rattle.rme_durable_server.specs.Lookups.{lookup_of_bytes};
     ghost use Rattle.rme_durable_log.specs.Logs.{IsLogDurable};
     ghost use Rattle.rme_session_protocol.specs.SessionLines.{session_reply_line};
     ghost use Rattle.rme_session_protocol.specs.ClientReplies.{reply_of_client};
@@ -137,7 +138,8 @@ impl<L: LogStore, H: CloseHandle, J: ServerTag> DurableServer<L, H, J> {
         buffers: &mut Buffers,
     ) -> (DurableSession<L, J>, Result<(), AnswerError>)
         ensures answers { OnOk result.1 (DurableLineReply L.holds (client_terms self.now.clients J.opening) session
-            (Err why) (string_bytes buffers.new.text) result.0) }
+            (ask_if_bad why (lookup_of_bytes self.now.names buffers.old.exchange.line.items))
+            (string_bytes buffers.new.text) result.0) }
         ensures same { buffers.new.exchange ≡ buffers.old.exchange }
         ensures err { IfErr result.1 (λ why. why ≢ AnswerError.WriteFailed) }
     {
@@ -207,7 +209,7 @@ fn answer_order<
     writer: &mut O,
 ) -> (DurableSession<L, J>, Result<(), AnswerError>)
     ensures answers { OnOk result.1 (DurableLineReply L.holds (client_terms run.now.backend.now.clients J.opening)
-        session (Ok run.now.request.order) (string_bytes buffers.new.text) result.0) }
+        session (ask_order run.now.request.order) (string_bytes buffers.new.text) result.0) }
     ensures gathers { OnOk result.1 (BufferedWrite (O.contents writer.old) buffers.old.exchange.pending []
         (O.contents writer.new) buffers.new.exchange.pending) }
     ensures err { IfErr result.1 (λ why. AnswerFailure why (O.contents writer.old) buffers.old.exchange.pending

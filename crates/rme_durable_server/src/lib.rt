@@ -5,8 +5,9 @@
 //! A session begins a new epoch where a checkpoint is due. The crate stands on rme_durable_checkpoint, whose executor
 //! applies the orders and logs them, on rme_durable_log, which appends and commits the lines, and on
 //! rme_session_server, whose `session` and `serve` it is a backend of. Those above use `recover`, which reads a file,
-//! and `DurableServer`, which is that backend. Begin with `durable_executor.rt` and `durable_server.rt`, then
-//! `order_attempts.rt`, where an order is tried, and `checkpoints.rt`.
+//! and `DurableServer`, which is that backend. Begin with `specs/ServerHistories.antt`, the history of a server's life,
+//! and `durable_executor.rt`, whose invariant it is; then `durable_server.rt`, `order_attempts.rt`, where an order is
+//! tried, and `checkpoints.rt`.
 #![tactic(auto)]
 
 mod backend;
