@@ -2,10 +2,10 @@
 
 use rme_program::Receipt;
 
-/// A finished section: its receipt, and the start and the number of its script's operations in a list of operations.
+/// A finished section: its receipt, and the start of its script's operations in a list of operations. They end where
+/// those of the next section start.
 #[derive(Clone, Copy)]
 pub(crate) struct EntryHead {
     pub(crate) receipt: Receipt,
-    pub(crate) start: u32,
-    pub(crate) count: u32,
+    pub(crate) start: u64,
 }

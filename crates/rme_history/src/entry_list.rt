@@ -1,7 +1,7 @@
 //! A compact list of finished sections.
 
-ghost use Rattle.std.specs.Prelude.{◌≡◌, ◌+◌, ◌≤◌, ◌++◌, length, vec_capacity};
-ghost use Rattle.rme_history.specs.EntryLists.{IsEntryHead, entry_from_head as section_of};
+ghost use Rattle.std.specs.Prelude.{◌≡◌, ◌+◌, ◌<◌, ◌≤◌, ◌++◌, drop, length, slice_range, vec_capacity};
+ghost use Rattle.rme_history.specs.EntryLists.{AreEntryOps, end_before, entry_up_to};
 
 use crate::entry_head::EntryHead;
 use rme_program::{Entry, Receipt};
@@ -10,8 +10,8 @@ use rme_words::NoMemory;
 use std::alloc::Global;
 use std::marker::Model;
 
-/// No list has room for more: the index of an operation has 32 bits.
-const MOST_ENTRIES: usize = u32::MAX as usize / MOST_OPERATIONS;
+/// No list has room for more: the index of an operation has 64 bits.
+const MOST_ENTRIES: usize = usize::MAX / MOST_OPERATIONS;
 
 /// Finished sections, in order. A section whose script has a single operation takes 48 bytes; an `Entry` has 160. This
 /// matters because the first write to a page of memory is expensive.
@@ -70,7 +70,8 @@ impl EntryList {
     /// Makes room for `more` more entries, whatever their scripts. It grows as a `Vec` does, so that many small calls
     /// cost as much as a large one.
     ///
-    /// `NoMemory` if memory was refused, or there would be more than 536,870,911 entries; the list is then unchanged.
+    /// `NoMemory` if memory was refused, or there would be 2^61 entries or more; the list is then unchanged.
+    #[tactic(auto, using(crate::proofs::Listings::entries_len))]
     pub fn reserve(&mut self, more: usize) -> Result<(), NoMemory>
         ensures entries { self.new.entries ≡ self.old.entries }
         ensures made { OnOk result (length self.old.entries + more ≤ self.new.room) }
@@ -92,6 +93,7 @@ impl EntryList {
     }
 
     /// The number of entries.
+    #[tactic(auto, using(crate::proofs::Listings::entries_len))]
     pub fn len(&self) -> usize
         ensures { result ≡ length self.now.entries }
     {
@@ -105,7 +107,8 @@ impl EntryList {
         let Some(head) = self.heads.get(at) else {
             return None;
         };
-        Some(entry_of(&self.ops, *head))
+        let end = end_of(&self.heads, self.ops.len(), at);
+        Some(entry_of(&self.ops, *head, end))
     }
 
     /// The receipt of the entry at this index.
@@ -126,8 +129,8 @@ impl EntryList {
         let Some(head) = self.heads.get(at) else {
             return None;
         };
-        let start = head.start as usize;
-        Some(&self.ops[start..start + head.count as usize])
+        let end = end_of(&self.heads, self.ops.len(), at);
+        Some(operations_in(&self.ops, head.start as usize, end))
     }
 
     /// The last entry.
@@ -138,6 +141,7 @@ impl EntryList {
     }
 
     /// Appends an entry. There is room for it, and its script has at most as many operations as a job may have.
+    #[tactic(auto, using(crate::proofs::Listings::entries_len))]
     pub fn push(&mut self, receipt: Receipt, script: &Script)
         requires room { length self.old.entries < self.old.room }
         requires few { script.now.n ≤ 8 }
@@ -147,24 +151,41 @@ impl EntryList {
     {
         let head = EntryHead {
             receipt,
-            start: self.ops.len() as u32,
-            count: script.n(),
+            start: self.ops.len() as u64,
         };
         put_ops(&mut self.ops, script);
         self.heads.push_reserved(head);
     }
 }
 
-/// The entry of a head.
-fn entry_of(ops: &[Op], head: EntryHead) -> Entry
-    requires { IsEntryHead (length ops.now) head }
-    ensures { result ≡ section_of ops.now head }
+/// The end of the operations of the head at this index, of this number of operations.
+fn end_of(heads: &[EntryHead], count: usize, at: usize) -> usize
+    requires { at < length heads.now }
+    ensures { result ≡ end_before (drop (at + 1) heads.now) count }
 {
-    let start = head.start as usize;
+    match heads.get(at + 1) {
+        Some(next) => next.start as usize,
+        None => count,
+    }
+}
+
+/// The entry of a head, whose operations end here.
+fn entry_of(ops: &[Op], head: EntryHead, end: usize) -> Entry
+    requires { AreEntryOps (length ops.now) head.start end }
+    ensures { result ≡ entry_up_to ops.now head end }
+{
     Entry {
         receipt: head.receipt,
-        script: Script::of(&ops[start..start + head.count as usize]),
+        script: Script::of(operations_in(ops, head.start as usize, end)),
     }
+}
+
+/// The operations from a start to an end.
+fn operations_in(ops: &[Op], start: usize, end: usize) -> &[Op]
+    requires { AreEntryOps (length ops.now) start end }
+    ensures { result.now ≡ slice_range ops.now start end }
+{
+    &ops[start..end]
 }
 
 /// Appends a script's operations, in order.
