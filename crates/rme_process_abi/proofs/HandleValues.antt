@@ -24,8 +24,8 @@ use Rattle.std.specs.contracts.alloc.Global as heap
 use Rattle.std.proofs.alloc.Global.TheLaws as heap_laws
 use Rattle.std.specs.contracts.impls.GlobalAllocator.TheImpl.{ghosts}
 use Rattle.rme_process_abi.specs.Owned.{owned_if}
-use Rattle.rme_process_abi.specs.declared.worker.CoreWorker.{CoreWorker}
-use Rattle.rme_process_abi.specs.contracts.worker.CoreWorker as worker
+use Rattle.rme_process_core.specs.declared.worker.CoreWorker.{CoreWorker}
+use Rattle.rme_process_core.specs.contracts.worker.CoreWorker as worker
 use Rattle.rme_process_abi.specs.contracts.handle.Handle as handle
 use Rattle.rme_process_abi.proofs.LooseValues.{both}
 

@@ -1,10 +1,2 @@
-mod Telling
-mod Going
-mod Handing
-mod Loading
-mod Finishing
-mod Led
-mod Folding
-mod Jumping
 pub mod LooseValues
 pub mod HandleValues

@@ -3,7 +3,7 @@ use Rattle.std.specs.Prelude.{◌≡◌, ◌≢◌, ◌⊎◌, ℕ, ◌<◌, ◌
 use Rattle.rme_words.specs.declared.shape.Shape.{Shape}
 use Rattle.rme_words.specs.Shapes.{IsWithinLimits}
 use Rattle.rme_process_abi.specs.declared.handle.Handle.{Handle}
-use Rattle.rme_process_abi.specs.Workers.{IsCoreWorker, WorkerRestarted}
+use Rattle.rme_process_core.specs.Workers.{IsCoreWorker, WorkerRestarted}
 
 -- The handle has a worker.
 pub record IsLiveHandle (handle : Handle) : Type 0 where

@@ -1,14 +1,4 @@
--- In reading order: the plain numbers that C reads and writes; the actions of a batch; the effect of its values on a
--- worker; the slate that a worker expects; the contracts of the functions below the calls; the worker of a handle; the
--- jobs that a worker accepts; and the contract of each call.
-pub mod Flat
-pub mod Batches
-pub mod Folds
-pub mod ExpectedSlates
-pub mod Runs
-pub mod Workers
-pub mod Jobs
-pub mod Calls
+-- In reading order: what a handle owns; a handle, and the call that makes one; and the calls about words.
 pub mod Owned
 pub mod Handles
 pub mod Words

@@ -4,14 +4,15 @@
 //! call has it at the same time. C must keep to this; nothing checks it. Numbers may have any value. A parameter
 //! `alloc` takes no bytes, and C does not pass it.
 
-ghost use Rattle.std.specs.Prelude.{◌≡◌};
-ghost use Rattle.rme_process_abi.specs.Handles.{IsLiveHandle, AbiNewCall, shape_numbers};
-ghost use Rattle.rme_process_abi.specs.Workers.{WorkerRestarted};
-ghost use Rattle.rme_process_abi.specs.Calls.{AbiNextCall, AbiAfterCall, AbiStanceCall, AbiSubmitCall, AbiWithdrawCall, after_state, submit_state, submitted_slate};
+ghost use Rattle.std.specs.Prelude.{◌≡◌, take};
+ghost use Rattle.rme_words.specs.declared.shape.Shape.{Shape};
+ghost use Rattle.rme_process_abi.specs.Handles.{IsLiveHandle, AbiNewCall, HasShapeNumbers, shape_numbers};
+ghost use Rattle.rme_process_core.specs.Workers.{WorkerRestarted};
+ghost use Rattle.rme_process_core.specs.Calls.{AbiNextCall, AbiAfterCall, AbiStanceCall, AbiSubmitCall, AbiWithdrawCall, after_state, submit_state, submitted_slate};
+ghost use Rattle.rme_process_core.specs.Processes.{NewIsCall, NextIsCall, AfterIsCall, SubmitIsCall, WithdrawIsCall, RestartIsCall};
 
-use crate::flat::{Batch, BatchOutcome, FlatStance};
 use crate::handle::Handle;
-use crate::worker::CoreWorker;
+use rme_process_core::{Batch, BatchOutcome, CoreWorker, FlatStance};
 use rme_script::SLATE_WORDS;
 use rme_words::{Refusal, Shape};
 use std::alloc::Global;
@@ -30,7 +31,9 @@ pub extern "C" fn rme_core_new(
     worker: u32,
     handle: &mut Handle,
 ) -> u32
-    ensures { AbiNewCall (shape_numbers workers locks cells jobs) worker handle.old result handle.new }
+    ensures made { AbiNewCall (shape_numbers workers locks cells jobs) worker handle.old result handle.new }
+    ensures call { result ≡ 0 → (shape : Shape)
+        → HasShapeNumbers (shape_numbers workers locks cells jobs) shape → NewIsCall shape worker handle.new.value }
 {
     let shape = match Shape::new(workers, locks, cells, jobs) {
         Ok(shape) => shape,
@@ -70,6 +73,7 @@ pub extern "C" fn rme_core_next(
 ) -> u32
     requires { IsLiveHandle handle.old }
     ensures told { AbiNextCall handle.old.value until batch.old result handle.new.value batch.new }
+    ensures call { result ≡ 0 → NextIsCall handle.old.value batch.new handle.new.value }
     ensures live { IsLiveHandle handle.new }
 {
     let mut worker = handle.open(alloc);
@@ -95,6 +99,7 @@ pub extern "C" fn rme_core_after(
     requires { IsLiveHandle handle.old }
     ensures took { AbiAfterCall (after_state handle.old.value outcome.old) batch.now count result
         (after_state handle.new.value outcome.new) }
+    ensures call { result ≡ 0 → AfterIsCall handle.old.value (take count batch.now.values) handle.new.value }
     ensures live { IsLiveHandle handle.new }
 {
     let mut worker = handle.open(alloc);
@@ -139,6 +144,8 @@ pub extern "C" fn rme_core_submit(
     ensures posted { AbiSubmitCall (submit_state handle.old.value number.old)
         (submitted_slate lock operations words.now) result
         (submit_state handle.new.value number.new) }
+    ensures call { result ≡ 0
+        → SubmitIsCall handle.old.value (submitted_slate lock operations words.now) handle.new.value }
     ensures live { IsLiveHandle handle.new }
 {
     let mut worker = handle.open(alloc);
@@ -155,6 +162,7 @@ pub extern "C" fn rme_core_submit(
 pub extern "C" fn rme_core_withdraw(alloc: Global, handle: &mut Handle) -> u32
     requires { IsLiveHandle handle.old }
     ensures withdrew { AbiWithdrawCall handle.old.value result handle.new.value }
+    ensures call { result ≡ 0 → WithdrawIsCall handle.old.value handle.new.value }
     ensures live { IsLiveHandle handle.new }
 {
     let mut worker = handle.open(alloc);
@@ -168,6 +176,7 @@ pub extern "C" fn rme_core_withdraw(alloc: Global, handle: &mut Handle) -> u32
 pub extern "C" fn rme_core_restart(alloc: Global, handle: &mut Handle)
     requires { IsLiveHandle handle.old }
     ensures restarted { WorkerRestarted handle.old.value.shape handle.old.value.private.worker handle.new.value }
+    ensures call { RestartIsCall handle.old.value handle.new.value }
     ensures live { IsLiveHandle handle.new }
 {
     let mut worker = handle.open(alloc);

@@ -2,10 +2,10 @@
 
 ghost use Rattle.std.specs.Prelude.{◌≡◌, true, false, Bool};
 ghost use Rattle.std.specs.Box.Ownership.{box_owns};
-ghost use Rattle.rme_process_abi.specs.declared.worker.CoreWorker.{CoreWorker};
+ghost use Rattle.rme_process_core.specs.declared.worker.CoreWorker.{CoreWorker};
 
 use crate::raw_box::RawBox;
-use crate::worker::CoreWorker;
+use rme_process_core::CoreWorker;
 use std::alloc::{Allocator, Global};
 use std::marker::Model;
 use std::mem::replace;
@@ -26,7 +26,7 @@ pub struct Handle {
 
 impl Model for Handle {
     ghost use Rattle.rme_process_abi.specs.Owned.{owned_if};
-    ghost use Rattle.rme_process_abi.specs.contracts.worker.CoreWorker.{the_row};
+    ghost use Rattle.rme_process_core.specs.contracts.worker.CoreWorker.{the_row};
     ghost use Rattle.std.specs.Box.Ownership.{box_owns};
     ghost use Rattle.std.specs.contracts.impls.GlobalAllocator.TheImpl.{ghosts};
 

@@ -1,13 +1,14 @@
 ghost use Rattle.rme_process_abi.specs.Handles.{IsLiveHandle};
 
-use crate::answers::{BATCH_OUT, DAMAGED, NO_BATCH, NO_WORD};
 use crate::exports::{
     rme_core_after, rme_core_free, rme_core_new, rme_core_next, rme_core_restart, rme_core_stance,
     rme_core_submit, rme_core_withdraw,
 };
-use crate::flat::{Batch, BatchOutcome, FlatAction, FlatNote, FlatStance};
 use crate::handle::Handle;
 use crate::words::{rme_core_word, rme_core_words};
+use rme_process_core::{
+    BATCH_OUT, Batch, BatchOutcome, DAMAGED, FlatAction, FlatNote, FlatStance, NO_BATCH, NO_WORD,
+};
 use std::test::Fail;
 
 const NO_ACTION: FlatAction = FlatAction {

@@ -5,7 +5,7 @@ ghost use Rattle.rme_words.specs.Words.{IsShapeAddress};
 ghost use Rattle.rme_process_abi.specs.Handles.{shape_numbers};
 ghost use Rattle.rme_process_abi.specs.Words.{AbiWordCall, AbiWordCountCall, address_of_kind};
 
-use crate::answers::NO_WORD;
+use rme_process_core::NO_WORD;
 use rme_words::{Address, Shape};
 
 /// The number of a word of the shape of these numbers.

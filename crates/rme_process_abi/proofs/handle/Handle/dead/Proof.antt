@@ -29,8 +29,8 @@ use Rattle.rme_process_abi.proofs.handle.Handle.dead.Code as code
 use Rattle.rme_words.specs.Shapes.{IsShape}
 use Rattle.rme_program.specs.Steps.{restarted_private}
 use Rattle.std.specs.Prelude.{replicate, []}
-use Rattle.rme_process_abi.specs.declared.worker.CoreWorker.{CoreWorker}
-use Rattle.rme_process_abi.specs.declared.expected_slate.ExpectedSlate.{ExpectedSlate}
+use Rattle.rme_process_core.specs.declared.worker.CoreWorker.{CoreWorker}
+use Rattle.rme_process_core.specs.declared.expected_slate.ExpectedSlate.{ExpectedSlate}
 
 -- Some worker: a handle that is not live says nothing of it.
 one_of_each : IsShape 1 1 1 1 2 1

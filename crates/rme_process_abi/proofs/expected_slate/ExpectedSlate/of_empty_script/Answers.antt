@@ -1,5 +1,0 @@
-use Rattle.rme_process_abi.proofs.Loading.{nothing_guessed}
-use Rattle.rme_process_abi.proofs.expected_slate.ExpectedSlate.of_empty_script.Goals as goal
-
-pub returns : goal.returns
-returns c = λ shape. nothing_guessed shape _ c.of.ensures

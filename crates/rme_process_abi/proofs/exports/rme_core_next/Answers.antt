@@ -1,0 +1,5 @@
+use Rattle.rme_process_core.proofs.Processes.{next_is_call}
+use Rattle.rme_process_abi.proofs.exports.rme_core_next.Goals as goal
+
+pub returns-clause-call : goal.returns-clause-call
+returns-clause-call c = rw (c.close.ensures.value, ← c.open-worker.ensures, ← c.deref_mut.ensures.value) (next_is_call _ _ _ _ _ _ c.predict-answer.ensures.told)

@@ -1,5 +1,0 @@
-use Rattle.rme_process_abi.proofs.Loading.{TellsSlate}
-use Rattle.rme_process_abi.proofs.loads.predict_slate_loads.Given as goal
-
-abbrev pub invariant-loop-at : goal.invariant-loop-at
-invariant-loop-at l = TellsSlate l.fn.context.shape l.fn.context.until l.worker l.operations l.loaded l.at l.batch

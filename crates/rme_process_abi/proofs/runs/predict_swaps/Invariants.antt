@@ -1,5 +1,0 @@
-use Rattle.rme_process_abi.proofs.Going.{TellsSwaps}
-use Rattle.rme_process_abi.proofs.runs.predict_swaps.Given as goal
-
-abbrev pub invariant-loop-level : goal.invariant-loop-level
-invariant-loop-level l = TellsSwaps l.fn.context.shape l.fn.context.until l.worker l.fn.ascent.lock l.fn.ascent.held l.level l.fn.batch l.batch

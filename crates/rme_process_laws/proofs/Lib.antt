@@ -1,0 +1,7 @@
+pub mod Actions
+pub mod Values
+pub mod Leaving
+pub mod Happenings
+pub mod Moves
+pub mod Runs
+pub mod Staying
