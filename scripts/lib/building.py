@@ -184,7 +184,9 @@ class Progress:
     def __init__(self, program, weights, chain, places):
         self.weights, self.chain, self.places = weights, chain, places
         self.began, self.done = time.monotonic(), 0
-        say(f"proving and building {program}: {len(weights)} crates; this is done once, and again only for what changes")
+        minutes = round(expected(sum(weights.values()), chain, places) / 60)
+        some = f"some {minutes} minutes" if minutes > 1 else "a minute or two"
+        say(f"proving and building {program}: {len(weights)} crates, {some}; done once, and again only for what changes")
 
     def built(self, name, number, chain_left):
         self.done += self.weights[name]

@@ -1,22 +1,24 @@
 //! `rme serve --state`: sessions over a world that is logged to a file.
 
-ghost use Rattle.std.specs.Prelude.{◌≡◌, [], IfOk};
+ghost use Rattle.std.specs.Prelude.{◌≡◌, [], IfOk, true};
 ghost use Rattle.rme_durable_server.specs.ServerHistories.{server_state};
 
 use rme_cli_listen::{BoundAddresses, StderrObserver, listen};
 use rme_cli_messages::{BadArgument, CliFault, escape_controls, why_not_locks, why_not_sizes};
 use rme_cli_options::{Diagnostics, DurableServeTask, ListenAddresses, SyncPolicy};
 use rme_durable_checkpoint::{EpochExecutor, MOST_SET};
-use rme_durable_file::{StateFile, StateName, check_replaceable, make_state, read_state};
-use rme_durable_format::{LogHeader, RecoveredLog, append_crashes, push_header, whole_lines};
+use rme_durable_file::{
+    OpenedState, RecoveredFile, StateFile, StateName, SystemFile, check_replaceable, make_state,
+    open_state_file,
+};
+use rme_durable_format::{LogHeader, RecoveredLog, push_header};
 use rme_durable_log::OpenLog;
-use rme_durable_server::{DurableServer, RecoveredState, ServerTag, clients_of};
+use rme_durable_server::{DurableServer, ServerTag, clients_of};
 use rme_line_diagnose::Reason;
 use rme_line_text::{lock_name, push_opening};
 use rme_session_server::{Backend, Closer, Listener, ServerLimits, ServerObserver, serve};
-use rme_session_world::Executor;
 use rme_wire::{GivenNames, Names};
-use rme_words::{NoMemory, Shape};
+use rme_words::Shape;
 use std::alloc::{AllocError, Global};
 use std::io;
 use std::marker::Brand;
@@ -71,7 +73,7 @@ pub fn run_serve_durable<R: Threads + Wait + Clock + Sync>(
         sections,
     };
     let served = match open_or_create(rt, &asked, &name, planned) {
-        Ok(opened) => serve_opened::<Brand, R>(threads, &site, listeners, opened),
+        Ok(opened) => serve_logged::<Brand, R>(threads, &site, listeners, logged_state(opened)),
         Err(fault) => Err(fault),
     };
     site.addresses.clear(rt);
@@ -93,52 +95,56 @@ struct DurableServeContext<'a> {
 #[derive(Drop)]
 enum StartPlan<'a> {
     /// Continue with a file, which no other server has.
-    GoOn(RecoveredFile<'a>),
+    GoOn(RecoveredFile<'a, SystemFile<'a>>),
     /// Create a file with these lines.
     Make(String),
 }
 
-/// A file that was recovered, and can be served.
+/// A state with the log that is opened over its file.
 #[derive(Drop)]
-struct RecoveredFile<'a> {
-    file: StateFile<'a>,
-    recovered: RecoveredState,
-    /// The number of bytes of its whole lines. What follows is a torn line.
-    whole: usize,
-}
-
-/// A state whose events are all in its file, and whose workers are all down.
-#[derive(Drop)]
-struct OpenedState<'a> {
+struct LoggedState<'a> {
     names: Names,
     executor: EpochExecutor,
-    opened: OpenLog<StateFile<'a>>,
+    log: OpenLog<StateFile<'a, SystemFile<'a>>>,
+}
+
+/// A state with a log over its file.
+fn logged_state<'a>(opened: OpenedState<'a, SystemFile<'a>>) -> LoggedState<'a>
+    requires works { opened.file.works ≡ true }
+    ensures names { result.names ≡ opened.entry.names }
+    ensures executor { result.executor ≡ opened.entry.executor }
+{
+    LoggedState {
+        names: opened.names,
+        executor: opened.executor,
+        log: OpenLog::new(opened.file),
+    }
 }
 
 /// Serves a state on these listeners, with a tag for its log and its opening.
-fn serve_opened<J: ServerTag + Send + Sync, R: Threads + Wait + Clock + Sync>(
+fn serve_logged<J: ServerTag + Send + Sync, R: Threads + Wait + Clock + Sync>(
     threads: &R,
     site: &DurableServeContext<'_>,
     listeners: (Listener, Option<Listener>),
-    state: OpenedState<'_>,
+    state: LoggedState<'_>,
 ) -> Result<u8, CliFault>
-    requires log { state.opened ≡ J.book }
+    requires log { state.log ≡ J.book }
     requires lines { state.executor.lines ≡ [] }
     requires named { state.names ≡ J.opening.names }
     requires begins { J.opening.begins (server_state state.executor.executor state.executor.base) }
 {
-    let OpenedState {
+    let LoggedState {
         names,
         executor,
-        opened,
+        log,
     } = state;
     let alloc = site.rt.alloc();
-    let kept = DurableServer::<StateFile<'_>, Closer, J>::new(
+    let kept = DurableServer::<StateFile<'_, SystemFile<'_>>, Closer, J>::new(
         alloc,
         names,
         executor,
         site.sections,
-        opened,
+        log,
     )?;
     site.addresses.print(site.rt)?;
     serve_durable_state(threads, site, listeners, &kept)
@@ -178,11 +184,11 @@ fn split_task(task: DurableServeTask) -> (ServerConfig, ListenAddresses) {
 }
 
 /// Serves a durable state on these listeners. If an event cannot be logged, this is reported at the end.
-fn serve_durable_state<J: ServerTag + Send + Sync, R: Threads + Wait + Clock + Sync>(
+fn serve_durable_state<'f, J: ServerTag + Send + Sync, R: Threads + Wait + Clock + Sync>(
     threads: &R,
     site: &DurableServeContext<'_>,
     listeners: (Listener, Option<Listener>),
-    kept: &DurableServer<StateFile<'_>, Closer, J>,
+    kept: &DurableServer<StateFile<'f, SystemFile<'f>>, Closer, J>,
 ) -> Result<u8, CliFault> {
     let complaints = StderrObserver::new(site.rt);
     let observer = StateObserver {
@@ -209,7 +215,7 @@ struct StateObserver<'a, 'f, J: ServerTag, R> {
     complaints: &'a StderrObserver<'a>,
     threads: &'a R,
     name: &'a StateName,
-    kept: &'a DurableServer<StateFile<'f>, Closer, J>,
+    kept: &'a DurableServer<StateFile<'f, SystemFile<'f>>, Closer, J>,
 }
 
 impl<J: ServerTag, R: Wait> ServerObserver for StateObserver<'_, '_, J, R> {
@@ -258,19 +264,13 @@ fn recover_file<'a>(
     rt: &'a HostRuntime,
     asked: &ServerConfig,
     name: &'a StateName,
-) -> Result<Option<RecoveredFile<'a>>, CliFault> {
-    let Some(file) = StateFile::open(rt, name, asked.syncs)? else {
+) -> Result<Option<RecoveredFile<'a, SystemFile<'a>>>, CliFault> {
+    let Some(file) = open_state_file(rt, name, asked.syncs)? else {
         return Ok(None);
     };
-    let mut file = file;
-    let bytes = file.bytes()?;
-    let recovered = read_state(rt, asked.path.as_str(), bytes.as_slice())?;
-    check_against(rt, asked, &recovered.log)?;
-    Ok(Some(RecoveredFile {
-        file,
-        recovered,
-        whole: whole_lines(bytes.as_slice()).len(),
-    }))
+    let found = RecoveredFile::read(rt, file)?;
+    check_against(rt, asked, found.log())?;
+    Ok(Some(found))
 }
 
 /// Executes the plan: creates the file if it does not exist, and logs a crash of each worker that was up.
@@ -279,11 +279,12 @@ fn open_or_create<'a>(
     asked: &ServerConfig,
     name: &'a StateName,
     planned: StartPlan<'a>,
-) -> Result<OpenedState<'a>, CliFault>
-    ensures { IfOk result (λ state. state.executor.lines ≡ []) }
+) -> Result<OpenedState<'a, SystemFile<'a>>, CliFault>
+    ensures works { IfOk result (λ state. state.file.works ≡ true) }
+    ensures lines { IfOk result (λ state. state.executor.lines ≡ []) }
 {
     let lines = match planned {
-        StartPlan::GoOn(found) => return open_state(rt.alloc(), found),
+        StartPlan::GoOn(found) => return found.open(rt),
         StartPlan::Make(lines) => lines,
     };
     make_state(rt, asked.path.as_str(), lines.as_bytes())?;
@@ -291,58 +292,7 @@ fn open_or_create<'a>(
         let path = escape_controls(rt.alloc(), asked.path.as_str())?;
         return Err(CliFault::BadArguments(BadArgument::NoState(path)));
     };
-    open_state(rt.alloc(), found)
-}
-
-/// Cuts off the torn line, and logs a crash of each worker that was up.
-fn open_state<'a>(alloc: Global, found: RecoveredFile<'a>) -> Result<OpenedState<'a>, CliFault>
-    ensures { IfOk result (λ state. state.executor.lines ≡ []) }
-{
-    let RecoveredFile {
-        file,
-        recovered,
-        whole,
-    } = found;
-    let mut file = file;
-    let falls = crash_lines(alloc, &recovered.log)?;
-    file.begin(whole)?;
-    file.write(falls.as_bytes())?;
-    let length = whole.saturating_add(falls.len()) as u64;
-    Ok(opened_state_of(alloc, recovered, length, file)?)
-}
-
-/// The lines that crash each worker that was up.
-fn crash_lines(alloc: Global, log: &RecoveredLog) -> Result<String, CliFault> {
-    let mut falls = String::new(alloc);
-    if append_crashes(&mut falls, alloc, &log.names, &log.world).is_err() {
-        return Err(CliFault::NoMemory);
-    }
-    Ok(falls)
-}
-
-/// The state that was recovered from the file, with the length of its log.
-fn opened_state_of<'a>(
-    alloc: Global,
-    recovered: RecoveredState,
-    length: u64,
-    file: StateFile<'a>,
-) -> Result<OpenedState<'a>, NoMemory>
-    ensures { IfOk result (λ state. state.executor.lines ≡ []) }
-{
-    let RecoveredState { log, base } = recovered;
-    let RecoveredLog {
-        header,
-        names,
-        world,
-        ..
-    } = log;
-    let executor = Executor::new(alloc, world)?;
-    let executor = EpochExecutor::new(alloc, executor, base, header.epoch, length);
-    Ok(OpenedState {
-        names,
-        executor,
-        opened: OpenLog::new(file),
-    })
+    found.open(rt)
 }
 
 /// The lines of a new state.

@@ -6,12 +6,12 @@ use rme_durable_checkpoint::Sections;
 use rme_durable_file::bad_log_fault;
 use rme_durable_format::{BadLog, RecoveryProgress, whole_lines};
 use rme_durable_server::{
-    RecoveredState, StatusSource, clients_of, lock_status, push_row, push_status, recover,
+    RecoveredState, StatusSource, clients_of, lock_status, push_cell_values, push_status, recover,
     worker_status,
 };
 use rme_line_text::lock_name;
 use rme_wire::Names;
-use std::alloc::AllocError;
+use rme_words::NoMemory;
 
 /// No observer of the progress of recovery.
 struct NoRecoveryObserver;
@@ -72,14 +72,14 @@ fn status_view_of(recovered: &RecoveredState) -> StatusSource<'_> {
 }
 
 /// Appends the answer to the order `status`, and answers the status of the process.
-fn push_json(out: &mut String, recovered: &RecoveredState) -> Result<u8, AllocError> {
+fn push_json(out: &mut String, recovered: &RecoveredState) -> Result<u8, NoMemory> {
     push_status(out, &recovered.log.names, &status_view_of(recovered))?;
     out.push_str("\n")?;
     Ok(0)
 }
 
 /// Appends a line for the epoch, for each lock and for each worker, and answers the status of the process.
-fn push_text(out: &mut String, recovered: &RecoveredState) -> Result<u8, AllocError> {
+fn push_text(out: &mut String, recovered: &RecoveredState) -> Result<u8, NoMemory> {
     let names = &recovered.log.names;
     let source = status_view_of(recovered);
     let epoch = source.epoch;
@@ -89,15 +89,11 @@ fn push_text(out: &mut String, recovered: &RecoveredState) -> Result<u8, AllocEr
     Ok(0)
 }
 
-fn push_locks(
-    out: &mut String,
-    names: &Names,
-    source: &StatusSource<'_>,
-) -> Result<(), AllocError> {
+fn push_locks(out: &mut String, names: &Names, source: &StatusSource<'_>) -> Result<(), NoMemory> {
     let sections = Sections::of(source.world);
-    for lock in 0..names.len() {
+    for lock in 0..source.world.shape().locks() {
         let Some(status) = lock_status(source, lock, &sections) else {
-            continue;
+            return Err(NoMemory);
         };
         let name = lock_name(names, lock);
         write!(out, "lock {name} owner ")?;
@@ -106,7 +102,7 @@ fn push_locks(
             None => out.push_str("nobody")?,
         }
         out.push_str(" cells ")?;
-        push_row(out, &status.cells)?;
+        push_cell_values(out, &status.cells)?;
         let count = status.sections;
         let unsettled = if status.settled { "" } else { " unsettled" };
         write!(out, "{unsettled} sections {count}\n")?;
@@ -118,10 +114,10 @@ fn push_workers(
     out: &mut String,
     names: &Names,
     source: &StatusSource<'_>,
-) -> Result<(), AllocError> {
+) -> Result<(), NoMemory> {
     for worker in 0..clients_of(source.world) {
         let Some(status) = worker_status(source, worker) else {
-            continue;
+            return Err(NoMemory);
         };
         let had = if status.attached { "attached" } else { "down" };
         let stance = status.stance.word();

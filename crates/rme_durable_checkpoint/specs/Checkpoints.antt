@@ -1,7 +1,8 @@
 -- What a checkpoint preserves: everything that clients can see.
-use Rattle.std.specs.Prelude.{◌≡◌, ℕ, ◌+◌, ◌<◌, Bool, true, false, List, [], ◌∷◌, ◌++◌, ◌==◌, if◌then◌else◌, Option, Some, None, Ok}
+use Rattle.std.specs.Prelude.{◌≡◌, ℕ, ◌+◌, ◌<◌, Bool, true, false, List, get_or, ◌==◌, if◌then◌else◌, Option, Some, None, Ok}
 use Rattle.rme_tree.specs.Nodes.{owner_in}
 use Rattle.rme_script.specs.declared.job.Job.{Job}
+use Rattle.rme_program.specs.declared.note.Entry.{Entry}
 use Rattle.rme_program.specs.declared.note.Receipt.{Receipt}
 use Rattle.rme_machine.specs.Histories.{place_of}
 use Rattle.rme_machine.specs.Views.{is_pending, slate_job}
@@ -57,6 +58,10 @@ pub record IsWorkerAlike (base : Base) (before : ExecutorState) (later : Base) (
 abbrev pub sections_in : Receipt → ℕ → ℕ
 sections_in receipt lock = if receipt.lock == lock then 1 else 0
 
+-- The counts of a history's sections, by lock.
+abbrev pub AreSectionCounts : List Entry → List ℕ → Type 0
+AreSectionCounts history counts = (lock : ℕ) → lock < 16 → get_or counts lock 0 ≡ place_of history lock
+
 -- The place of a lock's next section, as clients see it.
 abbrev pub next_client_place : Base → WorldView → ℕ → ℕ
 next_client_place base seen lock = client_place base lock (place_of seen.history lock)
@@ -77,10 +82,6 @@ pub record CheckpointShowsSame (base : Base) (before : ExecutorState) (later : B
         before.world.history
     pub places : (lock : ℕ) → lock < before.world.shape.locks
         → next_client_place later after.world lock ≡ next_client_place base before.world lock
-
--- Bytes that end with a newline.
-abbrev pub AreWholeLines : List ℕ → Type 0
-AreWholeLines bytes = (front : List ℕ) × (bytes ≡ front ++ 10 ∷ [])
 
 -- Bytes begin with the header of an executor's world: it has the number of the epoch, and the base.
 pub record BeginsEpochHeader (bytes : List ℕ) (names : List (List ℕ)) (epoch : EpochState) : Type 0 where

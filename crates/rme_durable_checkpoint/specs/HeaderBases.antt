@@ -1,5 +1,6 @@
 -- The base of an epoch, by the header of its log.
-use Rattle.std.specs.Prelude.{◌≡◌, ◌<◌, ℕ, ℤ, pos, int_lt, unsigned_abs, List, length, get_or, Option, Some, None, if◌then◌else◌}
+use Rattle.std.specs.Prelude.{◌≡◌, ◌<◌, ◌≤◌, ◌-◌, ◌^◌, ℕ, ℤ, pos, int_lt, unsigned_abs, List, length, get_or, Option, Some, None, if◌then◌else◌}
+use Rattle.std.specs.List.{All}
 use Rattle.rme_line_text.specs.declared.client_receipt.ClientReceipt.{ClientReceipt}
 use Rattle.rme_durable_format.specs.Headers.{HeaderValues}
 use Rattle.rme_durable_format.specs.declared.header.LastJob.{LastJob}
@@ -39,3 +40,8 @@ AreHeaderPlaces places offsets =
 pub record IsHeaderBase (past : HeaderValues) (base : Base) : Type 0 where
   pub workers : AreHeaderWorkers past.numbers past.last base.workers.items
   pub places : AreHeaderPlaces past.places base.places.items
+
+-- A header leaves room for one more epoch: with a million jobs of each worker, no number and no place passes 2^53.
+abbrev pub LeavesRoom : HeaderValues → Type 0
+LeavesRoom past =
+    All (λ n. n ≤ 2 ^ 53 - 1000000) past.numbers × All (λ place. unsigned_abs place ≤ 2 ^ 53 - 256000000) past.places

@@ -1,9 +1,9 @@
 //! The checkpoint: a new epoch, in which clients see the same state.
 
 ghost use Rattle.std.specs.Prelude.{◌≡◌, ◌+◌, IfOk, IsTrue, string_bytes};
-ghost use Rattle.rme_durable_checkpoint.specs.Checkpoints.{AreWholeLines};
 ghost use Rattle.rme_durable_checkpoint.specs.HeaderBases.{IsHeaderBase};
 ghost use Rattle.rme_durable_format.specs.Headers.{header_values};
+ghost use Rattle.rme_durable_format.specs.WholeLines.{AreWholeLines};
 ghost use Rattle.rme_history.specs.Legal.{rows_of_locks};
 
 use crate::alike::same_names;
@@ -38,8 +38,9 @@ impl RecoveryProgress for NoProgress {
 
 impl EpochExecutor {
     ghost use Rattle.std.specs.Prelude.{◌≡◌, ◌+◌, [], IfOk, string_bytes};
-    ghost use Rattle.rme_durable_checkpoint.specs.Checkpoints.{AreWholeLines, BeginsEpochHeader, CheckpointShowsSame};
+    ghost use Rattle.rme_durable_checkpoint.specs.Checkpoints.{BeginsEpochHeader, CheckpointShowsSame};
     ghost use Rattle.rme_durable_format.specs.Recovery.{RecoversWorld};
+    ghost use Rattle.rme_durable_format.specs.WholeLines.{AreWholeLines};
 
     /// Builds a new epoch of the same locks and workers, in which clients see the same state: each worker with a job
     /// has it again, and is inside its lock if it was; the same sessions have the same workers; and the cells have the

@@ -1,7 +1,8 @@
 //! The base of an epoch, read from the header of its log.
 
-ghost use Rattle.std.specs.Prelude.{◌≡◌, IfOk, IfSome, get_or};
-ghost use Rattle.rme_durable_checkpoint.specs.HeaderBases.{AreHeaderPlaces, AreHeaderWorkers, header_offset, header_worker};
+ghost use Rattle.std.specs.Prelude.{◌≡◌, ◌↔◌, IfOk, IsTrue, get_or};
+ghost use Rattle.rme_durable_checkpoint.specs.HeaderBases.{AreHeaderPlaces, AreHeaderWorkers, LeavesRoom, header_offset, header_worker};
+ghost use Rattle.rme_durable_format.specs.Headers.{header_values};
 
 use crate::epoch_base::{Base, PlaceOffset, WorkerBase};
 use rme_durable_format::{LastJob, LogHeader};
@@ -16,26 +17,29 @@ const MOST_NUMBERS: u64 = SERVICE_NUMBERS - MOST_JOBS as u64;
 const MOST_SECTIONS: u64 = SERVICE_NUMBERS - (MOST_JOBS * MOST_WORKERS) as u64;
 
 impl Base {
-    ghost use Rattle.std.specs.Prelude.{IfOk, IfSome};
-    ghost use Rattle.rme_durable_checkpoint.specs.HeaderBases.{IsHeaderBase};
+    ghost use Rattle.std.specs.Prelude.{◌≡◌, ◌↔◌, IfOk, IfSome, IsSome};
+    ghost use Rattle.rme_durable_checkpoint.specs.ClientValues.{client_place};
+    ghost use Rattle.rme_durable_checkpoint.specs.HeaderBases.{IsHeaderBase, LeavesRoom};
     ghost use Rattle.rme_durable_format.specs.Headers.{header_values};
 
-    /// The base of a header; `None` if a number in it is too large for another epoch.
+    /// The base of a header; `None` if the header leaves no room for one more epoch.
     pub fn from_header(alloc: Global, header: &LogHeader) -> Result<Option<Base>, AllocError>
-        ensures { IfOk result (λ found. IfSome found (λ base. IsHeaderBase (header_values header.now) base)) }
+        ensures room { IfOk result (λ found. IsSome found ↔ LeavesRoom (header_values header.now)) }
+        ensures base { IfOk result (λ found. IfSome found (IsHeaderBase (header_values header.now))) }
     {
-        let Some(workers) = workers_of(alloc, header)? else {
+        if !leaves_room(header) {
             return Ok(None);
-        };
-        let Some(places) = places_of(alloc, header)? else {
-            return Ok(None);
-        };
+        }
+        let workers = workers_of(alloc, header)?;
+        let places = places_of(alloc, header)?;
         Ok(Some(Base { workers, places }))
     }
 
     /// The number of sections of a lock over all epochs, with this number of them in this epoch, without those of the
     /// checkpoint worker. `None` if it is not a number of 64 bits.
-    pub fn sections_before(&self, lock: u32, sections: u64) -> Option<u64> {
+    pub fn sections_before(&self, lock: u32, sections: u64) -> Option<u64>
+        ensures { IfSome result (λ over. over ≡ client_place self.now lock sections) }
+    {
         let Some(shift) = self.places.get(lock as usize) else {
             return Some(sections);
         };
@@ -44,19 +48,26 @@ impl Base {
     }
 }
 
-fn workers_of(alloc: Global, header: &LogHeader) -> Result<Option<Vec<WorkerBase>>, AllocError>
-    ensures { IfOk result (λ found. IfSome found (λ workers. AreHeaderWorkers header.now.numbers.items
-        header.now.last.items workers.items)) }
+/// Whether a header leaves room for one more epoch.
+fn leaves_room(header: &LogHeader) -> bool
+    ensures { IsTrue result ↔ LeavesRoom (header_values header.now) }
+{
+    header.numbers.iter().all(|number| *number <= MOST_NUMBERS)
+        && header
+            .places
+            .iter()
+            .all(|place| place.unsigned_abs() <= MOST_SECTIONS)
+}
+
+fn workers_of(alloc: Global, header: &LogHeader) -> Result<Vec<WorkerBase>, AllocError>
+    ensures { IfOk result (λ workers. AreHeaderWorkers header.now.numbers.items header.now.last.items workers.items) }
 {
     let mut workers = Vec::new(alloc);
     for worker in 0..header.numbers.len() {
         let word = last_job(&header.last, worker);
-        let Some(past) = worker_base_of(header.numbers[worker], word) else {
-            return Ok(None);
-        };
-        workers.push(past)?;
+        workers.push(worker_base_of(header.numbers[worker], word))?;
     }
-    Ok(Some(workers))
+    Ok(workers)
 }
 
 /// The last job of a worker; none if it is not listed.
@@ -70,48 +81,39 @@ fn last_job(last: &[LastJob], worker: usize) -> LastJob
     }
 }
 
-fn worker_base_of(numbers: u64, word: LastJob) -> Option<WorkerBase>
-    ensures { IfSome result (λ past. past ≡ header_worker numbers word) }
+fn worker_base_of(numbers: u64, word: LastJob) -> WorkerBase
+    ensures { result ≡ header_worker numbers word }
 {
-    if numbers > MOST_NUMBERS {
-        return None;
-    }
     let last = match word {
         LastJob::Nothing | LastJob::Withdrawn => None,
         LastJob::Receipt(receipt) => Some(receipt),
     };
-    Some(WorkerBase { numbers, last })
+    WorkerBase { numbers, last }
 }
 
-fn places_of(alloc: Global, header: &LogHeader) -> Result<Option<Vec<PlaceOffset>>, AllocError>
-    ensures { IfOk result (λ found. IfSome found (λ places. AreHeaderPlaces header.now.places.items places.items)) }
+fn places_of(alloc: Global, header: &LogHeader) -> Result<Vec<PlaceOffset>, AllocError>
+    ensures { IfOk result (λ places. AreHeaderPlaces header.now.places.items places.items) }
 {
     let mut places = Vec::new(alloc);
     for lock in 0..header.places.len() {
-        let Some(shift) = offset_of(header.places[lock]) else {
-            return Ok(None);
-        };
-        places.push(shift)?;
+        places.push(offset_of(header.places[lock]))?;
     }
-    Ok(Some(places))
+    Ok(places)
 }
 
-/// The offset of places that are larger by this number, or smaller if it is negative. `None` if it is out of range.
-fn offset_of(place: i64) -> Option<PlaceOffset>
-    ensures { IfSome result (λ shift. shift ≡ header_offset place) }
+/// The offset of places that are larger by this number, or smaller if it is negative.
+fn offset_of(place: i64) -> PlaceOffset
+    ensures { result ≡ header_offset place }
 {
     let apart = place.unsigned_abs();
-    if apart > MOST_SECTIONS {
-        return None;
-    }
     if place < 0 {
-        return Some(PlaceOffset {
+        return PlaceOffset {
             more: 0,
             less: apart,
-        });
+        };
     }
-    Some(PlaceOffset {
+    PlaceOffset {
         more: apart,
         less: 0,
-    })
+    }
 }

@@ -1,6 +1,6 @@
 //! The numbers of finished sections of a world, and the last receipt of each worker.
 
-ghost use Rattle.std.specs.Prelude.{◌≡◌};
+ghost use Rattle.std.specs.Prelude.{◌≡◌, ◌+◌, ◌<◌, ◌^◌, ℕ, get_or, length};
 ghost use Rattle.rme_machine.specs.Histories.{place_of};
 ghost use Rattle.rme_durable_checkpoint.specs.Checkpoints.{sections_in};
 
@@ -10,32 +10,64 @@ use rme_program::Receipt;
 use rme_words::MOST_LOCKS;
 use rme_world::World;
 use std::alloc::{AllocError, Global};
+use std::marker::Model;
 
 /// The number of finished sections of each lock.
-#[derive(Clone, Copy)]
+#[derive(Drop)]
 pub struct Sections {
     counts: [u64; MOST_LOCKS as usize],
 }
 
+impl Model for Sections {
+    ghost use Rattle.std.specs.Prelude.{ℕ, List};
+
+    ghost Value = { List ℕ };
+
+    ghost view = { λ sections. sections.counts };
+}
+
 impl Sections {
+    ghost use Rattle.std.specs.Prelude.{◌≡◌, get_or};
+    ghost use Rattle.rme_durable_checkpoint.specs.Checkpoints.{AreSectionCounts};
+
     /// The finished sections of a world.
-    pub fn of(world: &World) -> Sections {
+    pub fn of(world: &World) -> Sections
+        ensures { AreSectionCounts world.now.history result }
+    {
         let mut counts = [0u64; MOST_LOCKS as usize];
         let history = world.history();
         for at in 0..history.len() {
             let Some(receipt) = history.receipt(at) else {
                 unreachable!();
             };
-            if let Some(count) = counts.get_mut(receipt.lock as usize) {
-                *count = count.saturating_add(1);
-            }
+            count_section(&mut counts, receipt);
         }
         Sections { counts }
     }
 
-    /// The finished sections of a lock.
-    pub fn at(&self, lock: u32) -> u64 {
-        self.counts.get(lock as usize).copied().unwrap_or(0)
+    /// The finished sections of a lock; 0 for a number of no lock.
+    pub fn at(&self, lock: u32) -> u64
+        ensures { result ≡ get_or self.now lock 0 }
+    {
+        let place = lock as usize;
+        if place < self.counts.len() {
+            self.counts[place]
+        } else {
+            0
+        }
+    }
+}
+
+/// Adds 1 to the count of a receipt's lock, if there is one.
+fn count_section(counts: &mut [u64], receipt: Receipt)
+    requires { get_or counts.old receipt.lock 0 + 1 < 2 ^ 64 }
+    ensures length { length counts.new ≡ length counts.old }
+    ensures counts { (lock : ℕ) → lock < length counts.old
+        → get_or counts.new lock 0 ≡ get_or counts.old lock 0 + sections_in receipt lock }
+{
+    let lock = receipt.lock as usize;
+    if lock < counts.len() {
+        counts[lock] += 1;
     }
 }
 

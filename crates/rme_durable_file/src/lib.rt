@@ -1,19 +1,29 @@
 //! The log file of a durable server on the disk: made, locked for one server, read, appended to, and replaced.
 //!
 //! The crate stands on rme_durable_format for the file's format, on rme_durable_server, whose `LogStore` it implements,
-//! and on rme_cli_messages for its faults. The crates above use `StateFile::open`, `make_state` and `read_state`. Begin
-//! with `file.rt`.
+//! and on rme_cli_messages for its faults. The store and the start are proved over any `DiskFile`; only `SystemFile`,
+//! the file of the system, is trusted. The crates above use `open_state_file`, `make_state`, `RecoveredFile::read` and
+//! `RecoveredFile::open`. Begin with `disk_file.rt`, then `state_file.rt` and `start.rt`.
 #![tactic(auto)]
 
 mod cause;
-mod file;
+mod disk_file;
+mod faults;
 mod making;
 mod name;
 mod reading;
 mod replacing;
+mod start;
+mod state_file;
+mod system_file;
+#[cfg(test)]
+mod tests;
 
 pub use cause::Cause;
-pub use file::{StateFile, make_state};
+pub use disk_file::DiskFile;
 pub use name::StateName;
-pub use reading::{bad_log_fault, read_state};
+pub use reading::bad_log_fault;
 pub use replacing::check_replaceable;
+pub use start::{OpenedState, RecoveredFile};
+pub use state_file::StateFile;
+pub use system_file::{SystemFile, make_state, open_state_file};

@@ -1,5 +1,8 @@
 //! Reading a state.
 
+ghost use Rattle.std.specs.Prelude.{IfOk};
+ghost use Rattle.rme_durable_file.specs.Starts.{ReadsState};
+
 use rme_cli_messages::{CliFault, escape_controls};
 use rme_durable_format::{BadLog, RecoveryProgress, whole_lines};
 use rme_durable_server::{RecoveredState, other_version, recover};
@@ -27,14 +30,29 @@ impl RecoveryProgress for StderrProgress<'_> {
     }
 }
 
+/// A state that was read, and the number of bytes of the whole lines that it was read from.
+#[derive(Drop)]
+pub(crate) struct ReadState {
+    pub(crate) recovered: RecoveredState,
+    pub(crate) whole: usize,
+}
+
 /// Recovers a state from these bytes, which may end with a torn line, and reports the number of lines and the time on
 /// the standard error.
-pub fn read_state(rt: &HostRuntime, path: &str, bytes: &[u8]) -> Result<RecoveredState, CliFault> {
+pub(crate) fn recover_reporting(
+    rt: &HostRuntime,
+    path: &str,
+    bytes: &[u8],
+) -> Result<ReadState, CliFault>
+    ensures { IfOk result (λ found. ReadsState bytes.now found.whole found.recovered) }
+{
     let telling = StderrProgress {
         rt,
         began: Instant::now(rt).ok(),
     };
-    let recovered = match recover(rt.alloc(), whole_lines(bytes), &telling) {
+    let lines = whole_lines(bytes);
+    let whole = lines.len();
+    let recovered = match recover(rt.alloc(), lines, &telling) {
         Ok(recovered) => recovered,
         Err(why) => return Err(bad_log_fault(rt, path, bytes, why)?),
     };
@@ -42,7 +60,7 @@ pub fn read_state(rt: &HostRuntime, path: &str, bytes: &[u8]) -> Result<Recovere
     let milliseconds = took.map_or(0, |took| took.as_millis());
     let lines = recovered.log.lines;
     let _ = eprintln!(rt; "rme: {lines} lines read in {milliseconds} ms");
-    Ok(recovered)
+    Ok(ReadState { recovered, whole })
 }
 
 /// The fault of bytes that are no state for this reason. It says what they are instead, if that is known.

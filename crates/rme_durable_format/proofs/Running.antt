@@ -121,7 +121,7 @@ module _ (old new : TalliedWorld) (told : Reply) (none : reply_refusal told ≡ 
   command_runs command.Save changes_world does = cc
 
 -- A line, when a world is open.
-line_runs : (names : List (List ℕ)) (old : TalliedWorld) (request : Request) (told : Reply) (new : EngineState) → is_log_request request ≡ true → reply_refusal told ≡ None → RequestEffect record { names = names; world = Some old } (Some request) told new
+pub line_runs : (names : List (List ℕ)) (old : TalliedWorld) (request : Request) (told : Reply) (new : EngineState) → is_log_request request ≡ true → reply_refusal told ≡ None → RequestEffect record { names = names; world = Some old } (Some request) told new
     → (after : TalliedWorld) × (new ≡ record { names = names; world = Some after }) × ((events : List Event) × AppliesEvents old.world events after.world)
 line_runs names old (Open given) told new kept none obeys = absurd (none-some _ (sym none ∙ ap reply_refusal obeys.0))
 line_runs names old (Load given) told new kept none obeys = cc

@@ -14,7 +14,7 @@ use Rattle.rme_line_json.specs.Values.{json_value_of}
 use Rattle.serde_json.specs.Data.{Data}
 use Rattle.rme_words.specs.declared.shape.Shape.{Shape}
 use Rattle.rme_line_engine.specs.declared.tallied.TalliedWorld.{TalliedWorld}
-use Rattle.rme_durable_format.specs.Headers.{IsLogHeader, IsLogVersion, IsPossibleHeader, HeaderValues, HasHeaderMembers}
+use Rattle.rme_durable_format.specs.Headers.{HasLogVersion, IsLogHeader, IsLogVersion, IsPossibleHeader, HeaderValues, HasHeaderMembers}
 use Rattle.rme_durable_format.proofs.Leading.{opened, with_names}
 use Rattle.rme_durable_format.specs.Recovery.{AcceptsLine, AcceptsLines, AcceptsKnownLines, RejectsLine, RecoveryStopsAfter, RecoveryStopsAt, RecoveryStopsFor, HasNoLogHeader, IsHeaderMismatch, IsDamagedLog, IsBadLog}
 
@@ -87,34 +87,45 @@ told_of names shape line past value reads header =
     let P : Data → Type 0 = λ (v : Data). HasHeaderMembers names v past in (subst P same header.tells, header.may)
 
 -- A header, followed by lines of which one was not accepted.
-damaged_from : (bytes : List ℕ) (header : InputLine) (lines : List InputLine) (count number : ℕ) → lines_of bytes ≡ header ∷ lines → number ≡ min (2 ^ 64 - 1) (count + 2) → RecoveryStopsAfter nothing_open lines count → IsDamagedLog bytes number
-damaged_from bytes header lines count number are is stops = record { some = omega (arith, is); first = λ one. absurd (omega (arith, is, one)); behind = λ two. (header, lines, are, inr (count, is, stops)) }
+damaged_from : (bytes first : List ℕ) (lines : List InputLine) (count number : ℕ) → lines_of bytes ≡ text first ∷ lines → HasLogVersion first → number ≡ min (2 ^ 64 - 1) (count + 2) → RecoveryStopsAfter nothing_open lines count → IsDamagedLog bytes number
+damaged_from bytes first lines count number are version is stops = record {
+  some = omega (arith, is);
+  first = λ one. absurd (omega (arith, is, one));
+  later = λ two. record { first = first; lines = lines; are = are; version = version; stops = inr (count, is, stops) };
+}
 
-pub bad_from : (bytes line : List ℕ) (left later : Option (List ℕ)) (cut : Cut) (first : EngineState) (why : BadLog) → Keeps (Some bytes) left → LineCut left later cut line → cut ≡ Line → first ≡ nothing_open → RecoveryStopsFor later first why → IsBadLog bytes why
-bad_from bytes line left later cut first bad.NoMemory keeps cuts is new stops = tt
-bad_from bytes line None later cut first (bad.Line number) keeps cuts is new stops = absurd keeps
-bad_from bytes line (Some left) None cut first (bad.Line number) keeps cuts is new stops = absurd cuts
-bad_from bytes line (Some left) (Some later) cut first (bad.Line number) keeps cuts is new stops =
+pub bad_from : (bytes line : List ℕ) (left later : Option (List ℕ)) (cut : Cut) (first : EngineState) (why : BadLog) → Keeps (Some bytes) left → LineCut left later cut line → cut ≡ Line → HasLogVersion line → first ≡ nothing_open → RecoveryStopsFor later first why → IsBadLog bytes why
+bad_from bytes line left later cut first bad.NoMemory keeps cuts is version new stops = tt
+bad_from bytes line None later cut first (bad.Line number) keeps cuts is version new stops = absurd keeps
+bad_from bytes line (Some left) None cut first (bad.Line number) keeps cuts is version new stops = absurd cuts
+bad_from bytes line (Some left) (Some later) cut first (bad.Line number) keeps cuts is version new stops =
     let K : Cut → Type 0 = λ (c : Cut). KnownLineCut left later c line in
     let S : EngineState → Type 0 = λ (s : EngineState). RecoveryStopsAfter s (lines_of later) stops.0 in
-    damaged_from bytes (text line) (lines_of later) stops.0 number (ap lines_of (sym keeps) ∙ subst K is cuts) stops.1 (subst S new stops.2)
+    damaged_from bytes line (lines_of later) stops.0 number (ap lines_of (sym keeps) ∙ subst K is cuts) version stops.1 (subst S new stops.2)
 
 -- A header, followed by lines that open no world.
-pub bad_second : (bytes line : List ℕ) (left later : Option (List ℕ)) (cut : Cut) (first state : EngineState) → Keeps (Some bytes) left → LineCut left later cut line → cut ≡ Line → first ≡ nothing_open → AcceptsKnownLines later first state → state.world ≡ None → IsDamagedLog bytes 2
-bad_second bytes line None later cut first state keeps cuts is new all closed = absurd keeps
-bad_second bytes line (Some left) None cut first state keeps cuts is new all closed = absurd cuts
-bad_second bytes line (Some left) (Some later) cut first state keeps cuts is new all closed =
+pub bad_second : (bytes line : List ℕ) (left later : Option (List ℕ)) (cut : Cut) (first state : EngineState) → Keeps (Some bytes) left → LineCut left later cut line → cut ≡ Line → HasLogVersion line → first ≡ nothing_open → AcceptsKnownLines later first state → state.world ≡ None
+    → IsDamagedLog bytes 2
+bad_second bytes line None later cut first state keeps cuts is version new all closed = absurd keeps
+bad_second bytes line (Some left) None cut first state keeps cuts is version new all closed = absurd cuts
+bad_second bytes line (Some left) (Some later) cut first state keeps cuts is version new all closed =
     let K : Cut → Type 0 = λ (c : Cut). KnownLineCut left later c line in
     let A : EngineState → Type 0 = λ (s : EngineState). AcceptsLines s (lines_of later) state in
     record {
       some = omega arith;
       first = λ one. absurd (omega (arith, one));
-      behind = λ two. (text line, lines_of later, ap lines_of (sym keeps) ∙ subst K is cuts, inl (refl, record { state = state; accepts = subst A new all; closed = closed }));
+      later = λ two. record {
+        first = line;
+        lines = lines_of later;
+        are = ap lines_of (sym keeps) ∙ subst K is cuts;
+        version = version;
+        stops = inl (refl, record { state = state; accepts = subst A new all; closed = closed });
+      };
     }
 
 -- The first line is not a header.
 damaged_first : (bytes : List ℕ) (lines : List InputLine) → lines_of bytes ≡ lines → HasNoLogHeader lines → IsDamagedLog bytes 1
-damaged_first bytes lines are none = record { some = omega arith; first = λ one. subst HasNoLogHeader (sym are) none; behind = λ two. absurd (omega (arith, two)) }
+damaged_first bytes lines are none = record { some = omega arith; first = λ one. subst HasNoLogHeader (sym are) none; later = λ two. absurd (omega (arith, two)) }
 
 -- It is missing, or too long.
 pub bad_cut : (bytes line : List ℕ) (left later : Option (List ℕ)) (cut : Cut) → Keeps (Some bytes) left → LineCut left later cut line → (cut ≡ TooLong) ⊎ (cut ≡ End) → IsDamagedLog bytes 1
@@ -132,7 +143,7 @@ pub bad_version : (bytes line : List ℕ) (left later : Option (List ℕ)) (cut 
 bad_version bytes line None later cut keeps cuts is none = absurd keeps
 bad_version bytes line (Some left) None cut keeps cuts is none = absurd cuts
 bad_version bytes line (Some left) (Some later) cut keeps cuts is none =
-    let K : Cut → Type 0 = λ (c : Cut). KnownLineCut left later c line in damaged_first bytes (text line ∷ lines_of later) (ap lines_of (sym keeps) ∙ subst K is cuts) (inl none)
+    let K : Cut → Type 0 = λ (c : Cut). KnownLineCut left later c line in damaged_first bytes (text line ∷ lines_of later) (ap lines_of (sym keeps) ∙ subst K is cuts) (inl (λ has. none has.value (has.reads, has.version)))
 
 pub bad_header : (bytes line : List ℕ) (left later : Option (List ℕ)) (cut : Cut) (names : List (List ℕ)) (tallied : TalliedWorld) (first state : EngineState) (value : Data)
     → Keeps (Some bytes) left → LineCut left later cut line → cut ≡ Line → first ≡ nothing_open

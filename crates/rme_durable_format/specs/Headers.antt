@@ -93,6 +93,12 @@ pub record IsLogVersion (value : Data) : Type 0 where
   pub rme : get (codes "rme") value ≡ Some (string (codes "kept"))
   pub version : HasNumberMember (codes "version") value 1
 
+-- A line has the JSON value of a log header of version 1.
+pub record HasLogVersion (line : List ℕ) : Type 0 where
+  pub value : Data
+  pub reads : json_value_of line ≡ Some value
+  pub version : IsLogVersion value
+
 -- ---- the bases that earlier epochs may have left
 
 -- If a worker had numbers it has a last job, and a receipt there is its own, of its last number.

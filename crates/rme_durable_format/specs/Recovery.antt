@@ -7,9 +7,7 @@ use Rattle.rme_words.specs.declared.refusal.Refusal.{Refusal}
 use Rattle.rme_words.specs.declared.refusal.Refusal.TheVariants.{NoMemory}
 use Rattle.rme_durable_format.specs.declared.fault.BadLog.{BadLog}
 use Rattle.rme_durable_format.specs.declared.fault.BadLog.TheVariants as bad
-use Rattle.rme_durable_format.specs.Headers.{IsLogHeader, IsLogVersion, HeaderValues}
-use Rattle.rme_line_json.specs.Values.{json_value_of}
-use Rattle.serde_json.specs.Data.{Data}
+use Rattle.rme_durable_format.specs.Headers.{HasLogVersion, IsLogHeader, HeaderValues}
 use Rattle.rme_wire.specs.Requests.{request_read}
 use Rattle.rme_wire.specs.declared.command.Command.{Command}
 use Rattle.rme_wire.specs.declared.command.Command.TheVariants.{Submit, Step, Walk, Crash, Restart, Withdraw}
@@ -108,17 +106,28 @@ pub record IsHeaderMismatch (first : List ℕ) (lines : List InputLine) : Type 0
 abbrev pub HasNoLogHeader : List InputLine → Type 0
 HasNoLogHeader [] = Unit {0}
 HasNoLogHeader (too_long ∷ lines) = Unit {0}
-HasNoLogHeader (text first ∷ lines) =
-    ((value : Data) → (json_value_of first ≡ Some value) × IsLogVersion value → ⊥) ⊎ IsHeaderMismatch first lines
+HasNoLogHeader (text first ∷ lines) = (HasLogVersion first → ⊥) ⊎ IsHeaderMismatch first lines
 
--- The bytes are no log because of this line, counted from 1: the first, which is not a header; the second, if no line
--- opens a world; or the first line after the header that is not accepted, all earlier ones being accepted.
+-- Of the lines after a header this one, counted from 1, is bad: the second, if no line opens a world; or the first that
+-- is not accepted, all earlier ones being accepted.
+abbrev pub IsBadAfterHeader : List InputLine → ℕ → Type 0
+IsBadAfterHeader lines number =
+    ((number ≡ 2) × OpensNoWorld lines)
+    ⊎ ((count : ℕ) × (number ≡ min (2 ^ 64 - 1) (count + 2)) × RecoveryStopsAfter nothing_open lines count)
+
+-- The first line has the value of a header, and this later line is bad.
+pub record IsDamagedAfterHeader (bytes : List ℕ) (number : ℕ) : Type 0 where
+  pub first : List ℕ
+  pub lines : List InputLine
+  pub are : lines_of bytes ≡ text first ∷ lines
+  pub version : HasLogVersion first
+  pub stops : IsBadAfterHeader lines number
+
+-- The bytes are no log because of this line, counted from 1: the first, which is not a header, or a later one.
 pub record IsDamagedLog (bytes : List ℕ) (number : ℕ) : Type 0 where
   pub some : 1 ≤ number
   pub first : number ≡ 1 → HasNoLogHeader (lines_of bytes)
-  pub behind : 2 ≤ number → (header : InputLine) × (lines : List InputLine) × (lines_of bytes ≡ header ∷ lines)
-      × (((number ≡ 2) × OpensNoWorld lines)
-      ⊎ ((count : ℕ) × (number ≡ min (2 ^ 64 - 1) (count + 2)) × RecoveryStopsAfter nothing_open lines count))
+  pub later : 2 ≤ number → IsDamagedAfterHeader bytes number
 
 -- Why bytes are not recovered: one of their lines, or refused memory.
 abbrev pub IsBadLog : List ℕ → BadLog → Type 0

@@ -11,7 +11,6 @@ ghost use Rattle.rme_durable_format.specs.Recovery.{AcceptsLine, AcceptsKnownLin
 use crate::fault::BadLog;
 use crate::header::LogHeader;
 use crate::header_reader::{header_of, header_value};
-use memchr::memrchr;
 use rme_line_engine::{Engine, TalliedWorld};
 use rme_line_text::Reply;
 use rme_wire::{
@@ -39,14 +38,6 @@ pub trait RecoveryProgress {
 
 /// The number of lines between two reports of progress.
 const TELLING: u64 = 65_536;
-
-/// The bytes up to and with the last newline: the whole lines. What follows is a torn line.
-pub fn whole_lines(bytes: &[u8]) -> &[u8] {
-    match memrchr(b'\n', bytes) {
-        Some(at) => &bytes[..=at],
-        None => &[],
-    }
-}
 
 /// Recovers a world from whole lines: the first is a header, the second opens the world, and every other is a command
 /// that changes it.

@@ -28,7 +28,7 @@ use Rattle.rme_durable_format.specs.BatchCommands.{all_asked_events, asked_event
 use Rattle.rme_durable_format.specs.CommandLines.{AppendsCommands}
 use Rattle.rme_durable_format.specs.Recovery.{AcceptsLine, AcceptsLines, RecoversWorld}
 use Rattle.rme_durable_format.proofs.Running.{command_runs}
-use Rattle.rme_durable_checkpoint.specs.Checkpoints.{AreWholeLines}
+use Rattle.rme_durable_format.specs.WholeLines.{AreWholeLines}
 use Rattle.rme_durable_laws.specs.AlikeWorlds.{AreWorldsAlike}
 use Rattle.rme_durable_laws.specs.LoggedLines.{AreCommandLines, HasAlikeWorldOpen}
 use Rattle.rme_durable_laws.proofs.Events.{alike_itself}

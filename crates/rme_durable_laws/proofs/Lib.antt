@@ -12,3 +12,5 @@ pub mod Batches
 pub mod Histories
 pub mod Prefixes
 pub mod Crashes
+pub mod Reaching
+pub mod Inside

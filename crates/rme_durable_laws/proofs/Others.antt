@@ -35,11 +35,12 @@ use Rattle.rme_session_world.specs.declared.event_batch.EventBatch.{EventBatch}
 use Rattle.rme_session_protocol.specs.declared.view.Session.{Session}
 use Rattle.rme_session_protocol.specs.declared.view.Session.TheVariants.{Ready}
 use Rattle.rme_program.specs.declared.note.Receipt.{Receipt}
+use Rattle.rme_durable_log.specs.Logs.{AreNotByAuthor, IsNotByAuthor}
 use Rattle.rme_durable_log.specs.declared.log_entry.LogEntry.{LogEntry}
 use Rattle.rme_durable_log.specs.declared.log_entry.LogEntry.TheVariants.{Lines, Whole}
 use Rattle.rme_durable_checkpoint.specs.ClientValues.{client_session}
 use Rattle.rme_durable_checkpoint.specs.declared.epoch_base.Base.{Base}
-use Rattle.rme_durable_server.specs.ServerHistories.{AppendsSessionBatch, AreNotOfSession, BeginsEpoch, EntriesLead, EntryLeads, IsNotOfSession, KeepsWorker, ServerState}
+use Rattle.rme_durable_server.specs.ServerHistories.{AppendsSessionBatch, BeginsEpoch, EntriesLead, EntryLeads, KeepsWorker, ServerState}
 
 -- ---- a step of the machine
 
@@ -167,7 +168,7 @@ session_same w asked (Waiting k job) one other last = refl
 session_same w asked (Inside k job) one other last = refl
 session_same w asked (Finished k job) one other last = refl
 
-state_found : (seen : WorldView) (w : ℕ) → w < seen.shape.workers → slice_get (world_abstract_state seen).workers w ≡ Some (worker_state_in seen w)
+pub state_found : (seen : WorldView) (w : ℕ) → w < seen.shape.workers → slice_get (world_abstract_state seen).workers w ≡ Some (worker_state_in seen w)
 state_found seen w within = made_get (λ (worker : ℕ). abstract_worker seen.shape (world_memory seen) (world_privates seen) seen.history worker) seen.shape.workers w within
 
 view_same : (w : ℕ) (old new : WorldView) → w < old.shape.workers → new.shape ≡ old.shape → SameIn w (world_abstract_state old) (world_abstract_state new) → worker_session new w ≡ worker_session old w
@@ -189,7 +190,7 @@ nobody_apart session holders worker its has had same =
     none-some session (sym (same_Some _ _ e))
 
 module _ (session worker : ℕ) where
-  held_is : (state : ServerState) → slice_get state.executor.holders worker ≡ Some (Some session) → held_session state.executor worker ≡ worker_session state.executor.world worker
+  pub held_is : (state : ServerState) → slice_get state.executor.holders worker ≡ Some (Some session) → held_session state.executor worker ≡ worker_session state.executor.world worker
   held_is state has = ap (λ (found : Option (Option ℕ)). held_session_if found (worker_session state.executor.world worker)) has
 
   batch_keeps : (names : List (List ℕ)) (author : ℕ) (old : ServerState) (lines : List ℕ) (new : ServerState) → author ≢ session → worker < old.executor.world.shape.workers → slice_get old.executor.holders worker ≡ Some (Some session) → AppendsSessionBatch names author old lines new
@@ -215,14 +216,14 @@ module _ (session worker : ℕ) where
   keeps_then : (old mid new : ServerState) → KeepsWorker session worker old mid → KeepsWorker session worker mid new → KeepsWorker session worker old new
   keeps_then old mid new one two = record { has = two.has; shown = two.shown ∙ one.shown }
 
-  entry_keeps : (names : List (List ℕ)) (entry : LogEntry) (old new : ServerState) → EntryLeads names old entry new → IsNotOfSession session entry → worker + 1 < old.executor.world.shape.workers → slice_get old.executor.holders worker ≡ Some (Some session)
+  entry_keeps : (names : List (List ℕ)) (entry : LogEntry) (old new : ServerState) → EntryLeads names old entry new → IsNotByAuthor session entry → worker + 1 < old.executor.world.shape.workers → slice_get old.executor.holders worker ≡ Some (Some session)
       → KeepsWorker session worker old new × (new.executor.world.shape.workers ≡ old.executor.world.shape.workers)
   entry_keeps names (Lines author lines) old new lead other within has =
       let keeps = batch_keeps names author old lines new other (omega (arith, within)) has lead in
       (keeps.0, ap (λ (s : Shape). s.workers) keeps.1)
   entry_keeps names (Whole bytes) old new lead other within has = (epoch_keeps names old bytes new within has lead, lead.same.workers)
 
-pub keeps_worker : (names : List (List ℕ)) (session worker : ℕ) (log : List LogEntry) (old new : ServerState) → EntriesLead names old log new → AreNotOfSession session log → worker + 1 < old.executor.world.shape.workers → slice_get old.executor.holders worker ≡ Some (Some session)
+pub keeps_worker : (names : List (List ℕ)) (session worker : ℕ) (log : List LogEntry) (old new : ServerState) → EntriesLead names old log new → AreNotByAuthor session log → worker + 1 < old.executor.world.shape.workers → slice_get old.executor.holders worker ≡ Some (Some session)
     → KeepsWorker session worker old new
 keeps_worker names session worker [] old new lead others within has = subst (KeepsWorker session worker old) (sym lead) record { has = has; shown = refl }
 keeps_worker names session worker (entry ∷ log) old new lead others within has =

@@ -24,7 +24,7 @@ use Rattle.rme_durable_log.proofs.Texts.{bytes_after-append, bytes_of-more}
 use Rattle.rme_durable_format.specs.BatchCommands.{all_asked_events, asked_events, batch_commands, crash_commands, start_commands, step_commands}
 use Rattle.rme_durable_format.specs.CommandLines.{AppendsCommands}
 use Rattle.rme_durable_format.specs.Recovery.{AcceptsLines, RecoversWorld}
-use Rattle.rme_durable_checkpoint.specs.Checkpoints.{AreWholeLines}
+use Rattle.rme_durable_format.specs.WholeLines.{AreWholeLines}
 use Rattle.rme_durable_server.specs.ServerHistories.{AppendsSessionBatch, BeginsEpoch, EntriesLead, ServerState}
 use Rattle.rme_durable_server.proofs.Growing.{appends_from}
 use Rattle.rme_durable_laws.specs.AlikeWorlds.{AreWorldsAlike}
@@ -207,7 +207,7 @@ last_whole (Whole bytes ∷ log) = elim (last_whole log) [
   | inr last ↦ inr (Whole bytes ∷ last.0, last.1, last.2, last.3, ap (λ (l : List LogEntry). Whole bytes ∷ l) last.4)
 ]
 
-split_lead : (names : List (List ℕ)) (one two : List LogEntry) (old new : ServerState) → EntriesLead names old (one ++ two) new → (mid : ServerState) × EntriesLead names old one mid × EntriesLead names mid two new
+pub split_lead : (names : List (List ℕ)) (one two : List LogEntry) (old new : ServerState) → EntriesLead names old (one ++ two) new → (mid : ServerState) × EntriesLead names old one mid × EntriesLead names mid two new
 split_lead names [] two old new lead = (old, refl, lead)
 split_lead names (entry ∷ one) two old new lead =
     let rest = split_lead names one two lead.0 new lead.2 in

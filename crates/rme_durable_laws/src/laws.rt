@@ -1,6 +1,7 @@
 //! Laws of replay, and of a server's history.
 
 ghost use Rattle.std.specs.Prelude.{◌≡◌, ◌+◌, ◌++◌, ◌<◌, ℕ, List, [], Some, length, map, slice_get};
+ghost use Rattle.rme_script.specs.declared.job.Job.{Job};
 ghost use Rattle.rme_program.specs.declared.event.Event.{Event};
 ghost use Rattle.rme_world.specs.WorldViews.{WorldView};
 ghost use Rattle.rme_session_world.specs.EventBatches.{AppliesEvents};
@@ -11,13 +12,16 @@ ghost use Rattle.rme_session_world.specs.Executors.{HasCrashedAll};
 ghost use Rattle.rme_durable_format.specs.BatchCommands.{all_asked_events, crash_commands_from};
 ghost use Rattle.rme_durable_format.specs.CommandLines.{AppendsCommands};
 ghost use Rattle.rme_durable_format.specs.Recovery.{AcceptsLines, RecoversWorld};
-ghost use Rattle.rme_durable_checkpoint.specs.Checkpoints.{AreWholeLines};
-ghost use Rattle.rme_durable_log.specs.Logs.{log_bytes_after};
+ghost use Rattle.rme_durable_format.specs.WholeLines.{AreWholeLines};
+ghost use Rattle.rme_durable_log.specs.Logs.{AreNotByAuthor, log_bytes_after};
 ghost use Rattle.rme_durable_log.specs.declared.log_entry.LogEntry.{LogEntry};
-ghost use Rattle.rme_durable_server.specs.ServerHistories.{AreNotOfSession, EntriesLead, KeepsWorker, ServerState};
+ghost use Rattle.rme_durable_server.specs.ServerHistories.{EntriesLead, KeepsWorker, ServerState, SessionActs, SessionMoment};
 ghost use Rattle.rme_durable_laws.specs.AlikeWorlds.{AreWorldsAlike};
+ghost use Rattle.rme_durable_laws.specs.HeldLocks.{BeginsWith, IsSessionInside, IsWorldReachable, WorkerOwnsLock};
 ghost use Rattle.rme_durable_laws.specs.Histories.{AreStatesAlike, RecoversState};
 ghost use Rattle.rme_durable_laws.specs.LoggedLines.{AreCommandLines, HasAlikeWorldOpen};
+
+use rme_durable_server::ServerTag;
 
 /// The same events, applied to the same world, lead to alike worlds, if no event was refused for want of memory.
 pub fn events_are_deterministic()
@@ -77,13 +81,30 @@ pub fn recovery_is_idempotent()
 {}
 
 /// Between two moments of the log between which a session appended nothing, the session keeps its worker, and its client
-/// sees the same of it. So from `held` to the commit the worker stays inside its lock, whatever other sessions order,
-/// and across checkpoints.
+/// sees the same of it.
 ///
 /// The worker is not the checkpoint worker, which no session has.
 pub fn session_keeps_worker()
     ensures { (names : List (List ℕ)) (session worker : ℕ) (log : List LogEntry) (old new : ServerState)
-        → EntriesLead names old log new → AreNotOfSession session log
+        → EntriesLead names old log new → AreNotByAuthor session log
         → worker + 1 < old.executor.world.shape.workers
         → slice_get old.executor.holders worker ≡ Some (Some session) → KeepsWorker session worker old new }
+{}
+
+/// FROM `held` TO THE COMMIT: a session's worker that is inside a lock after one order is inside it when the session
+/// acts next, and owns the lock, whatever other sessions ordered meanwhile, and across checkpoints.
+///
+/// A session acts by each try of an order, by a look-up and by its end.
+pub fn inside_is_kept<J: ServerTag>()
+    ensures { (start : ServerState) (old held now : SessionMoment) (before after next last : ServerState) (worker : ℕ)
+        (job : Job)
+        → BeginsWith J.opening start → SessionActs J.opening old before held after
+        → SessionActs J.opening held next now last → IsSessionInside held.session.session worker job after
+        → IsSessionInside held.session.session worker job next × WorkerOwnsLock next.executor.world worker job.lock }
+{}
+
+/// The world with which a start begins, the recovered one after a crash of each worker that was up, is reachable.
+pub fn recovered_world_is_reachable()
+    ensures { (bytes : List ℕ) (names : List (List ℕ)) (found begun : WorldView)
+        → RecoversWorld bytes names found → HasCrashedAll found begun → IsWorldReachable begun }
 {}

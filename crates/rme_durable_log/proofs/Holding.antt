@@ -1,29 +1,38 @@
 -- The contents of the store after each of its calls, and that they were stored.
-use Rattle.std.proofs.Common.{◌≡◌, ℕ, ◌<◌, List, [], ◌∷◌, ◌++◌, length, Option, Some, None, refl, sym, ap, ◌∙◌, subst, inl, inr, arith}
+use Rattle.std.proofs.Common.{◌≡◌, ℕ, ◌<◌, true, List, [], ◌∷◌, ◌++◌, length, Option, Some, None, refl, sym, ap, ◌∙◌, subst, inl, inr, arith, option_map}
 use Rattle.std.proofs.lemmas.List.{append-nil}
 use mathlib.Core.List.{IsPrefix}
 use Rattle.rme_durable_log.specs.declared.log_entry.LogEntry.{LogEntry}
 use Rattle.rme_durable_log.specs.declared.log_entry.LogEntry.TheVariants.{Whole}
-use Rattle.rme_durable_log.specs.StoreCalls.{AppendsLines, ReplacesBytes}
-use Rattle.rme_durable_log.specs.Logs.{AreAllLines, IsLogDurable, StoreHolds, WasStored, log_bytes}
+use Rattle.rme_durable_log.specs.StoreCalls.{AppendsLines, ReplacesBytes, StoreState}
+use Rattle.rme_durable_log.specs.Logs.{AreAllLines, AreBytesOfLog, IsLogDurable, StoreHolds, WasStored, log_bytes}
 use Rattle.rme_durable_log.specs.LogRules.{entry_lines, known_bytes}
 use Rattle.rme_durable_log.proofs.Texts.{bytes_of-more, bytes_of-whole, prefix_last, prefix_split}
 
-pub holds_more : (before after : Option (List ℕ)) (log entries : List LogEntry) (lines : List ℕ) → AreAllLines entries → StoreHolds before log → AppendsLines before lines after → lines ≡ entry_lines entries → StoreHolds after (log ++ entries)
-holds_more None after log entries lines all held kept come = subst (λ (o : Option (List ℕ)). StoreHolds o (log ++ entries)) (sym kept) tt
-holds_more (Some bytes) after log entries lines all held kept come =
+bytes_more : (before after : Option (List ℕ)) (log entries : List LogEntry) (lines : List ℕ) → AreAllLines entries → AreBytesOfLog before log → after ≡ option_map (λ (bytes : List ℕ). bytes ++ lines) before → lines ≡ entry_lines entries → AreBytesOfLog after (log ++ entries)
+bytes_more None after log entries lines all held kept come = subst (λ (o : Option (List ℕ)). AreBytesOfLog o (log ++ entries)) (sym kept) tt
+bytes_more (Some bytes) after log entries lines all held kept come =
     let whole : bytes ++ lines ≡ log_bytes (log ++ entries) = ap (λ w. w ++ lines) held ∙ (ap (λ w. log_bytes log ++ w) come ∙ sym (bytes_of-more log entries all)) in
-    subst (λ (o : Option (List ℕ)). StoreHolds o (log ++ entries)) (sym kept) whole
+    subst (λ (o : Option (List ℕ)). AreBytesOfLog o (log ++ entries)) (sym kept) whole
 
-pub holds_whole : (before after : Option (List ℕ)) (log : List LogEntry) (bytes : List ℕ) → ReplacesBytes before bytes after → StoreHolds after (log ++ Whole bytes ∷ [])
-holds_whole None after log bytes put = subst (λ (o : Option (List ℕ)). StoreHolds o (log ++ Whole bytes ∷ [])) (sym put) tt
-holds_whole (Some old) after log bytes put = subst (λ (o : Option (List ℕ)). StoreHolds o (log ++ Whole bytes ∷ [])) (sym put) (sym (bytes_of-whole log bytes))
+bytes_whole : (before after : Option (List ℕ)) (log : List LogEntry) (bytes : List ℕ) → after ≡ option_map (λ (_ : List ℕ). bytes) before → AreBytesOfLog after (log ++ Whole bytes ∷ [])
+bytes_whole None after log bytes put = subst (λ (o : Option (List ℕ)). AreBytesOfLog o (log ++ Whole bytes ∷ [])) (sym put) tt
+bytes_whole (Some old) after log bytes put = subst (λ (o : Option (List ℕ)). AreBytesOfLog o (log ++ Whole bytes ∷ [])) (sym put) (sym (bytes_of-whole log bytes))
 
-pub holds_first : (bytes : Option (List ℕ)) → StoreHolds bytes (Whole (known_bytes bytes) ∷ [])
-holds_first None = tt
-holds_first (Some bytes) = refl
+bytes_first : (bytes : Option (List ℕ)) → AreBytesOfLog bytes (Whole (known_bytes bytes) ∷ [])
+bytes_first None = tt
+bytes_first (Some bytes) = refl
 
-module _ {X : Type 0} (holds : X → Option (List ℕ)) where
+pub holds_more : (before after : StoreState) (log entries : List LogEntry) (lines : List ℕ) → AreAllLines entries → StoreHolds before log → AppendsLines before lines after → lines ≡ entry_lines entries → StoreHolds after (log ++ entries)
+holds_more before after log entries lines all held kept come = record { works = kept.works; bytes = bytes_more before.bytes after.bytes log entries lines all held.bytes kept.bytes come }
+
+pub holds_whole : (before after : StoreState) (log : List LogEntry) (bytes : List ℕ) → ReplacesBytes before bytes after → StoreHolds after (log ++ Whole bytes ∷ [])
+holds_whole before after log bytes put = record { works = put.works; bytes = bytes_whole before.bytes after.bytes log bytes put.replaced }
+
+pub holds_first : (store : StoreState) → store.works ≡ true → StoreHolds store (Whole (known_bytes store.bytes) ∷ [])
+holds_first store works = record { works = works; bytes = bytes_first store.bytes }
+
+module _ {X : Type 0} (holds : X → StoreState) where
   held_now : (store : X) (start log later : List LogEntry) → AreAllLines later → start ++ later ≡ log → StoreHolds (holds store) log → WasStored holds start
   held_now store start log later all is held = record { store = store; later = later; lines = all; held = subst (λ (l : List LogEntry). StoreHolds (holds store) l) (sym is) held }
 
@@ -39,10 +48,10 @@ module _ {X : Type 0} (holds : X → Option (List ℕ)) where
     | inr q ↦ held_now store start (log ++ last ∷ []) [] tt (append-nil start ∙ q) now
   ]
 
-  pub held_first : (store : X) → IsLogDurable holds (Whole (known_bytes (holds store)) ∷ [])
-  held_first store start pre some = elim (prefix_last start [] (Whole (known_bytes (holds store))) pre) [
+  pub held_first : (store : X) → (holds store).works ≡ true → IsLogDurable holds (Whole (known_bytes (holds store).bytes) ∷ [])
+  held_first store works start pre some = elim (prefix_last start [] (Whole (known_bytes (holds store).bytes)) pre) [
     | inl q ↦ absurd (nothing start q some)
-    | inr q ↦ held_now store start (Whole (known_bytes (holds store)) ∷ []) [] tt (append-nil start ∙ q) (holds_first (holds store))
+    | inr q ↦ held_now store start (Whole (known_bytes (holds store).bytes) ∷ []) [] tt (append-nil start ∙ q) (holds_first (holds store) works)
   ]
     where
       nothing : (start : List LogEntry) → IsPrefix start [] → 0 < length start → ⊥

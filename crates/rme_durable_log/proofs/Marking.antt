@@ -1,12 +1,13 @@
 -- The durable mark stays true, and holds for each shorter prefix.
-use Rattle.std.proofs.Common.{◌≡◌, ℕ, suc, ◌≤◌, List, length, Option, arith}
+use Rattle.std.proofs.Common.{◌≡◌, ℕ, suc, ◌≤◌, List, length, arith}
 use mathlib.Core.List.{IsPrefix}
 use Rattle.rme_durable_log.specs.declared.log_entry.LogEntry.{LogEntry}
+use Rattle.rme_durable_log.specs.StoreCalls.{StoreState}
 use Rattle.rme_durable_log.specs.Logs.{IsLogDurable}
 use Rattle.rme_durable_log.specs.LogRules.{IsDurableMark}
 use Rattle.rme_durable_log.proofs.Fronts.{prefix_self, prefix_trans, prefix_shorter}
 
-module _ {X : Type 0} (holds : X → Option (List ℕ)) where
+module _ {X : Type 0} (holds : X → StoreState) where
   -- a prefix of a durable log is durable
   pub held_before : (xs ys : List LogEntry) → IsPrefix xs ys → IsLogDurable holds ys → IsLogDurable holds xs
   held_before xs ys p held start q some = held start (prefix_trans start xs ys q p) some

@@ -3,11 +3,13 @@ use Rattle.std.proofs.Common.{◌≡◌, ◌⊎◌, ℕ, ◌<◌, ◌≤◌, Lis
 use Rattle.std.proofs.lemmas.List.{append-nil}
 use Rattle.std.proofs.Math.Seq.{drop-append_seam}
 use mathlib.Core.List.{IsPrefix}
+use Rattle.std.specs.BTreeMap.{BTreeMap}
 use Rattle.logbook.specs.Pages.{Book, Named}
 use Rattle.rme_durable_log.specs.declared.log_entry.LogEntry.{LogEntry}
 use Rattle.rme_durable_log.specs.declared.log_entry.LogEntry.TheVariants.{Lines, Whole}
 use Rattle.rme_durable_log.specs.Logs.{AreAllLines, log_bytes_after, log_bytes}
-use Rattle.rme_durable_log.specs.LogRules.{AppenderInvariant, AreAuthorsBelow, entries_behind, entry_lines}
+use Rattle.rme_durable_log.specs.LogRules.{AppenderInvariant, AreAuthorsBelow, AreLastEntries, entries_behind, entry_lines}
+use Rattle.rme_durable_log.proofs.Authors.{lasts_replaced}
 
 -- ---- entries that are lines
 
@@ -59,12 +61,12 @@ authors-more authors more (Whole b ∷ log) le by = (tt, authors-more authors mo
 waits_as : (taken log entries : List LogEntry) → log ≡ taken ++ entries → entry_lines (entries_behind taken log) ≡ entry_lines entries
 waits_as taken log entries is = ap (λ l. entry_lines (drop (length taken) l)) is ∙ ap entry_lines (drop-append_seam taken entries)
 
-module _ (book : Book) (head : Named) (taken log after : List LogEntry) (authors author : ℕ) (lines : List ℕ) (is : AppenderInvariant book head taken log authors) (more : after ≡ log ++ Lines author lines ∷ []) where
+module _ (book : Book) (head : Named) (taken log after : List LogEntry) (authors author : ℕ) (lasts : BTreeMap ℕ ℕ) (lines : List ℕ) (is : AppenderInvariant book head taken log authors lasts) (more : after ≡ log ++ Lines author lines ∷ []) where
   since_more : after ≡ taken ++ (is.since.entries ++ Lines author lines ∷ [])
   since_more = more ∙ (ap (λ l. l ++ Lines author lines ∷ []) is.since.told ∙ append_assoc taken is.since.entries (Lines author lines ∷ []))
 
-  pub appender_appends : author < authors → AppenderInvariant book head taken after authors
-  appender_appends less =
+  pub appender_appends : (now : BTreeMap ℕ ℕ) → author < authors → AreLastEntries authors after now → AppenderInvariant book head taken after authors now
+  appender_appends now less lasts_are =
       record {
         head_is = is.head_is;
         some = is.some;
@@ -75,6 +77,7 @@ module _ (book : Book) (head : Named) (taken log after : List LogEntry) (authors
           come = waits_as taken after (is.since.entries ++ Lines author lines ∷ []) since_more;
         };
         by = subst (λ (l : List LogEntry). AreAuthorsBelow authors l) (sym more) (authors-append authors log (Lines author lines ∷ []) is.by (less, tt));
+        lasts_are = lasts_are;
       }
 
   pub waits_more : entry_lines (entries_behind taken after) ≡ entry_lines (entries_behind taken log) ++ lines
@@ -82,18 +85,19 @@ module _ (book : Book) (head : Named) (taken log after : List LogEntry) (authors
       let last : lines ++ [] ≡ lines = append-nil lines in
       waits_as taken after (is.since.entries ++ Lines author lines ∷ []) since_more ∙ (entry_lines-append is.since.entries (Lines author lines ∷ []) ∙ (ap (λ w. entry_lines is.since.entries ++ w) last ∙ ap (λ w. w ++ lines) (sym is.since.come)))
 
-pub appender_authors : (book : Book) (head : Named) (taken log : List LogEntry) (authors more : ℕ) → AppenderInvariant book head taken log authors → authors ≤ more → AppenderInvariant book head taken log more
-appender_authors book head taken log authors more is le = record { head_is = is.head_is; some = is.some; since = is.since; by = authors-more authors more log le is.by }
+pub appender_authors : (book : Book) (head : Named) (taken log : List LogEntry) (authors more : ℕ) (lasts now : BTreeMap ℕ ℕ) → AppenderInvariant book head taken log authors lasts → authors ≤ more → AreLastEntries more log now → AppenderInvariant book head taken log more now
+appender_authors book head taken log authors more lasts now is le lasts_are = record { head_is = is.head_is; some = is.some; since = is.since; by = authors-more authors more log le is.by; lasts_are = lasts_are }
 
 -- all entries are taken once other bytes replaced them
-pub appender_replaces : (book : Book) (head : Named) (taken log one two : List LogEntry) (authors : ℕ) (bytes : List ℕ) → AppenderInvariant book head taken log authors → one ≡ log ++ Whole bytes ∷ [] → two ≡ one → AppenderInvariant book head one two authors
-appender_replaces book head taken log one two authors bytes is whole same =
+pub appender_replaces : (book : Book) (head : Named) (taken log one two : List LogEntry) (authors : ℕ) (lasts : BTreeMap ℕ ℕ) (bytes : List ℕ) → AppenderInvariant book head taken log authors lasts → one ≡ log ++ Whole bytes ∷ [] → two ≡ one → AppenderInvariant book head one two authors lasts
+appender_replaces book head taken log one two authors lasts bytes is whole same =
     let told : two ≡ one ++ [] = same ∙ sym (append-nil one) in
     record {
       head_is = is.head_is;
       some = omega (arith, ap length whole, length-append log (Whole bytes ∷ []));
       since = record { entries = []; all = tt; told = told; come = waits_as one two [] told };
       by = subst (λ (l : List LogEntry). AreAuthorsBelow authors l) (sym (same ∙ whole)) (authors-append authors log (Whole bytes ∷ []) is.by (tt, tt));
+      lasts_are = subst (λ (l : List LogEntry). AreLastEntries authors l lasts) (sym (same ∙ whole)) (lasts_replaced authors log (Whole bytes ∷ []) lasts is.lasts_are (λ _. (tt, tt)));
     }
 
 -- ---- prefixes

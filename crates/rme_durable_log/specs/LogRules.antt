@@ -1,10 +1,13 @@
 -- The log as threads share it: its rule, and what the appender and the writer know of it.
-use Rattle.std.specs.Prelude.{◌≡◌, ◌<◌, ℕ, suc, true, false, List, [], ◌∷◌, ◌++◌, length, drop, Option, Some, None}
+use Rattle.std.specs.Prelude.{◌≡◌, ◌<◌, ℕ, suc, true, false, List, [], ◌∷◌, ◌++◌, length, drop, Option, Some, None, IfSome}
 use mathlib.Core.List.{IsPrefix}
+use Rattle.std.specs.BTreeMap.{BTreeMap, get}
+use Rattle.std.specs.Ordering.{nat_cmp}
 use Rattle.logbook.specs.Pages.{Cell, Step, View, Book, Named}
 use Rattle.rme_durable_log.specs.declared.log_entry.LogEntry.{LogEntry}
 use Rattle.rme_durable_log.specs.declared.log_entry.LogEntry.TheVariants.{Lines, Whole}
-use Rattle.rme_durable_log.specs.Logs.{IsLogDurable, AreAllLines}
+use Rattle.rme_durable_log.specs.StoreCalls.{StoreState}
+use Rattle.rme_durable_log.specs.Logs.{IsLogDurable, AreAllLines, AreNotByAuthor}
 
 -- The first entry has the store's initial contents. One word has the number of entries appended after it.
 pub record IsLogState (cells : List Cell) (log : List LogEntry) : Type 0 where
@@ -20,7 +23,7 @@ abbrev pub AppendsEntry : Step LogEntry → View LogEntry ℕ → ℕ → View L
 AppendsEntry step before found after = (found ≡ step.old) → after.0 ≡ before.0 ++ step.ask ∷ []
 
 -- The durable mark: this number of entries after the first were stored.
-pub record IsDurableMark {X : Type 0} (holds : X → Option (List ℕ)) (count : ℕ) (log : List LogEntry) : Type 0 where
+pub record IsDurableMark {X : Type 0} (holds : X → StoreState) (count : ℕ) (log : List LogEntry) : Type 0 where
   pub start : List LogEntry
   pub begins : IsPrefix start log
   pub counted : length start ≡ suc count
@@ -57,23 +60,34 @@ abbrev pub AreAuthorsBelow : ℕ → List LogEntry → Type 0
 AreAuthorsBelow authors [] = Unit {0}
 AreAuthorsBelow authors (entry ∷ log) = IsAuthorBelow authors entry × AreAuthorsBelow authors log
 
+-- An author that may append is one of the first `authors`, and none of its entries comes after the first `last` ones,
+-- counted from the one after the log's first.
+pub record IsLastEntryOf (authors : ℕ) (log : List LogEntry) (author : ℕ) (last : ℕ) : Type 0 where
+  pub below : author < authors
+  pub others : AreNotByAuthor author (drop (suc last) log)
+
+abbrev pub AreLastEntries : ℕ → List LogEntry → BTreeMap ℕ ℕ → Type 0
+AreLastEntries authors log lasts = (author : ℕ) → IfSome (get nat_cmp lasts author) (IsLastEntryOf authors log author)
+
 -- The log, the pending lines, which nobody has taken yet, and the number of authors.
 pub record AppenderState : Type 0 where
   pub log : List LogEntry
   pub waits : List ℕ
   pub authors : ℕ
 
-pub record AppenderInvariant (book : Book) (head : Named) (taken : List LogEntry) (told : List LogEntry) (authors : ℕ) :
-    Type 0 where
+pub record AppenderInvariant (book : Book) (head : Named) (taken : List LogEntry) (told : List LogEntry) (authors : ℕ)
+    (lasts : BTreeMap ℕ ℕ) : Type 0 where
   pub head_is : head ≡ log_head book
   pub some : 0 < length taken
   pub since : AreLinesSince taken told (entry_lines (entries_behind taken told))
   pub by : AreAuthorsBelow authors told
+  pub lasts_are : AreLastEntries authors told lasts
 
 -- A log that was just opened over a store.
-pub record OpenLogInvariant {X : Type 0} (holds : X → Option (List ℕ)) (store : X) (head : Named) (kept : Named)
+pub record OpenLogInvariant {X : Type 0} (holds : X → StoreState) (store : X) (head : Named) (kept : Named)
     (book : Book) (log : List LogEntry) : Type 0 where
+  pub works : (holds store).works ≡ true
   pub head_is : head ≡ log_head book
   pub untracked : kept.tracked ≡ false
   pub of_book : kept.book ≡ book
-  pub first : log ≡ Whole (known_bytes (holds store)) ∷ []
+  pub first : log ≡ Whole (known_bytes (holds store).bytes) ∷ []

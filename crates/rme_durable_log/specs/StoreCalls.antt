@@ -1,14 +1,29 @@
--- The effect of one call on the bytes of a store, if they are known.
-use Rattle.std.specs.Prelude.{◌≡◌, ℕ, List, ◌++◌, take, Option, option_map}
+-- The state of a store, and the effect of one call on it.
+use Rattle.std.specs.Prelude.{◌≡◌, ℕ, Bool, true, false, List, ◌++◌, take, Option, option_map}
 
--- These lines are appended to all earlier bytes.
-abbrev pub AppendsLines : Option (List ℕ) → List ℕ → Option (List ℕ) → Type 0
-AppendsLines before lines after = after ≡ option_map (λ bytes. bytes ++ lines) before
+-- The bytes that recovery reads, if they are known, and whether the store still takes lines: it does until it fails.
+pub record StoreState : Type 0 where
+  pub bytes : Option (List ℕ)
+  pub works : Bool
 
--- All earlier bytes are still there, perhaps with a part of the lines after them.
-abbrev pub AppendsPartOfLines : Option (List ℕ) → List ℕ → Option (List ℕ) → Type 0
-AppendsPartOfLines before lines after = (count : ℕ) × AppendsLines before (take count lines) after
+-- These lines are appended to all earlier bytes, and the store takes more.
+pub record AppendsLines (before : StoreState) (lines : List ℕ) (after : StoreState) : Type 0 where
+  pub bytes : after.bytes ≡ option_map (λ bytes. bytes ++ lines) before.bytes
+  pub works : after.works ≡ true
 
--- These bytes replace all earlier ones.
-abbrev pub ReplacesBytes : Option (List ℕ) → List ℕ → Option (List ℕ) → Type 0
-ReplacesBytes before bytes after = after ≡ option_map (λ _. bytes) before
+-- The store has failed: all earlier bytes are still there, perhaps with a part of the lines after them, and it takes no
+-- more.
+pub record FailsToAppend (before : StoreState) (lines : List ℕ) (after : StoreState) : Type 0 where
+  pub count : ℕ
+  pub bytes : after.bytes ≡ option_map (λ bytes. bytes ++ take count lines) before.bytes
+  pub works : after.works ≡ false
+
+-- These bytes replace all earlier ones, and the store takes lines after them.
+pub record ReplacesBytes (before : StoreState) (bytes : List ℕ) (after : StoreState) : Type 0 where
+  pub replaced : after.bytes ≡ option_map (λ _. bytes) before.bytes
+  pub works : after.works ≡ true
+
+-- The store takes no more lines. Its bytes are as they were.
+pub record StopsStore (before : StoreState) (after : StoreState) : Type 0 where
+  pub bytes : after.bytes ≡ before.bytes
+  pub works : after.works ≡ false

@@ -42,7 +42,7 @@ struct CommitState<L: LogStore, J: LogTag> {
 }
 
 impl<L: LogStore, J: LogTag> GroupCommit<L, J> {
-    ghost use Rattle.std.specs.Prelude.{OnOk};
+    ghost use Rattle.std.specs.Prelude.{◌≡◌, IfErr, OnOk, false};
     ghost use Rattle.rme_durable_log.specs.Logs.{IsLogDurable};
 
     /// A group commit without a writing thread.
@@ -159,7 +159,9 @@ impl<L: LogStore, J: LogTag> GroupCommit<L, J> {
 
     /// Gives the writer back, with an empty text; or the store to which lines could not be written, after which nothing
     /// more is stored.
-    pub fn return_writer<R: Wait>(&self, rt: &R, spare: String, kept: Result<LogWriter<L, J>, L>) {
+    pub fn return_writer<R: Wait>(&self, rt: &R, spare: String, kept: Result<LogWriter<L, J>, L>)
+        requires stops { IfErr kept (λ store. (L.holds store).works ≡ false) }
+    {
         let mut back = self.back.lock(rt);
         back.spare = spare;
         // The store is dropped last, after all threads can see that the log has failed.

@@ -6,6 +6,8 @@ use crate::log_position::LogPosition;
 use crate::log_rule::{LinesEntry, LogRule, LogTag, WholeEntry};
 use crate::log_store::LogStore;
 use logbook::Word;
+use std::alloc::Global;
+use std::collections::BTreeMap;
 use std::marker::Model;
 
 /// The appender. It is under the executor's lock, beside the text of the pending lines. In contracts it is the log, the
@@ -18,6 +20,8 @@ pub struct LogAppender<L: LogStore, J: LogTag> {
     told: LogPosition<L, J>,
     /// The number of authors.
     authors: u64,
+    /// For each author that may append, the number of entries up to its last one.
+    lasts: BTreeMap<u64, u64>,
 }
 
 impl<L: LogStore, J: LogTag> Model for LogAppender<L, J> {
@@ -33,7 +37,7 @@ impl<L: LogStore, J: LogTag> Model for LogAppender<L, J> {
     } };
 
     ghost invariant = { λ appender. AppenderInvariant J.book appender.head appender.taken appender.told
-        appender.authors };
+        appender.authors appender.lasts };
 }
 
 /// A batch of lines, taken to be stored.
@@ -59,11 +63,13 @@ impl<L: LogStore, J: LogTag> Model for PendingBatch<L, J> {
 impl<L: LogStore, J: LogTag> LogAppender<L, J> {
     ghost use Rattle.std.specs.Prelude.{◌≡◌, ◌++◌, ◌∷◌, [], IfNone, IfSome, IsTrue, MatchBool, OnSome, string_bytes, suc};
     ghost use mathlib.Core.List.{IsPrefix};
+    ghost use Rattle.rme_durable_log.specs.Logs.{GrowsByOthers};
     ghost use Rattle.rme_durable_log.specs.LogRules.{AreAuthorsBelow, log_head};
     ghost use Rattle.rme_durable_log.specs.declared.log_entry.LogEntry.TheVariants.{Lines, Whole};
 
     /// The appender of a log with only its first entry, and without authors.
     pub(crate) fn new(
+        alloc: Global,
         head: Word<LogEntry, u64, LogRule<L>>,
         told: LogPosition<L, J>,
     ) -> LogAppender<L, J>
@@ -77,6 +83,7 @@ impl<L: LogStore, J: LogTag> LogAppender<L, J> {
             taken: told.again(),
             told,
             authors: 0,
+            lasts: BTreeMap::new(alloc),
         }
     }
 
@@ -87,21 +94,26 @@ impl<L: LogStore, J: LogTag> LogAppender<L, J> {
         self.told.again()
     }
 
-    /// The current end of the log, which is not before an earlier position. `None` if it is, which cannot be, since
-    /// only the owner of this value appends; the contract does not say so.
-    pub fn position_after(&self, earlier: &LogPosition<L, J>) -> Option<LogPosition<L, J>>
+    /// The current end of the log, after an earlier position since which this author appended nothing. `None` if it did,
+    /// or if it is no author any more. For the author's last position that cannot be, since lines by an author are
+    /// appended only where its value is; the contract does not say so.
+    pub fn position_after(
+        &self,
+        author: &LogAuthor<J>,
+        earlier: &LogPosition<L, J>,
+    ) -> Option<LogPosition<L, J>>
         ensures told { IfSome result (λ told. told ≡ self.now.log) }
-        ensures later { OnSome result (IsPrefix earlier.now self.now.log) }
+        ensures others { OnSome result (GrowsByOthers author.now earlier.now self.now.log) }
     {
-        if earlier.is_within(&self.told) {
-            Some(self.told.again())
-        } else {
-            None
+        let last = *self.lasts.get(&author.number())?;
+        if last > earlier.count() || !earlier.is_within(&self.told) {
+            return None;
         }
+        Some(self.told.again())
     }
 
-    /// A further author. Each entry of the log so far is by an author with a smaller number. `None` if there are 2^64
-    /// - 1 authors.
+    /// A further author. Each entry of the log so far is by an author with a smaller number. `None` if memory was
+    /// refused, or if there are 2^64 - 1 authors.
     pub fn new_author(&mut self) -> Option<LogAuthor<J>>
         ensures new { IfSome result (λ author. (author ≡ self.old.authors) × AreAuthorsBelow author self.old.log) }
         ensures authors { OnSome result (self.new.authors ≡ suc self.old.authors) }
@@ -109,25 +121,37 @@ impl<L: LogStore, J: LogTag> LogAppender<L, J> {
         ensures waits { self.new.waits ≡ self.old.waits }
     {
         let number = self.authors;
-        self.authors = number.checked_add(1)?;
+        let authors = number.checked_add(1)?;
+        let Ok(_) = self.lasts.insert(number, 0) else {
+            return None;
+        };
+        self.authors = authors;
         Some(LogAuthor::new(number))
     }
 
-    /// Appends lines of an author to the log. Answers whether it did. It always does, since only the owner of this
-    /// value appends, and makes authors; the contract does not say so. On false it is unchanged.
+    /// The author appends nothing any more.
+    pub fn end_author(&mut self, author: LogAuthor<J>)
+        ensures same { self.new ≡ self.old }
+    {
+        self.lasts.remove(&author.number());
+    }
+
+    /// Appends lines of an author to the log. Answers whether it did. It always does for an author that has not ended,
+    /// since only the owner of this value appends; the contract does not say so. On false it is unchanged.
     pub fn append(&mut self, author: &LogAuthor<J>, lines: &[u8]) -> bool
         ensures { MatchBool result ((self.new.log ≡ self.old.log ++ Lines author.now lines.now ∷ [])
             × (self.new.waits ≡ self.old.waits ++ lines.now)) (self.new ≡ self.old) }
     {
         let number = author.number();
-        if number >= self.authors {
+        let Some(last) = self.lasts.get_mut(&number) else {
             return false;
-        }
+        };
         match self
             .told
             .append_entry::<(u64, &[u8]), LinesEntry>(&self.head, &(number, lines))
         {
             Some(told) => {
+                *last = told.count();
                 self.told = told;
                 true
             }

@@ -27,7 +27,7 @@ impl<L: LogStore, J: LogTag> Model for LogPosition<L, J> {
 }
 
 impl<L: LogStore, J: LogTag> LogPosition<L, J> {
-    ghost use Rattle.std.specs.Prelude.{◌≡◌, ◌++◌, ◌∷◌, [], IfSome, IsTrue, MatchBool, None, false, length};
+    ghost use Rattle.std.specs.Prelude.{◌≡◌, ◌++◌, ◌∷◌, [], IfSome, IsTrue, MatchBool, None, false, length, suc};
     ghost use mathlib.Core.List.{IsPrefix};
     ghost use Rattle.rme_durable_log.specs.Logs.{IsLogDurable};
     ghost use Rattle.rme_durable_log.specs.LogRules.{log_head};
@@ -54,6 +54,13 @@ impl<L: LogStore, J: LogTag> LogPosition<L, J> {
             seen: self.seen.again(),
             of: PhantomData,
         }
+    }
+
+    /// The number of entries appended after the first.
+    pub(crate) fn count(&self) -> u64
+        ensures { length self.now ≡ suc result }
+    {
+        self.count
     }
 
     /// The later of two positions.

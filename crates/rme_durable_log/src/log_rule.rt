@@ -32,7 +32,7 @@ impl<L: LogStore> Opening<L, LogEntry> for LogRule<L> {
     ghost use Rattle.rme_durable_log.specs.LogRules.{known_bytes};
     ghost use Rattle.rme_durable_log.specs.declared.log_entry.LogEntry.TheVariants.{Whole};
 
-    ghost log = { λ count store. Whole (known_bytes (L.holds store)) ∷ [] };
+    ghost log = { λ count store. Whole (known_bytes (L.holds store).bytes) ∷ [] };
 }
 
 /// An append trades nothing.

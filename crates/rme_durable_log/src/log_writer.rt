@@ -26,14 +26,15 @@ impl<L: LogStore, J: LogTag> Model for LogWriter<L, J> {
 }
 
 impl<L: LogStore, J: LogTag> LogWriter<L, J> {
-    ghost use Rattle.std.specs.Prelude.{◌≡◌, ◌++◌, ◌∷◌, [], IfOk, IfErr, MatchBool};
+    ghost use Rattle.std.specs.Prelude.{◌≡◌, ◌++◌, ◌∷◌, [], IfOk, IfErr, MatchBool, false, true};
     ghost use Rattle.rme_durable_log.specs.Logs.{IsLogDurable};
     ghost use Rattle.rme_durable_log.specs.LogRules.{known_bytes};
     ghost use Rattle.rme_durable_log.specs.declared.log_entry.LogEntry.TheVariants.{Whole};
 
     /// The writer of a store whose contents begin the log.
     pub(crate) fn new(store: L, first: LogPosition<L, J>) -> LogWriter<L, J>
-        requires first { first ≡ Whole (known_bytes (L.holds store)) ∷ [] }
+        requires works { (L.holds store).works ≡ true }
+        requires first { first ≡ Whole (known_bytes (L.holds store).bytes) ∷ [] }
         ensures { result ≡ first }
     {
         LogWriter { store, upto: first }
@@ -52,9 +53,10 @@ impl<L: LogStore, J: LogTag> LogWriter<L, J> {
         self.store.is_quick()
     }
 
-    /// Stores these lines. After an error nothing more is stored, and the caller drops the store.
+    /// Stores these lines. After an error the store takes no more, and the caller drops it.
     pub fn append(self, taken: &PendingBatch<L, J>) -> Result<LogWriter<L, J>, L>
-        ensures { IfOk result (λ held. held ≡ taken.now) }
+        ensures held { IfOk result (λ held. held ≡ taken.now) }
+        ensures stops { IfErr result (λ store. (L.holds store).works ≡ false) }
     {
         let LogWriter { store, upto } = self;
         let mut store = store;
@@ -74,8 +76,8 @@ impl<L: LogStore, J: LogTag> LogWriter<L, J> {
     }
 
     /// Replaces all bytes of the store, and appends the entry of that, once everything appended is in the store.
-    /// Answers whether it did. If the entry could not be appended, nothing more is stored, and the caller drops the
-    /// store.
+    /// Answers whether it did. If the entry could not be appended, the store takes no more lines, and the caller drops
+    /// it.
     pub fn replace(
         self,
         appender: &mut LogAppender<L, J>,
@@ -85,6 +87,7 @@ impl<L: LogStore, J: LogTag> LogWriter<L, J> {
         ensures told { IfOk result (λ now. MatchBool now.1 ((appender.new.log ≡ appender.old.log ++ Whole bytes.now ∷ [])
             × (appender.new.waits ≡ [])) (appender.new ≡ appender.old)) }
         ensures lost { IfErr result (λ store. appender.new ≡ appender.old) }
+        ensures stops { IfErr result (λ store. (L.holds store).works ≡ false) }
     {
         if !appender.is_at(&self.upto) {
             return Ok((self, false));
@@ -103,8 +106,10 @@ impl<L: LogStore, J: LogTag> LogWriter<L, J> {
         }
     }
 
-    /// An event could not be written as a line: the caller drops the store.
-    pub fn fail(self) -> L {
+    /// An event could not be written as a line: the store takes no more, and the caller drops it.
+    pub fn fail(self) -> L
+        ensures stops { (L.holds result).works ≡ false }
+    {
         let LogWriter { store, upto: _ } = self;
         let mut store = store;
         store.fail();

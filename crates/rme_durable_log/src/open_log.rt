@@ -36,11 +36,13 @@ impl<L: LogStore> Model for OpenLog<L> {
 }
 
 impl<L: LogStore> OpenLog<L> {
-    ghost use Rattle.std.specs.Prelude.{◌≡◌, ◌∷◌, [], List, ℕ};
+    ghost use Rattle.std.specs.Prelude.{◌≡◌, ◌∷◌, [], List, true, ℕ};
     ghost use Rattle.rme_durable_log.specs.declared.log_entry.LogEntry.TheVariants.{Whole};
 
     /// Opens a log over a store.
-    pub fn new(store: L) -> OpenLog<L> {
+    pub fn new(store: L) -> OpenLog<L>
+        requires works { (L.holds store).works ≡ true }
+    {
         let (seen, mut pens) = Seen::open_row::<L, LogRule<L>>(&store, Start::alone(), 1);
         let mut pen = pens.take();
         OpenLog {
@@ -66,7 +68,7 @@ impl<L: LogStore> OpenLog<L> {
         let first = LogPosition::first(seen);
         let held = LogWriter::new(store, first.again());
         (
-            LogAppender::new(head, first),
+            LogAppender::new(alloc, head, first),
             GroupCommit::new(alloc, held, DurableUpTo::new(kept)),
         )
     }

@@ -1,9 +1,9 @@
 //! Two threads that append and commit at once, over a store in memory.
 
-ghost use Rattle.std.specs.Prelude.{◌≡◌, []};
+ghost use Rattle.std.specs.Prelude.{◌≡◌, [], IfOk, true};
 
 use super::*;
-use std::alloc::Global;
+use std::alloc::{AllocError, Global};
 use std::marker::{Brand, Model};
 use std::mem::replace;
 use std::process::Abort;
@@ -18,9 +18,23 @@ struct Pages {
     bytes: Vec<u8>,
     losses: u32,
     is_quick: bool,
+    works: bool,
 }
 
 impl Pages {
+    /// A store with these bytes.
+    fn new(alloc: Global, bytes: &[u8], is_quick: bool) -> Result<Pages, AllocError>
+        ensures { IfOk result (λ pages. pages.works ≡ true) }
+    {
+        Ok(Pages {
+            alloc,
+            bytes: Vec::from_slice(alloc, bytes)?,
+            losses: 0,
+            is_quick,
+            works: true,
+        })
+    }
+
     fn has(&self, text: &str) -> bool {
         self.bytes.as_slice() == text.as_bytes()
     }
@@ -29,12 +43,15 @@ impl Pages {
 impl LogStore for Pages {
     ghost use Rattle.std.specs.Prelude.{Some};
 
-    ghost holds = { λ pages. Some pages.bytes.items };
+    ghost holds = { λ pages. record { bytes = Some pages.bytes.items; works = pages.works } };
 
     fn append(&mut self, lines: &[u8]) -> Result<(), NotDurable> {
         match self.bytes.extend_from_slice(lines) {
             Ok(()) => Ok(()),
-            Err(_) => Err(NotDurable),
+            Err(_) => {
+                self.works = false;
+                Err(NotDurable)
+            }
         }
     }
 
@@ -54,6 +71,7 @@ impl LogStore for Pages {
 
     fn fail(&mut self) {
         self.losses = self.losses.saturating_add(1);
+        self.works = false;
     }
 }
 
@@ -115,6 +133,14 @@ impl<J: LogTag> LineSource<J> {
         Some(position)
     }
 
+    /// Whether the author has appended nothing since this position.
+    fn wrote_nothing_since(&self, earlier: &LogPosition<Pages, J>) -> bool {
+        match &self.appender {
+            Some(appender) => appender.position_after(&self.author, earlier).is_some(),
+            None => false,
+        }
+    }
+
     /// Replaces all bytes of the store.
     fn replace(&mut self, held: LogWriter<Pages, J>, bytes: &[u8]) -> Option<LogWriter<Pages, J>> {
         let mut appender = self.appender.take()?;
@@ -151,12 +177,7 @@ fn end<J: LogTag, R: Wait>(rt: &R, commits: &GroupCommit<Pages, J>) -> Option<Pa
 
 #[test]
 fn two_lines_are_kept(rt: HostRuntime) -> Result<(), Fail> {
-    let pages = Pages {
-        alloc: rt.alloc(),
-        bytes: Vec::from_slice(rt.alloc(), b"before\n")?,
-        losses: 0,
-        is_quick: false,
-    };
+    let pages = Pages::new(rt.alloc(), b"before\n", false)?;
     kept_by_two::<Brand, _>(&rt, rt.alloc(), OpenLog::new(pages))
 }
 
@@ -184,12 +205,7 @@ fn kept_by_two<J: LogTag + Send + Sync, R: Threads + Wait + Abort + Sync>(
 
 #[test]
 fn other_bytes_take_their_place(rt: HostRuntime) -> Result<(), Fail> {
-    let pages = Pages {
-        alloc: rt.alloc(),
-        bytes: Vec::new(rt.alloc()),
-        losses: 0,
-        is_quick: false,
-    };
+    let pages = Pages::new(rt.alloc(), b"", false)?;
     replaced::<Brand, _>(&rt, rt.alloc(), OpenLog::new(pages))
 }
 
@@ -214,12 +230,7 @@ fn replaced<J: LogTag, R: Wait + Abort>(
 
 #[test]
 fn nothing_is_kept_once_it_is_broken(rt: HostRuntime) -> Result<(), Fail> {
-    let pages = Pages {
-        alloc: rt.alloc(),
-        bytes: Vec::new(rt.alloc()),
-        losses: 0,
-        is_quick: false,
-    };
+    let pages = Pages::new(rt.alloc(), b"", false)?;
     broken::<Brand, _>(&rt, rt.alloc(), OpenLog::new(pages))
 }
 
@@ -242,12 +253,7 @@ fn broken<J: LogTag, R: Wait + Abort>(
 
 #[test]
 fn a_quick_store_is_written_at_once(rt: HostRuntime) -> Result<(), Fail> {
-    let pages = Pages {
-        alloc: rt.alloc(),
-        bytes: Vec::new(rt.alloc()),
-        losses: 0,
-        is_quick: true,
-    };
+    let pages = Pages::new(rt.alloc(), b"", true)?;
     kept_at_once::<Brand, _>(&rt, rt.alloc(), OpenLog::new(pages))
 }
 
@@ -261,12 +267,14 @@ fn kept_at_once<J: LogTag, R: Wait + Abort>(
     let (appender, commits) = opened.split::<J>(alloc);
     let source = Mutex::new(LineSource::new(alloc, appender).ok_or("author")?);
     let mut front = source.lock(rt);
-    let position = front.write("one\n").ok_or("appended")?;
+    let start = front.write("one\n").ok_or("appended")?;
+    let position = front.write("two\n").ok_or("appended")?;
+    assert!(rt; front.wrote_nothing_since(&position) && !front.wrote_nothing_since(&start));
     commits.commit_inline(rt, &mut *front, &position);
     assert!(rt; front.lines.is_empty());
     drop(front);
     assert!(rt; commits.commit(rt, &source, &position).is_ok());
     let pages = end(rt, &commits).ok_or("kept")?;
-    assert!(rt; pages.has("one\n"));
+    assert!(rt; pages.has("one\ntwo\n"));
     Ok(())
 }

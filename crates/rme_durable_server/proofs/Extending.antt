@@ -1,6 +1,6 @@
 -- Orders that are executed try by try.
 use Rattle.std.proofs.Common.{◌≡◌, ◌+◌, ℕ, List, zero, suc, true, refl, subst, inl, inr, arith}
-use Rattle.std.specs.Prelude.{IfOk, OnOk, Option, Result, Ok, Err}
+use Rattle.std.specs.Prelude.{IfOk, OnOk, Result, Ok, Err}
 use Rattle.rme_session_server.specs.OrderRuns.{IsReplyOfTries}
 use Rattle.rme_session_server.specs.SessionAnswers.{MayContinueOrder}
 use Rattle.rme_session_protocol.specs.declared.order.Order.TheVariants.{Attach}
@@ -11,6 +11,7 @@ use Rattle.rme_session_protocol.specs.declared.reply.SessionReply.{SessionReply}
 use Rattle.rme_session_protocol.specs.declared.reply.SessionReply.TheVariants.{Refused}
 use Rattle.rme_words.specs.declared.refusal.Refusal.TheVariants.{NoWorker}
 use Rattle.std.proofs.lemmas.Result.{IfOk-at_ok}
+use Rattle.rme_durable_log.specs.StoreCalls.{StoreState}
 use Rattle.rme_durable_log.specs.Logs.{IsLogDurable}
 use Rattle.rme_durable_server.specs.DurableAnswers.{DurableLineReply, IsAnswerUnfinished, ask_order, DurableOrder, DurableAttempt, DurableTries, asks_checkpoint_worker, client_terms}
 use Rattle.rme_durable_server.specs.ServerHistories.{ServerOpening, SessionMoment}
@@ -41,14 +42,14 @@ order_at {R} replied reply says stops opening old its now is executed =
     order_of_tries opening old its now says stops reply (IfOk-at_ok P is executed)
 
 -- The answer to an order, by its reply, once everything before its moment is durable.
-pub says_it : {A E X : Type 0} (result : Result A E) (holds : X → Option (List ℕ)) (clients : ℕ) (opening : ServerOpening) (old : SessionMoment) (its : Order) (reply : SessionReply) (bytes : List ℕ) (now : SessionMoment)
+pub says_it : {A E X : Type 0} (result : Result A E) (holds : X → StoreState) (clients : ℕ) (opening : ServerOpening) (old : SessionMoment) (its : Order) (reply : SessionReply) (bytes : List ℕ) (now : SessionMoment)
     → DurableOrder opening old its now reply → OnOk result (bytes ≡ session_reply_line opening.names reply) → OnOk result (IsLogDurable holds now.log)
     → OnOk result (DurableLineReply holds (client_terms clients opening) old (ask_order its) bytes now)
 says_it (Ok value) holds clients opening old its reply bytes now served says held = (reply, inr (served, held), says)
 says_it (Err error) holds clients opening old its reply bytes now served says held = says
 
 -- The answer to an order that asks for the checkpoint worker.
-pub refuses_it : {A E X : Type 0} (result : Result A E) (holds : X → Option (List ℕ)) (clients : ℕ) (opening : ServerOpening) (old : SessionMoment) (its : Order) (bytes : List ℕ) (now : SessionMoment) → asks_checkpoint_worker clients its ≡ true → now ≡ old
+pub refuses_it : {A E X : Type 0} (result : Result A E) (holds : X → StoreState) (clients : ℕ) (opening : ServerOpening) (old : SessionMoment) (its : Order) (bytes : List ℕ) (now : SessionMoment) → asks_checkpoint_worker clients its ≡ true → now ≡ old
     → OnOk result (bytes ≡ session_reply_line opening.names (Refused NoWorker)) → OnOk result (DurableLineReply holds (client_terms clients opening) old (ask_order its) bytes now)
 refuses_it (Ok value) holds clients opening old its bytes now is same says = (Refused NoWorker, inl (is, refl, same), says)
 refuses_it (Err error) holds clients opening old its bytes now is same says = says

@@ -1,19 +1,17 @@
 -- The log leads to the state of the executor.
 use Rattle.std.proofs.Common.{◌≡◌, ◌≢◌, ◌≤◌, ℕ, List, [], ◌∷◌, ◌++◌, length, drop, refl, sym, subst, ap, ap₂, ◌∙◌, inl, inr, arith, length-append}
 use Rattle.std.specs.Prelude.{IfSome, Option, Some, None}
-use mathlib.Core.List.{IsPrefix}
-use Rattle.rme_session_world.specs.ExecutorStates.{ExecutorState}
 use Rattle.rme_session_world.specs.SessionBatches.{AppliesSessionBatch, AppliesSessionOrder}
 use Rattle.rme_session_world.specs.declared.event_batch.EventBatch.{EventBatch}
 use Rattle.rme_durable_log.specs.LogRules.{AppenderState}
-use Rattle.rme_durable_log.specs.Logs.{IsLogDurable}
+use Rattle.rme_durable_log.specs.StoreCalls.{StoreState}
+use Rattle.rme_durable_log.specs.Logs.{GrowsByOthers, IsLogDurable}
 use Rattle.rme_durable_log.specs.declared.log_entry.LogEntry.{LogEntry}
 use Rattle.rme_durable_log.specs.declared.log_entry.LogEntry.TheVariants.{Lines, Whole}
 use Rattle.rme_durable_format.specs.BatchCommands.{batch_commands, batch_commands_if}
 use Rattle.rme_durable_format.specs.CommandLines.{AppendsCommands}
 use Rattle.rme_durable_checkpoint.specs.EpochStates.{EpochState}
 use Rattle.rme_durable_checkpoint.specs.LoggedStates.{LoggedStep, logged_state}
-use Rattle.rme_durable_checkpoint.specs.declared.epoch_base.Base.{Base}
 use Rattle.rme_durable_server.specs.ServerHistories.{AppendsAtMostOne, AppendsIfAny, AppendsSessionBatch, BeginsEpoch, EntriesLead, EntryLeads, IsLogged, LogLeads, ServerOpening, ServerState, SessionActs, SessionMoment, server_state, session_moment}
 use Rattle.rme_durable_server.specs.DurableAnswers.{DurableLookup, LookupMoment, LookupShows}
 use Rattle.rme_durable_server.specs.declared.lookup.SessionLookup.{SessionLookup}
@@ -107,21 +105,23 @@ logged_step opening names session author old new from to looked logged named by 
     (subst (λ (a : ℕ). AppendsIfAny a (drop (length old.lines) new.lines) from to) by (subst (λ (l : List ℕ). AppendsIfAny author (drop (length l) new.lines) from to) saw appends))
 
 -- The session acted at this moment.
-pub acted : (opening : ServerOpening) (old : SessionMoment) (state : SessionState) (end : List LogEntry) (epoch after : EpochState) (from to : AppenderState) → IsPrefix old.log from.log → IsLogged opening epoch from.log from.waits
+pub acted : (opening : ServerOpening) (old : SessionMoment) (state : SessionState) (end : List LogEntry) (epoch after : EpochState) (from to : AppenderState) (author : ℕ) → author ≡ old.session.session → GrowsByOthers author old.log from.log → IsLogged opening epoch from.log from.waits
     → AppendsAtMostOne opening.names old.session.session from.log (state_of epoch) to.log (state_of after) → end ≡ to.log → state.session ≡ old.session.session → SessionActs opening old (state_of epoch) (session_moment state end) (state_of after)
-acted opening old state end epoch after from to later logged appends is session = record {
+acted opening old state end epoch after from to author by others logged appends is session = record {
   log = from.log;
-  later = later;
+  others = subst (λ (a : ℕ). GrowsByOthers a old.log from.log) by others;
   leads = logged.leads;
   appends = subst (λ (l : List LogEntry). AppendsAtMostOne opening.names old.session.session from.log (state_of epoch) l (state_of after)) (sym is) appends;
   session = session;
 }
 
-pub shown_at : (found : Option (List LogEntry)) (opening : ServerOpening) (names : List (List ℕ)) (state : ServerState) (look : SessionLookup) (bytes : List ℕ) → names ≡ opening.names → IfSome found (λ (end : List LogEntry). LogLeads opening end state) → LookupShows names state.executor.world look bytes
+pub shown_at : (found : Option (List LogEntry)) (opening : ServerOpening) (names : List (List ℕ)) (state : ServerState) (look : SessionLookup) (bytes : List ℕ) → names ≡ opening.names → IfSome found (λ (end : List LogEntry). LogLeads opening end state) → LookupShows names state look bytes
     → IfSome found (λ (end : List LogEntry). LookupMoment opening look bytes end)
 shown_at None opening names state look bytes named leads shows = tt
-shown_at (Some end) opening names state look bytes named leads shows = record { state = state; leads = leads; shows = subst (λ (n : List (List ℕ)). LookupShows n state.executor.world look bytes) named shows }
+shown_at (Some end) opening names state look bytes named leads shows = record { state = state; leads = leads; shows = subst (λ (n : List (List ℕ)). LookupShows n state look bytes) named shows }
 
-pub looked_up : {X : Type 0} (holds : X → Option (List ℕ)) (opening : ServerOpening) (old : SessionMoment) (look : SessionLookup) (bytes : List ℕ) (end : List LogEntry) (now : SessionMoment) → now ≡ session_moment old.session end → IsPrefix old.log end → LookupMoment opening look bytes end → IsLogDurable holds end
+pub looked_up : {X : Type 0} (holds : X → StoreState) (opening : ServerOpening) (old : SessionMoment) (look : SessionLookup) (bytes : List ℕ) (end : List LogEntry) (now : SessionMoment) → now ≡ session_moment old.session end → GrowsByOthers old.session.session old.log end → LookupMoment opening look bytes end → IsLogDurable holds end
     → DurableLookup holds opening old look bytes now
-looked_up holds opening old look bytes end now is later moment held = subst (DurableLookup holds opening old look bytes) (sym is) record { session = refl; later = later; moment = moment; held = held }
+looked_up holds opening old look bytes end now is others moment held =
+    let acts : SessionActs opening old moment.state (session_moment old.session end) moment.state = record { log = end; others = others; leads = moment.leads; appends = inl (refl, refl); session = refl } in
+    subst (DurableLookup holds opening old look bytes) (sym is) record { session = refl; moment = moment; acts = acts; held = held }

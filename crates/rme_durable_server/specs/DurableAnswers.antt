@@ -1,10 +1,9 @@
 -- How the lines of a session of the durable server are answered.
 use Rattle.std.specs.Prelude.{◌≡◌, ◌⊎◌, ℕ, zero, suc, nat_le, Bool, true, false, List, [], ◌∷◌, ◌++◌, Option, Some, None, Result, Ok, Err}
-use mathlib.Core.List.{IsPrefix}
-use Rattle.rme_session_world.specs.declared.executor.SessionState.{SessionState}
 use Rattle.rme_line_io.specs.Pieces.{InputLine}
 use Rattle.rme_durable_checkpoint.specs.EpochStates.{SessionStepAcrossCheckpoints, executor_session}
-use Rattle.rme_durable_log.specs.Logs.{IsLogDurable}
+use Rattle.rme_durable_log.specs.StoreCalls.{StoreState}
+use Rattle.rme_durable_log.specs.Logs.{AreNotByAuthor, IsLogDurable}
 use Rattle.rme_durable_log.specs.declared.log_entry.LogEntry.{LogEntry}
 use Rattle.rme_session_protocol.specs.Attempts.{merged_reply, retry_order, is_still_waiting}
 use Rattle.rme_session_protocol.specs.SessionLines.{session_reply_line}
@@ -21,10 +20,10 @@ use Rattle.rme_line_text.specs.Replies.{reply_text}
 use Rattle.rme_line_text.specs.declared.reply.Reply.{Reply}
 use Rattle.rme_line_text.specs.declared.reply.Reply.TheVariants as line
 use Rattle.rme_world.specs.Calls.{CellsContract, OwnerContract}
-use Rattle.rme_world.specs.WorldViews.{WorldView}
 use Rattle.rme_durable_server.specs.declared.lookup.SessionLookup.{SessionLookup}
 use Rattle.rme_durable_server.specs.declared.lookup.SessionLookup.TheVariants.{Owner, Cells, Status}
 use Rattle.rme_durable_server.specs.Lookups.{lookup_of_line}
+use Rattle.rme_durable_server.specs.StatusTexts.{status_state, status_text}
 use Rattle.rme_durable_server.specs.ServerHistories.{LogLeads, ServerOpening, ServerState, SessionActs, SessionEnds, SessionMoment}
 
 -- One try: at one moment of the log, with no other session between, the session executed the order, as its client sees
@@ -72,15 +71,17 @@ client_terms clients opening = record { clients = clients; opening = opening }
 
 -- An order that would attach the checkpoint worker is refused as if there were no such worker. Any other is executed,
 -- and answered once everything before its moment is durable.
-abbrev pub DurableOrderEffect : {X : Type 0} → (X → Option (List ℕ)) → ClientTerms → SessionMoment → Order
+abbrev pub DurableOrderEffect : {X : Type 0} → (X → StoreState) → ClientTerms → SessionMoment → Order
     → SessionMoment → SessionReply → Type 0
 DurableOrderEffect holds terms old its now answer =
     ((asks_checkpoint_worker terms.clients its ≡ true) × (answer ≡ Refused NoWorker) × (now ≡ old))
     ⊎ (DurableOrder terms.opening old its now answer × IsLogDurable holds now.log)
 
--- A session has no worker before its first line.
+-- Before its first line a session has no worker, and no entry of the log is its own.
 abbrev pub IsSessionBegun : Option SessionMoment → SessionMoment → Type 0
-IsSessionBegun None stand = (stand.session.worker ≡ None) × (stand.session.planned ≡ Nothing)
+IsSessionBegun None stand =
+    (stand.session.worker ≡ None) × (stand.session.planned ≡ Nothing)
+    × AreNotByAuthor stand.session.session stand.log
 IsSessionBegun (Some old) stand = stand ≡ old
 
 -- The answers of the world's own look-ups.
@@ -92,33 +93,36 @@ abbrev pub cells_reply : Result (List ℕ × Bool) Refusal → Reply
 cells_reply (Ok cells) = line.Cells cells.0 cells.1
 cells_reply (Err why) = line.Refused why
 
--- What a look-up shows of a state: the answer of the world's own call. Of a status nothing is said here.
-abbrev pub LookupShows : List (List ℕ) → WorldView → SessionLookup → List ℕ → Type 0
-LookupShows names seen (Owner lock) bytes =
-    (found : Result (Option ℕ) Refusal) × OwnerContract seen lock found
-    × (bytes ≡ reply_text names seen.history (owner_reply found) ++ 10 ∷ [])
-LookupShows names seen (Cells lock) bytes =
-    (found : Result (List ℕ × Bool) Refusal) × CellsContract seen lock found
-    × (bytes ≡ reply_text names seen.history (cells_reply found) ++ 10 ∷ [])
-LookupShows names seen Status bytes = Unit {0}
+-- What a look-up shows of a state: the owner and the cells by the world's own calls, and the status with some number of
+-- the epoch.
+abbrev pub LookupShows : List (List ℕ) → ServerState → SessionLookup → List ℕ → Type 0
+LookupShows names state (Owner lock) bytes =
+    (found : Result (Option ℕ) Refusal) × OwnerContract state.executor.world lock found
+    × (bytes ≡ reply_text names state.executor.world.history (owner_reply found) ++ 10 ∷ [])
+LookupShows names state (Cells lock) bytes =
+    (found : Result (List ℕ × Bool) Refusal) × CellsContract state.executor.world lock found
+    × (bytes ≡ reply_text names state.executor.world.history (cells_reply found) ++ 10 ∷ [])
+LookupShows names state Status bytes =
+    (epoch : ℕ) × (bytes ≡ status_text names (status_state epoch state.base state.executor.world) ++ 10 ∷ [])
 
 -- The log leads to a state in which the look-up shows this.
 pub record LookupMoment (opening : ServerOpening) (look : SessionLookup) (bytes : List ℕ) (log : List LogEntry) : Type 0
   where
     pub state : ServerState
     pub leads : LogLeads opening log state
-    pub shows : LookupShows opening.names state.executor.world look bytes
+    pub shows : LookupShows opening.names state look bytes
 
--- A look-up is answered with what it shows at one moment of the log, once everything before that moment is durable.
-pub record DurableLookup {X : Type 0} (holds : X → Option (List ℕ)) (opening : ServerOpening) (old : SessionMoment)
+-- A look-up is answered with what it shows at one moment of the log, at which the session acts and appends nothing, once
+-- everything before that moment is durable.
+pub record DurableLookup {X : Type 0} (holds : X → StoreState) (opening : ServerOpening) (old : SessionMoment)
     (look : SessionLookup) (bytes : List ℕ) (now : SessionMoment) : Type 0 where
   pub session : now.session ≡ old.session
-  pub later : IsPrefix old.log now.log
   pub moment : LookupMoment opening look bytes now.log
+  pub acts : SessionActs opening old moment.state now moment.state
   pub held : IsLogDurable holds now.log
 
 -- A session ended at some moment of the log, and everything before that is durable.
-abbrev pub IsSessionEndDurable : {X : Type 0} → (X → Option (List ℕ)) → ServerOpening → SessionMoment → Type 0
+abbrev pub IsSessionEndDurable : {X : Type 0} → (X → StoreState) → ServerOpening → SessionMoment → Type 0
 IsSessionEndDurable holds opening old = (log : List LogEntry) × SessionEnds opening old log × IsLogDurable holds log
 
 -- What a line asks: an order, a look-up, or neither, with why it is refused.
@@ -141,7 +145,7 @@ line_ask names line = ask_by (parsed_order names service_numbers line) (lookup_o
 
 -- An order is answered by its reply, once everything before the moments of its tries is durable; a look-up likewise; and
 -- any other line by why it is refused.
-abbrev pub DurableLineReply : {X : Type 0} → (X → Option (List ℕ)) → ClientTerms → SessionMoment → LineAsk → List ℕ
+abbrev pub DurableLineReply : {X : Type 0} → (X → StoreState) → ClientTerms → SessionMoment → LineAsk → List ℕ
     → SessionMoment → Type 0
 DurableLineReply holds terms old (ask_order its) bytes now =
     (reply : SessionReply) × DurableOrderEffect holds terms old its now reply
@@ -150,7 +154,7 @@ DurableLineReply holds terms old (ask_lookup look) bytes now = DurableLookup hol
 DurableLineReply holds terms old (ask_nothing why) bytes now =
     (now ≡ old) × (bytes ≡ session_reply_line terms.opening.names (Refused why))
 
-pub record DurableLineAnswer {X : Type 0} (holds : X → Option (List ℕ)) (terms : ClientTerms)
+pub record DurableLineAnswer {X : Type 0} (holds : X → StoreState) (terms : ClientTerms)
     (old : Option SessionMoment) (line : InputLine) (bytes : List ℕ) (now : Option SessionMoment) : Type 0 where
   pub start : SessionMoment
   pub end : SessionMoment

@@ -1,12 +1,12 @@
 -- A server's life as one history: the entries of its log, and the states between them.
-use Rattle.std.specs.Prelude.{◌≡◌, ◌≢◌, ◌⊎◌, ℕ, List, [], ◌∷◌, ◌++◌, Some, None, IfSome, slice_get, ⊤}
-use mathlib.Core.List.{IsPrefix}
+use Rattle.std.specs.Prelude.{◌≡◌, ◌⊎◌, ℕ, List, [], ◌∷◌, ◌++◌, Some, None, IfSome, slice_get, ⊤}
 use Rattle.rme_session_world.specs.Downs.{IsWorkerDown}
 use Rattle.rme_session_world.specs.Executors.{held_session, owned_worker}
 use Rattle.rme_session_world.specs.ExecutorStates.{ExecutorState}
 use Rattle.rme_session_world.specs.SessionBatches.{AppliesSessionBatch}
 use Rattle.rme_session_world.specs.declared.event_batch.EventBatch.{EventBatch}
 use Rattle.rme_session_world.specs.declared.executor.SessionState.{SessionState}
+use Rattle.rme_durable_log.specs.Logs.{GrowsByOthers}
 use Rattle.rme_durable_log.specs.LogRules.{AppenderState}
 use Rattle.rme_durable_log.specs.declared.log_entry.LogEntry.{LogEntry}
 use Rattle.rme_durable_log.specs.declared.log_entry.LogEntry.TheVariants.{Lines, Whole}
@@ -14,7 +14,8 @@ use Rattle.rme_durable_format.specs.BatchCommands.{batch_commands}
 use Rattle.rme_durable_format.specs.CommandLines.{AppendsCommands}
 use Rattle.rme_durable_format.specs.Headers.{HeaderValues}
 use Rattle.rme_durable_format.specs.Recovery.{BeginsWithHeader, RecoversWorld}
-use Rattle.rme_durable_checkpoint.specs.Checkpoints.{AreWholeLines, CheckpointShowsSame}
+use Rattle.rme_durable_format.specs.WholeLines.{AreWholeLines}
+use Rattle.rme_durable_checkpoint.specs.Checkpoints.{CheckpointShowsSame}
 use Rattle.rme_durable_checkpoint.specs.HeaderBases.{IsHeaderBase}
 use Rattle.rme_durable_checkpoint.specs.ClientValues.{client_session}
 use Rattle.rme_durable_checkpoint.specs.EpochStates.{EpochState}
@@ -89,15 +90,6 @@ AppendsAtMostOne names session log old after new =
     ((after ≡ log) × (new ≡ old))
     ⊎ ((lines : List ℕ) × (after ≡ log ++ Lines session lines ∷ []) × AppendsSessionBatch names session old lines new)
 
--- No entry is an event batch of this session.
-abbrev pub IsNotOfSession : ℕ → LogEntry → Type 0
-IsNotOfSession session (Lines author lines) = author ≢ session
-IsNotOfSession session (Whole bytes) = Unit {0}
-
-abbrev pub AreNotOfSession : ℕ → List LogEntry → Type 0
-AreNotOfSession session [] = Unit {0}
-AreNotOfSession session (entry ∷ log) = IsNotOfSession session entry × AreNotOfSession session log
-
 -- A session still has its worker, and its client sees the same of it: ready, waiting or inside, with the same job.
 pub record KeepsWorker (session worker : ℕ) (old new : ServerState) : Type 0 where
   pub has : slice_get new.executor.holders worker ≡ Some (Some session)
@@ -118,12 +110,12 @@ pub record SessionMoment : Type 0 where
 abbrev pub session_moment : SessionState → List LogEntry → SessionMoment
 session_moment session log = record { session = session; log = log }
 
--- A session acted at one moment of the log: `before` is the state to which the log led then, and the session appended
--- at most one entry.
+-- A session acted at one moment of the log, since whose earlier moment only other sessions have appended: `before` is the
+-- state to which the log led then, and the session appended at most one entry.
 pub record SessionActs (opening : ServerOpening) (old : SessionMoment) (before : ServerState) (now : SessionMoment)
     (after : ServerState) : Type 0 where
   pub log : List LogEntry
-  pub later : IsPrefix old.log log
+  pub others : GrowsByOthers old.session.session old.log log
   pub leads : LogLeads opening log before
   pub appends : AppendsAtMostOne opening.names old.session.session log before now.log after
   pub session : now.session.session ≡ old.session.session

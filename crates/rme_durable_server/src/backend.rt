@@ -102,7 +102,6 @@ impl<L: LogStore, H: CloseHandle, J: ServerTag> Backend for DurableServer<L, H, 
 
 impl<L: LogStore, H: CloseHandle, J: ServerTag> DurableServer<L, H, J> {
     ghost use Rattle.std.specs.Prelude.{◌≡◌, ◌≢◌, IfErr, IfOk, IfSome, OnOk, string_bytes, Err};
-    ghost use mathlib.Core.List.{IsPrefix};
     ghost use Rattle.rme_durable_server.specs.DurableAnswers.{DurableLineReply, DurableLookup, IsSessionBegun, ask_if_bad, client_terms};
     ghost use Rattle.rme_durable_server.specs.Lookups.{lookup_of_bytes};
     ghost use Rattle.rme_durable_log.specs.Logs.{IsLogDurable};
@@ -166,7 +165,7 @@ impl<L: LogStore, H: CloseHandle, J: ServerTag> DurableServer<L, H, J> {
             result.0) }
         ensures err { IfErr result.1 (λ why. why ≢ AnswerError.WriteFailed) }
     {
-        let end = match self.write_lookup(rt, look, &session.end, text) {
+        let end = match self.write_lookup(rt, look, &session, text) {
             Ok(Some(end)) => end,
             Ok(None) => return (session, Err(AnswerError::NotLogged)),
             Err(_) => return (session, Err(AnswerError::NoMemory)),
@@ -177,7 +176,8 @@ impl<L: LogStore, H: CloseHandle, J: ServerTag> DurableServer<L, H, J> {
         }
     }
 
-    /// The session, or a new one without a worker before the first line; `None` once an event could not be logged.
+    /// The session, or a new one without a worker before the first line; `None` once an event could not be logged, or if
+    /// memory was refused.
     fn session_or_new<R: Wait>(
         &self,
         rt: &R,

@@ -128,7 +128,7 @@ impl CheckpointPolicy {
 }
 
 impl<L: LogStore, H: CloseHandle, J: ServerTag> DurableServer<L, H, J> {
-    ghost use Rattle.std.specs.Prelude.{◌≡◌};
+    ghost use Rattle.std.specs.Prelude.{◌≡◌, IfErr, false};
 
     /// Makes a checkpoint, if one is still due, or if this worker has used all job numbers of the epoch. Meanwhile no
     /// other session does anything. None is tried soon after one that failed. Answers true if a new epoch began, or if
@@ -146,7 +146,7 @@ impl<L: LogStore, H: CloseHandle, J: ServerTag> DurableServer<L, H, J> {
         let Some(taken) = executor.take_lines(spare) else {
             self.observe(&executor);
             drop(executor);
-            let _ledger = held.fail();
+            let _failed_store = held.fail();
             self.commits.fail(rt);
             return false;
         };
@@ -193,7 +193,9 @@ impl<L: LogStore, H: CloseHandle, J: ServerTag> DurableServer<L, H, J> {
         &self,
         executor: &mut DurableExecutor<L, J>,
         held: LogWriter<L, J>,
-    ) -> (Result<LogWriter<L, J>, L>, bool) {
+    ) -> (Result<LogWriter<L, J>, L>, bool)
+        ensures stops { IfErr result.0 (λ store. (L.holds store).works ≡ false) }
+    {
         match executor.build_checkpoint(self.alloc, &self.names) {
             Some(renewed) => executor.install_checkpoint(held, renewed),
             None => (Ok(held), false),

@@ -45,8 +45,8 @@ impl<L: LogStore, J: ServerTag> Model for DurableExecutor<L, J> {
 }
 
 impl<L: LogStore, J: ServerTag> DurableExecutor<L, J> {
-    ghost use Rattle.std.specs.Prelude.{◌≡◌, ◌∷◌, [], IfOk, IfSome, List, None, ℕ, string_bytes};
-    ghost use mathlib.Core.List.{IsPrefix};
+    ghost use Rattle.std.specs.Prelude.{◌≡◌, ◌∷◌, [], IfErr, IfOk, IfSome, List, None, false, ℕ, string_bytes};
+    ghost use Rattle.rme_durable_log.specs.Logs.{GrowsByOthers};
     ghost use Rattle.rme_durable_log.specs.declared.log_entry.LogEntry.TheVariants.{Whole};
     ghost use Rattle.rme_durable_server.specs.DurableAnswers.{DurableAttempt, IsSessionBegun};
     ghost use Rattle.rme_durable_server.specs.ServerHistories.{BeginsEpoch, LogLeads, SessionEnds, server_state, session_moment};
@@ -79,7 +79,7 @@ impl<L: LogStore, J: ServerTag> DurableExecutor<L, J> {
     }
 
     /// A new session without a worker, at the current end of the log. `None` once an event batch could not be logged,
-    /// and if there are no more numbers of sessions.
+    /// and if memory was refused or there are no more numbers of sessions.
     pub(crate) fn begin_session(&mut self) -> Option<DurableSession<L, J>>
         ensures begun { IfSome result (λ session. IsSessionBegun None session) }
         ensures same { self.new ≡ self.old }
@@ -91,14 +91,15 @@ impl<L: LogStore, J: ServerTag> DurableExecutor<L, J> {
         session
     }
 
-    /// The end of the log, which is not before this position; `None` once an event batch could not be logged.
-    pub(crate) fn position_after(&self, earlier: &LogPosition<L, J>) -> Option<LogPosition<L, J>>
+    /// The end of the log, since whose earlier moment only other sessions have appended; `None` once an event batch
+    /// could not be logged.
+    pub(crate) fn position_after(&self, session: &DurableSession<L, J>) -> Option<LogPosition<L, J>>
         ensures leads { IfSome result (λ end. LogLeads J.opening end
             (server_state self.now.executor self.now.base)) }
-        ensures later { IfSome result (λ end. IsPrefix earlier.now end) }
+        ensures others { IfSome result (λ end. GrowsByOthers session.now.session.session session.now.log end) }
     {
         match &self.appender {
-            Some(appender) => appender.position_after(earlier),
+            Some(appender) => appender.position_after(&session.author, &session.end),
             None => None,
         }
     }
@@ -121,7 +122,7 @@ impl<L: LogStore, J: ServerTag> DurableExecutor<L, J> {
             return Err(ApplyError::NotLogged);
         };
         let mut appender = appender;
-        let Some(_moment) = appender.position_after(&session.end) else {
+        let Some(_moment) = appender.position_after(&session.author, &session.end) else {
             return Err(ApplyError::NotLogged);
         };
         let before = self.executor.lines().len();
@@ -161,7 +162,7 @@ impl<L: LogStore, J: ServerTag> DurableExecutor<L, J> {
             return Err(ApplyError::NotLogged);
         };
         let mut appender = appender;
-        let Some(_moment) = appender.position_after(&end) else {
+        let Some(_moment) = appender.position_after(&author, &end) else {
             return Err(ApplyError::NotLogged);
         };
         let before = self.executor.lines().len();
@@ -172,6 +173,7 @@ impl<L: LogStore, J: ServerTag> DurableExecutor<L, J> {
         let Some(end) = append_new_lines(&mut appender, &author, &self.executor, before) else {
             return Err(ApplyError::NotLogged);
         };
+        appender.end_author(author);
         self.appender = Some(appender);
         Ok(end)
     }
@@ -197,6 +199,7 @@ impl<L: LogStore, J: ServerTag> DurableExecutor<L, J> {
         requires lines { renewed.executor.lines ≡ [] }
         requires begins { BeginsEpoch J.opening.names (server_state self.old.executor self.old.base)
             (string_bytes renewed.bytes) (server_state renewed.executor.executor renewed.executor.base) }
+        ensures stops { IfErr result.0 (λ store. (L.holds store).works ≡ false) }
     {
         let Some(appender) = self.appender.take() else {
             return (Ok(held), false);

@@ -17,7 +17,7 @@ use rme_session_server::{Client, CloseHandle, SessionRegistry, update_claim};
 use rme_session_world::SessionState;
 use rme_wire::Names;
 use rme_words::{NoMemory, Refusal};
-use std::alloc::{AllocError, Global};
+use std::alloc::Global;
 use std::sync::{Mutex, Wait};
 use std::time::Clock;
 
@@ -37,10 +37,9 @@ pub struct DurableServer<L: LogStore, H: CloseHandle, J: ServerTag> {
 
 impl<L: LogStore, H: CloseHandle, J: ServerTag> DurableServer<L, H, J> {
     ghost use Rattle.std.specs.Prelude.{◌≡◌, [], IfOk, IfSome, OnOk, None, string_bytes};
-    ghost use mathlib.Core.List.{IsPrefix};
     ghost use Rattle.rme_durable_server.specs.DurableAnswers.{IsSessionBegun, IsSessionEndDurable, DurableAttempt, LookupMoment, asks_checkpoint_worker};
     ghost use Rattle.rme_durable_server.specs.ServerHistories.{server_state, session_moment};
-    ghost use Rattle.rme_durable_log.specs.Logs.{IsLogDurable};
+    ghost use Rattle.rme_durable_log.specs.Logs.{GrowsByOthers, IsLogDurable};
     ghost use Rattle.rme_session_protocol.specs.ClientReplies.{reply_of_client};
 
     /// A server of an executor whose state is in the opened log, with the names of its locks. A checkpoint is made
@@ -80,7 +79,7 @@ impl<L: LogStore, H: CloseHandle, J: ServerTag> DurableServer<L, H, J> {
         }
     }
 
-    /// A session that has no worker yet; `None` once an event could not be logged.
+    /// A session that has no worker yet; `None` once an event could not be logged, or if memory was refused.
     pub(crate) fn begin_durable_session<R: Wait>(&self, rt: &R) -> Option<DurableSession<L, J>>
         ensures { IfSome result (λ session. IsSessionBegun None session) }
     {
@@ -222,22 +221,23 @@ impl<L: LogStore, H: CloseHandle, J: ServerTag> DurableServer<L, H, J> {
         self.commits.fail(rt);
     }
 
-    /// Writes the line that answers a look-up, and answers the end of the log then, which is not before this position;
-    /// `None` once an event could not be logged.
+    /// Writes the line that answers a look-up of a session, and answers the end of the log then, since whose earlier
+    /// moment only other sessions have appended; `None` once an event could not be logged.
     pub(crate) fn write_lookup<R: Wait>(
         &self,
         rt: &R,
         look: SessionLookup,
-        earlier: &LogPosition<L, J>,
+        session: &DurableSession<L, J>,
         out: &mut String,
-    ) -> Result<Option<LogPosition<L, J>>, AllocError>
-        ensures later { IfOk result (λ found. IfSome found (λ end. IsPrefix earlier.now end)) }
+    ) -> Result<Option<LogPosition<L, J>>, NoMemory>
+        ensures others { IfOk result (λ found. IfSome found (λ end. GrowsByOthers session.now.session.session
+            session.now.log end)) }
         ensures moment { IfOk result (λ found. IfSome found (λ end. LookupMoment J.opening look (string_bytes out.new)
             end)) }
     {
         let executor = self.executor.lock(rt);
         write_lookup(out, &self.names, executor.executor(), look)?;
-        Ok(executor.position_after(earlier))
+        Ok(executor.position_after(session))
     }
 }
 

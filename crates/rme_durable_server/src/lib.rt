@@ -27,6 +27,6 @@ pub use recovery::{RecoveredState, VERSION, other_version, recover};
 pub use rme_durable_log::{LogStore, NotDurable};
 pub use session::ServerTag;
 pub use status::{
-    LockStatus, StatusSource, WorkerStance, WorkerStatus, clients_of, lock_status, push_row,
-    push_status, worker_status,
+    LockStatus, StatusSource, WorkerStance, WorkerStatus, clients_of, lock_status,
+    push_cell_values, push_status, worker_status,
 };

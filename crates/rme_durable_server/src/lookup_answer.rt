@@ -2,6 +2,8 @@
 
 ghost use Rattle.std.specs.Prelude.{◌≡◌, ◌++◌, ℕ, Bool, List, OnOk, Option, Result, string_bytes};
 ghost use Rattle.rme_durable_server.specs.DurableAnswers.{LookupShows, cells_reply, owner_reply};
+ghost use Rattle.rme_durable_server.specs.ServerHistories.{server_state};
+ghost use Rattle.rme_durable_server.specs.StatusTexts.{status_state, status_text};
 ghost use Rattle.rme_line_text.specs.Replies.{reply_text};
 ghost use Rattle.rme_words.specs.declared.refusal.Refusal.{Refusal};
 ghost use Rattle.rme_world.specs.Calls.{CellsContract, OwnerContract};
@@ -11,26 +13,30 @@ use crate::status::{StatusSource, push_status};
 use rme_durable_checkpoint::EpochExecutor;
 use rme_line_text::{Reply, push_reply};
 use rme_wire::Names;
+use rme_words::NoMemory;
 use rme_world::World;
 use std::alloc::AllocError;
 
-/// Writes the line that answers a look-up in place of a text, with its newline.
+/// Writes the line that answers a look-up in place of a text, with its newline. An error means that memory was refused,
+/// or that a number of a status is not a number of 64 bits.
 pub(crate) fn write_lookup(
     out: &mut String,
     names: &Names,
     executor: &EpochExecutor,
     look: SessionLookup,
-) -> Result<(), AllocError>
-    ensures { OnOk result (LookupShows names.now executor.now.executor.world look (string_bytes out.new)) }
+) -> Result<(), NoMemory>
+    ensures { OnOk result (LookupShows names.now (server_state executor.now.executor executor.now.base) look
+        (string_bytes out.new)) }
 {
     out.clear();
     let world = executor.executor().world();
     match look {
         SessionLookup::Owner(lock) => push_owner(out, names, world, lock)?,
         SessionLookup::Cells(lock) => push_cells(out, names, world, lock)?,
-        SessionLookup::Status => push_status(out, names, &StatusSource::of(executor))?,
+        SessionLookup::Status => push_executor_status(out, names, executor)?,
     }
-    out.push_str("\n")
+    out.push_str("\n")?;
+    Ok(())
 }
 
 /// Appends the owner of a lock of a world.
@@ -57,4 +63,16 @@ fn push_cells(out: &mut String, names: &Names, world: &World, lock: u32) -> Resu
         Err(refusal) => Reply::Refused(refusal),
     };
     push_reply(out, names, world.history(), &reply)
+}
+
+/// Appends the status of an executor.
+fn push_executor_status(
+    out: &mut String,
+    names: &Names,
+    executor: &EpochExecutor,
+) -> Result<(), NoMemory>
+    ensures { OnOk result ((epoch : ℕ) × (string_bytes out.new ≡ string_bytes out.old ++ status_text names.now
+        (status_state epoch executor.now.base executor.now.executor.world))) }
+{
+    push_status(out, names, &StatusSource::of(executor))
 }

@@ -1,12 +1,10 @@
 //! Recovery: the world that the bytes of a file lead to, and the base of its epoch.
 
-ghost use Rattle.std.specs.Prelude.{◌≡◌, IfOk};
-ghost use Rattle.rme_durable_checkpoint.specs.HeaderBases.{IsHeaderBase};
-ghost use Rattle.rme_durable_format.specs.Headers.{header_values};
-ghost use Rattle.rme_durable_format.specs.Recovery.{BeginsWithHeader, RecoversWorld};
+ghost use Rattle.std.specs.Prelude.{IfErr, IfOk};
+ghost use Rattle.rme_durable_server.specs.RecoveredStates.{AreState, IsBadState, IsWhyNoState};
 
 use rme_durable_checkpoint::Base;
-use rme_durable_format::{BadLog, RecoveredLog, RecoveryProgress, recover_log};
+use rme_durable_format::{BadLog, RecoveredLog, RecoveryProgress, first_two_lines, recover_log};
 use rme_wire::{ValueReader, ValueStorage};
 use rme_words::NoMemory;
 use std::alloc::Global;
@@ -30,23 +28,30 @@ pub fn recover<P: RecoveryProgress>(
     bytes: &[u8],
     progress: &P,
 ) -> Result<RecoveredState, BadLog>
-    ensures ok { IfOk result (λ recovered. RecoversWorld bytes.now recovered.log.names recovered.log.world) }
-    ensures header { IfOk result (λ recovered. BeginsWithHeader bytes.now recovered.log.names recovered.log.world.shape
-        (header_values recovered.log.header)) }
-    ensures base { IfOk result (λ recovered. IsHeaderBase (header_values recovered.log.header) recovered.base) }
+    ensures ok { IfOk result (AreState bytes.now) }
+    ensures err { IfErr result (IsWhyNoState bytes.now) }
 {
-    match recover_log(alloc, bytes, progress) {
-        Ok(log) => with_base(alloc, log),
+    match recover_with_base(alloc, bytes, progress) {
+        Ok(recovered) => Ok(recovered),
         Err(BadLog::NoMemory) => Err(BadLog::NoMemory),
         Err(BadLog::Line(line)) => Err(first_bad_line(alloc, bytes, line, progress)),
     }
 }
 
-/// The recovered log, with the base of its header.
-fn with_base(alloc: Global, log: RecoveredLog) -> Result<RecoveredState, BadLog>
-    ensures same { IfOk result (λ recovered. recovered.log ≡ log) }
-    ensures base { IfOk result (λ recovered. IsHeaderBase (header_values recovered.log.header) recovered.base) }
+/// Recovers the state from lines. The header is judged last: the error has the number of a bad line, and if that is
+/// behind line 2, line 1 may be bad too.
+fn recover_with_base<P: RecoveryProgress>(
+    alloc: Global,
+    bytes: &[u8],
+    progress: &P,
+) -> Result<RecoveredState, BadLog>
+    ensures ok { IfOk result (AreState bytes.now) }
+    ensures err { IfErr result (IsBadState bytes.now) }
 {
+    let log = match recover_log(alloc, bytes, progress) {
+        Ok(log) => log,
+        Err(why) => return Err(why),
+    };
     match Base::from_header(alloc, &log.header)? {
         Some(base) => Ok(RecoveredState { log, base }),
         None => Err(BadLog::Line(1)),
@@ -60,32 +65,17 @@ fn first_bad_line<P: RecoveryProgress>(
     bytes: &[u8],
     line: u64,
     progress: &P,
-) -> BadLog {
+) -> BadLog
+    requires { IsBadState bytes.now (BadLog.Line line) }
+    ensures { IsWhyNoState bytes.now result }
+{
     if line <= 2 {
         return BadLog::Line(line);
     }
-    let opened = match recover_log(alloc, two_lines(bytes), progress) {
-        Ok(log) => with_base(alloc, log),
-        Err(why) => Err(why),
-    };
-    match opened {
+    match recover_with_base(alloc, first_two_lines(bytes), progress) {
         Ok(_) => BadLog::Line(line),
         Err(why) => why,
     }
-}
-
-/// The first two lines of these bytes, or all bytes if there are fewer lines.
-fn two_lines(bytes: &[u8]) -> &[u8] {
-    let mut is_second = false;
-    for (at, byte) in bytes.iter().enumerate() {
-        if *byte == b'\n' {
-            if is_second {
-                return &bytes[..=at];
-            }
-            is_second = true;
-        }
-    }
-    bytes
 }
 
 /// The version in the first line of these bytes, if it is one that this program does not read.

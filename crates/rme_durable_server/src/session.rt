@@ -42,15 +42,13 @@ impl<L: LogStore, J: LogTag> Model for DurableSession<L, J> {
 
 impl<L: LogStore, J: LogTag> DurableSession<L, J> {
     ghost use Rattle.std.specs.Prelude.{◌≡◌, IfSome, None};
-    ghost use Rattle.rme_durable_log.specs.LogRules.{AreAuthorsBelow};
     ghost use Rattle.rme_durable_server.specs.DurableAnswers.{IsSessionBegun};
     ghost use Rattle.rme_durable_server.specs.ServerHistories.{session_moment};
 
-    /// A session without a worker, at the end of the log, in which nothing is its own. `None` if there are no more
-    /// numbers of sessions.
+    /// A session without a worker, at the end of the log, in which nothing is its own. `None` if memory was refused, or
+    /// if there are no more numbers of sessions.
     pub(crate) fn begin(appender: &mut LogAppender<L, J>) -> Option<DurableSession<L, J>>
         ensures begun { IfSome result (λ session. IsSessionBegun None session) }
-        ensures new { IfSome result (λ session. AreAuthorsBelow session.session.session appender.old.log) }
         ensures end { IfSome result (λ session. session.log ≡ appender.old.log) }
         ensures log { appender.new.log ≡ appender.old.log }
         ensures waits { appender.new.waits ≡ appender.old.waits }

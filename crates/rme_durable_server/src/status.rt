@@ -1,11 +1,15 @@
 //! The status of a world: its locks and its workers, without the checkpoint worker.
 
-ghost use Rattle.std.specs.Prelude.{◌<◌};
+ghost use Rattle.std.specs.Prelude.{◌≡◌, ◌++◌, ◌-◌, ◌<◌, IfSome, OnOk, string_bytes};
+ghost use Rattle.rme_line_text.specs.Texts.{cells_text, comma_text};
+ghost use Rattle.rme_durable_checkpoint.specs.Checkpoints.{AreSectionCounts};
+ghost use Rattle.rme_durable_server.specs.StatusTexts as spec;
 
 use rme_durable_checkpoint::{Base, EpochExecutor, Sections};
 use rme_line_text::lock_name;
 use rme_script::Row;
 use rme_wire::Names;
+use rme_words::NoMemory;
 use rme_world::World;
 use std::alloc::AllocError;
 
@@ -21,7 +25,9 @@ pub enum WorkerStance {
 
 impl WorkerStance {
     /// The word for it.
-    pub fn word(self) -> &'static str {
+    pub fn word(self) -> &'static str
+        ensures { result.now ≡ spec.worker_stance_word self }
+    {
         match self {
             WorkerStance::Ready => "ready",
             WorkerStance::Climb(_) => "climb",
@@ -30,7 +36,9 @@ impl WorkerStance {
     }
 
     /// The lock that the worker's job is for, if it has one.
-    pub fn lock(self) -> Option<u32> {
+    pub fn lock(self) -> Option<u32>
+        ensures { result ≡ spec.worker_stance_lock self }
+    {
         match self {
             WorkerStance::Ready => None,
             WorkerStance::Climb(lock) | WorkerStance::Held(lock) => Some(lock),
@@ -70,7 +78,11 @@ pub struct StatusSource<'a> {
 
 impl<'a> StatusSource<'a> {
     /// The world and the base of an executor.
-    pub fn of(executor: &'a EpochExecutor) -> StatusSource<'a> {
+    pub fn of(executor: &'a EpochExecutor) -> StatusSource<'a>
+        ensures epoch { result.epoch ≡ executor.now.epoch }
+        ensures world { result.world.now ≡ executor.now.executor.world }
+        ensures base { result.base.now ≡ executor.now.base }
+    {
         StatusSource {
             epoch: executor.epoch(),
             world: executor.executor().world(),
@@ -80,125 +92,214 @@ impl<'a> StatusSource<'a> {
 }
 
 /// The number of workers that clients may attach: all but the last, which is the checkpoint worker.
-pub fn clients_of(world: &World) -> u32 {
+pub fn clients_of(world: &World) -> u32
+    ensures { result ≡ world.now.shape.workers - 1 }
+{
     world.shape().workers().saturating_sub(1)
 }
 
-/// The status of a lock, if the world has it and has finished as many sections of it as `sections` says.
-pub fn lock_status(told: &StatusSource<'_>, lock: u32, sections: &Sections) -> Option<LockStatus> {
-    let (cells, settled) = told.world.cells(lock).ok()?;
-    let before = told.base.sections_before(lock, sections.at(lock))?;
+/// The status of a lock, given the finished sections of the world; `None` if the number of its sections over all epochs
+/// is not a number of 64 bits.
+pub fn lock_status(told: &StatusSource<'_>, lock: u32, sections: &Sections) -> Option<LockStatus>
+    requires lock { lock < told.now.world.now.shape.locks }
+    requires sections { AreSectionCounts told.now.world.now.history sections.now }
+    ensures { IfSome result (λ status. status ≡ spec.lock_status
+        (spec.status_state told.now.epoch told.now.base.now told.now.world.now) lock) }
+{
+    let (Ok((cells, settled)), Ok(owner)) = (told.world.cells(lock), told.world.owner(lock)) else {
+        unreachable!();
+    };
     Some(LockStatus {
         cells,
         settled,
-        owner: told.world.owner(lock).ok()?,
-        sections: before,
+        owner,
+        sections: told.base.sections_before(lock, sections.at(lock))?,
     })
 }
 
-/// The status of a worker, if the world has it.
-pub fn worker_status(told: &StatusSource<'_>, worker: u32) -> Option<WorkerStatus> {
-    if worker >= told.world.shape().workers() {
-        return None;
-    }
+/// The status of a worker; `None` if its number over all epochs is not a number of 64 bits.
+pub fn worker_status(told: &StatusSource<'_>, worker: u32) -> Option<WorkerStatus>
+    requires { worker < told.now.world.now.shape.workers }
+    ensures { IfSome result (λ status. status ≡ spec.worker_status
+        (spec.status_state told.now.epoch told.now.base.now told.now.world.now) worker) }
+{
     let before = told.base.worker_base(worker).numbers;
     Some(WorkerStatus {
         attached: told.world.known(worker).is_some(),
-        number: before.saturating_add(told.world.number(worker)),
-        stance: stance_of(told.world, worker),
+        number: before.checked_add(told.world.number(worker))?,
+        stance: worker_stance(told.world, worker),
     })
 }
 
-fn stance_of(world: &World, worker: u32) -> WorkerStance
+fn worker_stance(world: &World, worker: u32) -> WorkerStance
     requires { worker < world.now.shape.workers }
+    ensures { result ≡ spec.worker_stance world.now worker }
 {
-    let Some(job) = world.pending(worker) else {
-        return WorkerStance::Ready;
-    };
-    match world.owner(job.lock) {
-        Ok(Some(owner)) if owner == worker => WorkerStance::Held(job.lock),
-        _ => WorkerStance::Climb(job.lock),
+    match world.pending(worker) {
+        Some(job) => stance_at_lock(owner_or_nobody(world, job.lock), worker, job.lock),
+        None => WorkerStance::Ready,
     }
 }
 
-/// Appends the answer to the order `status`, without a newline.
-pub fn push_status(
-    out: &mut String,
-    names: &Names,
-    told: &StatusSource<'_>,
-) -> Result<(), AllocError> {
-    let epoch = told.epoch;
-    write!(out, "{{\"epoch\":{epoch},\"locks\":[")?;
+/// The owner of a lock; nobody for a number of no lock.
+fn owner_or_nobody(world: &World, lock: u32) -> Option<u32>
+    ensures { result ≡ spec.owner_or_nobody world.now lock }
+{
+    match world.owner(lock) {
+        Ok(owner) => owner,
+        Err(_) => None,
+    }
+}
+
+/// The stance of a worker with a pending job at this lock.
+fn stance_at_lock(owner: Option<u32>, worker: u32, lock: u32) -> WorkerStance
+    ensures { result ≡ spec.stance_at_lock owner worker lock }
+{
+    match owner {
+        Some(owner) if owner == worker => WorkerStance::Held(lock),
+        _ => WorkerStance::Climb(lock),
+    }
+}
+
+/// Appends the answer to the order `status`, without a newline. An error means that memory was refused, or that a
+/// number over all epochs is not a number of 64 bits; the text is then of no use.
+pub fn push_status(out: &mut String, names: &Names, told: &StatusSource<'_>) -> Result<(), NoMemory>
+    ensures { OnOk result (string_bytes out.new ≡ string_bytes out.old ++ spec.status_text names.now
+        (spec.status_state told.now.epoch told.now.base.now told.now.world.now)) }
+{
+    push_status_front(out, told.epoch)?;
     push_locks(out, names, told)?;
     out.push_str("],\"ok\":\"status\",\"workers\":[")?;
     push_workers(out, names, told)?;
-    out.push_str("]}")
+    out.push_str("]}")?;
+    Ok(())
 }
 
-fn push_locks(out: &mut String, names: &Names, told: &StatusSource<'_>) -> Result<(), AllocError> {
+/// Appends the text of a status before its locks.
+fn push_status_front(out: &mut String, epoch: u64) -> Result<(), AllocError>
+    ensures { OnOk result (string_bytes out.new ≡ string_bytes out.old ++ spec.status_front epoch) }
+{
+    write!(out, "{{\"epoch\":{epoch},\"locks\":[")
+}
+
+/// Appends the status of each lock, separated by commas.
+fn push_locks(out: &mut String, names: &Names, told: &StatusSource<'_>) -> Result<(), NoMemory>
+    ensures { OnOk result (string_bytes out.new ≡ string_bytes out.old ++ spec.locks_text names.now
+        (spec.status_state told.now.epoch told.now.base.now told.now.world.now)) }
+{
     let sections = Sections::of(told.world);
-    let mut comma = "";
-    for lock in 0..names.len() {
-        if let Some(status) = lock_status(told, lock, &sections) {
-            out.push_str(comma)?;
-            push_lock(out, lock_name(names, lock), &status)?;
-            comma = ",";
-        }
+    let mut later = false;
+    for lock in 0..told.world.shape().locks() {
+        let Some(status) = lock_status(told, lock, &sections) else {
+            return Err(NoMemory);
+        };
+        push_comma(out, later)?;
+        push_lock(out, lock_name(names, lock), &status)?;
+        later = true;
     }
     Ok(())
 }
 
-fn push_lock(out: &mut String, name: &str, status: &LockStatus) -> Result<(), AllocError> {
-    let settled = status.settled;
-    let sections = status.sections;
+/// Appends a comma if other items came earlier.
+fn push_comma(out: &mut String, later: bool) -> Result<(), AllocError>
+    ensures { OnOk result (string_bytes out.new ≡ string_bytes out.old ++ comma_text later) }
+{
+    if later { out.push_str(",") } else { Ok(()) }
+}
+
+/// Appends the status of a lock with this name.
+fn push_lock(out: &mut String, name: &str, status: &LockStatus) -> Result<(), AllocError>
+    ensures { OnOk result (string_bytes out.new ≡ string_bytes out.old ++ spec.lock_status_text name.now
+        status.now) }
+{
     out.push_str("{\"cells\":[")?;
-    push_row(out, &status.cells)?;
-    write!(out, "],\"name\":\"{name}\",\"owner\":")?;
-    match status.owner {
-        Some(owner) => write!(out, "{owner}")?,
-        None => out.push_str("null")?,
+    push_cell_values(out, &status.cells)?;
+    push_named(out, name)?;
+    push_owner_value(out, status.owner)?;
+    push_lock_status_end(out, status.sections, status.settled)?;
+    Ok(())
+}
+
+/// Appends the values of cells, separated by commas.
+pub fn push_cell_values(out: &mut String, row: &Row) -> Result<(), AllocError>
+    ensures { OnOk result (string_bytes out.new ≡ string_bytes out.old ++ cells_text row.now) }
+{
+    let mut later = false;
+    for cell in 0..row.len() {
+        let value = row.get(cell);
+        push_comma(out, later)?;
+        write!(out, "{value}")?;
+        later = true;
     }
+    Ok(())
+}
+
+fn push_named(out: &mut String, name: &str) -> Result<(), AllocError>
+    ensures { OnOk result (string_bytes out.new ≡ string_bytes out.old ++ spec.named_text name.now) }
+{
+    write!(out, "],\"name\":\"{name}\",\"owner\":")
+}
+
+fn push_owner_value(out: &mut String, owner: Option<u32>) -> Result<(), AllocError>
+    ensures { OnOk result (string_bytes out.new ≡ string_bytes out.old ++ spec.owner_value_text owner) }
+{
+    match owner {
+        Some(owner) => write!(out, "{owner}"),
+        None => out.push_str("null"),
+    }
+}
+
+fn push_lock_status_end(out: &mut String, sections: u64, settled: bool) -> Result<(), AllocError>
+    ensures { OnOk result (string_bytes out.new ≡ string_bytes out.old ++ spec.lock_status_end sections settled) }
+{
     write!(out, ",\"sections\":{sections},\"settled\":{settled}}}")
 }
 
-/// Appends the values of cells, with commas between.
-pub fn push_row(out: &mut String, row: &Row) -> Result<(), AllocError> {
-    let mut comma = "";
-    for cell in 0..row.len() {
-        let value = row.get(cell);
-        write!(out, "{comma}{value}")?;
-        comma = ",";
-    }
-    Ok(())
-}
-
-fn push_workers(
-    out: &mut String,
-    names: &Names,
-    told: &StatusSource<'_>,
-) -> Result<(), AllocError> {
-    let mut comma = "";
+/// Appends the status of each worker that clients may attach, separated by commas.
+fn push_workers(out: &mut String, names: &Names, told: &StatusSource<'_>) -> Result<(), NoMemory>
+    ensures { OnOk result (string_bytes out.new ≡ string_bytes out.old ++ spec.workers_text names.now
+        (spec.status_state told.now.epoch told.now.base.now told.now.world.now)) }
+{
+    let mut later = false;
     for worker in 0..clients_of(told.world) {
-        if let Some(status) = worker_status(told, worker) {
-            out.push_str(comma)?;
-            push_worker(out, names, status)?;
-            comma = ",";
-        }
+        let Some(status) = worker_status(told, worker) else {
+            return Err(NoMemory);
+        };
+        push_comma(out, later)?;
+        push_worker(out, names, status)?;
+        later = true;
     }
     Ok(())
 }
 
-fn push_worker(out: &mut String, names: &Names, status: WorkerStatus) -> Result<(), AllocError> {
-    let WorkerStatus {
-        attached,
-        number,
-        stance,
-    } = status;
-    let word = stance.word();
-    write!(out, "{{\"attached\":{attached}")?;
-    if let Some(lock) = stance.lock() {
-        let name = lock_name(names, lock);
-        write!(out, ",\"lock\":\"{name}\"")?;
-    }
+/// Appends the status of a worker.
+fn push_worker(out: &mut String, names: &Names, status: WorkerStatus) -> Result<(), AllocError>
+    ensures { OnOk result (string_bytes out.new ≡ string_bytes out.old ++ spec.worker_status_text names.now status) }
+{
+    push_attached(out, status.attached)?;
+    push_lock_member(out, names, status.stance.lock())?;
+    push_worker_status_end(out, status.number, status.stance.word())?;
+    Ok(())
+}
+
+fn push_attached(out: &mut String, attached: bool) -> Result<(), AllocError>
+    ensures { OnOk result (string_bytes out.new ≡ string_bytes out.old ++ spec.attached_text attached) }
+{
+    write!(out, "{{\"attached\":{attached}")
+}
+
+fn push_lock_member(out: &mut String, names: &Names, lock: Option<u32>) -> Result<(), AllocError>
+    ensures { OnOk result (string_bytes out.new ≡ string_bytes out.old ++ spec.lock_member_text names.now lock) }
+{
+    let Some(lock) = lock else {
+        return Ok(());
+    };
+    let name = lock_name(names, lock);
+    write!(out, ",\"lock\":\"{name}\"")
+}
+
+fn push_worker_status_end(out: &mut String, number: u64, word: &str) -> Result<(), AllocError>
+    ensures { OnOk result (string_bytes out.new ≡ string_bytes out.old ++ spec.worker_status_end number word.now) }
+{
     write!(out, ",\"number\":{number},\"stance\":\"{word}\"}}")
 }

@@ -3,8 +3,8 @@ use Rattle.rme_durable_server.specs.ServerHistories.{ServerState, server_state}
 use Rattle.rme_cli_durable.proofs.serve_durable.run_serve_durable.Given as goal
 
 -- The log that was just opened, and the state with which the server begins.
-abbrev pub ghosts-serve_opened-J-LogTag : goal.ghosts-serve_opened-J-LogTag
-ghosts-serve_opened-J-LogTag g a = record { book = a.state.opened }
+abbrev pub ghosts-serve_logged-J-LogTag : goal.ghosts-serve_logged-J-LogTag
+ghosts-serve_logged-J-LogTag g a = record { book = a.state.log }
 
-abbrev pub ghosts-serve_opened-J-ServerTag : goal.ghosts-serve_opened-J-ServerTag
-ghosts-serve_opened-J-ServerTag g a = record { opening = record { names = a.state.names; begins = λ (start : ServerState). start ≡ server_state a.state.executor.executor a.state.executor.base } }
+abbrev pub ghosts-serve_logged-J-ServerTag : goal.ghosts-serve_logged-J-ServerTag
+ghosts-serve_logged-J-ServerTag g a = record { opening = record { names = a.state.names; begins = λ (start : ServerState). start ≡ server_state a.state.executor.executor a.state.executor.base } }

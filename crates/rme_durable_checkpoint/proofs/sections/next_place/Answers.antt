@@ -1,5 +1,4 @@
-use Rattle.std.proofs.Common.{◌≡◌, ◌≤◌, ◌+◌, ℕ, arith, length, ap, sym, subst, ◌∙◌}
-use Rattle.rme_durable_checkpoint.specs.Checkpoints.{sections_in}
+use Rattle.std.proofs.Common.{◌≡◌, ◌+◌, ℕ, arith, length, sym, subst, ◌∙◌}
 use Rattle.rme_machine.specs.Histories.{place_of}
 use Rattle.std.specs.Prelude.{drop}
 use Rattle.rme_durable_checkpoint.proofs.Places.{place_counted, place_whole, sections_few}

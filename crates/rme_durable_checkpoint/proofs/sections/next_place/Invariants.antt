@@ -1,5 +1,5 @@
 -- The entries so far, and the rest of them.
-use Rattle.std.proofs.Common.{◌≡◌, ◌≤◌, ℕ, ◌+◌, drop}
+use Rattle.std.proofs.Common.{◌≡◌, ◌≤◌, ◌+◌, drop}
 use Rattle.rme_machine.specs.Histories.{place_of}
 use Rattle.rme_durable_checkpoint.proofs.sections.next_place.Given as goal
 

@@ -5,7 +5,7 @@ use Rattle.rme_line_json.specs.Values.{json_value_of}
 use Rattle.rme_line_json.specs.View.{value_view}
 use Rattle.rme_words.specs.declared.shape.Shape.{Shape}
 use Rattle.rme_line_engine.specs.Engines.{engine_state_of}
-use Rattle.rme_durable_format.specs.Headers.{IsLogVersion, IsPossibleHeader, HeaderValues, HasHeaderMembers, header_values}
+use Rattle.rme_durable_format.specs.Headers.{HasLogVersion, IsLogVersion, IsPossibleHeader, HeaderValues, HasHeaderMembers, header_values}
 use Rattle.rme_durable_format.specs.Recovery.{IsBadLog}
 use Rattle.rme_durable_format.proofs.Stopping.{bad_cut, bad_from, bad_header, bad_second, bad_version, err_is}
 use Rattle.rme_durable_format.proofs.Leading.{begins_with, starts_from}
@@ -44,14 +44,22 @@ returns-in-Some-2 g c =
 pub returns-in_err-lines-clause-err : goal.returns-in_err-lines-clause-err
 returns-in_err-lines-clause-err g c =
     let bytes = c.args.bytes.now in
-    let bad = bad_from bytes c.next_line.new.line.items _ _ c.in_ok-cut.cut _ _ c.in_ok-reader.ensures.bytes c.in_ok-cut.ensures.cut c.in-Line.is c.in_ok-engine.ensures c.in_err-lines.ensures.err in
+    let value = value_view c.in-Some.header in
+    let R : List ℕ → Type 0 = λ (line : List ℕ). (json_value_of line ≡ Some value) × IsLogVersion value in
+    let read = subst R c.as_slice.ensures.value (rw c.in-Some.is at c.in_ok-header.ensures) in
+    let version : HasLogVersion c.next_line.new.line.items = record { value = value; reads = read.0; version = read.1 } in
+    let bad = bad_from bytes c.next_line.new.line.items _ _ c.in_ok-cut.cut _ _ c.in_ok-reader.ensures.bytes c.in_ok-cut.ensures.cut c.in-Line.is version c.in_ok-engine.ensures c.in_err-lines.ensures.err in
     err_is c.from_residual-in_err-lines.result c.in_err-lines.field-0.0 (λ why. IsBadLog bytes why) c.from_residual-in_err-lines.ensures.1 bad
 
 pub returns-in_default-into_world-clause-err : goal.returns-in_default-into_world-clause-err
 returns-in_default-into_world-clause-err g c =
     let state = engine_state_of c.replay_lines.new.engine in
     let closed : state.world ≡ None = grind arith in
-    bad_second c.args.bytes.now c.next_line.new.line.items _ _ c.in_ok-cut.cut _ state c.in_ok-reader.ensures.bytes c.in_ok-cut.ensures.cut c.in-Line.is c.in_ok-engine.ensures c.in_ok-lines.ensures.ok closed
+    let value = value_view c.in-Some.header in
+    let R : List ℕ → Type 0 = λ (line : List ℕ). (json_value_of line ≡ Some value) × IsLogVersion value in
+    let read = subst R c.as_slice.ensures.value (rw c.in-Some.is at c.in_ok-header.ensures) in
+    let version : HasLogVersion c.next_line.new.line.items = record { value = value; reads = read.0; version = read.1 } in
+    bad_second c.args.bytes.now c.next_line.new.line.items _ _ c.in_ok-cut.cut _ state c.in_ok-reader.ensures.bytes c.in_ok-cut.ensures.cut c.in-Line.is version c.in_ok-engine.ensures c.in_ok-lines.ensures.ok closed
 
 pub returns-clause-err : goal.returns-clause-err
 returns-clause-err g c =

@@ -1,11 +1,11 @@
-use Rattle.std.proofs.Common.{◌≡◌, ◌+◌, List, ℕ, ap, refl, sym, subst, ◌∙◌, arith}
+use Rattle.std.proofs.Common.{◌+◌, List, ℕ, ap, refl, sym, subst, ◌∙◌}
 use Rattle.std.specs.Prelude.{string_bytes}
 use Rattle.rme_words.specs.declared.shape.Shape.{Shape}
 use Rattle.rme_world.specs.WorldViews.{WorldView}
 use Rattle.rme_session_world.specs.ExecutorStates.{ExecutorState}
 use Rattle.rme_durable_format.specs.Headers.{header_values}
 use Rattle.rme_durable_format.specs.Recovery.{BeginsWithHeader}
-use Rattle.rme_durable_checkpoint.specs.Checkpoints.{AreWholeLines, BeginsEpochHeader}
+use Rattle.rme_durable_format.specs.WholeLines.{AreWholeLines}
 use Rattle.rme_durable_checkpoint.specs.HeaderBases.{IsHeaderBase}
 use Rattle.rme_durable_checkpoint.proofs.epoch_executor.EpochExecutor.checkpoint.Goals as goal
 

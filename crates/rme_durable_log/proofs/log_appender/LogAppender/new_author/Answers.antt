@@ -1,9 +1,12 @@
-use Rattle.std.proofs.Common.{◌≤◌, arith}
-use Rattle.std.proofs.lemmas.Bool.Decides.{nat_tests}
+use Rattle.std.proofs.Common.{◌<◌, arith}
+use Rattle.rme_durable_log.proofs.Authors.{lasts_begun}
 use Rattle.rme_durable_log.proofs.Texts.{appender_authors}
 use Rattle.rme_durable_log.proofs.log_appender.LogAppender.new_author.Goals as goal
 
-pub invariant_of-self : goal.invariant_of-self
-invariant_of-self g c =
-    let more : c.self.inside.authors ≤ c.in_ok-self-inside.field-0 = omega (arith, c.in_ok-self-inside.ensures) in
-    appender_authors g.J.LogTag.book c.self.inside.head c.self.inside.taken c.self.inside.told c.self.inside.authors c.in_ok-self-inside.field-0 c.self.invariant more
+pub invariant_of-self-2 : goal.invariant_of-self-2
+invariant_of-self-2 g c =
+    let it = c.self.inside in
+    let more = c.in_ok-authors.authors in
+    let less : it.authors < more = omega (arith, c.in_ok-authors.ensures) in
+    let lasts = lasts_begun it.authors more it.told it.lasts c.insert.new.self c.self.invariant.lasts_are c.self.invariant.by less c.in-Ok.ensures.updates in
+    appender_authors g.J.LogTag.book it.head it.taken it.told it.authors more it.lasts c.insert.new.self c.self.invariant (omega (arith, less)) lasts

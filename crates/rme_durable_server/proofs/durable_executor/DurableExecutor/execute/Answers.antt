@@ -1,9 +1,14 @@
-use Rattle.std.proofs.Common.{sym, subst, ◌∙◌}
+use Rattle.std.proofs.Common.{◌≤◌, ℕ, List, length, sym, subst, ◌∙◌}
 use Rattle.rme_session_protocol.specs.ClientReplies.{reply_of_client}
 use Rattle.rme_durable_server.specs.DurableAnswers.{DurableAttempt}
 use Rattle.rme_durable_server.specs.ServerHistories.{SessionMoment, session_moment}
-use Rattle.rme_durable_server.proofs.Leading.{acted, logged_some, logged_step, state_of}
+use Rattle.rme_durable_server.proofs.Leading.{acted, lines_grow, logged_some, logged_step, state_of}
 use Rattle.rme_durable_server.proofs.durable_executor.DurableExecutor.execute.Goals as goal
+
+pub append_new_lines-appended-requires : goal.append_new_lines-appended-requires
+append_new_lines-appended-requires g c =
+    let grown = lines_grow c.args.names.now c.session.inside.state.session c.self.inside.executor c.execute.new.self c.in-Ok.ensures.written in
+    subst (λ (looked : List ℕ). length looked ≤ length c.execute.new.self.lines) (sym c.lines-before.ensures) grown
 
 pub invariant_of-self-2 : goal.invariant_of-self-2
 invariant_of-self-2 g c =
@@ -22,6 +27,6 @@ returns g c =
     subst P c.session.view_is record {
       before = state_of epoch;
       after = state_of c.execute.new.self;
-      acts = acted opening (session_moment c.session.inside.state c.session.inside.end) c.execute.new.session c.in-Some-appended.end epoch c.execute.new.self c.in-Some.appender c.append_new_lines-appended.new.appender c.in-Some-position_after.ensures.later logged step.0 c.in-Some-appended.ensures.end c.execute.ensures.session;
+      acts = acted opening (session_moment c.session.inside.state c.session.inside.end) c.execute.new.session c.in-Some-appended.end epoch c.execute.new.self c.in-Some.appender c.append_new_lines-appended.new.appender c.session.inside.author c.session.invariant c.in-Some-position_after.ensures.others logged step.0 c.in-Some-appended.ensures.end c.execute.ensures.session;
       obeys = c.in-Ok.ensures.obeys;
     }

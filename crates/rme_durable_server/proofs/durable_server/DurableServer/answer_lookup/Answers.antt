@@ -1,9 +1,8 @@
 use Rattle.std.proofs.Common.{List, subst}
 use Rattle.std.specs.Prelude.{IfSome, Option, string_bytes}
-use mathlib.Core.List.{IsPrefix}
+use Rattle.rme_durable_log.specs.Logs.{GrowsByOthers}
 use Rattle.rme_durable_log.specs.declared.log_entry.LogEntry.{LogEntry}
 use Rattle.rme_durable_server.specs.DurableAnswers.{LookupMoment}
-use Rattle.rme_durable_server.specs.ServerHistories.{SessionMoment}
 use Rattle.rme_durable_server.proofs.Leading.{looked_up}
 use Rattle.rme_durable_server.proofs.durable_server.DurableServer.answer_lookup.Goals as goal
 
@@ -11,7 +10,7 @@ pub returns-in-Ok-clause-answers : goal.returns-in-Ok-clause-answers
 returns-in-Ok-clause-answers g c =
     let end = c.in-Ok-Some.end in
     let M = λ (found : Option (List LogEntry)). IfSome found (λ (e : List LogEntry). LookupMoment g.J.ServerTag.opening c.args.look (string_bytes c.write_lookup.new.out) e) in
-    let L = λ (found : Option (List LogEntry)). IfSome found (λ (e : List LogEntry). IsPrefix c.session.inside.end e) in
+    let L = λ (found : Option (List LogEntry)). IfSome found (λ (e : List LogEntry). GrowsByOthers c.args.session.session.session c.args.session.log e) in
     let moment = subst M c.in-Ok-Some.field-0-is c.in-Ok-Some.ensures.moment in
-    let later = subst L c.in-Ok-Some.field-0-is c.in-Ok-Some.ensures.later in
-    looked_up g.L.LogStore.holds g.J.ServerTag.opening c.args.session c.args.look (string_bytes c.write_lookup.new.out) end c.moved_to.result c.moved_to.ensures (subst (λ (s : SessionMoment). IsPrefix s.log end) c.session.view_is later) moment c.in-Ok.ensures
+    let others = subst L c.in-Ok-Some.field-0-is c.in-Ok-Some.ensures.others in
+    looked_up g.L.LogStore.holds g.J.ServerTag.opening c.args.session c.args.look (string_bytes c.write_lookup.new.out) end c.moved_to.result c.moved_to.ensures others moment c.in-Ok.ensures

@@ -1,0 +1,44 @@
+-- How a server begins with a file.
+use Rattle.std.specs.Prelude.{◌≡◌, ℕ, List, [], ◌++◌, Option, Some, None, length, replicate, ⊤}
+use Rattle.rme_world.specs.WorldViews.{WorldView}
+use Rattle.rme_session_world.specs.Executors.{HasCrashedAll}
+use Rattle.rme_durable_format.specs.BatchCommands.{crash_commands_from}
+use Rattle.rme_durable_format.specs.CommandLines.{AppendsCommands}
+use Rattle.rme_durable_format.specs.WholeLines.{AreWholeLinesOf}
+use Rattle.rme_durable_checkpoint.specs.EpochStates.{EpochState}
+use Rattle.rme_durable_server.specs.RecoveredStates.{AreState}
+use Rattle.rme_durable_server.specs.declared.recovery.RecoveredState.{RecoveredState}
+
+-- A state was read from bytes: from all their whole lines, which have this length.
+pub record ReadsState (bytes : List ℕ) (whole : ℕ) (found : RecoveredState) : Type 0 where
+  pub lines : List ℕ
+  pub are : AreWholeLinesOf bytes lines
+  pub length : whole ≡ length lines
+  pub state : AreState lines found
+
+-- The same for a file whose bytes are known.
+abbrev pub ReadsKnownState : Option (List ℕ) → ℕ → RecoveredState → Type 0
+ReadsKnownState None whole found = ⊤
+ReadsKnownState (Some bytes) whole found = ReadsState bytes whole found
+
+-- A server begins with the state in the whole lines of a file, in which no session has a worker: it crashes each worker
+-- that was up, and a line for each of these crashes is in the file behind the whole lines.
+pub record BeginsServer (bytes : List ℕ) (names : List (List ℕ)) (epoch : EpochState) (after : List ℕ) : Type 0 where
+  pub lines : List ℕ
+  pub are : AreWholeLinesOf bytes lines
+  pub found : RecoveredState
+  pub state : AreState lines found
+  pub names_are : names ≡ found.log.names
+  pub base : epoch.base ≡ found.base
+  pub number : epoch.epoch ≡ found.log.header.epoch
+  pub crashed : HasCrashedAll found.log.world epoch.executor.world
+  pub nobody : epoch.executor.holders ≡ replicate found.log.world.shape.workers None
+  pub crashes : List ℕ
+  pub written : AppendsCommands names [] (crash_commands_from 0 found.log.world.privates) crashes
+  pub after_is : after ≡ lines ++ crashes
+
+-- The same for a file whose bytes are known.
+abbrev pub BeginsKnownServer : Option (List ℕ) → List (List ℕ) → EpochState → Option (List ℕ) → Type 0
+BeginsKnownServer None names epoch after = ⊤
+BeginsKnownServer (Some bytes) names epoch after =
+    (kept : List ℕ) × (after ≡ Some kept) × BeginsServer bytes names epoch kept

@@ -1,0 +1,32 @@
+//! The faults of a state's file.
+
+use rme_cli_messages::{BadArgument, CliFault, escape_controls};
+use std::io;
+
+/// The fault if another server has the file.
+pub(crate) fn in_use_fault(rt: &HostRuntime, path: &str) -> Result<CliFault, CliFault> {
+    let path = escape_controls(rt.alloc(), path)?;
+    Ok(CliFault::BadArguments(BadArgument::StateServed(path)))
+}
+
+/// The fault if the file can't be read for this reason.
+pub(crate) fn read_fault(
+    rt: &HostRuntime,
+    path: &str,
+    why: io::Error,
+) -> Result<CliFault, CliFault> {
+    let kind = why.kind();
+    let path = escape_controls(rt.alloc(), path)?;
+    Ok(CliFault::on_file(kind, CliFault::StateUnread(path, why)))
+}
+
+/// The fault if the file can't be written for this reason.
+pub(crate) fn write_fault(
+    rt: &HostRuntime,
+    path: &str,
+    why: io::Error,
+) -> Result<CliFault, CliFault> {
+    let kind = why.kind();
+    let path = escape_controls(rt.alloc(), path)?;
+    Ok(CliFault::on_file(kind, CliFault::StateUnwritten(path, why)))
+}

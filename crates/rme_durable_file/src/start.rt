@@ -1,0 +1,126 @@
+//! The start of a server: its file is recovered; then each worker that was up is crashed, in the file and in the world.
+
+ghost use Rattle.std.specs.Prelude.{◌≡◌, [], IfOk, OnOk, string_bytes};
+ghost use Rattle.rme_durable_format.specs.BatchCommands.{crash_commands_from};
+ghost use Rattle.rme_durable_format.specs.CommandLines.{AppendsCommands};
+
+use crate::disk_file::DiskFile;
+use crate::faults::{read_fault, write_fault};
+use crate::reading::{ReadState, recover_reporting};
+use crate::state_file::StateFile;
+use rme_cli_messages::CliFault;
+use rme_durable_checkpoint::EpochExecutor;
+use rme_durable_format::{RecoveredLog, append_crashes};
+use rme_durable_server::RecoveredState;
+use rme_session_world::Executor;
+use rme_wire::Names;
+use std::alloc::Global;
+use std::marker::Model;
+
+/// A file that was recovered, and can be served; nothing was changed yet. In contracts it is the file's bytes, if they
+/// are known.
+#[derive(Drop)]
+pub struct RecoveredFile<'a, F: DiskFile> {
+    file: StateFile<'a, F>,
+    recovered: RecoveredState,
+    /// The number of bytes of its whole lines. What follows is a torn line.
+    whole: usize,
+}
+
+impl<'a, F: DiskFile> Model for RecoveredFile<'a, F> {
+    ghost use Rattle.std.specs.Prelude.{◌≡◌, ℕ, List, Option, true};
+    ghost use Rattle.rme_durable_file.specs.Starts.{ReadsKnownState};
+
+    ghost Value = { Option (List ℕ) };
+
+    ghost view = { λ found. found.file.bytes };
+
+    ghost invariant = { λ found. (found.file.works ≡ true)
+        × ReadsKnownState found.file.bytes found.whole found.recovered };
+}
+
+/// A state whose events are all in its file, and whose workers are all down.
+#[derive(Drop)]
+pub struct OpenedState<'a, F: DiskFile> {
+    pub names: Names,
+    pub executor: EpochExecutor,
+    pub file: StateFile<'a, F>,
+}
+
+impl<'a, F: DiskFile> RecoveredFile<'a, F> {
+    ghost use Rattle.std.specs.Prelude.{◌≡◌, [], IfOk, true};
+    ghost use Rattle.rme_durable_file.specs.Starts.{BeginsKnownServer};
+
+    /// Recovers the state of an open file, which may end with a torn line, and reports the number of lines and the time
+    /// on the standard error. The file is not changed.
+    pub fn read(rt: &HostRuntime, file: StateFile<'a, F>) -> Result<RecoveredFile<'a, F>, CliFault>
+        requires works { file.works ≡ true }
+        ensures { IfOk result (λ found. found ≡ file.entry.bytes) }
+    {
+        let mut file = file;
+        let bytes = match file.read_all(rt.alloc()) {
+            Ok(bytes) => bytes,
+            Err(error) => return Err(read_fault(rt, file.path(), error)?),
+        };
+        let ReadState { recovered, whole } = recover_reporting(rt, file.path(), bytes.as_slice())?;
+        Ok(RecoveredFile {
+            file,
+            recovered,
+            whole,
+        })
+    }
+
+    /// The recovered log.
+    pub fn log(&self) -> &RecoveredLog {
+        &self.recovered.log
+    }
+
+    /// Cuts off the torn line, and appends a crash of each worker that was up. After an error the file may end with a
+    /// part of these lines, and the next start reads it as it reads any other.
+    pub fn open(self, rt: &HostRuntime) -> Result<OpenedState<'a, F>, CliFault>
+        ensures works { IfOk result (λ state. state.file.works ≡ true) }
+        ensures lines { IfOk result (λ state. state.executor.lines ≡ []) }
+        ensures begins { IfOk result (λ state. BeginsKnownServer self.entry state.names state.executor
+            state.file.bytes) }
+    {
+        let RecoveredFile {
+            file,
+            recovered,
+            whole,
+        } = self;
+        let mut file = file;
+        let crashes = crash_lines(rt.alloc(), &recovered.log)?;
+        if let Err(error) = file.begin(whole) {
+            return Err(write_fault(rt, file.path(), error)?);
+        }
+        if let Err(error) = file.write(crashes.as_bytes()) {
+            return Err(write_fault(rt, file.path(), error)?);
+        }
+        let length = whole.saturating_add(crashes.len()) as u64;
+        let RecoveredState { log, base } = recovered;
+        let RecoveredLog {
+            header,
+            names,
+            world,
+            ..
+        } = log;
+        let executor = Executor::new(rt.alloc(), world)?;
+        Ok(OpenedState {
+            names,
+            executor: EpochExecutor::new(rt.alloc(), executor, base, header.epoch, length),
+            file,
+        })
+    }
+}
+
+/// The lines that crash each worker that was up.
+fn crash_lines(alloc: Global, log: &RecoveredLog) -> Result<String, CliFault>
+    ensures { IfOk result (λ lines. AppendsCommands log.now.names []
+        (crash_commands_from 0 log.now.world.privates) (string_bytes lines)) }
+{
+    let mut crashes = String::new(alloc);
+    if append_crashes(&mut crashes, alloc, &log.names, &log.world).is_err() {
+        return Err(CliFault::NoMemory);
+    }
+    Ok(crashes)
+}

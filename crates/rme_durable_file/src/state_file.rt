@@ -1,0 +1,169 @@
+//! The store of a server: a file to which it appends.
+
+use crate::cause::Cause;
+use crate::disk_file::DiskFile;
+use crate::name::StateName;
+use rme_durable_server::{LogStore, NotDurable};
+use std::alloc::Global;
+use std::io;
+use std::marker::Model;
+
+/// The file of a state, as the store of its log. In contracts it is the file's bytes, if they are known, and whether
+/// it takes lines.
+///
+/// If an append fails, its `StateName` notes the cause, and nothing more is written: what is not durable must not be
+/// answered, and the next recovery continues from what was written.
+#[derive(Drop)]
+pub struct StateFile<'a, F: DiskFile> {
+    name: &'a StateName,
+    file: F,
+    /// Whether each append waits for the disk.
+    syncs: bool,
+    /// Whether the disk may not have the file under its name. Then, after a stop of the machine, the name may be an
+    /// older file's.
+    is_unsure: bool,
+    /// Whether no append has failed.
+    works: bool,
+}
+
+impl<'a, F: DiskFile> Model for StateFile<'a, F> {
+    ghost use Rattle.rme_durable_log.specs.StoreCalls.{StoreState};
+
+    ghost Value = { StoreState };
+
+    ghost view = { λ state. record { bytes = F.contents state.file; works = state.works } };
+}
+
+impl<'a, F: DiskFile> StateFile<'a, F> {
+    ghost use Rattle.std.specs.Prelude.{◌≡◌, IfOk, OnErr, OnOk, true};
+    ghost use Rattle.rme_durable_file.specs.DiskFiles.{AppendsPartToFile, AppendsToFile, AreFileBytes, CutsFile, ReplacesFile};
+
+    /// The store of a file that is open and locked. Each append waits for the disk if `syncs`.
+    pub fn new(name: &'a StateName, file: F, syncs: bool) -> StateFile<'a, F>
+        ensures bytes { result.bytes ≡ F.contents file }
+        ensures works { result.works ≡ true }
+    {
+        StateFile {
+            name,
+            file,
+            syncs,
+            is_unsure: false,
+            works: true,
+        }
+    }
+
+    /// The path of the file.
+    pub(crate) fn path(&self) -> &str {
+        self.name.path()
+    }
+
+    /// All bytes of the file.
+    pub(crate) fn read_all(&mut self, alloc: Global) -> io::Result<Vec<u8>>
+        ensures found { IfOk result (λ found. AreFileBytes self.old.bytes found.items) }
+        ensures same { self.new ≡ self.old }
+    {
+        self.file.read_all(alloc)
+    }
+
+    /// Cuts a file that was read, and is a state, to `length` bytes, and prepares it for appends.
+    pub(crate) fn begin(&mut self, length: usize) -> io::Result<()>
+        ensures cut { OnOk result (CutsFile self.old.bytes length self.new.bytes) }
+        ensures works { self.new.works ≡ self.old.works }
+    {
+        self.file.begin(length, self.syncs)
+    }
+
+    /// Appends the first lines of a start.
+    pub(crate) fn write(&mut self, lines: &[u8]) -> io::Result<()>
+        ensures kept { OnOk result (AppendsToFile self.old.bytes lines.now self.new.bytes) }
+        ensures works { self.new.works ≡ self.old.works }
+    {
+        self.file.append(lines, self.syncs)
+    }
+
+    /// Appends lines, if recovery would still find this file.
+    fn append_if_named(&mut self, lines: &[u8]) -> Result<(), Cause>
+        ensures kept { OnOk result (AppendsToFile self.old.bytes lines.now self.new.bytes) }
+        ensures part { OnErr result (AppendsPartToFile self.old.bytes lines.now self.new.bytes) }
+        ensures works { self.new.works ≡ self.old.works }
+    {
+        if self.name.is_lost() {
+            return Err(Cause::NameLost);
+        }
+        if self.syncs && self.is_unsure {
+            return Err(Cause::NameUnsure);
+        }
+        match self.file.append(lines, self.syncs) {
+            Ok(()) => Ok(()),
+            Err(error) => Err(Cause::from(error)),
+        }
+    }
+
+    /// Replaces this file by one with these bytes, and continues with that. After an error this file is as it was.
+    ///
+    /// If the disk may not have the new file's name, nothing is lost by that, but later lines would be: so if appends
+    /// wait for the disk, none succeeds any more.
+    fn replace_with_new(&mut self, bytes: &[u8]) -> Result<(), Cause>
+        ensures replaced { OnOk result (ReplacesFile self.old.bytes bytes.now self.new.bytes) }
+        ensures same { OnErr result (self.new.bytes ≡ self.old.bytes) }
+        ensures works { self.new.works ≡ self.old.works }
+    {
+        match self.file.replace(bytes) {
+            Ok(unsure) => {
+                self.is_unsure = unsure.is_some();
+                if let Some(cause) = unsure {
+                    self.name.note_unsure(cause);
+                }
+                Ok(())
+            }
+            Err(cause) => Err(cause),
+        }
+    }
+}
+
+impl<F: DiskFile> LogStore for StateFile<'_, F> {
+    ghost holds = { λ state. state };
+
+    fn append(&mut self, lines: &[u8]) -> Result<(), NotDurable> {
+        match self.append_if_named(lines) {
+            Ok(()) => Ok(()),
+            Err(cause) => {
+                self.works = false;
+                match cause {
+                    Cause::NameLost => self.name.mark_lost(),
+                    _ => self.name.note_unwritten(cause),
+                }
+                Err(NotDurable)
+            }
+        }
+    }
+
+    fn replace(&mut self, bytes: &[u8]) -> Result<(), NotDurable> {
+        self.name.change();
+        let replaced = self.replace_with_new(bytes);
+        self.name.change();
+        match replaced {
+            Ok(()) => Ok(()),
+            Err(Cause::NameLost) => {
+                self.name.mark_lost();
+                Err(NotDurable)
+            }
+            Err(cause) => {
+                self.name.note_unreplaced(cause);
+                Err(NotDurable)
+            }
+        }
+    }
+
+    /// Without waiting for the disk, an append takes about a microsecond.
+    fn is_quick(&self) -> bool {
+        !self.syncs
+    }
+
+    fn fail(&mut self) {
+        self.works = false;
+        if !self.name.is_lost() {
+            self.name.note_no_memory();
+        }
+    }
+}
