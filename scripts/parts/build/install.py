@@ -179,7 +179,8 @@ def try_whole(folder):
     ran = install(prefix)
     if not check("it is installed", ran[0] == 0, ran):
         return
-    wanted = [*PROGRAM, *LIBRARY, *packages("rme_client", "rme_shared"), f"{SITE}/rme_shared/librme.so", "share/rme/manifest"]
+    library = "/".join([SITE, "rme_shared", "librme.so"])
+    wanted = [*PROGRAM, *LIBRARY, *packages("rme_client", "rme_shared"), library, "share/rme/manifest"]
     same("what is there", files_in(prefix), sorted(wanted))
     program = subprocess.run([os.path.join(prefix, "bin/rme"), "--version"], capture_output=True, text=True)
     check("the program", program.returncode == 0 and program.stdout.startswith("rme "), program)
