@@ -67,7 +67,11 @@ module _ (names : List (List ℕ)) (most : ℕ) where
                     | inr last ↦
                         elim (cases_Bool (bytes_eq word (codes "detach"))) [
                           | inl t ↦ bare_named order word (codes "detach") t (λ e. e)
-                          | inr detach ↦ (λ e. let none : None ≡ Some order = rw (withdraw, commit, last, detach) at e in absurd (none-some order none))
+                          | inr detach ↦
+                              elim (cases_Bool (bytes_eq word (codes "ping"))) [
+                                | inl t ↦ bare_named order word (codes "ping") t (λ e. e)
+                                | inr ping ↦ (λ e. let none : None ≡ Some order = rw (withdraw, commit, last, detach, ping) at e in absurd (none-some order none))
+                              ]
                         ]
                   ]
             ]

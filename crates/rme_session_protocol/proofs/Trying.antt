@@ -1,5 +1,5 @@
 -- An order that is executed in parts is executed.
-use Rattle.std.proofs.Common.{◌≡◌, ℕ, ◌+◌, ◌-◌, ◌<◌, ◌≤◌, arith, inl, inr, refl, sym, ap, ◌∙◌, subst}
+use Rattle.std.proofs.Common.{◌≡◌, ℕ, ◌+◌, ◌<◌, ◌≤◌, arith, inl, inr, refl, sym, ap, ◌∙◌, subst}
 use Rattle.std.specs.Prelude.{◌==◌, nat_lt, Bool, true, false, Option, Some, None}
 use Rattle.std.proofs.lemmas.Bool.{cases_Bool, eqb-true}
 use Rattle.std.proofs.lemmas.Option.{none-some, same_Some}
@@ -59,7 +59,7 @@ tried_all least tries made (Receipt receipt) all some = tt
 tried_all least tries made Withdrawn all some = tt
 tried_all least tries made Waiting all some = let at = all refl in omega (arith, at, some)
 tried_all least tries made Fell all some = tt
-tried_all least tries made (Inside number) all some = tt
+tried_all least tries made (Inside token) all some = tt
 
 abbrev pub HasAll : ℕ → Order → SessionReply → Type 0
 HasAll tries its reply = is_still_waiting reply ≡ true → least_patience_tries (order_patience its) ≤ tries
@@ -148,17 +148,14 @@ enters_waiting : (one two both : ℕ) (start mid now : Session) (its : Submissio
 enters_waiting one two both Nobody mid now its became waits enters = absurd waits
 enters_waiting one two both (Ready ready) mid now its became waits enters = hands_inside_waiting (its.number == ready.number) ready mid now its two became waits enters
 enters_waiting one two both (Climb pending) mid now its became waits enters = inside_waiting pending mid now its two became waits enters
-enters_waiting one two both (Held pending) mid now its became (none, same, waits) enters = absurd (never waits)
-  where
-    never : Waiting ≡ Inside pending.number → ⊥
-    never is = cc
+enters_waiting one two both (Held pending) mid now its became (none, same, waits) enters = absurd waits
 
 -- The planned crash comes earlier by the own steps of both parts.
 left_both : (one two : ℕ) (old mid now : SessionView) (became : JobOutcome) → PlanAfterSteps old.planned one mid.planned → PlanAfterOrder two mid now became → PlanAfterOrder (one + two) old now became
 left_both one two old mid now (Receipt receipt) first left = left_on old.planned mid.planned now.planned one two first left
 left_both one two old mid now Withdrawn first left = left_on old.planned mid.planned now.planned one two first left
 left_both one two old mid now Waiting first left = left_on old.planned mid.planned now.planned one two first left
-left_both one two old mid now (Inside number) first left = left_on old.planned mid.planned now.planned one two first left
+left_both one two old mid now (Inside token) first left = left_on old.planned mid.planned now.planned one two first left
 left_both one two old mid now Fell first (due, same) = (due_on old.planned mid.planned one two first due, same)
 
 -- A waiting job is that of a climbing worker, and continuing it is not refused.
@@ -208,10 +205,7 @@ enters_climbs : (made : ℕ) (start mid : Session) (its : Submission) → EnterO
 enters_climbs made Nobody mid its waits = absurd waits
 enters_climbs made (Ready ready) mid its waits = hands_inside_climbs (its.number == ready.number) ready its.job mid waits
 enters_climbs made (Climb pending) mid its waits = inside_climbs pending mid waits
-enters_climbs made (Held pending) mid its (none, same, waits) = absurd (never waits)
-  where
-    never : Waiting ≡ Inside pending.number → ⊥
-    never is = cc
+enters_climbs made (Held pending) mid its (none, same, waits) = absurd waits
 
 pub climb_not_refused : (mid : Session) (why : Refusal) → IsClimb mid → Some why ≡ resume_refusal mid → ⊥
 climb_not_refused Nobody why climbs refuses = climbs
@@ -255,10 +249,7 @@ enters_with shape made (Ready ready) mid its none waits = handed (its.number == 
     handed true is (same, waits) = absurd (told_waits ready waits)
     handed false is waits = inside_with its (waiting_worker (next_worker_job ready its.job)) mid (sym (is_next shape ready.number its is none)) refl waits
 enters_with shape made (Climb pending) mid its none waits = inside_with its pending mid (sym none.0) none.1 waits
-enters_with shape made (Held pending) mid its none (zero, same, waits) = absurd (never waits)
-  where
-    never : Waiting ≡ Inside pending.number → ⊥
-    never is = cc
+enters_with shape made (Held pending) mid its none (zero, same, waits) = absurd waits
 
 pending_not_refused : (number : ℕ) (draft : Option Job) (its : Submission) (why : Refusal) → number ≡ its.number → draft ≡ Some its.job → PendingJobRefusal number draft its (Some why) → ⊥
 pending_not_refused number draft its Differs same has refuses = refuses.1 has
@@ -283,7 +274,7 @@ tried_both tries one two (Receipt receipt) first more = tt
 tried_both tries one two Withdrawn first more = tt
 tried_both tries one two Waiting first more = omega (arith, first, more)
 tried_both tries one two Fell first more = tt
-tried_both tries one two (Inside number) first more = tt
+tried_both tries one two (Inside token) first more = tt
 
 -- One more try, after the first ones.
 module _ (shape : Shape) (tries one two : ℕ) (old mid now : SessionView) where

@@ -1,21 +1,26 @@
 -- The answer that a client gets: a session's answer, whose definitions allow numbers of any size.
 use Rattle.std.specs.Prelude.{option_map}
+use Rattle.rme_session_protocol.specs.declared.reply.FencingToken.{FencingToken}
 use Rattle.rme_session_protocol.specs.declared.reply.JobOutcome.{JobOutcome}
 use Rattle.rme_session_protocol.specs.declared.reply.JobOutcome.TheVariants as outcome
 use Rattle.rme_session_protocol.specs.declared.reply.SessionReply.{SessionReply}
 use Rattle.rme_session_protocol.specs.declared.reply.SessionReply.TheVariants as reply
 use Rattle.rme_session_protocol.specs.declared.client_reply.ClientOutcome.{ClientOutcome}
 use Rattle.rme_session_protocol.specs.declared.client_reply.ClientOutcome.TheVariants.{Receipt, Withdrawn, Waiting, Fell, Inside}
+use Rattle.rme_session_protocol.specs.declared.client_reply.ClientToken.{ClientToken}
 use Rattle.rme_session_protocol.specs.declared.client_reply.ClientReply.{ClientReply}
-use Rattle.rme_session_protocol.specs.declared.client_reply.ClientReply.TheVariants.{Attached, Submitted, Resumed, Entered, Committed, Withdrew, WithdrawFell, Last, CrashPlanned, Detached, Refused}
+use Rattle.rme_session_protocol.specs.declared.client_reply.ClientReply.TheVariants.{Attached, Submitted, Resumed, Entered, Committed, Withdrew, WithdrawFell, Last, CrashPlanned, Detached, Pong, Refused}
 use Rattle.rme_line_text.specs.ClientReceipts.{as_receipt}
+
+abbrev pub token_of_client : ClientToken → FencingToken
+token_of_client token = record { lock = token.lock; number = token.number; section = token.section }
 
 abbrev pub outcome_of_client : ClientOutcome → JobOutcome
 outcome_of_client (Receipt told) = outcome.Receipt (as_receipt told)
 outcome_of_client Withdrawn = outcome.Withdrawn
 outcome_of_client Waiting = outcome.Waiting
 outcome_of_client Fell = outcome.Fell
-outcome_of_client (Inside number) = outcome.Inside number
+outcome_of_client (Inside token) = outcome.Inside (token_of_client token)
 
 abbrev pub reply_of_client : ClientReply → SessionReply
 reply_of_client (Attached number standing) = reply.Attached number standing
@@ -28,4 +33,5 @@ reply_of_client WithdrawFell = reply.WithdrawFell
 reply_of_client (Last last) = reply.Last (option_map as_receipt last)
 reply_of_client CrashPlanned = reply.CrashPlanned
 reply_of_client Detached = reply.Detached
+reply_of_client Pong = reply.Pong
 reply_of_client (Refused refusal) = reply.Refused refusal

@@ -6,7 +6,7 @@ use Rattle.rme_words.specs.declared.refusal.Refusal.TheVariants.{NoWorker, Busy,
 use Rattle.rme_script.specs.declared.job.Job.{Job}
 use Rattle.rme_script.specs.JobRefusals.{job_refusal_within}
 use Rattle.rme_session_protocol.specs.declared.order.Order.{Order}
-use Rattle.rme_session_protocol.specs.declared.order.Order.TheVariants.{Attach, Submit, Resume, Enter, Commit, Withdraw, Last, CrashAfter, Detach}
+use Rattle.rme_session_protocol.specs.declared.order.Order.TheVariants.{Attach, Submit, Resume, Enter, Commit, Withdraw, Last, CrashAfter, Detach, Ping}
 use Rattle.rme_session_protocol.specs.declared.order.Submission.{Submission}
 use Rattle.rme_session_protocol.specs.declared.refusal.SubmissionKind.{SubmissionKind}
 use Rattle.rme_session_protocol.specs.declared.refusal.SubmissionKind.TheVariants.{Post, Repeat}
@@ -116,6 +116,7 @@ OrderRefusalWithin sizes session Withdraw why = why ≡ withdraw_order_refusal s
 OrderRefusalWithin sizes session Last why = why ≡ last_refusal session
 OrderRefusalWithin sizes session (CrashAfter steps) why = why ≡ bare_refusal session
 OrderRefusalWithin sizes session Detach why = why ≡ bare_refusal session
+OrderRefusalWithin sizes session Ping why = why ≡ None
 
 abbrev pub OrderRefusal : Shape → Session → Order → Option Refusal → Type 0
 OrderRefusal shape = OrderRefusalWithin (service_sizes shape)

@@ -1,10 +1,11 @@
 -- The texts of the answers of a session, without their newline.
 use Rattle.std.specs.Prelude.{ℕ, List, ◌++◌, codes, decimal}
 use Rattle.rme_program.specs.declared.note.Receipt.{Receipt}
+use Rattle.rme_session_protocol.specs.declared.reply.FencingToken.{FencingToken}
 use Rattle.rme_session_protocol.specs.declared.reply.JobOutcome.{JobOutcome}
 use Rattle.rme_session_protocol.specs.declared.reply.JobOutcome.TheVariants as outcome
 use Rattle.rme_session_protocol.specs.declared.reply.SessionReply.{SessionReply}
-use Rattle.rme_session_protocol.specs.declared.reply.SessionReply.TheVariants.{Attached, Submitted, Resumed, Entered, Committed, Withdrew, WithdrawFell, Last, CrashPlanned, Detached, Refused}
+use Rattle.rme_session_protocol.specs.declared.reply.SessionReply.TheVariants.{Attached, Submitted, Resumed, Entered, Committed, Withdrew, WithdrawFell, Last, CrashPlanned, Detached, Pong, Refused}
 use Rattle.rme_session_protocol.specs.declared.reply.SessionStance.{SessionStance}
 use Rattle.rme_session_protocol.specs.declared.reply.SessionStance.TheVariants.{Ready, Climb, Held}
 use Rattle.rme_line_text.specs.Texts.{receipt_text}
@@ -20,6 +21,12 @@ abbrev pub stance_text : ℕ → List ℕ → List ℕ → List ℕ
 stance_text number word standing =
     codes "{\"number\":" ++ (decimal number ++
     (codes ",\"ok\":\"" ++ (word ++ (codes "\",\"stance\":\"" ++ (standing ++ codes "\"}")))))
+
+-- `{"number":..,"ok":WORD,"section":..,"stance":"held"}`
+abbrev pub inside_text : List ℕ → FencingToken → List ℕ
+inside_text word token =
+    codes "{\"number\":" ++ (decimal token.number ++ (codes ",\"ok\":\"" ++ (word ++
+    (codes "\",\"section\":" ++ (decimal token.section ++ codes ",\"stance\":\"held\"}")))))
 
 -- `{"fell":true,"ok":WORD}`
 abbrev pub fell_text : List ℕ → List ℕ
@@ -38,7 +45,7 @@ job_outcome_text names word (outcome.Receipt receipt) = receipt_outcome_text nam
 job_outcome_text names word outcome.Withdrawn = codes "{\"ok\":\"" ++ (word ++ codes "\",\"withdrawn\":true}")
 job_outcome_text names word outcome.Waiting = codes "{\"ok\":\"" ++ (word ++ codes "\",\"waiting\":true}")
 job_outcome_text names word outcome.Fell = fell_text word
-job_outcome_text names word (outcome.Inside number) = stance_text number word (stance_word Held)
+job_outcome_text names word (outcome.Inside token) = inside_text word token
 
 abbrev pub session_reply_text : List (List ℕ) → SessionReply → List ℕ
 session_reply_text names (Attached number standing) = stance_text number (codes "attach") (stance_word standing)
@@ -51,4 +58,5 @@ session_reply_text names WithdrawFell = fell_text (codes "withdraw")
 session_reply_text names (Last last) = last_text names last
 session_reply_text names CrashPlanned = codes "{\"ok\":\"crash_after\"}"
 session_reply_text names Detached = codes "{\"ok\":\"detach\"}"
+session_reply_text names Pong = codes "{\"ok\":\"ping\"}"
 session_reply_text names (Refused refusal) = refusal_text refusal

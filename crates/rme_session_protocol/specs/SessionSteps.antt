@@ -4,6 +4,7 @@ use Rattle.rme_words.specs.declared.shape.Shape.{Shape}
 use Rattle.rme_script.specs.declared.job.Job.{Job}
 use Rattle.rme_program.specs.declared.note.Receipt.{Receipt}
 use Rattle.rme_session_protocol.specs.Patience.{least_tries}
+use Rattle.rme_session_protocol.specs.declared.reply.FencingToken.{FencingToken}
 use Rattle.rme_session_protocol.specs.declared.reply.JobOutcome.{JobOutcome}
 use Rattle.rme_session_protocol.specs.declared.reply.JobOutcome.TheVariants as outcome
 use Rattle.rme_session_protocol.specs.declared.reply.SessionStance.{SessionStance}
@@ -72,7 +73,7 @@ SubmitOrderEffect (Held pending) its session became = PendingJobEffect pending s
 -- ENTER: a ready worker answers its last number again, or posts the job; a worker with a job continues it. It stops
 -- when it is inside, owning the job's lock, and answers the number. A worker that is already inside makes no step.
 abbrev pub EnterPendingEffect : PendingWorker → Session → JobOutcome → Type 0
-EnterPendingEffect start (Held pending) (outcome.Inside number) = (pending ≡ start) × (number ≡ start.number)
+EnterPendingEffect start (Held pending) (outcome.Inside token) = (pending ≡ start) × (token.number ≡ start.number)
 EnterPendingEffect start (Climb pending) outcome.Waiting = pending ≡ start
 EnterPendingEffect start Nobody outcome.Fell = Unit {0}
 EnterPendingEffect start session became = ⊥
@@ -88,7 +89,23 @@ EnterOrderEffect made (Ready ready) its session became =
     ReadyEnterEffect (its.number == ready.number) ready its.job session became
 EnterOrderEffect made (Climb pending) its session became = EnterPendingEffect pending session became
 EnterOrderEffect made (Held pending) its session became =
-    (made ≡ 0) × (session ≡ Held pending) × (became ≡ outcome.Inside pending.number)
+    (made ≡ 0) × (session ≡ Held pending) × EnterPendingEffect pending (Held pending) became
+
+-- THE FENCING TOKEN. A worker that is inside is told the lock that it owns, and the number of the lock's finished
+-- sections, which the state of a server determines.
+abbrev pub TokenSection : (ℕ → ℕ → Type 0) → PendingWorker → FencingToken → Type 0
+TokenSection HasFinished pending token =
+    (job : Job) × (pending.draft ≡ Some job) × (token.lock ≡ job.lock) × HasFinished token.lock token.section
+
+abbrev pub TellsSection : (ℕ → ℕ → Type 0) → Session → SessionReply → Type 0
+TellsSection HasFinished (Held pending) (reply.Entered (outcome.Inside token)) =
+    TokenSection HasFinished pending token
+TellsSection HasFinished session answer = Unit {0}
+
+-- The receipt of a commit has the place that was told: the number of the lock's finished sections before it.
+abbrev pub TellsPlace : (ℕ → ℕ → Type 0) → SessionReply → Type 0
+TellsPlace HasFinished (reply.Committed (outcome.Receipt receipt)) = HasFinished receipt.lock receipt.place
+TellsPlace HasFinished answer = Unit {0}
 
 -- COMMIT: the worker inside finishes its job, or crashes.
 abbrev pub CommitOrderEffect : Session → Session → JobOutcome → Type 0
@@ -148,6 +165,7 @@ OrderEffect made old order.Last now (reply.Last receipt) = LastOrderEffect old.s
 OrderEffect made old (order.CrashAfter steps) now reply.CrashPlanned =
     now ≡ record { session = old.session; planned = After steps }
 OrderEffect made old order.Detach now reply.Detached = now ≡ detached_view
+OrderEffect made old order.Ping now reply.Pong = now ≡ old
 OrderEffect made old its now answer = ⊥
 
 -- A session of a service of these sizes executed an order, with this number of own steps: either the order is refused

@@ -3,9 +3,18 @@
 ghost use Rattle.std.specs.Prelude.{◌≡◌};
 ghost use Rattle.rme_session_protocol.specs.ClientReplies as spec;
 
-use crate::reply::{JobOutcome, SessionReply, SessionStance};
+use crate::reply::{FencingToken, JobOutcome, SessionReply, SessionStance};
 use rme_line_text::{ClientReceipt, client_receipt_of};
 use rme_words::Refusal;
+
+/// A fencing token over all worlds of a service: as `FencingToken`, but its number and section may exceed those of one
+/// world.
+#[derive(Clone, Copy, PartialEq, Eq)]
+pub struct ClientToken {
+    pub lock: u32,
+    pub number: u64,
+    pub section: u64,
+}
 
 /// The outcome of a job, as its client gets it.
 #[derive(Clone, Copy, PartialEq, Eq)]
@@ -14,7 +23,7 @@ pub enum ClientOutcome {
     Withdrawn,
     Waiting,
     Fell,
-    Inside(u64),
+    Inside(ClientToken),
 }
 
 /// An answer of a session, over all worlds of its service: as `SessionReply`, but its numbers and places may exceed
@@ -31,7 +40,20 @@ pub enum ClientReply {
     Last(Option<ClientReceipt>),
     CrashPlanned,
     Detached,
+    Pong,
     Refused(Refusal),
+}
+
+impl From<FencingToken> for ClientToken {
+    ghost from_gives = { λ token told. spec.token_of_client told ≡ token };
+
+    fn from(token: FencingToken) -> ClientToken {
+        ClientToken {
+            lock: token.lock,
+            number: u64::from(token.number),
+            section: u64::from(token.section),
+        }
+    }
 }
 
 impl From<JobOutcome> for ClientOutcome {
@@ -43,7 +65,7 @@ impl From<JobOutcome> for ClientOutcome {
             JobOutcome::Withdrawn => ClientOutcome::Withdrawn,
             JobOutcome::Waiting => ClientOutcome::Waiting,
             JobOutcome::Fell => ClientOutcome::Fell,
-            JobOutcome::Inside(number) => ClientOutcome::Inside(u64::from(number)),
+            JobOutcome::Inside(token) => ClientOutcome::Inside(ClientToken::from(token)),
         }
     }
 }
@@ -65,6 +87,7 @@ impl From<SessionReply> for ClientReply {
             SessionReply::Last(last) => ClientReply::Last(client_receipt_of(last)),
             SessionReply::CrashPlanned => ClientReply::CrashPlanned,
             SessionReply::Detached => ClientReply::Detached,
+            SessionReply::Pong => ClientReply::Pong,
             SessionReply::Refused(refusal) => ClientReply::Refused(refusal),
         }
     }

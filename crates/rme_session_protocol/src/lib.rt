@@ -26,11 +26,11 @@ pub use attempts::{
     is_client_waiting, is_still_waiting, merge_client_replies, merge_replies, order_patience,
     retry_order, with_tries,
 };
-pub use client_reply::{ClientOutcome, ClientReply};
+pub use client_reply::{ClientOutcome, ClientReply, ClientToken};
 pub use order::{
     Attachment, Order, Patience, SERVICE_NUMBERS, Submission, WORLD_NUMBERS, parse_order,
 };
 pub use planned_crash::{Countdown, PlannedCrash};
 pub use refusal::{SubmissionKind, classify_submission, pending_refusal};
-pub use reply::{JobOutcome, SessionReply, SessionStance, push_session_reply};
+pub use reply::{FencingToken, JobOutcome, SessionReply, SessionStance, push_session_reply};
 pub use view::{PendingWorker, ReadyWorker, Session, SessionView};

@@ -96,6 +96,8 @@ pub enum Order {
     CrashAfter(u32),
     /// Release the worker.
     Detach,
+    /// Answer, and do nothing else: the session is alive.
+    Ping,
 }
 
 /// The order of a session's line, or `None` if it is no order.
@@ -298,6 +300,9 @@ pub(crate) fn bare_order(word: &str, count: usize) -> Option<Order>
     }
     if word == "detach" {
         return Some(Order::Detach);
+    }
+    if word == "ping" {
+        return Some(Order::Ping);
     }
     None
 }

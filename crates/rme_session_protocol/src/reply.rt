@@ -2,10 +2,10 @@
 
 ghost use Rattle.std.specs.Prelude.{◌≡◌, ◌++◌, OnOk, string_bytes};
 ghost use Rattle.rme_session_protocol.specs.ReplyTexts as spec;
-ghost use Rattle.rme_session_protocol.specs.ClientReplies.{outcome_of_client, reply_of_client};
+ghost use Rattle.rme_session_protocol.specs.ClientReplies.{outcome_of_client, reply_of_client, token_of_client};
 ghost use Rattle.rme_line_text.specs.ClientReceipts.{as_receipt};
 
-use crate::client_reply::{ClientOutcome, ClientReply};
+use crate::client_reply::{ClientOutcome, ClientReply, ClientToken};
 use rme_line_text::{ClientReceipt, Names, push_last, push_receipt, push_refusal};
 use rme_program::Receipt;
 use rme_words::Refusal;
@@ -34,6 +34,19 @@ impl SessionStance {
     }
 }
 
+/// The fencing token of a worker that is inside its lock.
+///
+/// A resource outside keeps the greatest section of a lock that it has seen, and refuses a lower one.
+#[derive(Clone, Copy, PartialEq, Eq)]
+pub struct FencingToken {
+    /// The lock that the worker owns.
+    pub lock: u32,
+    /// The number of its job.
+    pub number: u32,
+    /// The number of the lock's finished sections: the place that the receipt of the job will have.
+    pub section: u32,
+}
+
 /// The outcome of a job that a session submitted or continued.
 #[derive(Clone, Copy, PartialEq, Eq)]
 pub enum JobOutcome {
@@ -45,8 +58,8 @@ pub enum JobOutcome {
     Waiting,
     /// The planned crash happened, and the session has no worker any more.
     Fell,
-    /// The worker is inside its lock, with the job of this number, and has not begun its section.
-    Inside(u32),
+    /// The worker is inside its lock, and has not finished its section.
+    Inside(FencingToken),
 }
 
 /// The answer to a line of a session.
@@ -65,6 +78,8 @@ pub enum SessionReply {
     Last(Option<Receipt>),
     CrashPlanned,
     Detached,
+    /// The answer to a ping.
+    Pong,
     Refused(Refusal),
 }
 
@@ -92,6 +107,7 @@ pub fn push_session_reply(
         ClientReply::Last(last) => push_last(out, names, last),
         ClientReply::CrashPlanned => out.push_str("{\"ok\":\"crash_after\"}"),
         ClientReply::Detached => out.push_str("{\"ok\":\"detach\"}"),
+        ClientReply::Pong => out.push_str("{\"ok\":\"ping\"}"),
         ClientReply::Refused(refusal) => push_refusal(out, refusal),
     }
 }
@@ -122,8 +138,24 @@ fn push_outcome(
         ClientOutcome::Withdrawn => write!(out, "{{\"ok\":\"{word}\",\"withdrawn\":true}}"),
         ClientOutcome::Waiting => write!(out, "{{\"ok\":\"{word}\",\"waiting\":true}}"),
         ClientOutcome::Fell => push_fell(out, word),
-        ClientOutcome::Inside(number) => push_stance(out, number, word, SessionStance::Held.word()),
+        ClientOutcome::Inside(token) => push_inside(out, word, token),
     }
+}
+
+/// Appends that a worker is inside, with its fencing token and the word of the line that asked.
+fn push_inside(out: &mut String, word: &str, token: ClientToken) -> Result<(), AllocError>
+    ensures { OnOk result (string_bytes out.new ≡ string_bytes out.old
+        ++ spec.inside_text word.now (token_of_client token)) }
+{
+    let ClientToken {
+        number,
+        section,
+        ..
+    } = token;
+    write!(
+        out,
+        "{{\"number\":{number},\"ok\":\"{word}\",\"section\":{section},\"stance\":\"held\"}}"
+    )
 }
 
 fn push_fell(out: &mut String, word: &str) -> Result<(), AllocError>
