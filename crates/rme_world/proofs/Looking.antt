@@ -1,10 +1,10 @@
 -- What the look-ups report.
-use Rattle.std.proofs.Common.{◌≡◌, ℕ, suc, ◌+◌, ◌*◌, ◌^◌, ◌<◌, ◌≤◌, Bool, true, not, List, ◌∷◌, length, take, refl, sym, ◌∙◌, ap, subst, arith, length-append}
+use Rattle.std.proofs.Common.{◌≡◌, ℕ, suc, ◌+◌, ◌*◌, ◌^◌, ◌<◌, ◌≤◌, ◌/◌, ◌%◌, Bool, true, false, not, List, ◌∷◌, length, take, refl, sym, ◌∙◌, ap, subst, inl, inr, arith, length-append}
 use Rattle.std.specs.Prelude.{◌↔◌, IsTrue, Option, Some, None, slice_get, slice_set, ◌==◌}
 use Rattle.std.specs.Option.{option_map}
 use Rattle.std.proofs.lemmas.Bool.{le-ltb, eqb-true}
 use Rattle.std.proofs.Math.Nat.{mul-le-mul}
-use Rattle.rme_words.specs.declared.address.Address.TheVariants.{Cell}
+use Rattle.rme_words.specs.declared.address.Address.TheVariants.{Cell, Turn}
 use Rattle.rme_core_image_check.proofs.Filling.{filled_next, filled_whole}
 use Rattle.std.proofs.lemmas.List.{length-set}
 use Rattle.std.proofs.lemmas.Option.{none-some, same_Some}
@@ -14,13 +14,14 @@ use Rattle.rme_tree.specs.Nodes.{held_levels_in, owner_in}
 use Rattle.rme_program.specs.declared.note.Entry.{Entry}
 use Rattle.rme_program.specs.declared.note.Receipt.{Receipt}
 use Rattle.rme_program.specs.declared.private.Private.{Private}
-use Rattle.rme_machine.specs.Histories.{IsLegalNextEntry}
+use Rattle.rme_machine.specs.Histories.{IsLegalNextEntry, history_of_lock, place_of}
 use Rattle.rme_machine.specs.AbstractCells.{AbstractCells, state_owner, is_lock_settled}
-use Rattle.rme_machine.specs.Views.{worker_words, lock_words, is_pending}
-use Rattle.rme_machine.specs.Invariant.{WorkerInvariant, IsLastReceiptWords}
+use Rattle.rme_machine.specs.Views.{LockWords, WorkerWords, worker_words, lock_words, is_pending}
+use Rattle.rme_machine.specs.Invariant.{LockInvariant, OwnedLockInvariant, WorkerInvariant, IsLastReceiptWords}
 use Rattle.rme_machine.proofs.Further.{idling}
-use Rattle.rme_machine.proofs.Historical.{entries_few, place_few}
+use Rattle.rme_machine.proofs.Historical.{entries_few, place_few, place_small}
 use Rattle.rme_machine.proofs.Lasts.{IsLast, last_stands, last_due}
+use Rattle.rme_machine.proofs.Sections.{place_count}
 use Rattle.rme_machine.proofs.Tables.{owning, shown_owner, tables}
 use Rattle.rme_machine.specs.Knowledge.{StageKnowledge, log_lock, redo_lock}
 use Rattle.rme_machine.specs.FurtherLaws.{stage_owned_lock}
@@ -67,6 +68,46 @@ row_whole seen lock cell cells row all long low high same =
     let here : cell ≡ seen.shape.cells = omega (arith, low, high, all) in
     let P : ℕ → Type 0 = λ (n : ℕ). take n row ≡ take n (lock_words seen.shape (world_memory seen) lock).cells in
     filled_whole (λ (c : ℕ). world_memory seen (Cell lock c)) seen.shape.cells row (long ∙ all) (subst P here same)
+
+-- ---- the finished sections of a lock
+
+-- From the turn of a lock that is settled or not.
+abbrev pub finished_by_turn : Bool → ℕ → ℕ
+finished_by_turn true turn = turn / 2 + turn % 2
+finished_by_turn false turn = turn / 2
+
+module _ (seen : WorldView) (lock : ℕ) (kept : WorldInvariant seen) (below : lock < seen.shape.locks) where
+  abbrev words : LockWords
+  words = lock_words seen.shape (world_memory seen) lock
+
+  owned_finished : (worker : ℕ) (own : WorkerWords) (pending : Bool) → OwnedLockInvariant seen.shape words seen.history lock record { worker = worker; words = own } pending
+      → finished_by_turn (not pending) words.turn ≡ place_of seen.history lock
+  owned_finished worker own true stands = elim stands [
+    | inl settled ↦ (let turn = settled.turn in omega (arith, turn))
+    | inr logged ↦ (let turn = logged.turn in omega (arith, turn))
+  ]
+  owned_finished worker own false stands = elim stands.2 [
+    | inl settled ↦ (let turn = settled.turn in omega (arith, turn))
+    | inr over ↦ (let turn = over.turn in omega (arith, turn))
+  ]
+
+  finished_at : (owner : Option ℕ) → owner_in seen.shape (world_memory seen) lock ≡ owner → LockInvariant seen.shape words seen.history lock owner (worker_words (world_memory seen))
+      → finished_by_turn (is_lock_settled (world_abstract_state seen) lock) words.turn ≡ place_of seen.history lock
+  finished_at None is stands = rw (free_settled seen lock kept below is) (let turn = stands.turn in omega (arith, turn))
+  finished_at (Some worker) is stands =
+      rw (owned_settled seen lock worker kept below is) (owned_finished worker (worker_words (world_memory seen) worker) (is_pending (worker_words (world_memory seen) worker)) stands)
+
+  -- The turn of a lock determines the number of its finished sections.
+  pub finished_is : (settled : Bool) → settled ≡ is_lock_settled (world_abstract_state seen) lock → finished_by_turn settled (world_memory seen (Turn lock)) ≡ length (history_of_lock seen.history lock)
+  finished_is settled is =
+      ap (λ (b : Bool). finished_by_turn b (world_memory seen (Turn lock))) is
+      ∙ finished_at (owner_in seen.shape (world_memory seen) lock) refl (kept.fact.stands lock below)
+      ∙ place_count seen.history lock
+
+  pub finished_small : length (history_of_lock seen.history lock) < 2 ^ 32
+  finished_small =
+      let few = place_small seen.shape (world_memory seen) (world_privates seen) seen.history lock kept.fact in
+      omega (arith, few, place_count seen.history lock)
 
 -- ---- a ready worker
 

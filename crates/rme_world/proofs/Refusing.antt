@@ -1,8 +1,8 @@
 -- Why a job is refused, from what the call looked up.
 use Rattle.std.proofs.Common.{◌≡◌, ◌≢◌, ℕ, refl, ◌∙◌, inl, inr, sym}
-use Rattle.std.specs.Prelude.{Bool, Option, Some, None, Ok, Err, nat_lt, slice_get, if◌then◌else◌}
+use Rattle.std.specs.Prelude.{Bool, Option, Some, None, nat_lt, slice_get, if◌then◌else◌}
 use Rattle.std.specs.List.{list_all}
-use Rattle.std.proofs.lemmas.Bool.{cases_Bool, lt-ltb, le-ltb}
+use Rattle.std.proofs.lemmas.Bool.{cases_Bool}
 use Rattle.rme_words.specs.declared.refusal.Refusal.{Refusal}
 use Rattle.rme_words.specs.declared.refusal.Refusal.TheVariants.{NoWorker, Down, Busy, NoLock, BadScript, NoCell, TooManyJobs, NoMemory}
 use Rattle.rme_words.specs.declared.shape.Shape.{Shape}

@@ -1,5 +1,5 @@
 -- THE CONTRACT OF EACH CALL OF A WORLD: one record for each call. Whatever speaks of a call cites its record.
-use Rattle.std.specs.Prelude.{◌≡◌, ◌≢◌, ◌↔◌, ℕ, ◌+◌, ◌<◌, ◌≤◌, List, Bool, IsTrue, IsOk, IsSome, IfOk, IfErr, IfSome, OnOk, OnErr, Option, Some, Result, slice_get}
+use Rattle.std.specs.Prelude.{◌≡◌, ◌≢◌, ◌↔◌, ℕ, ◌+◌, ◌<◌, ◌≤◌, List, Bool, IsTrue, IsOk, IsSome, IfOk, IfErr, IfSome, OnOk, OnErr, Option, Some, Result, length, slice_get}
 use Rattle.rme_words.specs.declared.refusal.Refusal.{Refusal}
 use Rattle.rme_words.specs.declared.refusal.Refusal.TheVariants.{NoLock, NoWorker}
 use Rattle.rme_tree.specs.Nodes.{owner_in}
@@ -14,6 +14,7 @@ use Rattle.rme_program.specs.declared.note.Receipt.{Receipt}
 use Rattle.rme_program.specs.declared.private.Private.{Private}
 use Rattle.rme_program.specs.Phases.{phase_of}
 use Rattle.rme_machine.specs.AbstractCells.{AbstractCells, state_owner, is_lock_settled}
+use Rattle.rme_machine.specs.Histories.{history_of_lock}
 use Rattle.rme_machine.specs.Views.{lock_words}
 use Rattle.rme_world.specs.Counting.{IsStayCount, phase_count, max_phase_steps}
 use Rattle.rme_world.specs.WorldViews.{WorldView, worker_counts, world_memory, world_abstract_state}
@@ -101,6 +102,12 @@ pub record CellsContract (seen : WorldView) (lock : ℕ) (result : Result (List 
   pub cells : IfOk result (λ shows. shows.0 ≡ (lock_words seen.shape (world_memory seen) lock).cells)
   pub shown : IfOk result (λ shows. AbstractCells seen.shape (world_abstract_state seen) lock shows.0)
   pub settled : IfOk result (λ shows. shows.1 ≡ is_lock_settled (world_abstract_state seen) lock)
+  pub refused : IfErr result (λ refusal. refusal ≡ NoLock)
+
+-- `finished`: the number of the lock's entries in the history.
+pub record FinishedContract (seen : WorldView) (lock : ℕ) (result : Result ℕ Refusal) : Type 0 where
+  pub accepted : IsOk result ↔ (lock < seen.shape.locks)
+  pub finished : IfOk result (λ n. n ≡ length (history_of_lock seen.history lock))
   pub refused : IfErr result (λ refusal. refusal ≡ NoLock)
 
 -- `ready`.

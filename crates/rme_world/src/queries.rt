@@ -12,11 +12,12 @@ use rme_tree::owner;
 use rme_words::{Address, Refusal};
 
 impl World {
-    ghost use Rattle.std.specs.Prelude.{◌≡◌, ◌<◌};
+    ghost use Rattle.std.specs.Prelude.{◌≡◌, ◌<◌, length};
     ghost use Rattle.rme_machine.specs.AbstractCells.{AbstractCells, is_lock_settled};
+    ghost use Rattle.rme_machine.specs.Histories.{history_of_lock};
     ghost use Rattle.rme_machine.specs.Views.{lock_words};
     ghost use Rattle.rme_world.specs.WorldViews.{world_memory, world_abstract_state};
-    ghost use Rattle.rme_world.specs.Calls.{OwnerContract, CellsContract, ReadyContract, LastContract, StepsContract};
+    ghost use Rattle.rme_world.specs.Calls.{OwnerContract, CellsContract, FinishedContract, ReadyContract, LastContract, StepsContract};
 
     /// The worker that owns a lock, or `None`. `NoLock` if there is no such lock.
     pub fn owner(&self, lock: u32) -> Result<Option<u32>, Refusal>
@@ -62,6 +63,30 @@ impl World {
             None => true,
             Some(worker) => !is_pending(&self.bank, worker),
         }
+    }
+
+    /// The number of finished sections of a lock, which is the place of its next one. It is read from the lock's words,
+    /// and not counted in the history. `NoLock` if there is no such lock.
+    pub fn finished(&self, lock: u32) -> Result<u32, Refusal>
+        ensures { FinishedContract self.now lock result }
+    {
+        if lock >= self.shape().locks {
+            return Err(Refusal::NoLock);
+        }
+        Ok(self.finished_by_turn(lock))
+    }
+
+    /// The number of finished sections of a lock, from its turn. An odd turn is that of the next section or, if the lock
+    /// is settled, of the last one.
+    fn finished_by_turn(&self, lock: u32) -> u32
+        requires { lock < self.now.shape.locks }
+        ensures { result ≡ length (history_of_lock self.now.history lock) }
+    {
+        let turn = self.bank.load(Address::Turn(lock));
+        if self.settled(lock) {
+            return small(turn / 2 + turn % 2);
+        }
+        small(turn / 2)
     }
 
     /// The finished sections of all locks, in order of finishing.
