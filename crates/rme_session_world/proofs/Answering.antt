@@ -8,7 +8,7 @@ use Rattle.rme_words.specs.declared.shape.Shape.{Shape}
 use Rattle.rme_program.specs.Phases.{phase_of}
 use Rattle.rme_program.specs.declared.kinds.Phase.{Phase}
 use Rattle.rme_program.specs.declared.kinds.Phase.TheVariants as phase
-use Rattle.rme_session_protocol.specs.SessionSteps.{SessionStep}
+use Rattle.rme_session_protocol.specs.SessionSteps.{SessionStep, TellsPlace}
 use Rattle.rme_session_protocol.specs.Attempts.{is_still_waiting}
 use Rattle.rme_session_protocol.specs.Refusals.{bare_refusal}
 use Rattle.rme_session_protocol.specs.declared.planned_crash.PlannedCrash.{PlannedCrash}
@@ -26,6 +26,7 @@ use Rattle.rme_session_world.specs.declared.running.RunEnd.{RunEnd}
 use Rattle.rme_session_world.specs.declared.running.RunEnd.TheVariants.{There, Stopped, Fallen}
 use Rattle.rme_session_world.specs.declared.running.RunGoal.TheVariants as goals
 use Rattle.rme_session_world.specs.AppliedOrders.{AppliesOrder}
+use Rattle.rme_session_world.specs.FencingTokens.{HasFinished}
 use Rattle.rme_session_world.specs.Replies.{attach_reply}
 use Rattle.rme_session_world.specs.WorkerSessions.{IsAtRest, is_resting_phase, worker_session}
 use Rattle.rme_session_world.specs.WorkerRuns.{IsRunEnd, PlanAfterRun, RunStepSequence}
@@ -35,6 +36,7 @@ use Rattle.rme_session_world.specs.EventBatches.{step_events}
 use Rattle.rme_session_world.proofs.Events.{crash_happens, happens_then, nothing_happens, restart_happens, steps_happen}
 use Rattle.rme_session_world.proofs.Frames.{Leaves, crash_leaves, leaves_then, restart_leaves, walk_leaves}
 use Rattle.rme_session_world.proofs.Posting.{crashed_found}
+use Rattle.rme_session_world.proofs.Tokens.{is_entered, no_token}
 use Rattle.rme_session_world.proofs.Working.{stopped_rests, there_rests}
 
 bare_none : (session : Session) → (session ≡ Nobody → ⊥) → bare_refusal session ≡ None
@@ -62,6 +64,8 @@ detached old new worker planned kept rests crashed =
       kept = λ none. cc;
       untaken = λ q. cc;
       waits = λ waits. cc;
+      section = tt;
+      place = tt;
     }
 
 -- The answer to an attach is the worker's stance.
@@ -76,6 +80,18 @@ attached_still Nobody = refl
 attached_still (Ready ready) = refl
 attached_still (Climb pending) = refl
 attached_still (Held pending) = refl
+
+attached_no_entry : (session : Session) → is_entered (attach_reply session) ≡ false
+attached_no_entry Nobody = refl
+attached_no_entry (Ready ready) = refl
+attached_no_entry (Climb pending) = refl
+attached_no_entry (Held pending) = refl
+
+attached_no_place : (seen : WorldView) (session : Session) → TellsPlace (HasFinished seen) (attach_reply session)
+attached_no_place seen Nobody = tt
+attached_no_place seen (Ready ready) = tt
+attached_no_place seen (Climb pending) = tt
+attached_no_place seen (Held pending) = tt
 
 -- The view of an attached worker.
 shown_at : (seen : WorldView) (worker : ℕ) → WorldInvariant seen → (rests : IsAtRest seen worker) → (asked : Attachment) → asked.worker ≡ worker → (shape : Shape) → worker < shape.workers → (planned : PlannedCrash)
@@ -122,4 +138,6 @@ attaches old mid new worker steps planned asked is within kept rests restarted w
       kept = λ none. cc;
       untaken = attached_untaken (worker_session new worker);
       waits = λ waits. absurd (let e : false ≡ true = sym (attached_still (worker_session new worker)) ∙ waits in cc);
+      section = no_token new (worker_session new worker) (attach_reply (worker_session new worker)) (attached_no_entry (worker_session new worker));
+      place = attached_no_place old (worker_session new worker);
     }

@@ -1,10 +1,10 @@
 -- An order's effect on an executor, as the event batch of its session.
-use Rattle.std.proofs.Common.{◌≡◌, ◌≢◌, ℕ, zero, suc, ◌<◌, List, [], ◌∷◌, ◌++◌, length, refl, sym, ◌∙◌, ap, subst, inl, inr, arith}
+use Rattle.std.proofs.Common.{◌≡◌, ℕ, zero, suc, ◌<◌, List, [], ◌∷◌, ◌++◌, length, refl, sym, ◌∙◌, ap, subst, inl, inr, arith}
 use Rattle.std.specs.Prelude.{true, false, Bool, nat_lt, ◌||◌, Option, Some, None, IfSome, slice_get, slice_set}
 use Rattle.std.proofs.lemmas.Bool.{cases_Bool, lt-ltb}
 use Rattle.std.proofs.lemmas.Option.{none-some, same_Some, slice_get_within}
 use Rattle.rme_session_protocol.specs.declared.order.Order.{Order}
-use Rattle.rme_session_protocol.specs.declared.order.Order.TheVariants.{Attach, Submit as SubmitOrder, Resume, Enter, Commit, Withdraw as WithdrawOrder, Last, CrashAfter, Detach}
+use Rattle.rme_session_protocol.specs.declared.order.Order.TheVariants.{Attach, Submit as SubmitOrder, Resume, Enter, Commit, Withdraw as WithdrawOrder, Last, CrashAfter, Detach, Ping}
 use Rattle.rme_world.specs.WorldViews.{WorldView}
 use Rattle.rme_world.specs.WorldInvariants.{WorldInvariant}
 use Rattle.rme_session_world.specs.AppliedOrders.{AppliesOrder, IsOrderWorker}
@@ -13,7 +13,7 @@ use Rattle.rme_session_world.specs.Downs.{IsWorkerDown}
 use Rattle.rme_session_world.specs.EventBatches.{AppliesEvents, batch_events, batch_events_if, crash_events, start_events, step_events}
 use Rattle.rme_session_world.specs.ExecutorStates.{ExecutorInvariant, ExecutorState}
 use Rattle.rme_session_world.specs.Replies.{worker_after_run}
-use Rattle.rme_session_world.specs.SessionBatches.{AppliesSessionBatch, AppliesSessionOrder, MayOrderWorker, batch_with_events, has_events, has_start, holder_by}
+use Rattle.rme_session_world.specs.SessionBatches.{AppliesSessionOrder, MayOrderWorker, batch_with_events, has_events, has_start, holder_by}
 use Rattle.rme_session_world.specs.WorkerSessions.{IsAtRest}
 use Rattle.rme_session_world.specs.declared.event_batch.BatchStart.{BatchStart}
 use Rattle.rme_session_world.specs.declared.event_batch.BatchStart.TheVariants.{Restart, Submit, Withdraw, GoOn}
@@ -81,6 +81,7 @@ module _ (old new : WorldView) (holders after : List (Option ℕ)) (stand : Sess
   free_at none Last same worker own within = absurd own
   free_at none (CrashAfter steps) same worker own within = absurd own
   free_at none Detach same worker own within = absurd own
+  free_at none Ping same worker own within = absurd own
 
   resting_within : (worker : ℕ) → IsAtRest new worker → worker < length holders
   resting_within worker rests = omega (arith, slice_get_within new.privates worker (Some rests.0) rests.1, carries.long, kept.all_privates, tended.all)

@@ -102,11 +102,11 @@ not_waiting : (last : Option Receipt) → last_outcome last ≢ outcome.Waiting
 not_waiting None is = cc
 not_waiting (Some receipt) is = cc
 
-waits_at_entry : (session : Session) → session_outcome session ≡ outcome.Waiting → phase_shown session ≡ Some phase.Enter
-waits_at_entry Nobody is = absurd (cc)
-waits_at_entry (Ready ready) is = absurd (not_waiting ready.last is)
-waits_at_entry (Climb pending) is = refl
-waits_at_entry (Held pending) is = absurd (cc)
+waits_at_entry : (seen : WorldView) (session : Session) → session_outcome seen session ≡ outcome.Waiting → phase_shown session ≡ Some phase.Enter
+waits_at_entry seen Nobody is = absurd (cc)
+waits_at_entry seen (Ready ready) is = absurd (not_waiting ready.last is)
+waits_at_entry seen (Climb pending) is = refl
+waits_at_entry seen (Held pending) is = absurd (cc)
 
 -- If a worker's goal lies beyond phase Enter, its job waits only if another worker blocks it.
 pub work_waits : (goal : RunGoal) (worker : ℕ) (planned : PlannedCrash) (old new : WorldView) (worked : WorkedJob) → is_goal_reached goal phase.Enter ≡ false → JobContinuation goal worker planned old worked new → worked.outcome ≡ outcome.Waiting
@@ -117,6 +117,6 @@ work_waits goal worker planned old new worked further went waits = by_end went.e
     by_end Fallen at ends = absurd (let e : outcome.Fell ≡ outcome.Waiting = sym ends.1 ∙ waits in cc)
     by_end There at ends =
         let tells = shows_phase went.mid worker at.0 went.kept at.1 (rest_phase goal (phase_of at.0.stage) at.2) in
-        let enter : phase_of at.0.stage ≡ phase.Enter = same_Some _ _ (sym tells ∙ waits_at_entry (worker_session went.mid worker) (sym ends.1 ∙ waits)) in
+        let enter : phase_of at.0.stage ≡ phase.Enter = same_Some _ _ (sym tells ∙ waits_at_entry went.mid (worker_session went.mid worker) (sym ends.1 ∙ waits)) in
         absurd (let e : false ≡ true = sym further ∙ subst (λ (p : Phase). is_goal_reached goal p ≡ true) enter at.2 in cc)
     by_end Stopped at ends = subst (λ (b : Bool). IsSessionStopped new (worker_after_run b worker)) (sym ends.0) (subst (λ (s : WorldView). WorkerIsBlocked s worker) (sym ends.2) at)

@@ -11,6 +11,8 @@ pub mod Events
 pub mod Frames
 pub mod Carrying
 pub mod Beginning
+pub mod Tokens
+pub mod Placing
 pub mod Obeying
 pub mod Giving
 pub mod Answering

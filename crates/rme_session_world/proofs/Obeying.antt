@@ -34,15 +34,15 @@ goes_on pending job draft Nobody outcome.Fell works = tt
 goes_on pending job draft Nobody (outcome.Receipt receipt) works = absurd works
 goes_on pending job draft Nobody outcome.Withdrawn works = absurd works
 goes_on pending job draft Nobody outcome.Waiting works = absurd works
-goes_on pending job draft Nobody (outcome.Inside number) works = absurd works
+goes_on pending job draft Nobody (outcome.Inside token) works = absurd works
 goes_on pending job draft (Ready ready) outcome.Withdrawn works = absurd works
 goes_on pending job draft (Ready ready) outcome.Waiting works = absurd works
 goes_on pending job draft (Ready ready) outcome.Fell works = absurd works
-goes_on pending job draft (Ready ready) (outcome.Inside number) works = absurd works
+goes_on pending job draft (Ready ready) (outcome.Inside token) works = absurd works
 goes_on pending job draft (Climb now) (outcome.Receipt receipt) works = absurd works
 goes_on pending job draft (Climb now) outcome.Withdrawn works = absurd works
 goes_on pending job draft (Climb now) outcome.Fell works = absurd works
-goes_on pending job draft (Climb now) (outcome.Inside number) works = absurd works
+goes_on pending job draft (Climb now) (outcome.Inside token) works = absurd works
 goes_on pending job draft (Held now) became works = absurd works
 
 goes_inside : (pending : PendingWorker) (job : Job) (session : Session) (became : JobOutcome) → pending.draft ≡ Some job → EnterPendingEffect (waiting_worker (pending_worker_job pending job)) session became → EnterPendingEffect pending session became

@@ -6,15 +6,16 @@ use Rattle.std.proofs.lemmas.List.{length-set}
 use Rattle.std.proofs.lemmas.Option.{none-some, same_Some, slice_get_within}
 use Rattle.rme_words.specs.declared.shape.Shape.{Shape}
 use Rattle.rme_machine.proofs.Lists.{get_set, get_set_other}
-use Rattle.rme_session_protocol.specs.SessionSteps.{SessionStep}
+use Rattle.rme_session_protocol.specs.SessionSteps.{SessionStep, TellsSection}
 use Rattle.rme_session_protocol.specs.Attempts.{is_still_waiting, with_tries}
 use Rattle.rme_session_protocol.specs.declared.planned_crash.PlannedCrash.{PlannedCrash}
 use Rattle.rme_session_protocol.specs.declared.order.Order.{Order}
-use Rattle.rme_session_protocol.specs.declared.order.Order.TheVariants.{Attach, Submit, Resume, Enter, Commit, Withdraw, Last, CrashAfter, Detach}
+use Rattle.rme_session_protocol.specs.declared.order.Order.TheVariants.{Attach, Submit, Resume, Enter, Commit, Withdraw, Last, CrashAfter, Detach, Ping}
 use Rattle.rme_world.specs.WorldViews.{WorldView}
 use Rattle.rme_world.specs.WorldInvariants.{WorldInvariant}
 use Rattle.rme_session_world.specs.AppliedOrders.{AppliesOrder, IsOrderWorker, IsSessionStopped, worker_view}
 use Rattle.rme_session_world.specs.Executors.{owned_worker_by, owned_worker, holders_after, executor_session_view}
+use Rattle.rme_session_world.specs.FencingTokens.{HasFinished}
 use Rattle.rme_session_world.specs.Downs.{IsWorkerDown}
 use Rattle.rme_session_world.specs.ExecutorStates.{ExecutorInvariant, ExecutorState, is_held_by}
 use Rattle.rme_session_world.specs.WorkerSessions.{IsAtRest}
@@ -58,6 +59,7 @@ is_one None Withdraw worker other one two = absurd one
 is_one None Last worker other one two = absurd one
 is_one None (CrashAfter steps) worker other one two = absurd one
 is_one None Detach worker other one two = absurd one
+is_one None Ping worker other one two = absurd one
 
 module _ (old new : WorldView) (holders : List (Option ℕ)) (session : ℕ) (tended : ExecutorInvariant record { world = old; holders = holders }) where
   -- One worker has another holder, and is in place for it; all others are unchanged.
@@ -133,6 +135,14 @@ pub executor_waits : (old new : WorldView) (holders after : List (Option ℕ)) (
     → IsSessionStopped new (owned_worker record { world = new; holders = after } record { session = stand.session; worker = carried.seat; planned = carried.planned })
 executor_waits old new holders after stand seat its carried kept tended settled carries waits =
     subst (IsSessionStopped new) (sym (worker_after_order old new holders after stand seat its carried kept tended settled carries)) (carries.waits waits)
+
+-- A token in the answer is of the section.
+pub executor_section : (old new : WorldView) (holders after : List (Option ℕ)) (stand : SessionState) (seat : Option ℕ) (its : Order) (carried : AppliedOrder) → WorldInvariant old → ExecutorInvariant record { world = old; holders = holders }
+    → after ≡ holders_after holders seat carried.seat stand.session → AppliesOrder old seat stand.planned its carried new
+    → TellsSection (HasFinished new) (executor_session_view record { world = new; holders = after } record { session = stand.session; worker = carried.seat; planned = carried.planned }).session carried.reply
+executor_section old new holders after stand seat its carried kept tended settled carries =
+    let P : Option ℕ → Type 0 = λ (own : Option ℕ). TellsSection (HasFinished new) (worker_view new own carried.planned).session carried.reply in
+    subst P (sym (worker_after_order old new holders after stand seat its carried kept tended settled carries)) carries.section
 
 pub executor_tended : (old new : WorldView) (holders after : List (Option ℕ)) (stand : SessionState) (seat : Option ℕ) (its : Order) (carried : AppliedOrder) → WorldInvariant old → ExecutorInvariant record { world = old; holders = holders }
     → seat ≡ owned_worker record { world = old; holders = holders } stand → after ≡ holders_after holders seat carried.seat stand.session → AppliesOrder old seat stand.planned its carried new

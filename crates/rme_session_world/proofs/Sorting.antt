@@ -42,6 +42,7 @@ use Rattle.rme_session_world.proofs.Carrying.{tried_too}
 use Rattle.rme_session_world.proofs.Events.{nothing_happens}
 use Rattle.rme_session_world.proofs.Handing.{climb_resumed, committed, held_resumed}
 use Rattle.rme_session_world.proofs.Stances.{begun_known}
+use Rattle.rme_session_world.proofs.Tokens.{no_token}
 
 -- ---- a job that may be submitted
 
@@ -181,6 +182,8 @@ refused_carries old worker planned its why rests refuses = record {
   kept = λ none. refl;
   untaken = untaken_why old.shape (worker_session old worker) its why refuses;
   waits = λ waits. cc;
+  section = no_token old (worker_session old worker) (reply.Refused why) refl;
+  place = tt;
 }
 
 -- A session that has a worker attaches none.

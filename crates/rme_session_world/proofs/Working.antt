@@ -33,6 +33,7 @@ use Rattle.rme_session_world.specs.declared.running.RunGoal.{RunGoal}
 use Rattle.rme_session_world.specs.declared.running.RunGoal.TheVariants as goals
 use Rattle.rme_session_world.specs.declared.work.WorkedJob.{WorkedJob}
 use Rattle.rme_session_world.specs.AppliedOrders.{worker_view}
+use Rattle.rme_session_world.specs.FencingTokens.{fencing_token}
 use Rattle.rme_session_world.specs.Outcomes.{session_outcome}
 use Rattle.rme_session_world.specs.Replies.{worker_after_run}
 use Rattle.rme_session_world.specs.WorkerSessions.{IsAtRest, is_resting_phase, last_receipt_under, worker_state_in, worker_session}
@@ -214,13 +215,13 @@ not_fell asked old now outcome.Fell some leaves = absurd (some refl)
 not_fell asked old now (outcome.Receipt receipt) some leaves = leaves
 not_fell asked old now outcome.Withdrawn some leaves = leaves
 not_fell asked old now outcome.Waiting some leaves = leaves
-not_fell asked old now (outcome.Inside number) some leaves = leaves
+not_fell asked old now (outcome.Inside token) some leaves = leaves
 
 stood_done : (planned : PlannedCrash) (worker asked : ℕ) (mid new : WorldView) (worked : WorkedJob) (session : Session) (became : JobOutcome) (Did : Session → JobOutcome → Type 0)
-    → worked.falls ≡ false → worked.outcome ≡ session_outcome (worker_session mid worker) → new ≡ mid → worker_session mid worker ≡ session → session_outcome session ≡ became → became ≢ outcome.Fell
+    → worked.falls ≡ false → worked.outcome ≡ session_outcome mid (worker_session mid worker) → new ≡ mid → worker_session mid worker ≡ session → session_outcome mid session ≡ became → became ≢ outcome.Fell
     → PlanAfterSteps planned asked worked.left → obeyed.WaitsAfterTries 1 asked became → Did session became → IsDone planned worker worked new Did
 stood_done planned worker asked mid new worked session became Did falls is same sees told some leaves tried did =
-    let whole : worked.outcome ≡ became = is ∙ ap session_outcome sees ∙ told in
+    let whole : worked.outcome ≡ became = is ∙ ap (session_outcome mid) sees ∙ told in
     let view : seen_after new worker worked ≡ record { session = session; planned = worked.left } = stands_after worker mid new worked session falls same sees in
     record {
       asked = asked;
@@ -262,7 +263,7 @@ module _ (task : WorkerJob) (worker : ℕ) (planned : PlannedCrash) (start new :
           let same : in_it.0 ≡ at.0 = same_Some _ _ (same_Some _ _ (sym in_it.1 ∙ at.1)) in
           let way_there : is_way_in (phase_of at.0.stage) ≡ true = subst (λ (p : Private). is_way_in (phase_of p.stage) ≡ true) same in_it.2 in
           let e : phase_of there.private.stage ≡ phase.Section = in_phase task mid worker there phase.Section at.0 at.1 (inside_only (phase_of at.0.stage) at.2 way_there) in
-          stood_done planned worker worked.steps mid new worked (Held (waiting_worker task)) (outcome.Inside task.number) (obeyed.EnterPendingEffect (waiting_worker task)) ends.0 ends.1 ends.2 (ends_held task mid worker there e) refl (λ q. cc) spent tt (refl, refl)
+          stood_done planned worker worked.steps mid new worked (Held (waiting_worker task)) (outcome.Inside (fencing_token mid (waiting_worker task))) (obeyed.EnterPendingEffect (waiting_worker task)) ends.0 ends.1 ends.2 (ends_held task mid worker there e) refl (λ q. cc) spent tt (refl, refl)
       by_end mid there in_it Stopped at spent ends =
           let e : phase_of there.private.stage ≡ phase.Enter = in_phase task mid worker there phase.Enter at.private at.found (stopped_enter worker mid at) in
           stood_done planned worker (worked.steps + 1) mid new worked (Climb (waiting_worker task)) outcome.Waiting (obeyed.EnterPendingEffect (waiting_worker task)) ends.0 ends.1 ends.2 (ends_climb task mid worker there e) refl (λ q. cc) spent (omega arith) refl

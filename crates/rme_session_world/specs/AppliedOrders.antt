@@ -1,7 +1,7 @@
 -- The effect of a session's order on a world, and the session's worker afterwards.
 use Rattle.std.specs.Prelude.{◌≡◌, ◌≢◌, ℕ, ◌<◌, true, Option, Some, None, IfSome, length, slice_get}
 use Rattle.rme_words.specs.declared.refusal.Refusal.TheVariants.{Taken}
-use Rattle.rme_session_protocol.specs.SessionSteps.{SessionStep}
+use Rattle.rme_session_protocol.specs.SessionSteps.{SessionStep, TellsPlace, TellsSection}
 use Rattle.rme_session_protocol.specs.Attempts.{is_still_waiting, with_tries}
 use Rattle.rme_session_protocol.specs.declared.planned_crash.PlannedCrash.{PlannedCrash}
 use Rattle.rme_session_protocol.specs.declared.view.Session.TheVariants.{Nobody}
@@ -14,6 +14,7 @@ use Rattle.rme_world.specs.WorldViews.{WorldView}
 use Rattle.rme_session_world.specs.declared.orders.AppliedOrder.{AppliedOrder}
 use Rattle.rme_session_world.specs.declared.event_batch.EventBatch.{EventBatch}
 use Rattle.rme_session_world.specs.EventBatches.{AppliesEvents, batch_events_if}
+use Rattle.rme_session_world.specs.FencingTokens.{HasFinished}
 use Rattle.rme_session_world.specs.Downs.{IsWorkerDown}
 use Rattle.rme_session_world.specs.Replies.{worker_after_run}
 use Rattle.rme_session_world.specs.WorkerSessions.{IsAtRest, worker_session}
@@ -43,7 +44,9 @@ IsSessionStopped seen None = ⊥
 IsSessionStopped seen (Some worker) = WorkerIsBlocked seen worker
 
 -- An order was applied with one try: it is a step of the session view, by events of only its worker. The worker is at
--- rest afterwards, or is down and no longer the session's. Its job waits only if another worker blocks it.
+-- rest afterwards, or is down and no longer the session's. Its job waits only if another worker blocks it. The fencing
+-- token of a worker that is inside has the number of finished sections of its lock; the place of a commit's receipt is
+-- that number before the commit.
 pub record AppliesOrder (old : WorldView) (seat : Option ℕ) (planned : PlannedCrash) (its : Order)
     (carried : AppliedOrder) (new : WorldView) : Type 0 where
   pub obeys : SessionStep old.shape (worker_view old seat planned) (with_tries 1 its)
@@ -61,3 +64,5 @@ pub record AppliesOrder (old : WorldView) (seat : Option ℕ) (planned : Planned
   pub kept : carried.batch ≡ None → carried.seat ≡ seat
   pub untaken : carried.reply ≢ reply.Refused Taken
   pub waits : is_still_waiting carried.reply ≡ true → IsSessionStopped new carried.seat
+  pub section : TellsSection (HasFinished new) (worker_view new carried.seat carried.planned).session carried.reply
+  pub place : TellsPlace (HasFinished old) carried.reply

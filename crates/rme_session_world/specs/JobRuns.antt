@@ -20,7 +20,7 @@ abbrev pub JobRunEnd : RunEnd → ℕ → WorldView → WorkedJob → WorldView 
 JobRunEnd Fallen worker mid worked new =
     (worked.falls ≡ true) × (worked.outcome ≡ Fell) × CrashContract mid worker (Ok tt) new
 JobRunEnd end worker mid worked new =
-    (worked.falls ≡ false) × (worked.outcome ≡ session_outcome (worker_session mid worker)) × (new ≡ mid)
+    (worked.falls ≡ false) × (worked.outcome ≡ session_outcome mid (worker_session mid worker)) × (new ≡ mid)
 
 -- It made `worked.steps` own steps.
 pub record JobContinuation (goal : RunGoal) (worker : ℕ) (planned : PlannedCrash) (old : WorldView) (worked : WorkedJob)

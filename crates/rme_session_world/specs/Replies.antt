@@ -53,9 +53,12 @@ abbrev pub withdraw_reply : Bool → ℕ → SessionReply
 withdraw_reply true number = reply.WithdrawFell
 withdraw_reply false number = reply.Withdrew number
 
--- A refused order, one without events, and one with which a worker worked and perhaps crashed.
+-- A refused order, a ping, an order without events, and one with which a worker worked and perhaps crashed.
 abbrev pub refused_order : Refusal → Option ℕ → PlannedCrash → AppliedOrder
 refused_order why seat planned = record { reply = reply.Refused why; seat = seat; planned = planned; batch = None }
+
+abbrev pub pong_order : Option ℕ → PlannedCrash → AppliedOrder
+pong_order seat planned = record { reply = reply.Pong; seat = seat; planned = planned; batch = None }
 
 abbrev pub unchanged_order : ℕ → PlannedCrash → SessionReply → AppliedOrder
 unchanged_order worker planned answer = record { reply = answer; seat = Some worker; planned = planned; batch = None }

@@ -1,10 +1,10 @@
 -- The event batch of a session's order, and the holders afterwards.
-use Rattle.std.specs.Prelude.{◌≡◌, ◌≢◌, ◌⊎◌, ◌||◌, ℕ, nat_lt, Bool, true, false, List, [], Option, Some, None, slice_get, slice_set, if◌then◌else◌}
+use Rattle.std.specs.Prelude.{◌≡◌, ◌⊎◌, ◌||◌, ℕ, nat_lt, Bool, true, false, Option, Some, None, slice_get, slice_set, if◌then◌else◌}
 use Rattle.rme_session_world.specs.EventBatches.{AppliesEvents, batch_events}
 use Rattle.rme_session_world.specs.ExecutorStates.{ExecutorState}
 use Rattle.rme_session_world.specs.declared.event_batch.EventBatch.{EventBatch}
 use Rattle.rme_session_world.specs.declared.event_batch.BatchStart.{BatchStart}
-use Rattle.rme_session_world.specs.declared.event_batch.BatchStart.TheVariants.{Restart, Submit, Withdraw, GoOn}
+use Rattle.rme_session_world.specs.declared.event_batch.BatchStart.TheVariants.{GoOn}
 
 -- A batch begins with an event that is more than a step.
 abbrev pub has_start : BatchStart → Bool

@@ -68,9 +68,10 @@ impl SessionState {
 
 impl Executor {
     ghost use Rattle.std.specs.Prelude.{◌≡◌, ◌<◌, ◌↔◌, IfOk, IfSome, OnErr, None, Some, replicate, slice_get, true};
-    ghost use Rattle.rme_session_protocol.specs.SessionSteps.{SessionStep};
+    ghost use Rattle.rme_session_protocol.specs.SessionSteps.{SessionStep, TellsPlace, TellsSection};
     ghost use Rattle.rme_session_protocol.specs.Attempts.{is_still_waiting, with_tries};
     ghost use Rattle.rme_session_world.specs.AppliedOrders.{IsOrderWorker, IsSessionStopped};
+    ghost use Rattle.rme_session_world.specs.FencingTokens.{HasFinished};
     ghost use Rattle.rme_session_world.specs.SessionBatches.{AppliesSessionOrder};
     ghost use Rattle.rme_session_world.specs.Executors.{HasCrashedAll, is_worker_taken, owned_worker, held_session, executor_session_view};
     ghost use Rattle.rme_session_protocol.specs.SessionViews.{detached_view};
@@ -171,7 +172,8 @@ impl Executor {
     /// event batch.
     ///
     /// A refused order changes nothing, and neither does one for which memory was refused. `Taken` if another session
-    /// has the worker to attach.
+    /// has the worker to attach. The answer of `enter` tells the number of finished sections of the lock that the worker
+    /// owns; the place of a commit's receipt is that number before the commit.
     pub fn execute(
         &mut self,
         stand: &mut SessionState,
@@ -189,6 +191,9 @@ impl Executor {
             ↔ (is_worker_taken self.old (owned_worker self.old stand.old) order.now ≡ true)) }
         ensures waits { IfOk result (λ done. is_still_waiting done.reply ≡ true
             → IsSessionStopped self.new.world (owned_worker self.new stand.new)) }
+        ensures section { IfOk result (λ done. TellsSection (HasFinished self.new.world)
+            (executor_session_view self.new stand.new).session done.reply) }
+        ensures place { IfOk result (λ done. TellsPlace (HasFinished self.old.world) done.reply) }
         ensures unchanged { OnErr result ((self.new ≡ self.old) × (stand.new ≡ stand.old)) }
     {
         let seat = self.owned_worker(stand);

@@ -4,7 +4,7 @@ ghost use Rattle.std.specs.Prelude.{◌≡◌, ◌<◌, IfOk, None, OnErr, Some}
 ghost use Rattle.rme_session_world.specs.AppliedOrders.{AppliesOrder, IsSessionAtRest, IsAttachable, worker_view};
 ghost use Rattle.rme_session_world.specs.Downs.{IsWorkerDown};
 ghost use Rattle.rme_session_world.specs.WorkerSessions.{IsAtRest, worker_session};
-ghost use Rattle.rme_session_world.specs.Replies.{attach_reply, worked_order, goal_for, unchanged_order, ready_receipt, waiting_number, order_for, refused_order, reply_for, withdraw_reply};
+ghost use Rattle.rme_session_world.specs.Replies.{attach_reply, worked_order, goal_for, unchanged_order, pong_order, ready_receipt, waiting_number, order_for, refused_order, reply_for, withdraw_reply};
 ghost use Rattle.rme_session_protocol.specs.Refusals.{PendingJobRefusal, OrderRefusal, posting_refusal};
 ghost use Rattle.rme_session_protocol.specs.declared.order.Submission.{Submission};
 ghost use Rattle.rme_session_protocol.specs.declared.planned_crash.PlannedCrash.{PlannedCrash};
@@ -15,7 +15,7 @@ ghost use Rattle.rme_session_protocol.specs.declared.order.Attachment.{Attachmen
 use crate::event_batch::{BatchStart, EventBatch};
 use crate::refusal::order_refusal;
 use crate::running::{RunGoal, run_until};
-use crate::session_of_worker::{last_outcome, worker_session};
+use crate::session_of_worker::{fencing_token, last_outcome, worker_session};
 use crate::work::{
     WorkedJob, begin_withdraw, continue_job, crash_worker, recall_invariant, restart_worker,
     submit_and_run,
@@ -112,6 +112,7 @@ fn apply_without_worker(world: &mut World, planned: PlannedCrash, order: &Order)
     }
     match order {
         Order::Attach(asked) => attach(world, asked.worker),
+        Order::Ping => pong(None, planned),
         _ => unreachable!(),
     }
 }
@@ -122,6 +123,18 @@ fn refused_order(why: Refusal, seat: Option<u32>, planned: PlannedCrash) -> Appl
 {
     AppliedOrder {
         reply: SessionReply::Refused(why),
+        seat,
+        planned,
+        batch: None,
+    }
+}
+
+/// A ping leaves the session unchanged.
+fn pong(seat: Option<u32>, planned: PlannedCrash) -> AppliedOrder
+    ensures { result ≡ pong_order seat planned }
+{
+    AppliedOrder {
+        reply: SessionReply::Pong,
         seat,
         planned,
         batch: None,
@@ -232,6 +245,7 @@ fn apply_with_worker(
             SessionReply::CrashPlanned,
         )),
         Order::Detach => Ok(detach(world, worker)),
+        Order::Ping => Ok(pong(Some(worker), planned)),
         Order::Attach(_) => unreachable!(),
     }
 }
@@ -314,11 +328,14 @@ fn continue_inside(
         → AppliesOrder world.old (Some worker) planned (order_for aim its) result world.new }
 {
     match aim {
-        SubmitAim::Inside => unchanged_order(
-            worker,
-            planned,
-            SessionReply::Entered(JobOutcome::Inside(pending.number)),
-        ),
+        SubmitAim::Inside => {
+            let token = fencing_token(world, worker, pending);
+            unchanged_order(
+                worker,
+                planned,
+                SessionReply::Entered(JobOutcome::Inside(token)),
+            )
+        }
         SubmitAim::Receipt => {
             let worked = continue_job(world, worker, RunGoal::Ready, planned);
             worked_order(

@@ -22,6 +22,7 @@ pub(crate) fn order_refusal(shape: Shape, session: &Session, order: &Order) -> O
         Order::Withdraw => withdraw_order_refusal(session),
         Order::Last => last_refusal(session),
         Order::CrashAfter(_) | Order::Detach => bare_refusal(session),
+        Order::Ping => None,
     }
 }
 

@@ -9,7 +9,7 @@ ghost use Rattle.rme_session_world.specs.WorkerRuns.{IsWorkerUp};
 ghost use Rattle.rme_session_world.specs.JobRuns.{MaySubmitJob, JobSubmission, JobContinuation};
 
 use crate::running::{RunEnd, RunGoal, run_until};
-use crate::session_of_worker::{session_outcome, worker_session};
+use crate::session_of_worker::session_outcome;
 use rme_script::Job;
 use rme_session_protocol::{JobOutcome, PlannedCrash};
 use rme_words::NoMemory;
@@ -41,7 +41,7 @@ pub(crate) fn continue_job(
     let walk = run_until(world, worker, goal, planned);
     let (outcome, falls) = match walk.end {
         RunEnd::Fallen => (crash_worker(world, worker), true),
-        RunEnd::There | RunEnd::Stopped => (session_outcome(&worker_session(world, worker)), false),
+        RunEnd::There | RunEnd::Stopped => (session_outcome(world, worker), false),
     };
     WorkedJob {
         outcome,

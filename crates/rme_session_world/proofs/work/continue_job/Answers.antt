@@ -1,5 +1,4 @@
-use Rattle.std.proofs.Common.{ap, inl, inr, refl, subst, ◌∙◌}
-use Rattle.rme_session_world.specs.Outcomes.{session_outcome}
+use Rattle.std.proofs.Common.{inl, inr, refl, subst}
 use Rattle.rme_session_world.specs.WorkerRuns.{IsRunEnd, PlanAfterRun}
 use Rattle.rme_session_world.specs.declared.running.RunEnd.{RunEnd}
 use Rattle.rme_session_world.specs.declared.running.RunEnd.TheVariants.{There, Stopped, Fallen}
@@ -32,7 +31,7 @@ returns-in-There c = elim c.in-There.is [
       end = There;
       is_end = subst (λ (e : RunEnd). IsRunEnd c.args.goal c.args.worker c.run_until-walk.new.world e) there c.run_until-walk.ensures.end;
       spent = subst (λ (e : RunEnd). PlanAfterRun c.args.planned c.run_until-walk.result.steps e c.run_until-walk.result.left) there c.run_until-walk.ensures.plan;
-      ends = (refl, c.session_outcome.ensures ∙ ap session_outcome c.worker_session.ensures.sight, refl);
+      ends = (refl, c.session_outcome.ensures, refl);
     };
   }
   | inr stopped ↦ record {
@@ -45,7 +44,7 @@ returns-in-There c = elim c.in-There.is [
       end = Stopped;
       is_end = subst (λ (e : RunEnd). IsRunEnd c.args.goal c.args.worker c.run_until-walk.new.world e) stopped c.run_until-walk.ensures.end;
       spent = subst (λ (e : RunEnd). PlanAfterRun c.args.planned c.run_until-walk.result.steps e c.run_until-walk.result.left) stopped c.run_until-walk.ensures.plan;
-      ends = (refl, c.session_outcome.ensures ∙ ap session_outcome c.worker_session.ensures.sight, refl);
+      ends = (refl, c.session_outcome.ensures, refl);
     };
   }
 ]

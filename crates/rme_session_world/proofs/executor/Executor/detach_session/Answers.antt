@@ -3,7 +3,7 @@ use Rattle.std.specs.Prelude.{IfSome, List, None, Option, Some, slice_get, ℕ}
 use Rattle.rme_session_protocol.specs.declared.planned_crash.PlannedCrash.TheVariants.{Nothing}
 use Rattle.rme_session_protocol.specs.declared.order.Order.TheVariants.{Detach}
 use Rattle.rme_session_world.specs.declared.event_batch.EventBatch.{EventBatch}
-use Rattle.rme_session_world.specs.SessionBatches.{AppliesSessionOrder, batch_with_events}
+use Rattle.rme_session_world.specs.SessionBatches.{AppliesSessionOrder}
 use Rattle.rme_session_world.specs.Executors.{holders_after, owned_worker}
 use Rattle.rme_session_world.specs.Downs.{IsWorkerDown}
 use Rattle.rme_session_world.specs.ExecutorStates.{ExecutorInvariant, ExecutorState}

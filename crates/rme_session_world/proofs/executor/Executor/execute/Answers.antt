@@ -1,13 +1,17 @@
-use Rattle.std.proofs.Common.{◌≡◌, false, sym, subst, ◌∙◌}
+use Rattle.std.proofs.Common.{◌≡◌, false, refl, sym, subst, ◌∙◌}
 use Rattle.std.specs.Prelude.{Option}
-use Rattle.rme_session_protocol.specs.SessionSteps.{SessionStep}
+use Rattle.rme_words.specs.declared.refusal.Refusal.TheVariants.{Taken}
+use Rattle.rme_session_protocol.specs.SessionSteps.{SessionStep, TellsPlace}
+use Rattle.rme_session_protocol.specs.declared.reply.SessionReply.TheVariants.{Refused}
 use Rattle.rme_session_protocol.specs.Attempts.{with_tries}
 use Rattle.rme_session_world.specs.Executors.{is_worker_taken, owned_worker, executor_session_view}
+use Rattle.rme_session_world.specs.FencingTokens.{HasFinished}
 use Rattle.rme_session_world.specs.ExecutorStates.{ExecutorState}
-use Rattle.rme_session_world.specs.SessionBatches.{AppliesSessionOrder, batch_with_events}
+use Rattle.rme_session_world.specs.SessionBatches.{AppliesSessionOrder}
 use Rattle.rme_session_world.specs.declared.event_batch.EventBatch.{EventBatch}
 use Rattle.rme_session_world.proofs.Batching.{executor_applies}
-use Rattle.rme_session_world.proofs.Seating.{executor_obeys, executor_tended, executor_waits}
+use Rattle.rme_session_world.proofs.Seating.{executor_obeys, executor_section, executor_tended, executor_waits}
+use Rattle.rme_session_world.proofs.Tokens.{no_token}
 use Rattle.rme_session_world.proofs.executor.Executor.execute.Goals as goal
 
 pub invariant_of-self-2 : goal.invariant_of-self-2
@@ -29,6 +33,17 @@ pub returns-clause-waits : goal.returns-clause-waits
 returns-clause-waits c waits =
     executor_waits c.self.inside.world c.apply_order.new.world c.self.inside.holders.items c.update_holders.new.holders.items c.args.stand.now c.owned_worker-seat.result c.args.order.now c.in-Ok.carried c.recall_invariant.ensures c.self.invariant
     c.update_holders.ensures c.in-Ok.ensures.carries waits
+
+pub returns-then-is_worker_taken-clause-section : goal.returns-then-is_worker_taken-clause-section
+returns-then-is_worker_taken-clause-section c = no_token c.args.self.now.world (executor_session_view c.args.self.now c.args.stand.now).session (Refused Taken) refl
+
+pub returns-clause-section : goal.returns-clause-section
+returns-clause-section c =
+    executor_section c.self.inside.world c.apply_order.new.world c.self.inside.holders.items c.update_holders.new.holders.items c.args.stand.now c.owned_worker-seat.result c.args.order.now c.in-Ok.carried c.recall_invariant.ensures c.self.invariant
+    c.update_holders.ensures c.in-Ok.ensures.carries
+
+pub returns-clause-place : goal.returns-clause-place
+returns-clause-place c = subst (λ (executor : ExecutorState). TellsPlace (HasFinished executor.world) c.in-Ok.carried.reply) c.self.view_is c.in-Ok.ensures.carries.place
 
 pub returns-clause-applies : goal.returns-clause-applies
 returns-clause-applies c =
