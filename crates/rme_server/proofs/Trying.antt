@@ -26,9 +26,9 @@ use Rattle.rme_session_protocol.specs.declared.view.Session as shown
 use Rattle.rme_session_protocol.specs.declared.view.SessionView.{SessionView}
 use Rattle.rme_session_protocol.proofs.Trying as session_laws
 use Rattle.rme_session_protocol.proofs.Trying.{IsClimb, climb_not_refused, enter_not_refused, false_true}
-use Rattle.rme_session_threads.specs.ThreadSteps.{stand_change, ThreadOrderEffect, AppendsJobEntry, EnterEntries, ReadyEnterEntries, ReadySubmitEntries, EntersWithoutEntry, OrderOwnSteps, ThreadSessionStep, ResumeEntries, SubmitEntries}
+use Rattle.rme_session_threads.specs.ThreadSteps.{stand_change, ThreadOrderEffect, AppendsJobEntry, EnterEntries, ReadyEnterEntries, ReadySubmitEntries, EntersWithoutEntry, OrderOwnSteps, TellsKnownPlace, ThreadSessionStep, ResumeEntries, SubmitEntries}
 use Rattle.rme_session_threads.specs.Stands.{held_draft, held_entries, held_worker, holding_session, stand_view}
-use Rattle.rme_session_threads.specs.JobOutcomes.{OwnStepsBetween, submit_lead}
+use Rattle.rme_session_threads.specs.JobOutcomes.{OwnStepsBetween, TellsWorkerSection, part_when_told, submit_lead}
 use Rattle.rme_session_threads.specs.declared.stand.Holding.{Holding}
 use Rattle.rme_session_threads.specs.declared.stand.Holding.TheVariants.{Empty, Ready, Climb, Held}
 use Rattle.rme_session_threads.specs.declared.stand.Stand.{Stand as Session}
@@ -77,6 +77,8 @@ all_tries ident count tries old now its reply all obeys = let acts = obeys.acts 
     told_before = acts.told_before;
     told_after = acts.told_after;
     adds = adds_tried ident count acts.made tries old now obeys.let_go its reply acts.adds;
+    section = acts.section;
+    place = acts.place;
   };
 }
 
@@ -89,7 +91,7 @@ enters_both before script second mid now (Receipt receipt) waits same enters =
 enters_both before script second mid now Withdrawn waits same enters = absurd enters
 enters_both before script second mid now Waiting waits same enters = enters ∙ waits
 enters_both before script second mid now Fell waits same enters = tt
-enters_both before script second mid now (Inside number) waits same enters = absurd enters
+enters_both before script second mid now (Inside token) waits same enters = absurd enters
 
 hands_both : (shape : Shape) (again : Bool) (ready : SeatView) (job : Job) (mid now : Holding) (became : JobOutcome) → ReadySubmitEntries shape again ready job mid Waiting → held_draft (held_worker mid) ≡ Some job
     → ResumeEntries mid now became → ReadySubmitEntries shape again ready job now became
@@ -126,7 +128,7 @@ module _ (shape : Shape) (mid : Holding) (between : Option program.Receipt) (cli
   enter_both Empty its now became waits enters = absurd waits
   enter_both (Ready ready) its now became waits enters = hands_inside_both (its.number == ready.part.private.begun) ready its now became waits enters
   enter_both (Climb climb) its now became waits enters = climb_inside mid climbs climb.part.entries its now became waits enters
-  enter_both (Held held) its now became waits enters = let P : Holding → Type 0 = λ value. IsClimb (holding_session between value) in absurd (subst P waits climbs)
+  enter_both (Held held) its now became waits enters = absurd waits
 
   lead_onward : (value : Holding) → IsClimb (holding_session between value) → (job : Job) → submit_lead value job ≡ unchanged_part
   lead_onward Empty climbed job = absurd climbed
@@ -136,11 +138,12 @@ module _ (shape : Shape) (mid : Holding) (between : Option program.Receipt) (cli
 
 walked_both : (shape : Shape) (lead : Part → Part) (one two : ℕ) (old mid now : Session) (became : JobOutcome) (let_go : Option SeatView) → 0 < one
     → OwnStepsBetween shape lead (held_worker old.value) (held_worker mid.value) one → OrderOwnSteps shape unchanged_part two (stand_change mid now let_go) became → OrderOwnSteps shape lead (one + two) (stand_change old now let_go) became
-walked_both shape lead one two old mid now (Receipt receipt) let_go some first (went, none) = (went_on shape lead (held_worker old.value) (held_worker mid.value) (held_worker now.value) one two some first went, none)
-walked_both shape lead one two old mid now Withdrawn let_go some first (went, none) = (went_on shape lead (held_worker old.value) (held_worker mid.value) (held_worker now.value) one two some first went, none)
-walked_both shape lead one two old mid now Waiting let_go some first (went, none) = (went_on shape lead (held_worker old.value) (held_worker mid.value) (held_worker now.value) one two some first went, none)
-walked_both shape lead one two old mid now (Inside number) let_go some first (went, none) = (went_on shape lead (held_worker old.value) (held_worker mid.value) (held_worker now.value) one two some first went, none)
-walked_both shape lead one two old mid now Fell let_go some first went = went_on shape lead (held_worker old.value) (held_worker mid.value) let_go one two some first went
+walked_both shape lead one two old mid now (Receipt receipt) let_go some first (went, none) = (went_on shape lead unchanged_part (held_worker old.value) (held_worker mid.value) (held_worker now.value) one two some first went, none)
+walked_both shape lead one two old mid now Withdrawn let_go some first (went, none) = (went_on shape lead unchanged_part (held_worker old.value) (held_worker mid.value) (held_worker now.value) one two some first went, none)
+walked_both shape lead one two old mid now Waiting let_go some first (went, none) = (went_on shape lead unchanged_part (held_worker old.value) (held_worker mid.value) (held_worker now.value) one two some first went, none)
+walked_both shape lead one two old mid now (Inside token) let_go some first (went, none) =
+    (went_on shape lead (part_when_told (Inside token)) (held_worker old.value) (held_worker mid.value) (held_worker now.value) one two some first went, none)
+walked_both shape lead one two old mid now Fell let_go some first went = went_on shape lead unchanged_part (held_worker old.value) (held_worker mid.value) let_go one two some first went
 
 -- The session view of a worker that waits does not depend on its last receipt.
 same_session : (value : Holding) (one two : Option program.Receipt) → IsClimb (holding_session one value) → holding_session one value ≡ holding_session two value
@@ -232,6 +235,36 @@ module _ (ident : ServiceId) (count tries one two : ℕ) (old mid now : Session)
   adds_both its (Entered Waiting) last waits obeys adds more later = absurd obeys.1
   adds_both its reply last waits obeys adds more later = absurd (false_true waits)
 
+-- The token of the last part, and the place. A worker that was inside does not wait.
+merged_section : (shape : Shape) (value : Holding) (reply last : SessionReply) → TellsWorkerSection shape value last → TellsWorkerSection shape value (merged_reply reply last)
+merged_section shape value (Submitted first) (Resumed last) told = tt
+merged_section shape value reply last told = told
+
+abbrev IsOutside : Holding → Type 0
+IsOutside (Held held) = ⊥
+IsOutside value = Unit {0}
+
+outside_place : (start : Holding) (answer : SessionReply) → IsOutside start → TellsKnownPlace start answer
+outside_place Empty (Submitted became) out = tt
+outside_place Empty answer out = tt
+outside_place (Ready ready) (Submitted became) out = tt
+outside_place (Ready ready) answer out = tt
+outside_place (Climb climb) (Submitted became) out = tt
+outside_place (Climb climb) answer out = tt
+outside_place (Held held) answer out = absurd out
+
+inside_place : (held : SeatView) (reply last : SessionReply) → is_still_waiting reply ≡ true → TellsKnownPlace (Held held) reply → TellsKnownPlace (Held held) (merged_reply reply last)
+inside_place held (Submitted Waiting) last waits placed = absurd placed
+inside_place held (Resumed Waiting) last waits placed = absurd placed
+inside_place held (Entered Waiting) last waits placed = absurd placed
+inside_place held reply last waits placed = absurd (false_true waits)
+
+merged_place : (start : Holding) (reply last : SessionReply) → is_still_waiting reply ≡ true → TellsKnownPlace start reply → TellsKnownPlace start (merged_reply reply last)
+merged_place Empty reply last waits placed = outside_place Empty (merged_reply reply last) tt
+merged_place (Ready ready) reply last waits placed = outside_place (Ready ready) (merged_reply reply last) tt
+merged_place (Climb climb) reply last waits placed = outside_place (Climb climb) (merged_reply reply last) tt
+merged_place (Held held) reply last waits placed = inside_place held reply last waits placed
+
 -- Some tries, and one more if the job then waits, are the order with one more try.
 pub both_parts : (ident : ServiceId) (count tries : ℕ) (old mid now : Session) (its : Order) (reply last : SessionReply) → 0 < tries → is_still_waiting reply ≡ true
     → ThreadSessionStep ident count old (with_tries tries its) mid reply → ThreadSessionStep ident count mid (retry_order its) now last → ThreadSessionStep ident count old (with_tries (tries + 1) its) now (merged_reply reply last)
@@ -252,6 +285,8 @@ both_parts ident count tries old mid now its reply last some waits first then =
         told_after = two.told_after;
         adds = adds_both ident count tries one.made two.made old mid now one.before one.after (stand_view two.after now) first.let_go then.let_go still.0 still.1 its reply last waits one.obeys
             one.adds more two.adds;
+        section = merged_section ident.shape now.value reply last two.section;
+        place = merged_place old.value reply last waits one.place;
       };
     }
 

@@ -1,5 +1,7 @@
+pub mod Finishing
 pub mod Planning
 pub mod Rising
 pub mod Showing
+pub mod Telling
 pub mod Working
 mod Ordering

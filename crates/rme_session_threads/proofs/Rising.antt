@@ -46,7 +46,7 @@ risen_on shape down mid ready old new most made out =
     let steps = first.steps in
     let some : 0 < count = omega (arith, counted, enough, steps) in record {
       made = count + out.made;
-      walked = walked_on shape restarted_part down mid ready count out.made some first out.walked;
+      walked = walked_on shape restarted_part unchanged_part down mid ready count out.made some first out.walked;
       draft = out.draft ∙ made.stays.draft;
       entries = out.entries ∙ made.stays.entries;
       number = out.number;
@@ -79,5 +79,7 @@ attaches ident count old asked down value (Attached number standing) none is ans
   told_before = tt;
   told_after = tt;
   adds = ((down, is, up), refl);
+  section = tt;
+  place = tt;
 }
 attaches ident count old asked down value answer none is answers up = absurd answers

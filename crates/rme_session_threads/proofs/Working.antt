@@ -11,7 +11,7 @@ use Rattle.rme_service_steps.specs.declared.seat_record.Part.{Part}
 use Rattle.rme_service_steps.specs.Parts.{unchanged_part}
 use Rattle.rme_service_steps.specs.Parts.{submitted_part as handed}
 use Rattle.rme_service_steps.specs.SeatViews.{ServiceId, SeatView}
-use Rattle.rme_table.specs.Driving.{DriveDoesNotWait, DriveOutcome, WaitsAfterAllSweeps, DriveSteps, FinishesJobNow as FinishedJob, GateLetsPass, GateStopsInside, GateWatches}
+use Rattle.rme_table.specs.Driving.{DriveOutcome, WaitsAfterAllSweeps, DriveSteps, FinishesJobNow as FinishedJob, GateLetsPass, GateStopsInside, GateWatches}
 use Rattle.rme_table.specs.declared.driving.Driven.{Driven}
 use Rattle.rme_table.specs.declared.driving.Driven.TheVariants as driven
 use Rattle.rme_table.specs.declared.driving.SweepTries.{SweepTries}
@@ -22,8 +22,9 @@ use Rattle.rme_session_protocol.specs.PlannedCrashes.{planned_after}
 use Rattle.rme_session_protocol.proofs.Counting.{leaves_none}
 use Rattle.rme_session_threads.specs.CrashPlans.{countdown_tally}
 use Rattle.rme_session_threads.specs.Stands.{HasSlot, IsValidWorkResult, held_worker}
-use Rattle.rme_session_threads.specs.SessionWorks.{HasWorkTries, IsResumeWork, IsSubmitWork, WorkWithinPlan, WorkEffect, WorkSettlement, CountdownSpares, WorkSpendsCountdown, driven_result, work_holding, work_lead, work_until_inside}
-use Rattle.rme_session_threads.specs.JobOutcomes.{AwaitsLock, HasFinishedJob, WorkOnNextJob, WorkOnPendingJob, StillAwaitsLock, stand_next_job, stand_pending_job, WorkWaitsAfterTries, WorkResultSatisfies, ThreadEnterPendingEffect, ThreadPendingJobEffect, PlanSpares, ThreadWaitsAfterTries, IsNotFallen, ThreadRepeatEffect, OwnStepsBetween, submit_lead}
+use Rattle.rme_session_threads.specs.SessionWorks.{HasWorkTries, IsResumeWork, IsStoppedInside, IsSubmitWork, WorkHasKnownPlace, WorkTellsSection, WorkWithinPlan, WorkEffect, WorkSettlement, CountdownSpares, WorkSpendsCountdown, driven_result, work_holding, work_lead, work_until_inside}
+use Rattle.rme_session_threads.specs.JobOutcomes.{AwaitsLock, HasFinishedJob, HasKnownPlace, StaysInside, TellsWorkerSection, part_when_told, WorkOnNextJob, WorkOnPendingJob, StillAwaitsLock, stand_next_job, stand_pending_job, WorkWaitsAfterTries, WorkResultSatisfies, ThreadEnterPendingEffect, ThreadPendingJobEffect, PlanSpares, ThreadWaitsAfterTries, IsNotFallen, ThreadRepeatEffect, OwnStepsBetween, submit_lead}
+use Rattle.rme_session_protocol.specs.declared.reply.SessionReply.TheVariants as reply
 use Rattle.rme_session_protocol.specs.declared.planned_crash.Countdown.{Countdown}
 use Rattle.rme_session_protocol.specs.declared.planned_crash.Countdown.TheVariants.{Runs, Fallen}
 use Rattle.rme_session_protocol.specs.declared.planned_crash.PlannedCrash.{PlannedCrash}
@@ -34,10 +35,10 @@ use Rattle.rme_session_threads.specs.declared.stand.Stand.{Stand as Session}
 use Rattle.rme_session_threads.specs.declared.work.SessionWork.{SessionWork}
 use Rattle.rme_session_threads.specs.declared.work.SessionWork.TheVariants.{Repeat, Post, GoIn, GoOn, Stay}
 use Rattle.rme_session_threads.specs.declared.work.WorkGoal.TheVariants as until
-use Rattle.rme_session_threads.proofs.Planning.{fallen, spared, stayed}
+use Rattle.rme_session_threads.proofs.Planning.{fallen, spared, spares_loaded, stayed}
 
 -- The session after a drive whose gate admits every worker, and so never stops one.
-module _ (shape : Shape) (start : SeatView) (old now : Countdown) where
+module _ (shape : Shape) (start : SeatView) (old now : Countdown) (lock section : ℕ) where
   done_did : (ready : SeatView) (receipt : Receipt) → DriveSteps shape start ready (countdown_tally old) (countdown_tally now) 0 → FinishedJob start ready receipt
       → ready.part.private.begun ≡ start.part.private.begun → ThreadPendingJobEffect start (Ready ready) (outcome.Receipt receipt)
   done_did ready receipt goes its number = (
@@ -55,7 +56,7 @@ module _ (shape : Shape) (start : SeatView) (old now : Countdown) where
     ),
   )
 
-  pub driven_did : (drive : Driven) → DriveOutcome shape false start (countdown_tally old) (countdown_tally now) drive → GateLetsPass drive → WorkResultSatisfies (driven_result drive) (ThreadPendingJobEffect start)
+  pub driven_did : (drive : Driven) → DriveOutcome shape false start (countdown_tally old) (countdown_tally now) drive → GateLetsPass drive → WorkResultSatisfies (driven_result lock section drive) (ThreadPendingJobEffect start)
   driven_did (driven.Done ready receipt) (goes, its, number) passes = (done_did ready receipt goes its number, tt)
   driven_did (driven.Waits climb) (goes, still) passes = (record { draft = still.draft; entries = still.entries; own = goes.own; number = still.number }, tt)
   driven_did (driven.Stopped held) drives passes = absurd passes
@@ -65,13 +66,13 @@ module _ (shape : Shape) (start : SeatView) (old now : Countdown) where
   has_slot ident count falls later goes slot = record { ident_is = goes.ident ∙ slot.ident_is; slot = rw goes.own slot.slot }
 
   pub driven_ours : (ident : ServiceId) (drive : Driven) → DriveOutcome shape false start (countdown_tally old) (countdown_tally now) drive → GateLetsPass drive
-      → (count : ℕ) → HasSlot ident count start → IsValidWorkResult ident count (driven_result drive)
+      → (count : ℕ) → HasSlot ident count start → IsValidWorkResult ident count (driven_result lock section drive)
   driven_ours ident (driven.Done ready receipt) (goes, its, number) passes count slot = has_slot ident count 0 ready goes slot
   driven_ours ident (driven.Waits climb) (goes, still) passes count slot = has_slot ident count 0 climb goes slot
   driven_ours ident (driven.Stopped held) drives passes count slot = absurd passes
   driven_ours ident (driven.Fell down) goes passes count slot = has_slot ident count 1 down goes slot
 
-  pub driven_plan : (drive : Driven) → DriveOutcome shape false start (countdown_tally old) (countdown_tally now) drive → GateLetsPass drive → WorkSpendsCountdown shape unchanged_part old (Some start) now (driven_result drive)
+  pub driven_plan : (drive : Driven) → DriveOutcome shape false start (countdown_tally old) (countdown_tally now) drive → GateLetsPass drive → WorkSpendsCountdown shape unchanged_part old (Some start) now (driven_result lock section drive)
   driven_plan (driven.Done ready receipt) (goes, its, number) passes = spared shape unchanged_part start ready old now goes.walks goes.ident goes.own
   driven_plan (driven.Waits climb) (goes, still) passes = spared shape unchanged_part start climb old now goes.walks goes.ident goes.own
   driven_plan (driven.Stopped held) drives passes = absurd passes
@@ -88,9 +89,17 @@ barred told shape worker (driven.Waits climb) watches = tt
 barred told shape worker (driven.Stopped held) watches = tt
 barred told shape worker (driven.Fell down) watches = tt
 
+-- A worker that was stopped is one of the service, and before its section.
+pub stopped_inside : (shape : Shape) (start : SeatView) (old now : Countdown) (ident : ServiceId) (drive : Driven) → DriveOutcome shape false start (countdown_tally old) (countdown_tally now) drive → GateStopsInside drive
+    → start.ident ≡ ident → IsStoppedInside ident drive
+stopped_inside shape start old now ident (driven.Done ready receipt) drives stops ours = tt
+stopped_inside shape start old now ident (driven.Waits climb) drives stops ours = tt
+stopped_inside shape start old now ident (driven.Stopped held) (goes, still) (entered, pending) ours = (goes.ident ∙ ours, pending)
+stopped_inside shape start old now ident (driven.Fell down) drives stops ours = tt
+
 -- The session after a drive until the worker is inside.
-module _ (shape : Shape) (start : SeatView) (old now : Countdown) where
-  pub arrived_did : (drive : Driven) → DriveOutcome shape false start (countdown_tally old) (countdown_tally now) drive → IsBarred drive → GateStopsInside drive → WorkResultSatisfies (driven_result drive) (ThreadEnterPendingEffect start)
+module _ (shape : Shape) (start : SeatView) (old now : Countdown) (lock section : ℕ) where
+  pub arrived_did : (drive : Driven) → DriveOutcome shape false start (countdown_tally old) (countdown_tally now) drive → IsBarred drive → GateStopsInside drive → WorkResultSatisfies (driven_result lock section drive) (ThreadEnterPendingEffect start)
   arrived_did (driven.Done ready receipt) drives bars stops = absurd bars
   arrived_did (driven.Waits climb) (goes, still) bars stops = (record { draft = still.draft; entries = still.entries; own = goes.own; number = still.number }, tt)
   arrived_did (driven.Stopped held) (goes, still) bars (entered, pending) =
@@ -98,38 +107,41 @@ module _ (shape : Shape) (start : SeatView) (old now : Countdown) where
   arrived_did (driven.Fell down) drives bars stops = tt
 
   pub arrived_ours : (ident : ServiceId) (drive : Driven) → DriveOutcome shape false start (countdown_tally old) (countdown_tally now) drive → IsBarred drive → GateStopsInside drive
-      → (count : ℕ) → HasSlot ident count start → IsValidWorkResult ident count (driven_result drive)
+      → (count : ℕ) → HasSlot ident count start → IsValidWorkResult ident count (driven_result lock section drive)
   arrived_ours ident (driven.Done ready receipt) drives bars stops count slot = absurd bars
-  arrived_ours ident (driven.Waits climb) (goes, still) bars stops count slot = has_slot shape start old now ident count 0 climb goes slot
-  arrived_ours ident (driven.Stopped held) (goes, still) bars (entered, pending) count slot = (has_slot shape start old now ident count 0 held goes slot, pending)
-  arrived_ours ident (driven.Fell down) goes bars stops count slot = has_slot shape start old now ident count 1 down goes slot
+  arrived_ours ident (driven.Waits climb) (goes, still) bars stops count slot = has_slot shape start old now lock section ident count 0 climb goes slot
+  arrived_ours ident (driven.Stopped held) (goes, still) bars (entered, pending) count slot =
+      let inside = has_slot shape start old now lock section ident count 0 held goes slot in (record { ident_is = inside.ident_is; slot = inside.slot }, pending)
+  arrived_ours ident (driven.Fell down) goes bars stops count slot = has_slot shape start old now lock section ident count 1 down goes slot
 
-  pub arrived_plan : (drive : Driven) → DriveOutcome shape false start (countdown_tally old) (countdown_tally now) drive → IsBarred drive → WorkSpendsCountdown shape unchanged_part old (Some start) now (driven_result drive)
+  pub arrived_plan : (drive : Driven) → DriveOutcome shape false start (countdown_tally old) (countdown_tally now) drive → IsBarred drive → WorkSpendsCountdown shape unchanged_part old (Some start) now (driven_result lock section drive)
   arrived_plan (driven.Done ready receipt) drives bars = absurd bars
   arrived_plan (driven.Waits climb) (goes, still) bars = spared shape unchanged_part start climb old now goes.walks goes.ident goes.own
-  arrived_plan (driven.Stopped held) (goes, still) bars = spared shape unchanged_part start held old now goes.walks goes.ident goes.own
+  arrived_plan (driven.Stopped held) (goes, still) bars =
+      spares_loaded shape unchanged_part start held section old now (spared shape unchanged_part start held old now goes.walks goes.ident goes.own)
   arrived_plan (driven.Fell down) goes bars = fallen shape unchanged_part start down old now goes.walks goes.ident goes.own
 
-pub arrived_tried : (start : SeatView) (before after : SweepTries) (drive : Driven) → WaitsAfterAllSweeps start before after drive → IsBarred drive
-    → WorkWaitsAfterTries (before.most - before.blocked) start.part.steps (driven_result drive)
-arrived_tried start before after (driven.Done ready receipt) exhausts bars = absurd bars
-arrived_tried start before after (driven.Waits climb) exhausts bars = exhausts.steps
-arrived_tried start before after (driven.Stopped held) exhausts bars = tt
-arrived_tried start before after (driven.Fell down) exhausts bars = tt
+pub arrived_tried : (start : SeatView) (before after : SweepTries) (lock section : ℕ) (drive : Driven) → WaitsAfterAllSweeps start before after drive → IsBarred drive
+    → WorkWaitsAfterTries (before.most - before.blocked) start.part.steps (driven_result lock section drive)
+arrived_tried start before after lock section (driven.Done ready receipt) exhausts bars = absurd bars
+arrived_tried start before after lock section (driven.Waits climb) exhausts bars = exhausts.steps
+arrived_tried start before after lock section (driven.Stopped held) exhausts bars = tt
+arrived_tried start before after lock section (driven.Fell down) exhausts bars = tt
 
 -- The session afterwards: a worker that did not crash was spared.
 module _ (shape : Shape) (lead : Part → Part) where
-  left_up : (old now : Session) (its : JobOutcome) (let_go : Option SeatView) → IsNotFallen its → let_go ≡ None → PlanSpares shape lead old.planned (held_worker old.value) now.planned (held_worker now.value)
-      → WorkWithinPlan shape lead old now its let_go
+  left_up : (old now : Session) (its : JobOutcome) (let_go : Option SeatView) → IsNotFallen its → let_go ≡ None
+      → PlanSpares shape lead (part_when_told its) old.planned (held_worker old.value) now.planned (held_worker now.value) → WorkWithinPlan shape lead old now its let_go
   left_up old now (outcome.Receipt receipt) let_go up none spares = (spares, none)
   left_up old now outcome.Withdrawn let_go up none spares = (spares, none)
   left_up old now outcome.Waiting let_go up none spares = (spares, none)
-  left_up old now (outcome.Inside number) let_go up none spares = (spares, none)
+  left_up old now (outcome.Inside token) let_go up none spares = (spares, none)
   left_up old now outcome.Fell let_go up none spares = absurd up
 
-  pub spared_by : (old : PlannedCrash) (start : Option SeatView) (now : Countdown) (end : Option SeatView) → CountdownSpares shape lead (Runs old) start now end → PlanSpares shape lead old start (planned_after now) end
-  spared_by old start (Runs now) end spares = spares
-  spared_by old start Fallen end spares = absurd spares
+  pub spared_by : (learns : Part → Part) (old : PlannedCrash) (start : Option SeatView) (now : Countdown) (end : Option SeatView) → CountdownSpares shape lead learns (Runs old) start now end
+      → PlanSpares shape lead learns old start (planned_after now) end
+  spared_by learns old start (Runs now) end spares = spares
+  spared_by learns old start Fallen end spares = absurd spares
 
   pub left_so : (old : Session) (Has : Holding → JobOutcome → Type 0) (countdown : Countdown) (worked : Result (Holding × JobOutcome) SeatView) (now : Session) (its : JobOutcome) (let_go : Option SeatView)
       → WorkResultSatisfies worked Has → WorkSpendsCountdown shape lead (Runs old.planned) (held_worker old.value) countdown worked → WorkSettlement worked (planned_after countdown) now its let_go
@@ -137,23 +149,27 @@ module _ (shape : Shape) (lead : Part → Part) where
   left_so old Has countdown (Ok (value, became)) now its let_go (has, up) spares (now_is, its_is, none) =
       rw (now_is, its_is) (
         has,
-        left_up old (record { value = value; planned = planned_after countdown }) became let_go up none (spared_by old.planned (held_worker old.value) countdown (held_worker value) spares),
+        left_up old (record { value = value; planned = planned_after countdown }) became let_go up none (spared_by (part_when_told became) old.planned (held_worker old.value) countdown (held_worker value) spares),
       )
   left_so old Has countdown (Err down) now its let_go has falls (now_is, its_is, go_is) = rw (now_is, its_is, go_is) (has, (falls, refl))
 
--- A worker that answers its last number again makes no step.
-pub spares_none : (shape : Shape) (ready : SeatView) (plan : Countdown) → CountdownSpares shape unchanged_part plan (Some ready) plan (Some ready)
+-- A worker that answers its last number again makes no step, and neither does one that is already inside.
+pub spares_none : (shape : Shape) (ready : SeatView) (plan : Countdown) → CountdownSpares shape unchanged_part unchanged_part plan (Some ready) plan (Some ready)
 spares_none shape ready (Runs planned) =
     (0, record { ident = refl; own = refl; values = []; walk = refl; found = tt; count = refl; steps = omega arith }, leaves_none planned)
 spares_none shape ready Fallen = tt
 
 pub repeats_spares : (shape : Shape) (ready : SeatView) (plan : Countdown) (value : Holding) (became : JobOutcome) → ThreadRepeatEffect shape ready value became
-    → CountdownSpares shape unchanged_part plan (Some ready) plan (held_worker value)
+    → CountdownSpares shape unchanged_part (part_when_told became) plan (Some ready) plan (held_worker value)
 repeats_spares shape ready plan value (outcome.Receipt receipt) (same, last, is_last) = rw same (spares_none shape ready plan)
 repeats_spares shape ready plan value outcome.Withdrawn (same, last) = rw same (spares_none shape ready plan)
 repeats_spares shape ready plan value outcome.Waiting repeats = absurd repeats
 repeats_spares shape ready plan value outcome.Fell repeats = absurd repeats
-repeats_spares shape ready plan value (outcome.Inside number) repeats = absurd repeats
+repeats_spares shape ready plan value (outcome.Inside token) repeats = absurd repeats
+
+pub stays_spares : (shape : Shape) (held : SeatView) (plan : Countdown) (value : Holding) (became : JobOutcome) → StaysInside held value became
+    → CountdownSpares shape unchanged_part (part_when_told became) plan (Some held) plan (held_worker value)
+stays_spares shape held plan value became (lock, section, same, is) = rw (same, is) (spares_loaded shape unchanged_part held held section plan plan (spares_none shape held plan))
 
 -- The lead of the work is that of the order; answering the last number again makes no step.
 repeated : (shape : Shape) (ready : SeatView) (planned : PlannedCrash) (job : Job) (now : Session) (became : JobOutcome) (let_go : Option SeatView) → ThreadRepeatEffect shape ready now.value became
@@ -168,7 +184,7 @@ repeated shape ready planned job now outcome.Withdrawn let_go (same, last) ((mad
     ((made, subst Q (sym same) (stayed shape unchanged_part (handed job) ready made (subst P same went)), left), none)
 repeated shape ready planned job now outcome.Waiting let_go repeats left = absurd repeats
 repeated shape ready planned job now outcome.Fell let_go repeats left = absurd repeats
-repeated shape ready planned job now (outcome.Inside number) let_go repeats left = absurd repeats
+repeated shape ready planned job now (outcome.Inside token) let_go repeats left = absurd repeats
 
 pub led_so : (shape : Shape) (its : Submission) (work : SessionWork) (planned : PlannedCrash) (now : Session) (became : JobOutcome) (let_go : Option SeatView) → IsSubmitWork shape its work
     → WorkEffect shape work now.value became → WorkWithinPlan shape (work_lead work) (record { value = work_holding work; planned = planned }) now became let_go
@@ -226,24 +242,19 @@ led_onward shape (GoIn climb tries until.Inside) old now became let_go asked lef
 led_onward shape (Stay held) old now became let_go asked left = absurd asked
 
 -- The tries that were made before a job waits.
-pub driven_tried : (start : SeatView) (before after : SweepTries) (drive : Driven) → WaitsAfterAllSweeps start before after drive → GateLetsPass drive → WorkWaitsAfterTries (before.most - before.blocked) start.part.steps (driven_result drive)
-driven_tried start before after (driven.Done ready receipt) exhausts passes = tt
-driven_tried start before after (driven.Waits climb) exhausts passes = exhausts.steps
-driven_tried start before after (driven.Stopped held) exhausts passes = absurd passes
-driven_tried start before after (driven.Fell down) exhausts passes = tt
-
-pub owning_tried : (most steps : ℕ) (drive : Driven) → DriveDoesNotWait drive → GateLetsPass drive → WorkWaitsAfterTries most steps (driven_result drive)
-owning_tried most steps (driven.Done ready receipt) owns passes = tt
-owning_tried most steps (driven.Waits climb) owns passes = absurd owns
-owning_tried most steps (driven.Stopped held) owns passes = absurd passes
-owning_tried most steps (driven.Fell down) owns passes = tt
+pub driven_tried : (start : SeatView) (before after : SweepTries) (lock section : ℕ) (drive : Driven) → WaitsAfterAllSweeps start before after drive → GateLetsPass drive
+    → WorkWaitsAfterTries (before.most - before.blocked) start.part.steps (driven_result lock section drive)
+driven_tried start before after lock section (driven.Done ready receipt) exhausts passes = tt
+driven_tried start before after lock section (driven.Waits climb) exhausts passes = exhausts.steps
+driven_tried start before after lock section (driven.Stopped held) exhausts passes = absurd passes
+driven_tried start before after lock section (driven.Fell down) exhausts passes = tt
 
 tried_before : (most first later : ℕ) (value : Holding) (became : JobOutcome) → first ≤ later → ThreadWaitsAfterTries most later value became → ThreadWaitsAfterTries most first value became
 tried_before most first later value (outcome.Receipt receipt) more tried = tt
 tried_before most first later value outcome.Withdrawn more tried = tt
 tried_before most first later value outcome.Waiting more tried = omega (arith, more, tried)
 tried_before most first later value outcome.Fell more tried = tt
-tried_before most first later value (outcome.Inside number) more tried = tt
+tried_before most first later value (outcome.Inside token) more tried = tt
 
 pub tried_since : (most first later : ℕ) (worked : Result (Holding × JobOutcome) SeatView) → first ≤ later → WorkWaitsAfterTries most later worked → WorkWaitsAfterTries most first worked
 tried_since most first later (Ok (value, became)) more tried = tried_before most first later value became more tried
@@ -254,12 +265,26 @@ repeats_tried shape ready most steps value (outcome.Receipt receipt) repeats = t
 repeats_tried shape ready most steps value outcome.Withdrawn repeats = tt
 repeats_tried shape ready most steps value outcome.Waiting repeats = absurd repeats
 repeats_tried shape ready most steps value outcome.Fell repeats = tt
-repeats_tried shape ready most steps value (outcome.Inside number) repeats = tt
+repeats_tried shape ready most steps value (outcome.Inside token) repeats = tt
 
 pub settled_tried : (most steps : ℕ) (planned : PlannedCrash) (worked : Result (Holding × JobOutcome) SeatView) (now : Session) (became : JobOutcome) (let_go : Option SeatView) → WorkSettlement worked planned now became let_go
     → WorkWaitsAfterTries most steps worked → ThreadWaitsAfterTries most steps now.value became
 settled_tried most steps planned (Ok (value, its)) now became let_go (now_is, its_is, none) tried = rw (now_is, its_is) tried
 settled_tried most steps planned (Err down) now became let_go (now_is, its_is, go_is) tried = rw its_is tt
+
+-- The token that is told, and the place of a worker that was inside.
+pub settled_told : (shape : Shape) (planned : PlannedCrash) (worked : Result (Holding × JobOutcome) SeatView) (now : Session) (became : JobOutcome) (let_go : Option SeatView) → WorkSettlement worked planned now became let_go
+    → WorkTellsSection shape worked → TellsWorkerSection shape now.value (reply.Entered became)
+settled_told shape planned (Ok (value, its)) now became let_go (now_is, its_is, none) told = rw (now_is, its_is) told
+settled_told shape planned (Err down) now became let_go (now_is, its_is, go_is) told = rw now_is tt
+
+pub settled_place : (start : Holding) (planned : PlannedCrash) (worked : Result (Holding × JobOutcome) SeatView) (now : Session) (became : JobOutcome) (let_go : Option SeatView) → WorkSettlement worked planned now became let_go
+    → WorkHasKnownPlace start worked → HasKnownPlace start became
+settled_place Empty planned worked now became let_go settles placed = tt
+settled_place (Ready ready) planned worked now became let_go settles placed = tt
+settled_place (Climb climb) planned worked now became let_go settles placed = tt
+settled_place (Held held) planned (Ok (value, its)) now became let_go (now_is, its_is, none) placed = rw its_is placed
+settled_place (Held held) planned (Err down) now became let_go (now_is, its_is, go_is) placed = rw its_is tt
 
 -- A job that was posted: the worker that waits then has the next number, and what becomes of its job becomes of the next
 -- job.
@@ -277,39 +302,39 @@ module _ (start now : SeatView) (job : Job) (draft : now.part.draft ≡ Some job
       (entry, subst (λ (before : List Entry). P (stand_next_job start job) before) entries (subst (λ (task : WorkerJob). P task now.part.entries) (same_task other is) has), same)
   posted_effect until.Finished (Climb climb) outcome.Waiting still = still_awaits climb still
   posted_effect until.Finished Empty outcome.Fell fell = tt
-  posted_effect until.Inside (Held held) (outcome.Inside number) (still, entered, is) = (still_awaits held still, entered, is ∙ number_is)
+  posted_effect until.Inside (Held held) (outcome.Inside token) (still, entered, is) = (still_awaits held still, entered, is ∙ number_is)
   posted_effect until.Inside (Climb climb) outcome.Waiting still = still_awaits climb still
   posted_effect until.Inside Empty outcome.Fell fell = tt
   posted_effect until.Finished Empty (outcome.Receipt receipt) none = absurd none
   posted_effect until.Finished Empty outcome.Withdrawn none = absurd none
   posted_effect until.Finished Empty outcome.Waiting none = absurd none
-  posted_effect until.Finished Empty (outcome.Inside number) none = absurd none
+  posted_effect until.Finished Empty (outcome.Inside token) none = absurd none
   posted_effect until.Finished (Ready ready) outcome.Withdrawn none = absurd none
   posted_effect until.Finished (Ready ready) outcome.Waiting none = absurd none
   posted_effect until.Finished (Ready ready) outcome.Fell none = absurd none
-  posted_effect until.Finished (Ready ready) (outcome.Inside number) none = absurd none
+  posted_effect until.Finished (Ready ready) (outcome.Inside token) none = absurd none
   posted_effect until.Finished (Climb climb) (outcome.Receipt receipt) none = absurd none
   posted_effect until.Finished (Climb climb) outcome.Withdrawn none = absurd none
   posted_effect until.Finished (Climb climb) outcome.Fell none = absurd none
-  posted_effect until.Finished (Climb climb) (outcome.Inside number) none = absurd none
+  posted_effect until.Finished (Climb climb) (outcome.Inside token) none = absurd none
   posted_effect until.Finished (Held held) (outcome.Receipt receipt) none = absurd none
   posted_effect until.Finished (Held held) outcome.Withdrawn none = absurd none
   posted_effect until.Finished (Held held) outcome.Waiting none = absurd none
   posted_effect until.Finished (Held held) outcome.Fell none = absurd none
-  posted_effect until.Finished (Held held) (outcome.Inside number) none = absurd none
+  posted_effect until.Finished (Held held) (outcome.Inside token) none = absurd none
   posted_effect until.Inside Empty (outcome.Receipt receipt) none = absurd none
   posted_effect until.Inside Empty outcome.Withdrawn none = absurd none
   posted_effect until.Inside Empty outcome.Waiting none = absurd none
-  posted_effect until.Inside Empty (outcome.Inside number) none = absurd none
+  posted_effect until.Inside Empty (outcome.Inside token) none = absurd none
   posted_effect until.Inside (Ready ready) (outcome.Receipt receipt) none = absurd none
   posted_effect until.Inside (Ready ready) outcome.Withdrawn none = absurd none
   posted_effect until.Inside (Ready ready) outcome.Waiting none = absurd none
   posted_effect until.Inside (Ready ready) outcome.Fell none = absurd none
-  posted_effect until.Inside (Ready ready) (outcome.Inside number) none = absurd none
+  posted_effect until.Inside (Ready ready) (outcome.Inside token) none = absurd none
   posted_effect until.Inside (Climb climb) (outcome.Receipt receipt) none = absurd none
   posted_effect until.Inside (Climb climb) outcome.Withdrawn none = absurd none
   posted_effect until.Inside (Climb climb) outcome.Fell none = absurd none
-  posted_effect until.Inside (Climb climb) (outcome.Inside number) none = absurd none
+  posted_effect until.Inside (Climb climb) (outcome.Inside token) none = absurd none
   posted_effect until.Inside (Held held) (outcome.Receipt receipt) none = absurd none
   posted_effect until.Inside (Held held) outcome.Withdrawn none = absurd none
   posted_effect until.Inside (Held held) outcome.Waiting none = absurd none

@@ -19,7 +19,7 @@ use Rattle.rme_session_threads.specs.declared.stand.Holding.TheVariants.{Empty, 
 -- Begun.
 pub record KeepsJobAndEntries (shape : Shape) (lead : Part → Part) (start now : SeatView) : Type 0 where
   pub made : ℕ
-  pub walked : HasMadeOwnSteps shape lead start now made
+  pub walked : HasMadeOwnSteps shape lead unchanged_part start now made
   pub draft : now.part.draft ≡ start.part.draft
   pub entries : now.part.entries ≡ start.part.entries
   pub number : PartKnowsNumber shape now.part

@@ -1,13 +1,15 @@
 -- The work of an order on its session's worker, and its result.
-use Rattle.std.specs.Prelude.{◌≡◌, ℕ, ◌+◌, ◌<◌, Option, Some, None, Result, Ok, Err, MatchResult}
+use Rattle.std.specs.Prelude.{◌≡◌, ℕ, ◌+◌, ◌<◌, false, Option, Some, None, Result, Ok, Err, MatchResult}
 use Rattle.rme_words.specs.declared.shape.Shape.{Shape}
 use Rattle.rme_service_steps.specs.declared.seat_record.Part.{Part}
 use Rattle.rme_service_steps.specs.Parts.{unchanged_part, submitted_part}
-use Rattle.rme_service_steps.specs.SeatViews.{SeatView}
+use Rattle.rme_service_steps.specs.SeatViews.{ServiceId, SeatView}
+use Rattle.rme_table.specs.Calls.{is_section_over}
 use Rattle.rme_table.specs.declared.driving.Driven.{Driven}
 use Rattle.rme_table.specs.declared.driving.Driven.TheVariants as driven
 use Rattle.rme_session_protocol.specs.declared.reply.JobOutcome.{JobOutcome}
 use Rattle.rme_session_protocol.specs.declared.reply.JobOutcome.TheVariants as outcome
+use Rattle.rme_session_protocol.specs.declared.reply.SessionReply.TheVariants as reply
 use Rattle.rme_session_protocol.specs.declared.order.Submission.{Submission}
 use Rattle.rme_session_protocol.specs.Refusals.{PendingJobRefusal}
 use Rattle.rme_script.specs.JobRefusals.{job_refusal}
@@ -15,7 +17,7 @@ use Rattle.rme_session_protocol.specs.declared.planned_crash.Countdown.{Countdow
 use Rattle.rme_session_protocol.specs.declared.planned_crash.Countdown.TheVariants.{Runs, Fallen}
 use Rattle.rme_session_protocol.specs.declared.planned_crash.PlannedCrash.{PlannedCrash}
 use Rattle.rme_session_threads.specs.Stands.{held_worker, empty_stand}
-use Rattle.rme_session_threads.specs.JobOutcomes.{WorkOnNextJob, WorkOnPendingJob, PlanCrashes, ThreadPendingJobEffect, PlanSpares, ThreadRepeatEffect, stand_next_job}
+use Rattle.rme_session_threads.specs.JobOutcomes.{HasKnownPlace, WorkOnNextJob, WorkOnPendingJob, PlanCrashes, StaysInside, TellsWorkerSection, ThreadPendingJobEffect, PlanSpares, ThreadRepeatEffect, part_when_told, seat_with_section, stand_next_job, worker_token}
 use Rattle.rme_session_threads.specs.declared.stand.Holding.{Holding}
 use Rattle.rme_session_threads.specs.declared.stand.Holding.TheVariants as holds
 use Rattle.rme_session_threads.specs.declared.stand.Stand.{Stand as Standing}
@@ -70,14 +72,34 @@ WorkEffect shape (Post admitted tries stop) value its =
     WorkOnNextJob stop (stand_next_job admitted.ready admitted.job) admitted.ready.part.entries value its
 WorkEffect shape (GoIn climb tries stop) value its = WorkOnPendingJob stop climb value its
 WorkEffect shape (GoOn held) value its = ThreadPendingJobEffect held value its
-WorkEffect shape (Stay held) value its = (value ≡ holds.Held held) × (its ≡ outcome.Inside held.part.private.begun)
+WorkEffect shape (Stay held) value its = StaysInside held value its
 
--- What the session holds of a driven worker, and the outcome of its job.
-abbrev pub driven_result : Driven → Result (Holding × JobOutcome) SeatView
-driven_result (driven.Done ready receipt) = Ok (holds.Ready ready, outcome.Receipt receipt)
-driven_result (driven.Waits climb) = Ok (holds.Climb climb, outcome.Waiting)
-driven_result (driven.Stopped held) = Ok (holds.Held held, outcome.Inside held.part.private.begun)
-driven_result (driven.Fell down) = Err down
+-- What the session holds of a driven worker, and the outcome of its job; a worker that was stopped is told this lock
+-- and this section.
+abbrev pub driven_result : ℕ → ℕ → Driven → Result (Holding × JobOutcome) SeatView
+driven_result lock section (driven.Done ready receipt) = Ok (holds.Ready ready, outcome.Receipt receipt)
+driven_result lock section (driven.Waits climb) = Ok (holds.Climb climb, outcome.Waiting)
+driven_result lock section (driven.Stopped held) =
+    Ok (holds.Held (seat_with_section held section), outcome.Inside (worker_token held lock section))
+driven_result lock section (driven.Fell down) = Err down
+
+-- A driven worker that was stopped is one of this service, and its job is unfinished.
+abbrev pub IsStoppedInside : ServiceId → Driven → Type 0
+IsStoppedInside ident (driven.Stopped held) =
+    (held.ident ≡ ident) × (is_section_over held.part.private.stage ≡ false)
+IsStoppedInside ident drive = Unit {0}
+
+-- A worker that is inside after the work is told its token; one that was inside before has the place that it knew.
+abbrev pub WorkTellsSection : Shape → Result (Holding × JobOutcome) SeatView → Type 0
+WorkTellsSection shape worked =
+    MatchResult worked (λ (done : Holding × JobOutcome). TellsWorkerSection shape done.0 (reply.Entered done.1))
+    (λ (down : SeatView). Unit {0})
+
+abbrev pub WorkHasKnownPlace : Holding → Result (Holding × JobOutcome) SeatView → Type 0
+WorkHasKnownPlace (holds.Held held) worked =
+    MatchResult worked (λ (done : Holding × JobOutcome). HasKnownPlace (holds.Held held) done.1)
+    (λ (down : SeatView). Unit {0})
+WorkHasKnownPlace start worked = Unit {0}
 
 -- The lead before the first step of the work.
 abbrev pub work_lead : SessionWork → Part → Part
@@ -85,10 +107,11 @@ work_lead (Post admitted tries stop) = submitted_part admitted.job
 work_lead work = unchanged_part
 
 -- The plan after work: the worker was spared, or it crashed as planned. No work begins after a crash.
-abbrev pub CountdownSpares : Shape → (Part → Part) → Countdown → Option SeatView → Countdown → Option SeatView → Type 0
-CountdownSpares shape lead (Runs old) start (Runs now) end = PlanSpares shape lead old start now end
-CountdownSpares shape lead (Runs old) start Fallen end = ⊥
-CountdownSpares shape lead Fallen start now end = Unit {0}
+abbrev pub CountdownSpares : Shape → (Part → Part) → (Part → Part) → Countdown → Option SeatView → Countdown
+    → Option SeatView → Type 0
+CountdownSpares shape lead learns (Runs old) start (Runs now) end = PlanSpares shape lead learns old start now end
+CountdownSpares shape lead learns (Runs old) start Fallen end = ⊥
+CountdownSpares shape lead learns Fallen start now end = Unit {0}
 
 abbrev pub CountdownCrashes : Shape → (Part → Part) → Countdown → Option SeatView → Option SeatView → Type 0
 CountdownCrashes shape lead (Runs old) start down = PlanCrashes shape lead old start down
@@ -97,7 +120,9 @@ CountdownCrashes shape lead Fallen start down = Unit {0}
 abbrev pub WorkSpendsCountdown : Shape → (Part → Part) → Countdown → Option SeatView → Countdown
     → Result (Holding × JobOutcome) SeatView → Type 0
 WorkSpendsCountdown shape lead old start now worked =
-    MatchResult worked (λ (done : Holding × JobOutcome). CountdownSpares shape lead old start now (held_worker done.0))
+    MatchResult worked
+    (λ (done : Holding × JobOutcome).
+    CountdownSpares shape lead (part_when_told done.1) old start now (held_worker done.0))
     (λ (down : SeatView). CountdownCrashes shape lead old start (Some down))
 
 -- What the session holds after work, the outcome, and the worker that crashed.
@@ -110,9 +135,10 @@ WorkSettlement (Err down) planned now became let_go =
 
 -- A worker that crashes made exactly the planned number of own steps, and is released; the session then has no worker,
 -- and nothing is planned. Without a crash, the planned one comes earlier by the steps that the worker made. In both
--- cases only the worker's own steps happened to it, after their lead.
+-- cases only the worker's own steps happened to it, after their lead, and the load that made its token.
 abbrev pub WorkWithinPlan : Shape → (Part → Part) → Standing → Standing → JobOutcome → Option SeatView → Type 0
 WorkWithinPlan shape lead old now outcome.Fell let_go =
     PlanCrashes shape lead old.planned (held_worker old.value) let_go × (now ≡ empty_stand)
 WorkWithinPlan shape lead old now became let_go =
-    PlanSpares shape lead old.planned (held_worker old.value) now.planned (held_worker now.value) × (let_go ≡ None)
+    PlanSpares shape lead (part_when_told became) old.planned (held_worker old.value) now.planned
+    (held_worker now.value) × (let_go ≡ None)

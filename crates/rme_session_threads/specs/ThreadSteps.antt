@@ -21,7 +21,7 @@ use Rattle.rme_session_protocol.specs.declared.order.Submission.{Submission}
 use Rattle.rme_session_protocol.specs.SessionSteps.{SessionStepInSteps}
 use Rattle.rme_session_threads.specs.Attaching.{SlotAttach}
 use Rattle.rme_session_threads.specs.Stands.{IsShownReceipt, held_draft, held_entries, held_worker, stand_view}
-use Rattle.rme_session_threads.specs.JobOutcomes.{HasJustEntered, ThreadRepeatEffect, OwnStepsBetween, submit_lead}
+use Rattle.rme_session_threads.specs.JobOutcomes.{HasJustEntered, HasKnownPlace, OwnStepsBetween, OwnStepsThenLoad, TellsWorkerSection, ThreadRepeatEffect, part_when_told, seat_with_section, submit_lead}
 use Rattle.rme_session_threads.specs.declared.stand.Stand.{Stand}
 use Rattle.rme_session_threads.specs.declared.stand.Holding.{Holding}
 use Rattle.rme_session_threads.specs.declared.stand.Holding.TheVariants.{Ready, Climb, Held}
@@ -43,7 +43,7 @@ AppendsJobEntry before script value (outcome.Receipt receipt) =
 AppendsJobEntry before script value outcome.Waiting = held_entries (held_worker value) ≡ before
 AppendsJobEntry before script value outcome.Fell = Unit {0}
 AppendsJobEntry before script value outcome.Withdrawn = ⊥
-AppendsJobEntry before script value (outcome.Inside number) = ⊥
+AppendsJobEntry before script value (outcome.Inside token) = ⊥
 
 -- SUBMIT: answering a last number again leaves the worker unchanged.
 abbrev pub ReadySubmitEntries : Shape → Bool → seat.SeatView → Job → Holding → JobOutcome → Type 0
@@ -56,10 +56,10 @@ SubmitEntries shape (Ready ready) its value became =
 SubmitEntries shape start its value became =
     AppendsJobEntry (held_entries (held_worker start)) its.job.script value became
 
--- ENTER: the entries are unchanged, and a worker that is inside has made no step of its section. A worker that was
--- already inside, and a last number that is answered again, leave the worker unchanged.
+-- ENTER: the entries are unchanged, and a worker that is inside has made no step of its section. A last number that is
+-- answered again leaves the worker unchanged; a worker that was already inside only knows its section afterwards.
 abbrev pub EntersWithoutEntry : List Entry → Holding → JobOutcome → Type 0
-EntersWithoutEntry before (Held held) (outcome.Inside number) = (held.part.entries ≡ before) × HasJustEntered held
+EntersWithoutEntry before (Held held) (outcome.Inside token) = (held.part.entries ≡ before) × HasJustEntered held
 EntersWithoutEntry before value outcome.Waiting = held_entries (held_worker value) ≡ before
 EntersWithoutEntry before value outcome.Fell = Unit {0}
 EntersWithoutEntry before value its = ⊥
@@ -72,7 +72,7 @@ abbrev pub EnterEntries : Shape → Holding → Submission → Holding → JobOu
 EnterEntries shape (Ready ready) its value became =
     ReadyEnterEntries shape (its.number == ready.part.private.begun) ready value became
 EnterEntries shape (Climb climb) its value became = EntersWithoutEntry climb.part.entries value became
-EnterEntries shape (Held held) its value became = value ≡ Held held
+EnterEntries shape (Held held) its value (outcome.Inside token) = value ≡ Held (seat_with_section held token.section)
 EnterEntries shape start its value became = ⊥
 
 -- RESUME, COMMIT: the job is the pending one.
@@ -94,12 +94,14 @@ pub record StandChange : Type 0 where
 abbrev pub stand_change : Stand → Stand → Option seat.SeatView → StandChange
 stand_change old now let_go = record { old = old; now = now; let_go = let_go }
 
--- Only these own steps happened to the worker, after the lead that the order allows; a worker that crashed is released.
+-- Only these own steps happened to the worker, after the lead that the order allows, and the load that made its token;
+-- a worker that crashed is released.
 abbrev pub OrderOwnSteps : Shape → (Part → Part) → ℕ → StandChange → JobOutcome → Type 0
 OrderOwnSteps shape lead made change outcome.Fell =
     OwnStepsBetween shape lead (held_worker change.old.value) change.let_go made
 OrderOwnSteps shape lead made change became =
-    OwnStepsBetween shape lead (held_worker change.old.value) (held_worker change.now.value) made
+    OwnStepsThenLoad shape lead (part_when_told became) (held_worker change.old.value)
+    (held_worker change.now.value) made
     × (change.let_go ≡ None)
 
 -- The effect of each order. A refused order changes nothing. DETACH releases the worker unchanged.
@@ -131,10 +133,20 @@ ThreadOrderEffect ident count made change order.Last (reply.Last receipt) =
 ThreadOrderEffect ident count made change (order.CrashAfter steps) answer =
     (change.now.value ≡ change.old.value) × (change.let_go ≡ None)
 ThreadOrderEffect ident count made change order.Detach answer = change.let_go ≡ held_worker change.old.value
+ThreadOrderEffect ident count made change order.Ping answer = (change.now ≡ change.old) × (change.let_go ≡ None)
 ThreadOrderEffect ident count made change its answer = ⊥
 
+-- SUBMIT, RESUME, ENTER and COMMIT of a worker that was inside: it does not wait, and its receipt has the place that it
+-- knew.
+abbrev pub TellsKnownPlace : Holding → SessionReply → Type 0
+TellsKnownPlace start (reply.Submitted became) = HasKnownPlace start became
+TellsKnownPlace start (reply.Resumed became) = HasKnownPlace start became
+TellsKnownPlace start (reply.Entered became) = HasKnownPlace start became
+TellsKnownPlace start (reply.Committed became) = HasKnownPlace start became
+TellsKnownPlace start answer = Unit {0}
+
 -- A session of this service, which has `count` slots, executed an order. Its view makes a step by the own steps of its
--- worker; a receipt in its view is that of the worker's last entry.
+-- worker; a receipt in its view is that of the worker's last entry. A token tells the number of finished sections.
 pub record ThreadOrderExecution (ident : seat.ServiceId) (count : ℕ) (change : StandChange) (its : Order)
     (answer : SessionReply) : Type 0 where
   pub made : ℕ
@@ -145,6 +157,8 @@ pub record ThreadOrderExecution (ident : seat.ServiceId) (count : ℕ) (change :
   pub told_before : IsShownReceipt change.old.value before
   pub told_after : IsShownReceipt change.now.value after
   pub adds : ThreadOrderEffect ident count made change its answer
+  pub section : TellsWorkerSection ident.shape change.now.value answer
+  pub place : TellsKnownPlace change.old.value answer
 
 -- The same, for any released worker.
 pub record ThreadSessionStep (ident : seat.ServiceId) (count : ℕ) (old : Stand) (its : Order) (now : Stand)

@@ -13,7 +13,9 @@ ghost use Rattle.rme_session_threads.specs.declared.stand.Holding.TheVariants as
 ghost use Rattle.rme_session_protocol.specs.declared.planned_crash.PlannedCrash.TheVariants as planned;
 ghost use Rattle.rme_session_threads.specs.SessionWorks.{HasWorkTries, WorkWithinPlan, WorkEffect, WorkSettlement, work_holding, work_lead};
 ghost use Rattle.rme_session_threads.specs.Attaching.{AttachAnswer, WorkerExit, WorkerRecovery, KeepsJobAndEntries};
-ghost use Rattle.rme_session_threads.specs.JobOutcomes.{ThreadWaitsAfterTries, holding_steps};
+ghost use Rattle.rme_session_protocol.specs.SessionSteps.{TellsSection};
+ghost use Rattle.rme_session_threads.specs.Stands.{held_worker, holding_session};
+ghost use Rattle.rme_session_threads.specs.JobOutcomes.{HasKnownPlace, TellsWorkerSection, ThreadWaitsAfterTries, WorkerHasSection, holding_steps};
 ghost use Rattle.rme_session_threads.specs.ThreadSteps.{stand_change, ThreadOrderExecution, ThreadSessionStep};
 
 use crate::crash_plan::CountdownChance;
@@ -39,6 +41,9 @@ type OrderResult = (Stand, SessionReply, Option<Down>);
 ///
 /// An order that waits for a time makes only one sweep, and one that would take a worker over is refused if another
 /// session has the worker: the caller continues the order, or closes that session.
+///
+/// The answer of a worker that is inside to `Order::Enter` is its fencing token: the number of its lock's finished
+/// sections is the place that the job's receipt will have. A ping is answered in any stance, and changes nothing.
 pub fn obey<K: Tag, R: Wait>(
     rt: &R,
     stand: Stand,
@@ -50,6 +55,8 @@ pub fn obey<K: Tag, R: Wait>(
     requires ours { IsValidHolding K.ident slots.now stand.value }
     ensures ours { IsValidHolding K.ident slots.now result.0.value }
     ensures obeys { ThreadSessionStep K.ident slots.now stand order.now result.0 result.1 }
+    ensures section { TellsSection (WorkerHasSection K.ident.shape (held_worker result.0.value))
+        (holding_session None result.0.value) result.1 }
 {
     let (stand, reply, gone) = execute_order(rt, stand, order, service, slots);
     return_down(rt, gone, slots);
@@ -80,6 +87,7 @@ fn execute_order<K: Tag, R: Wait>(
         Order::Last => answer_last(stand, service, slots),
         Order::CrashAfter(steps) => plan_crash(stand, *steps, slots),
         Order::Detach => detach(stand, slots),
+        Order::Ping => (stand, SessionReply::Pong, None),
     }
 }
 
@@ -211,6 +219,8 @@ fn run_work<K: Tag>(
         (record { value = work_holding work.entry; planned = planned }) result.0 result.1 result.2 }
     ensures tried { (most : ℕ) → HasWorkTries most work.entry
         → ThreadWaitsAfterTries most (holding_steps (work_holding work.entry)) result.0.value result.1 }
+    ensures told { TellsWorkerSection service.now.shape result.0.value (reply.Entered result.1) }
+    ensures place { HasKnownPlace (work_holding work.entry) result.1 }
 {
     let mut counting = CountdownChance {
         countdown: Countdown::Runs(planned),

@@ -7,15 +7,15 @@ ghost use Rattle.std.specs.Prelude.{◌≡◌, ℕ, Some, false};
 ghost use Rattle.rme_table.specs.Calls.{is_section_over};
 ghost use Rattle.rme_session_threads.specs.Stands.{HasSlot, IsValidHolding, IsValidWorkResult, held_worker};
 ghost use Rattle.rme_service_steps.specs.Parts.{unchanged_part, submitted_part};
-ghost use Rattle.rme_session_threads.specs.SessionWorks.{HasWorkTries, WorkEffect, WorkSpendsCountdown, driven_result, work_holding, work_lead};
-ghost use Rattle.rme_session_threads.specs.JobOutcomes.{WorkWaitsAfterTries, WorkResultSatisfies, WorkOnNextJob, WorkOnPendingJob, ThreadEnterPendingEffect, ThreadPendingJobEffect, ThreadRepeatEffect, stand_next_job, holding_steps};
+ghost use Rattle.rme_session_threads.specs.SessionWorks.{HasWorkTries, IsStoppedInside, WorkEffect, WorkHasKnownPlace, WorkSpendsCountdown, WorkTellsSection, driven_result, work_holding, work_lead};
+ghost use Rattle.rme_session_threads.specs.JobOutcomes.{StaysInside, TellsWorkerSection, WorkWaitsAfterTries, WorkResultSatisfies, WorkOnNextJob, WorkOnPendingJob, ThreadEnterPendingEffect, ThreadPendingJobEffect, ThreadRepeatEffect, stand_next_job, holding_steps};
 ghost use Rattle.rme_session_threads.specs.declared.stand.Holding.TheVariants as holds;
-ghost use Rattle.rme_session_protocol.specs.declared.reply.JobOutcome.TheVariants as outcome;
+ghost use Rattle.rme_session_protocol.specs.declared.reply.SessionReply.TheVariants as reply;
 
 use crate::crash_plan::CountdownChance;
 use crate::stand::Holding;
 use crossbeam_utils::Backoff;
-use rme_session_protocol::JobOutcome;
+use rme_session_protocol::{FencingToken, JobOutcome};
 use rme_table::{Admitted, Climb, Down, Driven, Free, Held, Ready, Service, Shut, SweepTries};
 
 /// What the session holds afterwards, and the outcome of the job.
@@ -78,13 +78,15 @@ pub(crate) fn perform_work(
         (held_worker (work_holding work.entry)) planned.new.countdown result }
     ensures tried { (most : ℕ) → HasWorkTries most work.entry
         → WorkWaitsAfterTries most (holding_steps (work_holding work.entry)) result }
+    ensures told { WorkTellsSection service.now.shape result }
+    ensures place { WorkHasKnownPlace (work_holding work.entry) result }
 {
     match work {
         SessionWork::Repeat(ready) => Ok(repeat_last(ready, service)),
         SessionWork::Post(admitted, tries, goal) => post(admitted, tries, goal, planned, service),
         SessionWork::GoIn(climb, tries, goal) => climb_to(climb, tries, goal, planned, service),
         SessionWork::GoOn(held) => finish_held(held, planned, service),
-        SessionWork::Stay(held) => Ok(stay_inside(held)),
+        SessionWork::Stay(held) => Ok(stay_inside(held, service)),
     }
 }
 
@@ -117,6 +119,7 @@ fn post(
     ensures plan { WorkSpendsCountdown service.now.shape (submitted_part admitted.entry.job) planned.old.countdown
         (Some admitted.entry.ready) planned.new.countdown result }
     ensures tried { WorkWaitsAfterTries tries admitted.entry.ready.part.steps result }
+    ensures told { WorkTellsSection service.now.shape result }
 {
     match admitted.post(service, planned) {
         Ok(climb) => climb_to(climb, tries, goal, planned, service),
@@ -140,6 +143,7 @@ fn climb_to(
     ensures plan { WorkSpendsCountdown service.now.shape unchanged_part planned.old.countdown (Some climb)
         planned.new.countdown result }
     ensures tried { WorkWaitsAfterTries tries climb.part.steps result }
+    ensures told { WorkTellsSection service.now.shape result }
 {
     match goal {
         WorkGoal::Finished => climb_and_finish(climb, tries, planned, service),
@@ -161,13 +165,15 @@ fn climb_and_finish(
     ensures plan { WorkSpendsCountdown service.now.shape unchanged_part planned.old.countdown (Some climb)
         planned.new.countdown result }
     ensures tried { WorkWaitsAfterTries tries climb.part.steps result }
+    ensures told { WorkTellsSection service.now.shape result }
 {
     let backoff = Backoff::new();
     let mut tries = SweepTries {
         blocked: 0,
         most: tries,
     };
-    driven_result(climb.drive_waiting(service, planned, &Free, &mut tries, || backoff.snooze()))
+    let driven = climb.drive_waiting(service, planned, &Free, &mut tries, || backoff.snooze());
+    driven_result(driven, service)
 }
 
 /// From waiting to the lock's entry, with at most this number of sweeps and a pause after each blocked one.
@@ -183,21 +189,30 @@ fn climb_and_enter(
     ensures plan { WorkSpendsCountdown service.now.shape unchanged_part planned.old.countdown (Some climb)
         planned.new.countdown result }
     ensures tried { WorkWaitsAfterTries tries climb.part.steps result }
+    ensures told { WorkTellsSection service.now.shape result }
 {
     let backoff = Backoff::new();
     let mut tries = SweepTries {
         blocked: 0,
         most: tries,
     };
-    driven_result(climb.drive_waiting(service, planned, &Shut, &mut tries, || backoff.snooze()))
+    let driven = climb.drive_waiting(service, planned, &Shut, &mut tries, || backoff.snooze());
+    driven_result(driven, service)
 }
 
-/// A worker that is already inside makes no step.
-fn stay_inside(held: Held) -> WorkResult
-    ensures { (result.0 ≡ holds.Held held) × (result.1 ≡ outcome.Inside held.part.private.begun) }
+/// A worker that is inside makes no step. Its token is read: the job's lock, and the number of its finished sections.
+fn stay_inside(mut held: Held, service: &Service) -> WorkResult
+    requires ours { held.ident ≡ service.now }
+    requires pending { is_section_over held.part.private.stage ≡ false }
+    ensures stays { StaysInside held result.0 result.1 }
+    ensures told { TellsWorkerSection service.now.shape result.0 (reply.Entered result.1) }
 {
-    let number = held.number();
-    (Holding::Held(held), JobOutcome::Inside(number))
+    let token = FencingToken {
+        lock: held.job(service).lock,
+        number: held.number(),
+        section: held.section(service),
+    };
+    (Holding::Held(held), JobOutcome::Inside(token))
 }
 
 /// From the lock's entry to readiness.
@@ -213,18 +228,29 @@ fn finish_held(
     ensures plan { WorkSpendsCountdown service.now.shape unchanged_part planned.old.countdown (Some held)
         planned.new.countdown result }
     ensures tried { (most : ℕ) → WorkWaitsAfterTries most held.part.steps result }
+    ensures place { WorkHasKnownPlace (holds.Held held) result }
+    ensures told { WorkTellsSection service.now.shape result }
 {
-    driven_result(held.drive_owner(service, planned, &Free))
+    let (leave, receipt) = match held.perform(service, planned) {
+        Ok(done) => done,
+        Err(down) => return Err(down),
+    };
+    match leave.exit(service, planned) {
+        Ok(ready) => Ok((Holding::Ready(ready), JobOutcome::Receipt(receipt))),
+        Err(down) => Err(down),
+    }
 }
 
-/// What the session holds of a driven worker, and the outcome of its job.
-fn driven_result(driven: Driven) -> Result<WorkResult, Down>
-    ensures { result ≡ driven_result driven }
+/// What the session holds of a driven worker, and the outcome of its job. The token of a stopped worker is read.
+fn driven_result(driven: Driven, service: &Service) -> Result<WorkResult, Down>
+    requires inside { IsStoppedInside service.now driven }
+    ensures result { (lock : ℕ) × (section : ℕ) × (result ≡ driven_result lock section driven) }
+    ensures told { WorkTellsSection service.now.shape result }
 {
     match driven {
         Driven::Done(ready, receipt) => Ok((Holding::Ready(ready), JobOutcome::Receipt(receipt))),
         Driven::Waits(climb) => Ok((Holding::Climb(climb), JobOutcome::Waiting)),
-        Driven::Stopped(held) => Ok(stay_inside(held)),
+        Driven::Stopped(held) => Ok(stay_inside(held, service)),
         Driven::Fell(down) => Err(down),
     }
 }

@@ -25,4 +25,4 @@ returns-clause-acts g c =
     let tried = subst H (same_start work) (subst T c.until_inside-work.ensures (c.run_work-stand.ensures.tried (least_tries its.patience)) (same_tries (least_tries its.patience) work c.in-Ok.ensures.tries)) in
     let P : ServiceId → Type 0 = λ ident. ThreadOrderExecution ident c.args.slots.now (stand_change c.args.stand made.0 made.2) (order.Enter its) (reply.Entered made.1) in
     subst P c.requires.service (entered c.args.service.now c.args.slots.now work c.args.stand made.0 made.1 made.2 its c.in-Ok.ensures.work.0 c.in-Ok.ensures.work.1
-    (subst M c.until_inside-work.ensures c.run_work-stand.ensures.did.0) (subst L c.until_inside-work.ensures c.run_work-stand.ensures.did.1) tried)
+    (subst M c.until_inside-work.ensures c.run_work-stand.ensures.did.0) (subst L c.until_inside-work.ensures c.run_work-stand.ensures.did.1) tried c.run_work-stand.ensures.told)

@@ -13,4 +13,4 @@ returns-clause-acts g c =
     let made = c.run_work-stand.result in
     let P : ServiceId → Type 0 = λ ident. ThreadOrderExecution ident c.args.slots.now (stand_change c.args.stand made.0 made.2) (order.Submit its) (reply.Submitted made.1) in
     subst P c.requires.service (submitted c.args.service.now c.args.slots.now c.in-Ok.work c.args.stand made.0 made.1 made.2 c.in-Ok.ensures.work.0 c.run_work-stand.ensures.did.0
-    c.run_work-stand.ensures.did.1 its c.in-Ok.ensures.work.1 (c.run_work-stand.ensures.tried (least_tries its.patience) c.in-Ok.ensures.tries))
+    c.run_work-stand.ensures.place c.run_work-stand.ensures.did.1 its c.in-Ok.ensures.work.1 (c.run_work-stand.ensures.tried (least_tries its.patience) c.in-Ok.ensures.tries))

@@ -1,27 +1,41 @@
 use Rattle.std.proofs.Common.{◌≡◌, ℕ, ◌-◌, arith, subst}
 use Rattle.rme_session_threads.specs.SessionWorks.{driven_result}
 use Rattle.rme_session_threads.specs.JobOutcomes.{WorkWaitsAfterTries}
-use Rattle.rme_session_threads.proofs.Working.{arrived_did, arrived_ours, arrived_plan, arrived_tried, barred}
+use Rattle.rme_session_threads.proofs.Working.{arrived_did, arrived_ours, arrived_plan, arrived_tried, barred, stopped_inside}
 use Rattle.rme_session_threads.proofs.work.climb_and_enter.Goals as goal
+
+pub driven_result-requires : goal.driven_result-requires
+driven_result-requires c =
+    let drive = c.drive_waiting-driven in record {
+      inside = stopped_inside c.args.service.now.shape c.args.climb c.args.planned.now.countdown drive.new.chance.countdown c.args.service.now drive.result drive.ensures.drives drive.ensures.stops c.requires.ours;
+    }
 
 pub returns-clause-ours : goal.returns-clause-ours
 returns-clause-ours c =
-    let bars = barred _ c.args.service.now.shape c.args.climb.part.worker c.drive_waiting.result c.drive_waiting.ensures.watches in
-    rw c.driven_result.ensures (arrived_ours c.args.service.now.shape c.args.climb c.args.planned.now.countdown c.drive_waiting.new.chance.countdown c.args.service.now c.drive_waiting.result c.drive_waiting.ensures.drives bars c.drive_waiting.ensures.stops)
+    let drive = c.drive_waiting-driven in
+    let told = c.driven_result.ensures.result in
+    let bars = barred _ c.args.service.now.shape c.args.climb.part.worker drive.result drive.ensures.watches in
+    rw told.2 (arrived_ours c.args.service.now.shape c.args.climb c.args.planned.now.countdown drive.new.chance.countdown told.0 told.1 c.args.service.now drive.result drive.ensures.drives bars drive.ensures.stops)
 
 pub returns-clause-did : goal.returns-clause-did
 returns-clause-did c =
-    let bars = barred _ c.args.service.now.shape c.args.climb.part.worker c.drive_waiting.result c.drive_waiting.ensures.watches in
-    rw c.driven_result.ensures (arrived_did c.args.service.now.shape c.args.climb c.args.planned.now.countdown c.drive_waiting.new.chance.countdown c.drive_waiting.result c.drive_waiting.ensures.drives bars c.drive_waiting.ensures.stops)
+    let drive = c.drive_waiting-driven in
+    let told = c.driven_result.ensures.result in
+    let bars = barred _ c.args.service.now.shape c.args.climb.part.worker drive.result drive.ensures.watches in
+    rw told.2 (arrived_did c.args.service.now.shape c.args.climb c.args.planned.now.countdown drive.new.chance.countdown told.0 told.1 drive.result drive.ensures.drives bars drive.ensures.stops)
 
 pub returns-clause-plan : goal.returns-clause-plan
 returns-clause-plan c =
-    let bars = barred _ c.args.service.now.shape c.args.climb.part.worker c.drive_waiting.result c.drive_waiting.ensures.watches in
-    rw c.driven_result.ensures (arrived_plan c.args.service.now.shape c.args.climb c.args.planned.now.countdown c.drive_waiting.new.chance.countdown c.drive_waiting.result c.drive_waiting.ensures.drives bars)
+    let drive = c.drive_waiting-driven in
+    let told = c.driven_result.ensures.result in
+    let bars = barred _ c.args.service.now.shape c.args.climb.part.worker drive.result drive.ensures.watches in
+    rw told.2 (arrived_plan c.args.service.now.shape c.args.climb c.args.planned.now.countdown drive.new.chance.countdown told.0 told.1 drive.result drive.ensures.drives bars)
 
 pub returns-clause-tried : goal.returns-clause-tried
 returns-clause-tried c =
-    let bars = barred _ c.args.service.now.shape c.args.climb.part.worker c.drive_waiting.result c.drive_waiting.ensures.watches in
+    let drive = c.drive_waiting-driven in
+    let told = c.driven_result.ensures.result in
+    let bars = barred _ c.args.service.now.shape c.args.climb.part.worker drive.result drive.ensures.watches in
     let all : c.args.tries - 0 ≡ c.args.tries = omega arith in
-    let P : ℕ → Type 0 = λ most. WorkWaitsAfterTries most c.args.climb.part.steps (driven_result c.drive_waiting.result) in
-    rw c.driven_result.ensures (subst P all (arrived_tried c.args.climb (record { blocked = 0; most = c.args.tries }) c.drive_waiting.new.tries c.drive_waiting.result c.drive_waiting.ensures.tries bars))
+    let P : ℕ → Type 0 = λ most. WorkWaitsAfterTries most c.args.climb.part.steps (driven_result told.0 told.1 drive.result) in
+    rw told.2 (subst P all (arrived_tried c.args.climb (record { blocked = 0; most = c.args.tries }) drive.new.tries told.0 told.1 drive.result drive.ensures.tries bars))

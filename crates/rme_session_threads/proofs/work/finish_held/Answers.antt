@@ -1,27 +1,49 @@
-use Rattle.std.proofs.Common.{refl, subst}
-use Rattle.std.specs.Prelude.{Bool}
-use Rattle.rme_table.specs.Driving.{DriveOutcome}
+use Rattle.rme_table.specs.declared.driving.Driven.TheVariants as driven
+use Rattle.rme_table.proofs.GoingOn.{goes_fell}
 use Rattle.rme_session_threads.specs.CrashPlans.{countdown_tally}
-use Rattle.rme_session_threads.proofs.Working.{driven_did, driven_ours, driven_plan, owning_tried}
+use Rattle.rme_session_threads.proofs.Finishing.{fell_leaving, known_place, left_lock}
+use Rattle.rme_session_threads.proofs.Working.{driven_did, driven_ours, driven_plan}
 use Rattle.rme_session_threads.proofs.work.finish_held.Goals as goal
 
-pub returns-clause-ours : goal.returns-clause-ours
-returns-clause-ours c =
-    let P : Bool → Type 0 = λ over. DriveOutcome c.args.service.now.shape over c.args.held (countdown_tally c.args.planned.now.countdown) (countdown_tally c.drive_owner.new.chance.countdown) c.drive_owner.result in
-    let drives = subst P c.requires.pending c.drive_owner.ensures.drives in
-    rw c.driven_result.ensures (driven_ours c.args.service.now.shape c.args.held c.args.planned.now.countdown c.drive_owner.new.chance.countdown c.args.service.now c.drive_owner.result drives (c.drive_owner.ensures.passes refl))
+pub returns-in-Ok-exit-clause-ours : goal.returns-in-Ok-exit-clause-ours
+returns-in-Ok-exit-clause-ours c =
+    let drives = left_lock c.args.service.now.shape c.args.held c.in-Ok.done.0 c.args.planned.now.countdown c.perform.new.chance.countdown c.in-Ok.done.1 _ c.requires.pending c.in-Ok.ensures
+    c.in-Ok-exit.ready c.exit.new.chance.countdown _ _ c.in-Ok-exit.ensures.made c.in-Ok-exit.ensures.number in
+    driven_ours c.args.service.now.shape c.args.held c.args.planned.now.countdown c.exit.new.chance.countdown 0 0 c.args.service.now (driven.Done c.in-Ok-exit.ready c.in-Ok.done.1) drives tt
 
-pub returns-clause-did : goal.returns-clause-did
-returns-clause-did c =
-    let P : Bool → Type 0 = λ over. DriveOutcome c.args.service.now.shape over c.args.held (countdown_tally c.args.planned.now.countdown) (countdown_tally c.drive_owner.new.chance.countdown) c.drive_owner.result in
-    let drives = subst P c.requires.pending c.drive_owner.ensures.drives in
-    rw c.driven_result.ensures (driven_did c.args.service.now.shape c.args.held c.args.planned.now.countdown c.drive_owner.new.chance.countdown c.drive_owner.result drives (c.drive_owner.ensures.passes refl))
+pub returns-in-Ok-exit-clause-did : goal.returns-in-Ok-exit-clause-did
+returns-in-Ok-exit-clause-did c =
+    let drives = left_lock c.args.service.now.shape c.args.held c.in-Ok.done.0 c.args.planned.now.countdown c.perform.new.chance.countdown c.in-Ok.done.1 _ c.requires.pending c.in-Ok.ensures
+    c.in-Ok-exit.ready c.exit.new.chance.countdown _ _ c.in-Ok-exit.ensures.made c.in-Ok-exit.ensures.number in
+    driven_did c.args.service.now.shape c.args.held c.args.planned.now.countdown c.exit.new.chance.countdown 0 0 (driven.Done c.in-Ok-exit.ready c.in-Ok.done.1) drives tt
 
-pub returns-clause-plan : goal.returns-clause-plan
-returns-clause-plan c =
-    let P : Bool → Type 0 = λ over. DriveOutcome c.args.service.now.shape over c.args.held (countdown_tally c.args.planned.now.countdown) (countdown_tally c.drive_owner.new.chance.countdown) c.drive_owner.result in
-    let drives = subst P c.requires.pending c.drive_owner.ensures.drives in
-    rw c.driven_result.ensures (driven_plan c.args.service.now.shape c.args.held c.args.planned.now.countdown c.drive_owner.new.chance.countdown c.drive_owner.result drives (c.drive_owner.ensures.passes refl))
+pub returns-in-Ok-exit-clause-plan : goal.returns-in-Ok-exit-clause-plan
+returns-in-Ok-exit-clause-plan c =
+    let drives = left_lock c.args.service.now.shape c.args.held c.in-Ok.done.0 c.args.planned.now.countdown c.perform.new.chance.countdown c.in-Ok.done.1 _ c.requires.pending c.in-Ok.ensures
+    c.in-Ok-exit.ready c.exit.new.chance.countdown _ _ c.in-Ok-exit.ensures.made c.in-Ok-exit.ensures.number in
+    driven_plan c.args.service.now.shape c.args.held c.args.planned.now.countdown c.exit.new.chance.countdown 0 0 (driven.Done c.in-Ok-exit.ready c.in-Ok.done.1) drives tt
 
-pub returns-clause-tried : goal.returns-clause-tried
-returns-clause-tried c = λ most. rw c.driven_result.ensures (owning_tried most c.args.held.part.steps c.drive_owner.result c.drive_owner.ensures.owns (c.drive_owner.ensures.passes refl))
+pub returns-in-Err-exit-clause-ours : goal.returns-in-Err-exit-clause-ours
+returns-in-Err-exit-clause-ours c =
+    let drives = fell_leaving c.args.service.now.shape c.args.held c.in-Ok.done.0 c.args.planned.now.countdown c.perform.new.chance.countdown c.in-Ok.done.1 _ c.requires.pending c.in-Ok.ensures
+    c.in-Err-exit.down c.exit.new.chance.countdown _ c.in-Err-exit.ensures.made in
+    driven_ours c.args.service.now.shape c.args.held c.args.planned.now.countdown c.exit.new.chance.countdown 0 0 c.args.service.now (driven.Fell c.in-Err-exit.down) drives tt
+
+pub returns-in-Err-exit-clause-plan : goal.returns-in-Err-exit-clause-plan
+returns-in-Err-exit-clause-plan c =
+    let drives = fell_leaving c.args.service.now.shape c.args.held c.in-Ok.done.0 c.args.planned.now.countdown c.perform.new.chance.countdown c.in-Ok.done.1 _ c.requires.pending c.in-Ok.ensures
+    c.in-Err-exit.down c.exit.new.chance.countdown _ c.in-Err-exit.ensures.made in
+    driven_plan c.args.service.now.shape c.args.held c.args.planned.now.countdown c.exit.new.chance.countdown 0 0 (driven.Fell c.in-Err-exit.down) drives tt
+
+pub returns-in-Err-clause-ours : goal.returns-in-Err-clause-ours
+returns-in-Err-clause-ours c =
+    let falls = goes_fell c.args.service.now.shape c.args.held c.in-Err.down (countdown_tally c.args.planned.now.countdown) (countdown_tally c.perform.new.chance.countdown) _ c.in-Err.ensures in
+    driven_ours c.args.service.now.shape c.args.held c.args.planned.now.countdown c.perform.new.chance.countdown 0 0 c.args.service.now (driven.Fell c.in-Err.down) falls tt
+
+pub returns-in-Err-clause-plan : goal.returns-in-Err-clause-plan
+returns-in-Err-clause-plan c =
+    let falls = goes_fell c.args.service.now.shape c.args.held c.in-Err.down (countdown_tally c.args.planned.now.countdown) (countdown_tally c.perform.new.chance.countdown) _ c.in-Err.ensures in
+    driven_plan c.args.service.now.shape c.args.held c.args.planned.now.countdown c.perform.new.chance.countdown 0 0 (driven.Fell c.in-Err.down) falls tt
+
+pub returns-in-Ok-exit-clause-place : goal.returns-in-Ok-exit-clause-place
+returns-in-Ok-exit-clause-place c = known_place c.args.service.now.shape c.args.held c.in-Ok.done.0 c.args.planned.now.countdown c.perform.new.chance.countdown c.in-Ok.done.1 _ c.requires.pending c.in-Ok.ensures

@@ -1,11 +1,7 @@
-use Rattle.std.proofs.Common.{ℕ, subst, sym}
-use Rattle.std.specs.Prelude.{Some}
-use Rattle.rme_service_steps.specs.Parts.{unchanged_part}
-use Rattle.rme_session_threads.specs.Stands.{held_worker}
-use Rattle.rme_session_threads.specs.SessionWorks.{CountdownSpares}
+use Rattle.std.proofs.Common.{ℕ, subst}
 use Rattle.rme_session_threads.specs.JobOutcomes.{WorkWaitsAfterTries}
-use Rattle.rme_session_threads.specs.declared.stand.Holding.{Holding}
-use Rattle.rme_session_threads.proofs.Working.{repeats_spares, repeats_tried, spares_none}
+use Rattle.rme_session_threads.proofs.Telling.{stays_ours, stays_place, stays_tried, stays_up}
+use Rattle.rme_session_threads.proofs.Working.{repeats_spares, repeats_tried, stays_spares}
 use Rattle.rme_session_threads.proofs.work.perform_work.Goals as goal
 
 pub returns-in-Repeat-clause-tried : goal.returns-in-Repeat-clause-tried
@@ -26,7 +22,20 @@ returns-in-GoIn-clause-tried c =
 
 pub returns-in-Stay-clause-plan : goal.returns-in-Stay-clause-plan
 returns-in-Stay-clause-plan c =
-    let shape = c.args.service.now.shape in
-    let plan = c.args.planned.now.countdown in
-    let P : Holding → Type 0 = λ value. CountdownSpares shape unchanged_part plan (Some c.in-Stay.held) plan (held_worker value) in
-    rw c.in-Stay.is (subst P (sym c.stay_inside.ensures.0) (spares_none shape c.in-Stay.held plan))
+    rw c.in-Stay.is (stays_spares c.args.service.now.shape c.in-Stay.held c.args.planned.now.countdown c.stay_inside.result.0 c.stay_inside.result.1 c.stay_inside.ensures.stays)
+
+pub returns-in-Stay-clause-did : goal.returns-in-Stay-clause-did
+returns-in-Stay-clause-did c =
+    let stays = c.stay_inside.ensures.stays in rw c.in-Stay.is (stays, stays_up c.in-Stay.held c.stay_inside.result.0 c.stay_inside.result.1 stays)
+
+pub returns-in-Stay-clause-ours : goal.returns-in-Stay-clause-ours
+returns-in-Stay-clause-ours c =
+    rw c.in-Stay.is (λ count ours. stays_ours c.in-Stay.held c.stay_inside.result.0 c.stay_inside.result.1 c.stay_inside.ensures.stays c.args.service.now count ours)
+
+pub returns-in-Stay-clause-tried : goal.returns-in-Stay-clause-tried
+returns-in-Stay-clause-tried c =
+    rw c.in-Stay.is (λ most has. stays_tried c.in-Stay.held c.stay_inside.result.0 c.stay_inside.result.1 c.stay_inside.ensures.stays most c.in-Stay.held.part.steps)
+
+pub returns-in-Stay-clause-place : goal.returns-in-Stay-clause-place
+returns-in-Stay-clause-place c =
+    rw c.in-Stay.is (stays_place c.in-Stay.held c.stay_inside.result.0 c.stay_inside.result.1 c.stay_inside.ensures.stays)
