@@ -16,7 +16,7 @@ use Rattle.rme_words.specs.declared.shape.Shape.{Shape}
 use Rattle.rme_line_engine.specs.declared.tallied.TalliedWorld.{TalliedWorld}
 use Rattle.rme_durable_format.specs.Headers.{HasLogVersion, IsLogHeader, IsLogVersion, IsPossibleHeader, HeaderValues, HasHeaderMembers}
 use Rattle.rme_durable_format.proofs.Leading.{opened, with_names}
-use Rattle.rme_durable_format.specs.Recovery.{AcceptsLine, AcceptsLines, AcceptsKnownLines, RejectsLine, RecoveryStopsAfter, RecoveryStopsAt, RecoveryStopsFor, HasNoLogHeader, IsHeaderMismatch, IsDamagedLog, IsBadLog}
+use Rattle.rme_durable_format.specs.Recovery.{AcceptsLine, AcceptsLines, AcceptsKnownLines, CountsLines, RejectsLine, RecoveryStopsAfter, RecoveryStopsAt, RecoveryStopsFor, HasNoLogHeader, IsHeaderMismatch, IsDamagedLog, IsBadLog}
 
 -- Of known bytes these lines were read and accepted; `count` is the number of the next line.
 pub record ReadKnown (bytes : List ℕ) (start : EngineState) (left : List ℕ) (now : EngineState) (count : ℕ) : Type 0 where
@@ -78,6 +78,23 @@ stops_here (Some bytes) start (Some left) (Some later) cut line now count more r
     rejects = rejects;
   },
 )
+
+-- No line is left: all are counted.
+pub counts_all : (first : Option (List ℕ)) (start : EngineState) (left later : Option (List ℕ)) (line : List ℕ) (now : EngineState) (count : ℕ) → HasRead first start left now count → LineCut left later End line → CountsLines first count
+counts_all None start left later line now count read cuts = tt
+counts_all (Some bytes) start None later line now count read cuts = absurd read
+counts_all (Some bytes) start (Some left) None line now count read cuts = absurd cuts
+counts_all (Some bytes) start (Some left) (Some later) line now count read cuts =
+    let many : length (lines_of bytes) ≡ length read.front + 0 = ap length (read.are ∙ ap (λ (ls : List InputLine). read.front ++ ls) cuts) ∙ length-append read.front [] in omega (arith, many, read.number)
+
+-- The first line was cut off, and those after it are counted with it.
+pub counts_from : (bytes line : List ℕ) (left later : Option (List ℕ)) (cut : Cut) (count : ℕ) → Keeps (Some bytes) left → LineCut left later cut line → cut ≡ Line → CountsLines later count → count ≡ min (2 ^ 64 - 1) (length (lines_of bytes))
+counts_from bytes line None later cut count keeps cuts is counts = absurd keeps
+counts_from bytes line (Some left) None cut count keeps cuts is counts = absurd cuts
+counts_from bytes line (Some left) (Some later) cut count keeps cuts is counts =
+    let K : Cut → Type 0 = λ (c : Cut). KnownLineCut left later c line in
+    let rest : length (text line ∷ lines_of later) ≡ length (lines_of later) + 1 = omega arith in
+    let many : length (lines_of bytes) ≡ length (lines_of later) + 1 = ap length (ap lines_of (sym keeps) ∙ subst K is cuts) ∙ rest in omega (arith, many, counts)
 
 -- Header values of a line are those of its JSON value.
 told_of : (names : List (List ℕ)) (shape : Shape) (line : List ℕ) (past : HeaderValues) (value : Data) → json_value_of line ≡ Some value → IsLogHeader names shape line past → HasHeaderMembers names value past × IsPossibleHeader shape past

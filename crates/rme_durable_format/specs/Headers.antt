@@ -1,5 +1,5 @@
 -- Line 1 of a file: the base that earlier epochs left.
-use Rattle.std.specs.Prelude.{◌≡◌, ◌≢◌, ℕ, ◌-◌, ◌^◌, ◌<◌, ◌≤◌, true, ℤ, pos, unsigned_abs, List, [], ◌∷◌, length, slice_get, codes, Option, Some, None, option_map, option_and_then}
+use Rattle.std.specs.Prelude.{◌≡◌, ◌≢◌, ℕ, ◌-◌, ◌^◌, ◌<◌, ◌≤◌, true, ℤ, pos, unsigned_abs, List, [], ◌∷◌, length, replicate, slice_get, codes, Option, Some, None, option_map, option_and_then}
 use Rattle.std.specs.List.{All}
 use Rattle.serde_json.specs.Data.{Data, null, boolean, number, string, array, unsigned, Items, no_items, item}
 use Rattle.serde_json.specs.Events.{members_len}
@@ -116,6 +116,17 @@ pub record IsPossibleHeader (shape : Shape) (past : HeaderValues) : Type 0 where
   pub own : (worker n : ℕ) (word : LastJob) → slice_get past.numbers worker ≡ Some n
       → slice_get past.last worker ≡ Some word → IsPossibleLastJob worker n word
   pub beginning : past.epoch ≡ 0 → All (λ n. n ≡ 0) past.numbers × All (λ place. place ≡ pos 0) past.places
+
+-- The base of a first epoch of a world of this shape: no worker has had a number, and no lock a section.
+abbrev pub first_header_values : Shape → HeaderValues
+first_header_values shape =
+    record {
+      epoch = 0;
+      last = replicate (shape.workers - 1) Nothing;
+      numbers = replicate (shape.workers - 1) 0;
+      places =
+          replicate shape.locks (pos 0);
+    }
 
 -- ---- headers
 

@@ -139,6 +139,12 @@ abbrev pub RecoveryStopsFor : Option (List ℕ) → EngineState → BadLog → T
 RecoveryStopsFor left old bad.NoMemory = Unit {0}
 RecoveryStopsFor left old (bad.Line number) = RecoveryStopsAt left old number
 
+-- The number of a header's line and of the lines after it, whose bytes are known or not; the greatest `u64` if there are
+-- more.
+abbrev pub CountsLines : Option (List ℕ) → ℕ → Type 0
+CountsLines None count = Unit {0}
+CountsLines (Some bytes) count = count ≡ min (2 ^ 64 - 1) (length (lines_of bytes) + 1)
+
 -- From no world, the lines after the header lead to this world, with these names of the locks.
 pub record RecoversWorld (bytes : List ℕ) (names : List (List ℕ)) (world : WorldView) : Type 0 where
   pub header : InputLine

@@ -31,8 +31,13 @@ pub struct LogHeader {
 }
 
 impl LogHeader {
+    ghost use Rattle.std.specs.Prelude.{◌≡◌, IfOk};
+    ghost use Rattle.rme_durable_format.specs.Headers.{first_header_values, header_values};
+
     /// The base of a first epoch, for a world of this shape.
-    pub fn first(alloc: Global, shape: Shape) -> Result<LogHeader, AllocError> {
+    pub fn first(alloc: Global, shape: Shape) -> Result<LogHeader, AllocError>
+        ensures { IfOk result (λ header. header_values header ≡ first_header_values shape) }
+    {
         let workers = clients_in(shape);
         Ok(LogHeader {
             epoch: 0,

@@ -1,12 +1,13 @@
 //! Recovery: replaying the bytes of a file.
 
-ghost use Rattle.std.specs.Prelude.{◌≡◌, IfErr, IfOk, OnOk, false, true};
+ghost use Rattle.std.specs.Prelude.{◌≡◌, ◌-◌, ◌^◌, IfErr, IfOk, OnOk, false, length, min, true};
 ghost use Rattle.rme_line_io.specs.Cuts.{input_line_of};
+ghost use Rattle.rme_line_io.specs.Pieces.{lines_of};
 ghost use Rattle.rme_line_io.specs.Readers.{bytes_left};
 ghost use Rattle.rme_line_engine.specs.Engines.{engine_state_of};
 ghost use Rattle.rme_wire.specs.Requests.{request_read};
 ghost use Rattle.rme_durable_format.specs.Headers.{header_values};
-ghost use Rattle.rme_durable_format.specs.Recovery.{AcceptsLine, AcceptsKnownLines, BeginsWithHeader, IsBadLog, RejectsLine, RecoversWorld, RecoveryStopsFor, changes_world, is_log_request, reply_refusal};
+ghost use Rattle.rme_durable_format.specs.Recovery.{AcceptsLine, AcceptsKnownLines, BeginsWithHeader, CountsLines, IsBadLog, RejectsLine, RecoversWorld, RecoveryStopsFor, changes_world, is_log_request, reply_refusal};
 
 use crate::fault::BadLog;
 use crate::header::LogHeader;
@@ -26,7 +27,7 @@ pub struct RecoveredLog {
     pub header: LogHeader,
     pub names: Names,
     pub world: World,
-    /// The number of lines.
+    /// The number of lines, the header included.
     pub lines: u64,
 }
 
@@ -52,6 +53,7 @@ pub fn recover_log<P: RecoveryProgress>(
     ensures ok { IfOk result (λ started. RecoversWorld bytes.now started.names started.world) }
     ensures header { IfOk result (λ started. BeginsWithHeader bytes.now started.names started.world.shape
         (header_values started.header)) }
+    ensures lines { IfOk result (λ started. started.lines ≡ min (2 ^ 64 - 1) (length (lines_of bytes.now))) }
     ensures err { IfErr result (λ why. IsBadLog bytes.now why) }
 {
     let mut reader = LineReader::new(alloc, bytes)?;
@@ -92,6 +94,7 @@ fn replay_lines<R: Source + Drop, P: RecoveryProgress>(
 ) -> Result<u64, BadLog>
     ensures ok { OnOk result (AcceptsKnownLines (bytes_left R.remaining reader.old) (engine_state_of engine.old)
         (engine_state_of engine.new)) }
+    ensures count { IfOk result (CountsLines (bytes_left R.remaining reader.old)) }
     ensures err { IfErr result (λ why. RecoveryStopsFor (bytes_left R.remaining reader.old) (engine_state_of engine.old)
         why) }
 {

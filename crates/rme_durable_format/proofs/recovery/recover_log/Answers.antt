@@ -7,7 +7,7 @@ use Rattle.rme_words.specs.declared.shape.Shape.{Shape}
 use Rattle.rme_line_engine.specs.Engines.{engine_state_of}
 use Rattle.rme_durable_format.specs.Headers.{HasLogVersion, IsLogVersion, IsPossibleHeader, HeaderValues, HasHeaderMembers, header_values}
 use Rattle.rme_durable_format.specs.Recovery.{IsBadLog}
-use Rattle.rme_durable_format.proofs.Stopping.{bad_cut, bad_from, bad_header, bad_second, bad_version, err_is}
+use Rattle.rme_durable_format.proofs.Stopping.{bad_cut, bad_from, bad_header, bad_second, bad_version, counts_from, err_is}
 use Rattle.rme_durable_format.proofs.Leading.{begins_with, starts_from}
 use Rattle.rme_durable_format.proofs.recovery.recover_log.Goals as goal
 
@@ -15,6 +15,7 @@ pub returns-in-TooLong : goal.returns-in-TooLong
 returns-in-TooLong g c = record {
   ok = tt;
   header = tt;
+  lines = tt;
   err = bad_cut c.args.bytes.now c.next_line.new.line.items _ _ c.in_ok-cut.cut c.in_ok-reader.ensures.bytes c.in_ok-cut.ensures.cut c.in-TooLong.is;
 }
 
@@ -38,6 +39,7 @@ returns-in-Some-2 g c =
           c.in_ok-lines.ensures.ok c.in-Some-into_world.ensures;
       header = begins_with c.args.bytes.now c.next_line.new.line.items _ _ c.in_ok-cut.cut names c.in-Some-into_world.tallied.world.shape value past c.in_ok-reader.ensures.bytes c.in_ok-cut.ensures.cut c.in-Line.is
           (subst R c.as_slice.ensures.value reads) (subst T c.shape.ensures tells);
+      lines = counts_from c.args.bytes.now c.next_line.new.line.items _ _ c.in_ok-cut.cut _ c.in_ok-reader.ensures.bytes c.in_ok-cut.ensures.cut c.in-Line.is c.in_ok-lines.ensures.count;
       err = tt;
     }
 
