@@ -62,7 +62,7 @@ module _ (base : Base) where
 
   inside_over : (start : PendingWorker) (session : Session) (became : JobOutcome) → EnterPendingEffect start session became
       → EnterPendingEffect (client_pending base start) (client_session base session) (client_outcome base (before start.worker) became)
-  inside_over start (Held pending) (outcome.Inside number) (same, is) = (ap (client_pending base) same, ap (λ (n : ℕ). before start.worker + n) is)
+  inside_over start (Held pending) (outcome.Inside token) (same, is) = (ap (client_pending base) same, ap (λ (n : ℕ). before start.worker + n) is)
   inside_over start (Climb pending) outcome.Waiting same = ap (client_pending base) same
   inside_over start Nobody outcome.Fell goes = tt
   inside_over start session became goes = absurd goes
@@ -144,7 +144,7 @@ module _ (base : Base) where
   enters_over made shape its order_ (Ready ready) session became new none enters = hands_inside_over shape ready its new none session became enters
   enters_over made shape its order_ (Climb pending) session became new none enters = inside_over pending session became enters
   enters_over made shape its order_ (Held pending) session became new none (no_step, same, is) =
-      (no_step, ap (client_session base) same, ap (client_outcome base (before pending.worker)) is)
+      (no_step, ap (client_session base) same, inside_over pending (Held pending) became is)
 
   -- ---- an attached worker
 
@@ -170,14 +170,14 @@ module _ (base : Base) where
   left_over made numbers old now (outcome.Receipt receipt) left = left
   left_over made numbers old now outcome.Withdrawn left = left
   left_over made numbers old now outcome.Waiting left = left
-  left_over made numbers old now (outcome.Inside number) left = left
+  left_over made numbers old now (outcome.Inside token) left = left
   left_over made numbers old now outcome.Fell (due, same) = (due, ap (client_view base) same)
 
   tried_over : (made tries numbers : ℕ) (became : JobOutcome) → WaitsAfterTries tries made became → WaitsAfterTries tries made (client_outcome base numbers became)
   tried_over made tries numbers (outcome.Receipt receipt) is = tt
   tried_over made tries numbers outcome.Withdrawn is = tt
   tried_over made tries numbers outcome.Waiting is = is
-  tried_over made tries numbers (outcome.Inside number) is = tt
+  tried_over made tries numbers (outcome.Inside token) is = tt
   tried_over made tries numbers outcome.Fell is = tt
 
   -- ---- any order
@@ -218,6 +218,7 @@ module _ (base : Base) where
         never (Held pending) new lasts = lasts
     does_over (order.CrashAfter steps) reply.CrashPlanned some new none same = ap (client_view base) same
     does_over order.Detach reply.Detached some new none same = ap (client_view base) same
+    does_over order.Ping reply.Pong some new none same = ap (client_view base) same
     does_over its answer some new none does = absurd does
 
     pub obeys_over : (its : Order) (answer : SessionReply) → HasNumber old.session → AsksMore base shape old.session its → SessionStepInSteps shape made old (with_tries 1 (epoch_order (numbers its) its)) now answer
@@ -234,6 +235,7 @@ module _ (base : Base) where
     obeys_over its (reply.Last receipt) some new (none, does) = (refuses_over base shape old.session its None some new none, does_over its (reply.Last receipt) some new none does)
     obeys_over its reply.CrashPlanned some new (none, does) = (refuses_over base shape old.session its None some new none, does_over its reply.CrashPlanned some new none does)
     obeys_over its reply.Detached some new (none, does) = (refuses_over base shape old.session its None some new none, does_over its reply.Detached some new none does)
+    obeys_over its reply.Pong some new (none, does) = (refuses_over base shape old.session its None some new none, does_over its reply.Pong some new none does)
 
 -- ---- replies that need no event
 
@@ -296,6 +298,7 @@ asks_more base shape (Ready ready) order.Commit is = tt
 asks_more base shape (Ready ready) order.Withdraw is = tt
 asks_more base shape (Ready ready) (order.CrashAfter steps) is = tt
 asks_more base shape (Ready ready) order.Detach is = tt
+asks_more base shape (Ready ready) order.Ping is = tt
 asks_more base shape Nobody (order.Attach asked) is = tt
 asks_more base shape Nobody (order.Submit its) is = tt
 asks_more base shape Nobody (order.Resume patience) is = tt
@@ -305,6 +308,7 @@ asks_more base shape Nobody order.Withdraw is = tt
 asks_more base shape Nobody order.Last is = tt
 asks_more base shape Nobody (order.CrashAfter steps) is = tt
 asks_more base shape Nobody order.Detach is = tt
+asks_more base shape Nobody order.Ping is = tt
 asks_more base shape (Climb pending) (order.Attach asked) is = tt
 asks_more base shape (Climb pending) (order.Submit its) is = tt
 asks_more base shape (Climb pending) (order.Resume patience) is = tt
@@ -314,6 +318,7 @@ asks_more base shape (Climb pending) order.Withdraw is = tt
 asks_more base shape (Climb pending) order.Last is = tt
 asks_more base shape (Climb pending) (order.CrashAfter steps) is = tt
 asks_more base shape (Climb pending) order.Detach is = tt
+asks_more base shape (Climb pending) order.Ping is = tt
 asks_more base shape (Held pending) (order.Attach asked) is = tt
 asks_more base shape (Held pending) (order.Submit its) is = tt
 asks_more base shape (Held pending) (order.Resume patience) is = tt
@@ -323,3 +328,4 @@ asks_more base shape (Held pending) order.Withdraw is = tt
 asks_more base shape (Held pending) order.Last is = tt
 asks_more base shape (Held pending) (order.CrashAfter steps) is = tt
 asks_more base shape (Held pending) order.Detach is = tt
+asks_more base shape (Held pending) order.Ping is = tt

@@ -12,7 +12,7 @@ use Rattle.rme_world.specs.Queries.{world_worker_words}
 use Rattle.rme_world.specs.WorldViews.{WorldView, world_memory}
 use Rattle.rme_session_world.specs.Executors.{held_session}
 use Rattle.rme_session_world.specs.ExecutorStates.{ExecutorState}
-use Rattle.rme_durable_checkpoint.specs.ClientValues.{client_last, client_place, worker_base, client_session}
+use Rattle.rme_durable_checkpoint.specs.ClientValues.{client_last, next_client_place, worker_base, client_session}
 use Rattle.rme_durable_format.specs.Headers.{HeaderValues}
 use Rattle.rme_durable_format.specs.Recovery.{BeginsWithHeader}
 use Rattle.rme_durable_checkpoint.specs.EpochStates.{EpochState}
@@ -61,10 +61,6 @@ sections_in receipt lock = if receipt.lock == lock then 1 else 0
 -- The counts of a history's sections, by lock.
 abbrev pub AreSectionCounts : List Entry → List ℕ → Type 0
 AreSectionCounts history counts = (lock : ℕ) → lock < 16 → get_or counts lock 0 ≡ place_of history lock
-
--- The place of a lock's next section, as clients see it.
-abbrev pub next_client_place : Base → WorldView → ℕ → ℕ
-next_client_place base seen lock = client_place base lock (place_of seen.history lock)
 
 -- A world of the same sizes, in which the same sessions have the same workers, each worker but the last is alike, each
 -- lock has the same owner, the finished scripts left the same cells, and the places go on.

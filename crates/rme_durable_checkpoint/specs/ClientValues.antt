@@ -4,9 +4,12 @@ use Rattle.rme_words.specs.declared.shape.Shape.{Shape}
 use Rattle.rme_words.specs.declared.refusal.Refusal.{Refusal}
 use Rattle.rme_words.specs.declared.refusal.Refusal.TheVariants.{WrongNumber}
 use Rattle.rme_program.specs.declared.note.Receipt.{Receipt}
+use Rattle.rme_machine.specs.Histories.{place_of}
+use Rattle.rme_world.specs.WorldViews.{WorldView}
 use Rattle.rme_session_protocol.specs.declared.order.Order.{Order}
 use Rattle.rme_session_protocol.specs.declared.order.Order.TheVariants as order
 use Rattle.rme_session_protocol.specs.declared.order.Submission.{Submission}
+use Rattle.rme_session_protocol.specs.declared.reply.FencingToken.{FencingToken}
 use Rattle.rme_session_protocol.specs.declared.reply.JobOutcome.{JobOutcome}
 use Rattle.rme_session_protocol.specs.declared.reply.JobOutcome.TheVariants as outcome
 use Rattle.rme_session_protocol.specs.declared.reply.SessionReply.{SessionReply}
@@ -37,6 +40,10 @@ offset_place (Some shift) place = (place + shift.more) - shift.less
 
 abbrev pub client_place : Base → ℕ → ℕ → ℕ
 client_place base lock place = offset_place (slice_get base.places.items lock) place
+
+-- The place of a lock's next section: the number of its finished sections over all epochs.
+abbrev pub next_client_place : Base → WorldView → ℕ → ℕ
+next_client_place base seen lock = client_place base lock (place_of seen.history lock)
 
 -- A receipt of a worker with this count of earlier numbers.
 abbrev pub client_receipt : Base → ℕ → Receipt → Receipt
@@ -102,9 +109,16 @@ epoch_order numbers (order.Enter its) = order.Enter (epoch_submission numbers it
 epoch_order numbers its = its
 
 -- Answers.
+abbrev pub client_token : Base → ℕ → FencingToken → FencingToken
+client_token base numbers token = record {
+  lock = token.lock;
+  number = numbers + token.number;
+  section = client_place base token.lock token.section;
+}
+
 abbrev pub client_outcome : Base → ℕ → JobOutcome → JobOutcome
 client_outcome base numbers (outcome.Receipt receipt) = outcome.Receipt (client_receipt base numbers receipt)
-client_outcome base numbers (outcome.Inside number) = outcome.Inside (numbers + number)
+client_outcome base numbers (outcome.Inside token) = outcome.Inside (client_token base numbers token)
 client_outcome base numbers became = became
 
 abbrev pub client_refusal : ℕ → Refusal → Refusal

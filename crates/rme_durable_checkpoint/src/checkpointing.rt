@@ -1,6 +1,7 @@
 //! The checkpoint: a new epoch, in which clients see the same state.
 
-ghost use Rattle.std.specs.Prelude.{◌≡◌, ◌+◌, IfOk, IsTrue, string_bytes};
+ghost use Rattle.std.specs.Prelude.{◌≡◌, ◌+◌, ◌<◌, IfOk, IsTrue, string_bytes};
+ghost use Rattle.rme_durable_checkpoint.specs.EpochLengths.{jobless_owner};
 ghost use Rattle.rme_durable_checkpoint.specs.HeaderBases.{IsHeaderBase};
 ghost use Rattle.rme_durable_format.specs.Headers.{header_values};
 ghost use Rattle.rme_durable_format.specs.WholeLines.{AreWholeLines};
@@ -37,7 +38,9 @@ impl RecoveryProgress for NoProgress {
 }
 
 impl EpochExecutor {
-    ghost use Rattle.std.specs.Prelude.{◌≡◌, ◌+◌, [], IfOk, string_bytes};
+    ghost use Rattle.std.specs.Prelude.{◌≡◌, ◌+◌, ◌<◌, ℕ, [], false, length, string_bytes};
+    ghost use Rattle.std.specs.Prelude.{IfNone, IfOk, IfSome, None, Some};
+    ghost use Rattle.rme_durable_checkpoint.specs.EpochLengths.{jobless_owner};
     ghost use Rattle.rme_durable_checkpoint.specs.Checkpoints.{BeginsEpochHeader, CheckpointShowsSame};
     ghost use Rattle.rme_durable_format.specs.Recovery.{RecoversWorld};
     ghost use Rattle.rme_durable_format.specs.WholeLines.{AreWholeLines};
@@ -57,6 +60,8 @@ impl EpochExecutor {
         ensures header { IfOk result (λ renewed. BeginsEpochHeader (string_bytes renewed.bytes) names.now
             renewed.executor) }
         ensures lines { IfOk result (λ renewed. renewed.executor.lines ≡ []) }
+        ensures taken { IfOk result (λ renewed. renewed.executor.taken ≡ length (string_bytes renewed.bytes)) }
+        ensures works { IfOk result (λ renewed. renewed.executor.failed ≡ false) }
     {
         let rows = rows_of(alloc, self.executor().world())?;
         let bytes = checkpoint_lines(alloc, names, self, rows.as_slice())?;
@@ -101,17 +106,34 @@ impl EpochExecutor {
 
     /// A worker that finished its job and crashed before it left the lock, if there is one: a new epoch cannot have it
     /// inside.
-    pub fn crashed_before_exit(&self) -> Option<u32> {
+    pub fn crashed_before_exit(&self) -> Option<u32>
+        ensures found { IfSome result (λ worker. (lock : ℕ) × (lock < self.now.executor.world.shape.locks)
+            × (jobless_owner self.now.executor.world lock ≡ Some worker)) }
+        ensures none { IfNone result ((lock : ℕ) → lock < self.now.executor.world.shape.locks
+            → jobless_owner self.now.executor.world lock ≡ None) }
+    {
         let world = self.executor().world();
         for lock in 0..world.shape().locks {
-            if let Ok(Some(owner)) = world.owner(lock) {
-                if owner < world.shape().workers && world.pending(owner).is_none() {
-                    return Some(owner);
-                }
+            if let Some(owner) = jobless_owner(world, lock) {
+                return Some(owner);
             }
         }
         None
     }
+}
+
+/// The owner of a lock, if it has no pending job.
+fn jobless_owner(world: &World, lock: u32) -> Option<u32>
+    requires { lock < world.now.shape.locks }
+    ensures { result ≡ jobless_owner world.now lock }
+{
+    let Ok(Some(owner)) = world.owner(lock) else {
+        return None;
+    };
+    if owner >= world.shape().workers || world.pending(owner).is_some() {
+        return None;
+    }
+    Some(owner)
 }
 
 /// Whether an epoch follows another one, by the numbers of epochs before them.

@@ -7,8 +7,8 @@ use crate::client_session::{ClientPending, ClientReady, ClientSession};
 use rme_line_text::ClientReceipt;
 use rme_program::Receipt;
 use rme_session_protocol::{
-    ClientOutcome, ClientReply, JobOutcome, Order, PendingWorker, ReadyWorker, Session,
-    SessionReply, Submission,
+    ClientOutcome, ClientReply, ClientToken, FencingToken, JobOutcome, Order, PendingWorker,
+    ReadyWorker, Session, SessionReply, Submission,
 };
 use rme_words::Refusal;
 
@@ -41,7 +41,7 @@ impl Base {
     ghost use Rattle.std.specs.Prelude.{◌≡◌, IfSome, option_map};
     ghost use Rattle.rme_durable_checkpoint.specs.ClientValues as spec;
     ghost use Rattle.rme_durable_checkpoint.specs.ClientSessions.{pending_of_client, ready_of_client, session_of_client};
-    ghost use Rattle.rme_session_protocol.specs.ClientReplies.{outcome_of_client, reply_of_client};
+    ghost use Rattle.rme_session_protocol.specs.ClientReplies.{outcome_of_client, reply_of_client, token_of_client};
     ghost use Rattle.rme_line_text.specs.ClientReceipts.{as_receipt};
 
     /// The base of a worker; no numbers if the worker is not listed.
@@ -147,6 +147,17 @@ impl Base {
         }
     }
 
+    /// A fencing token, as its client sees it.
+    fn client_token(&self, numbers: u64, token: FencingToken) -> Option<ClientToken>
+        ensures { IfSome result (λ over. token_of_client over ≡ spec.client_token self.now numbers token) }
+    {
+        Some(ClientToken {
+            lock: token.lock,
+            number: numbers.checked_add(u64::from(token.number))?,
+            section: self.client_place(token.lock, token.section)?,
+        })
+    }
+
     /// The outcome of a job, as its client sees it.
     fn client_outcome(&self, numbers: u64, became: JobOutcome) -> Option<ClientOutcome>
         ensures { IfSome result (λ over. outcome_of_client over ≡ spec.client_outcome self.now numbers became) }
@@ -155,9 +166,7 @@ impl Base {
             JobOutcome::Receipt(receipt) => ClientOutcome::Receipt(self.client_receipt(
                 numbers, receipt,
             )?),
-            JobOutcome::Inside(number) => {
-                ClientOutcome::Inside(numbers.checked_add(u64::from(number))?)
-            }
+            JobOutcome::Inside(token) => ClientOutcome::Inside(self.client_token(numbers, token)?),
             JobOutcome::Withdrawn => ClientOutcome::Withdrawn,
             JobOutcome::Waiting => ClientOutcome::Waiting,
             JobOutcome::Fell => ClientOutcome::Fell,
@@ -196,6 +205,7 @@ impl Base {
             SessionReply::WithdrawFell => ClientReply::WithdrawFell,
             SessionReply::CrashPlanned => ClientReply::CrashPlanned,
             SessionReply::Detached => ClientReply::Detached,
+            SessionReply::Pong => ClientReply::Pong,
         })
     }
 }

@@ -47,7 +47,8 @@ pub struct EpochExecutor {
     base: Base,
     /// The number of earlier epochs.
     epoch: u64,
-    /// The bytes of the epoch's lines, without the pending ones.
+    /// The bytes of the epoch's lines, without the pending ones: of those that were taken. The greatest `u64` if there
+    /// are more.
     bytes: u64,
 }
 
@@ -62,17 +63,21 @@ impl Model for EpochExecutor {
       lines = string_bytes epoch.lines;
       base = epoch.base;
       epoch = epoch.epoch;
+      taken = epoch.bytes;
+      failed = epoch.is_failed;
     } };
 }
 
 impl EpochExecutor {
-    ghost use Rattle.std.specs.Prelude.{◌≡◌, [], IfOk, IfErr, IfSome, None, OnOk, OnSome, Some, option_map, slice_get, string_bytes};
+    ghost use Rattle.std.specs.Prelude.{◌≡◌, ◌+◌, ◌-◌, ◌^◌, min, [], false, true, length};
+    ghost use Rattle.std.specs.Prelude.{IfOk, IfErr, IfSome, None, OnOk, OnSome, Some, option_map, slice_get, string_bytes};
     ghost use Rattle.rme_session_world.specs.Downs.{IsWorkerDown};
     ghost use Rattle.rme_session_world.specs.Executors.{executor_session_view, owned_worker};
     ghost use Rattle.rme_session_protocol.specs.Attempts.{with_tries};
     ghost use Rattle.rme_session_protocol.specs.ClientReplies.{reply_of_client};
-    ghost use Rattle.rme_session_protocol.specs.SessionSteps.{SessionStep};
-    ghost use Rattle.rme_durable_checkpoint.specs.EpochStates.{SessionStepAcrossCheckpoints, executor_session};
+    ghost use Rattle.rme_session_protocol.specs.SessionSteps.{SessionStep, TellsPlace, TellsSection};
+    ghost use Rattle.rme_session_world.specs.FencingTokens.{HasFinished};
+    ghost use Rattle.rme_durable_checkpoint.specs.EpochStates.{SessionStepAcrossCheckpoints, TellsClientPlace, TellsClientSection, executor_session};
     ghost use Rattle.rme_durable_checkpoint.specs.ClientValues.{client_session};
     ghost use Rattle.rme_durable_checkpoint.specs.LoggedStates.{LoggedStep, logged_state};
     ghost use Rattle.rme_durable_checkpoint.specs.ImmediateReplies.{immediate_reply};
@@ -91,6 +96,8 @@ impl EpochExecutor {
         ensures lines { result.lines ≡ [] }
         ensures base { result.base ≡ base }
         ensures epoch { result.epoch ≡ epoch }
+        ensures taken { result.taken ≡ bytes }
+        ensures works { result.failed ≡ false }
     {
         EpochExecutor {
             executor,
@@ -131,13 +138,17 @@ impl EpochExecutor {
         self.epoch
     }
 
-    /// The bytes of the epoch's lines.
-    pub fn bytes(&self) -> u64 {
+    /// The bytes of the epoch's lines, the pending ones included, or the greatest `u64` if there are more.
+    pub fn bytes(&self) -> u64
+        ensures { result ≡ min (self.now.taken + length self.now.lines) (2 ^ 64 - 1) }
+    {
         self.bytes.saturating_add(self.lines.len() as u64)
     }
 
     /// Whether an event batch could not be logged: no order is executed any more.
-    pub fn is_failed(&self) -> bool {
+    pub fn is_failed(&self) -> bool
+        ensures { result ≡ self.now.failed }
+    {
         self.is_failed
     }
 
@@ -153,12 +164,21 @@ impl EpochExecutor {
         ensures obeys { IfOk result (λ answered. SessionStepAcrossCheckpoints self.old.base
             (executor_session self.old.executor session.old) order.now
             (executor_session self.new.executor session.new) (reply_of_client answered.reply)) }
+        ensures section { IfOk result (λ answered. TellsClientSection self.old.base
+            (executor_session self.new.executor session.new) (reply_of_client answered.reply)) }
+        ensures place { IfOk result (λ answered. TellsClientPlace self.old.base self.old.executor.world
+            (reply_of_client answered.reply)) }
         ensures written { OnOk result (LoggedStep names.now session.old.session
             (logged_state self.old.executor self.old.lines) (logged_state self.new.executor self.new.lines)) }
         ensures session { session.new.session ≡ session.old.session }
         ensures base { self.new.base ≡ self.old.base }
+        ensures epoch { self.new.epoch ≡ self.old.epoch }
+        ensures taken { self.new.taken ≡ self.old.taken }
         ensures unchanged { IfErr result (λ why. why ≡ error.NoMemory
             → (self.new ≡ self.old) × (session.new ≡ session.old)) }
+        ensures failed { IfErr result (λ why. why ≡ error.NotLogged → self.new.failed ≡ true) }
+        ensures works { OnOk result (self.new.failed ≡ self.old.failed) }
+        ensures stopped { self.old.failed ≡ true → (self.new ≡ self.old) × (session.new ≡ session.old) }
     {
         let view = self.executor.session(session);
         if let Some(reply) = self.immediate_reply(&view, order)? {
@@ -207,12 +227,20 @@ impl EpochExecutor {
         ensures obeys { IfOk result (λ executed. SessionStep self.old.executor.world.shape
             (executor_session_view self.old.executor session.old) (with_tries 1 order.now)
             (executor_session_view self.new.executor session.new) executed.reply) }
+        ensures section { IfOk result (λ executed. TellsSection (HasFinished self.new.executor.world)
+            (executor_session_view self.new.executor session.new).session executed.reply) }
+        ensures place { IfOk result (λ executed. TellsPlace (HasFinished self.old.executor.world) executed.reply) }
         ensures written { OnOk result (LoggedStep names.now session.old.session
             (logged_state self.old.executor self.old.lines) (logged_state self.new.executor self.new.lines)) }
         ensures session { session.new.session ≡ session.old.session }
         ensures base { self.new.base ≡ self.old.base }
+        ensures epoch { self.new.epoch ≡ self.old.epoch }
+        ensures taken { self.new.taken ≡ self.old.taken }
         ensures unchanged { IfErr result (λ why. why ≡ error.NoMemory
             → (self.new ≡ self.old) × (session.new ≡ session.old)) }
+        ensures failed { IfErr result (λ why. why ≡ error.NotLogged → self.new.failed ≡ true) }
+        ensures works { OnOk result ((self.old.failed ≡ false) × (self.new.failed ≡ false)) }
+        ensures stopped { self.old.failed ≡ true → (self.new ≡ self.old) × (session.new ≡ session.old) }
     {
         if self.is_failed {
             return Err(ApplyError::NotLogged);
@@ -246,6 +274,10 @@ impl EpochExecutor {
             (logged_state self.old.executor self.old.lines) (logged_state self.new.executor self.new.lines)) }
         ensures session { session.new.session ≡ session.old.session }
         ensures base { self.new.base ≡ self.old.base }
+        ensures epoch { self.new.epoch ≡ self.old.epoch }
+        ensures taken { self.new.taken ≡ self.old.taken }
+        ensures failed { IfErr result (λ _. self.new.failed ≡ true) }
+        ensures works { OnOk result ((self.old.failed ≡ false) × (self.new.failed ≡ false)) }
     {
         let batch = self.executor.detach_session(session);
         if self.is_failed || log_batch(&mut self.lines, &mut self.writer, names, batch).is_err() {
@@ -261,6 +293,10 @@ impl EpochExecutor {
         ensures left { OnSome result (self.new.lines ≡ string_bytes empty) }
         ensures executor { self.new.executor ≡ self.old.executor }
         ensures base { self.new.base ≡ self.old.base }
+        ensures epoch { self.new.epoch ≡ self.old.epoch }
+        ensures bytes { OnSome result (self.new.taken ≡ min (self.old.taken + length self.old.lines) (2 ^ 64 - 1)) }
+        ensures works { OnSome result (self.old.failed ≡ false) }
+        ensures failed { self.new.failed ≡ self.old.failed }
     {
         if self.is_failed {
             return None;
@@ -275,6 +311,9 @@ impl EpochExecutor {
         ensures why { result ≡ error.NotLogged }
         ensures executor { self.new.executor ≡ self.old.executor }
         ensures base { self.new.base ≡ self.old.base }
+        ensures epoch { self.new.epoch ≡ self.old.epoch }
+        ensures taken { self.new.taken ≡ self.old.taken }
+        ensures failed { self.new.failed ≡ true }
     {
         self.lines.clear();
         self.is_failed = true;

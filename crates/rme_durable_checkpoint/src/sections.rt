@@ -3,6 +3,7 @@
 ghost use Rattle.std.specs.Prelude.{◌≡◌, ◌+◌, ◌<◌, ◌^◌, ℕ, get_or, length};
 ghost use Rattle.rme_machine.specs.Histories.{place_of};
 ghost use Rattle.rme_durable_checkpoint.specs.Checkpoints.{sections_in};
+ghost use Rattle.rme_durable_checkpoint.specs.EpochLengths.{begun_jobs};
 
 use crate::epoch_executor::EpochExecutor;
 use rme_history::EntryList;
@@ -111,15 +112,22 @@ pub(crate) fn last_receipts(
 }
 
 impl EpochExecutor {
+    ghost use Rattle.std.specs.Prelude.{◌≡◌};
+    ghost use Rattle.rme_durable_checkpoint.specs.EpochLengths.{client_sections, has_spent_jobs};
+
     /// The number of finished sections of this epoch, without those by which the checkpoint worker set the cells.
-    pub fn sections(&self) -> u64 {
+    pub fn sections(&self) -> u64
+        ensures { result ≡ client_sections self.now.executor.world }
+    {
         let world = self.executor().world();
         let all = world.history().len() as u64;
         all.saturating_sub(begun_jobs(world, world.shape().workers.saturating_sub(1)))
     }
 
     /// Whether a worker has used all its job numbers of this epoch.
-    pub fn has_spent_jobs(&self, worker: Option<u32>) -> bool {
+    pub fn has_spent_jobs(&self, worker: Option<u32>) -> bool
+        ensures { result ≡ has_spent_jobs self.now.executor.world worker }
+    {
         let world = self.executor().world();
         match worker {
             Some(worker) => begun_jobs(world, worker) >= u64::from(world.shape().jobs),
@@ -129,7 +137,9 @@ impl EpochExecutor {
 }
 
 /// The number of jobs that a worker began; 0 if there is no such worker.
-fn begun_jobs(world: &World, worker: u32) -> u64 {
+fn begun_jobs(world: &World, worker: u32) -> u64
+    ensures { result ≡ begun_jobs world.now worker }
+{
     if worker >= world.shape().workers {
         return 0;
     }

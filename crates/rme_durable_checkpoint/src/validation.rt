@@ -4,6 +4,7 @@ ghost use Rattle.std.specs.Prelude.{◌≡◌, ◌<◌, ◌+◌, ℕ, IfOk, IfSo
 ghost use Rattle.rme_program.specs.declared.note.Receipt.{Receipt};
 ghost use Rattle.rme_session_world.specs.Executors.{held_session};
 ghost use Rattle.rme_durable_checkpoint.specs.ClientValues.{client_session};
+ghost use Rattle.rme_durable_checkpoint.specs.ClientValues as value;
 ghost use Rattle.rme_history.specs.Legal.{rows_of_locks};
 ghost use Rattle.rme_tree.specs.Nodes.{owner_in};
 ghost use Rattle.rme_line_text.specs.ClientReceipts.{as_receipt};
@@ -87,7 +88,7 @@ fn same_owner(one: &World, other: &World, lock: u32) -> bool
 /// Whether clients see the same place of the next section of each lock.
 fn same_places(before: &ComparedState<'_>, after: &ComparedState<'_>) -> bool
     ensures { IsTrue result → (lock : ℕ) → lock < before.now.executor.now.world.shape.locks
-        → spec.next_client_place after.now.base.now after.now.executor.now.world lock ≡ spec.next_client_place
+        → value.next_client_place after.now.base.now after.now.executor.now.world lock ≡ value.next_client_place
         before.now.base.now before.now.executor.now.world lock }
 {
     for lock in 0..before.executor.world().shape().locks {
@@ -99,8 +100,8 @@ fn same_places(before: &ComparedState<'_>, after: &ComparedState<'_>) -> bool
 }
 
 fn is_place_alike(before: &ComparedState<'_>, after: &ComparedState<'_>, lock: u32) -> bool
-    ensures { IsTrue result → spec.next_client_place after.now.base.now after.now.executor.now.world lock
-        ≡ spec.next_client_place before.now.base.now before.now.executor.now.world lock }
+    ensures { IsTrue result → value.next_client_place after.now.base.now after.now.executor.now.world lock
+        ≡ value.next_client_place before.now.base.now before.now.executor.now.world lock }
 {
     match (
         next_client_place(before, lock),
@@ -113,7 +114,7 @@ fn is_place_alike(before: &ComparedState<'_>, after: &ComparedState<'_>, lock: u
 
 /// The place of a lock's next section, as clients see it.
 fn next_client_place(shown: &ComparedState<'_>, lock: u32) -> Option<u64>
-    ensures { IfSome result (λ place. place ≡ spec.next_client_place shown.now.base.now
+    ensures { IfSome result (λ place. place ≡ value.next_client_place shown.now.base.now
         shown.now.executor.now.world lock) }
 {
     let place = next_place(shown.executor.world().history(), lock);
