@@ -1,6 +1,7 @@
 -- The log leads to the state of the executor.
 use Rattle.std.proofs.Common.{◌≡◌, ◌≢◌, ◌≤◌, ℕ, List, [], ◌∷◌, ◌++◌, length, drop, refl, sym, subst, ap, ap₂, ◌∙◌, inl, inr, arith, length-append}
 use Rattle.std.specs.Prelude.{IfSome, Option, Some, None}
+use Rattle.rme_session_world.specs.ExecutorStates.{ExecutorState}
 use Rattle.rme_session_world.specs.SessionBatches.{AppliesSessionBatch, AppliesSessionOrder}
 use Rattle.rme_session_world.specs.declared.event_batch.EventBatch.{EventBatch}
 use Rattle.rme_durable_log.specs.LogRules.{AppenderState}
@@ -11,6 +12,7 @@ use Rattle.rme_durable_log.specs.declared.log_entry.LogEntry.TheVariants.{Lines,
 use Rattle.rme_durable_format.specs.BatchCommands.{batch_commands, batch_commands_if}
 use Rattle.rme_durable_format.specs.CommandLines.{AppendsCommands}
 use Rattle.rme_durable_checkpoint.specs.EpochStates.{EpochState}
+use Rattle.rme_durable_checkpoint.specs.declared.epoch_base.Base.{Base}
 use Rattle.rme_durable_checkpoint.specs.LoggedStates.{LoggedStep, logged_state}
 use Rattle.rme_durable_server.specs.ServerHistories.{AppendsAtMostOne, AppendsIfAny, AppendsSessionBatch, BeginsEpoch, EntriesLead, EntryLeads, IsLogged, LogLeads, ServerOpening, ServerState, SessionActs, SessionMoment, server_state, session_moment}
 use Rattle.rme_durable_server.specs.DurableAnswers.{DurableLookup, LookupMoment, LookupShows}
@@ -30,24 +32,27 @@ leads_more opening (first ∷ log) old entry new leads one = (leads.0, leads.1, 
 
 -- ---- a step of a session
 
-abbrev pub state_of : EpochState → ServerState
-state_of epoch = server_state epoch.executor epoch.base
+abbrev state_with : ExecutorState → Base → ℕ → ServerState
+state_with executor base epoch = record { executor = executor; base = base; epoch = epoch }
+
+same_state : (one two : EpochState) → one.executor ≡ two.executor → one.base ≡ two.base → one.epoch ≡ two.epoch → server_state one ≡ server_state two
+same_state one two executor base epoch = ap (λ (e : ExecutorState). state_with e one.base one.epoch) executor ∙ ap₂ (λ (b : Base) (n : ℕ). state_with two.executor b n) base epoch
 
 -- A session appended at most one entry, and the log leads to the state after it.
 abbrev pub Appended : ServerOpening → ℕ → EpochState → EpochState → AppenderState → AppenderState → Type 0
-Appended opening session old new from to = AppendsAtMostOne opening.names session from.log (state_of old) to.log (state_of new) × IsLogged opening new to.log to.waits
+Appended opening session old new from to = AppendsAtMostOne opening.names session from.log (server_state old) to.log (server_state new) × IsLogged opening new to.log to.waits
 
-module _ (opening : ServerOpening) (session : ℕ) (old new : EpochState) (from to : AppenderState) (logged : IsLogged opening old from.log from.waits) (base : new.base ≡ old.base) where
+module _ (opening : ServerOpening) (session : ℕ) (old new : EpochState) (from to : AppenderState) (logged : IsLogged opening old from.log from.waits) (base : new.base ≡ old.base) (epoch : new.epoch ≡ old.epoch) where
   -- without an event batch
   still : new.executor ≡ old.executor → new.lines ≡ old.lines → AppendsIfAny session (drop (length old.lines) new.lines) from to → Appended opening session old new from to
   still same lines appends =
       let none : drop (length old.lines) new.lines ≡ [] = ap (drop (length old.lines)) lines ∙ drop_all old.lines in
       let kept : to ≡ from = subst (λ (rest : List ℕ). AppendsIfAny session rest from to) none appends in
       let log : to.log ≡ from.log = ap (λ (a : AppenderState). a.log) kept in
-      let state : state_of new ≡ state_of old = ap₂ server_state same base in (
+      let state : server_state new ≡ server_state old = same_state new old same base epoch in (
         inl (log, state),
         record {
-          leads = subst (λ (l : List LogEntry). LogLeads opening l (state_of new)) (sym log) (subst (λ (s : ServerState). LogLeads opening from.log s) (sym state) logged.leads);
+          leads = subst (λ (l : List LogEntry). LogLeads opening l (server_state new)) (sym log) (subst (λ (s : ServerState). LogLeads opening from.log s) (sym state) logged.leads);
           lines = ap (λ (a : AppenderState). a.waits) kept ∙ (logged.lines ∙ sym lines);
         },
       )
@@ -55,10 +60,10 @@ module _ (opening : ServerOpening) (session : ℕ) (old new : EpochState) (from 
   some_by : (batch : EventBatch) → AppliesSessionBatch session old.executor batch new.executor → (rest : List ℕ) → new.lines ≡ old.lines ++ rest → AppendsCommands opening.names [] (batch_commands batch) rest → rest ≢ [] → AppendsIfAny session rest from to → Appended opening session old new from to
   some_by batch applies [] more written some appends = absurd (some refl)
   some_by batch applies (byte ∷ lines) more written some appends =
-      let appended : AppendsSessionBatch opening.names session (state_of old) (byte ∷ lines) (state_of new) = record { batch = batch; applies = applies; written = written; base = base } in (
+      let appended : AppendsSessionBatch opening.names session (server_state old) (byte ∷ lines) (server_state new) = record { batch = batch; applies = applies; written = written; base = base; epoch = epoch } in (
         inr (byte ∷ lines, appends.0, appended),
         record {
-          leads = subst (λ (l : List LogEntry). LogLeads opening l (state_of new)) (sym appends.0) (leads_more opening from.log (state_of old) (Lines session (byte ∷ lines)) (state_of new) logged.leads appended);
+          leads = subst (λ (l : List LogEntry). LogLeads opening l (server_state new)) (sym appends.0) (leads_more opening from.log (server_state old) (Lines session (byte ∷ lines)) (server_state new) logged.leads appended);
           lines = appends.1 ∙ (ap (λ w. w ++ byte ∷ lines) logged.lines ∙ sym more);
         },
       )
@@ -77,16 +82,16 @@ pub logged_some : (opening : ServerOpening) (found : Option AppenderState) (appe
 logged_some opening found appender epoch is logged = subst (λ (o : Option AppenderState). IfSome o (λ (a : AppenderState). IsLogged opening epoch a.log a.waits)) is logged
 
 -- The log of an opening.
-pub logged_first : (opening : ServerOpening) (epoch : EpochState) (log : List LogEntry) (waits : List ℕ) → opening.begins (state_of epoch) → (first : (bytes : List ℕ) × (log ≡ Whole bytes ∷ [])) → waits ≡ [] → epoch.lines ≡ [] → IsLogged opening epoch log waits
+pub logged_first : (opening : ServerOpening) (epoch : EpochState) (log : List LogEntry) (waits : List ℕ) → opening.begins (server_state epoch) → (first : (bytes : List ℕ) × (log ≡ Whole bytes ∷ [])) → waits ≡ [] → epoch.lines ≡ [] → IsLogged opening epoch log waits
 logged_first opening epoch log waits begins first none lines = record {
-  leads = subst (λ (l : List LogEntry). LogLeads opening l (state_of epoch)) (sym first.1) (state_of epoch, begins, refl);
+  leads = subst (λ (l : List LogEntry). LogLeads opening l (server_state epoch)) (sym first.1) (server_state epoch, begins, refl);
   lines = none ∙ sym lines;
 }
 
 -- The log after a checkpoint.
-pub logged_epoch : (opening : ServerOpening) (old new : EpochState) (log after : List LogEntry) (waits pending bytes : List ℕ) → IsLogged opening old log waits → BeginsEpoch opening.names (state_of old) bytes (state_of new) → after ≡ log ++ Whole bytes ∷ [] → pending ≡ [] → new.lines ≡ [] → IsLogged opening new after pending
+pub logged_epoch : (opening : ServerOpening) (old new : EpochState) (log after : List LogEntry) (waits pending bytes : List ℕ) → IsLogged opening old log waits → BeginsEpoch opening.names (server_state old) bytes (server_state new) → after ≡ log ++ Whole bytes ∷ [] → pending ≡ [] → new.lines ≡ [] → IsLogged opening new after pending
 logged_epoch opening old new log after waits pending bytes logged begins more none lines = record {
-  leads = subst (λ (l : List LogEntry). LogLeads opening l (state_of new)) (sym more) (leads_more opening log (state_of old) (Whole bytes) (state_of new) logged.leads begins);
+  leads = subst (λ (l : List LogEntry). LogLeads opening l (server_state new)) (sym more) (leads_more opening log (server_state old) (Whole bytes) (server_state new) logged.leads begins);
   lines = none ∙ sym lines;
 }
 
@@ -97,21 +102,21 @@ lines_grow names session old new written =
     omega (arith, ap length rest.1, length-append old.lines rest.0)
 
 -- A step of a session, for the values that the code found.
-pub logged_step : (opening : ServerOpening) (names : List (List ℕ)) (session author : ℕ) (old new : EpochState) (from to : AppenderState) (looked : List ℕ) → IsLogged opening old from.log from.waits → names ≡ opening.names → author ≡ session → looked ≡ old.lines → new.base ≡ old.base
+pub logged_step : (opening : ServerOpening) (names : List (List ℕ)) (session author : ℕ) (old new : EpochState) (from to : AppenderState) (looked : List ℕ) → IsLogged opening old from.log from.waits → names ≡ opening.names → author ≡ session → looked ≡ old.lines → new.base ≡ old.base → new.epoch ≡ old.epoch
     → LoggedStep names session (logged_state old.executor old.lines) (logged_state new.executor new.lines) → AppendsIfAny author (drop (length looked) new.lines) from to → Appended opening session old new from to
-logged_step opening names session author old new from to looked logged named by saw base written appends =
-    appended opening session old new from to logged base
+logged_step opening names session author old new from to looked logged named by saw base epoch written appends =
+    appended opening session old new from to logged base epoch
     (subst (λ (n : List (List ℕ)). LoggedStep n session (logged_state old.executor old.lines) (logged_state new.executor new.lines)) named written)
     (subst (λ (a : ℕ). AppendsIfAny a (drop (length old.lines) new.lines) from to) by (subst (λ (l : List ℕ). AppendsIfAny author (drop (length l) new.lines) from to) saw appends))
 
 -- The session acted at this moment.
 pub acted : (opening : ServerOpening) (old : SessionMoment) (state : SessionState) (end : List LogEntry) (epoch after : EpochState) (from to : AppenderState) (author : ℕ) → author ≡ old.session.session → GrowsByOthers author old.log from.log → IsLogged opening epoch from.log from.waits
-    → AppendsAtMostOne opening.names old.session.session from.log (state_of epoch) to.log (state_of after) → end ≡ to.log → state.session ≡ old.session.session → SessionActs opening old (state_of epoch) (session_moment state end) (state_of after)
+    → AppendsAtMostOne opening.names old.session.session from.log (server_state epoch) to.log (server_state after) → end ≡ to.log → state.session ≡ old.session.session → SessionActs opening old (server_state epoch) (session_moment state end) (server_state after)
 acted opening old state end epoch after from to author by others logged appends is session = record {
   log = from.log;
   others = subst (λ (a : ℕ). GrowsByOthers a old.log from.log) by others;
   leads = logged.leads;
-  appends = subst (λ (l : List LogEntry). AppendsAtMostOne opening.names old.session.session from.log (state_of epoch) l (state_of after)) (sym is) appends;
+  appends = subst (λ (l : List LogEntry). AppendsAtMostOne opening.names old.session.session from.log (server_state epoch) l (server_state after)) (sym is) appends;
   session = session;
 }
 

@@ -1,7 +1,7 @@
 -- How the lines of a session of the durable server are answered.
 use Rattle.std.specs.Prelude.{◌≡◌, ◌⊎◌, ℕ, zero, suc, nat_le, Bool, true, false, List, [], ◌∷◌, ◌++◌, Option, Some, None, Result, Ok, Err}
 use Rattle.rme_line_io.specs.Pieces.{InputLine}
-use Rattle.rme_durable_checkpoint.specs.EpochStates.{SessionStepAcrossCheckpoints, executor_session}
+use Rattle.rme_durable_checkpoint.specs.EpochStates.{SessionStepAcrossCheckpoints, TellsClientPlace, TellsClientSection, executor_session}
 use Rattle.rme_durable_log.specs.StoreCalls.{StoreState}
 use Rattle.rme_durable_log.specs.Logs.{AreNotByAuthor, IsLogDurable}
 use Rattle.rme_durable_log.specs.declared.log_entry.LogEntry.{LogEntry}
@@ -27,7 +27,8 @@ use Rattle.rme_durable_server.specs.StatusTexts.{status_state, status_text}
 use Rattle.rme_durable_server.specs.ServerHistories.{LogLeads, ServerOpening, ServerState, SessionActs, SessionEnds, SessionMoment}
 
 -- One try: at one moment of the log, with no other session between, the session executed the order, as its client sees
--- it over all epochs.
+-- it over all epochs. A client whose worker is inside is told the number of the lock's finished sections, and the receipt
+-- of its commit has that place.
 pub record DurableAttempt (opening : ServerOpening) (old : SessionMoment) (its : Order) (now : SessionMoment)
     (answer : SessionReply) : Type 0 where
   pub before : ServerState
@@ -35,6 +36,8 @@ pub record DurableAttempt (opening : ServerOpening) (old : SessionMoment) (its :
   pub acts : SessionActs opening old before now after
   pub obeys : SessionStepAcrossCheckpoints before.base (executor_session before.executor old.session) its
       (executor_session after.executor now.session) answer
+  pub section : TellsClientSection before.base (executor_session after.executor now.session) answer
+  pub place : TellsClientPlace before.base before.executor.world answer
 
 -- An order with this reply is continued: its job waits, or another session has the worker that it would take over.
 abbrev pub IsAnswerUnfinished : SessionReply → Type 0
@@ -93,8 +96,7 @@ abbrev pub cells_reply : Result (List ℕ × Bool) Refusal → Reply
 cells_reply (Ok cells) = line.Cells cells.0 cells.1
 cells_reply (Err why) = line.Refused why
 
--- What a look-up shows of a state: the owner and the cells by the world's own calls, and the status with some number of
--- the epoch.
+-- What a look-up shows of a state: the owner and the cells by the world's own calls, and the status.
 abbrev pub LookupShows : List (List ℕ) → ServerState → SessionLookup → List ℕ → Type 0
 LookupShows names state (Owner lock) bytes =
     (found : Result (Option ℕ) Refusal) × OwnerContract state.executor.world lock found
@@ -103,7 +105,7 @@ LookupShows names state (Cells lock) bytes =
     (found : Result (List ℕ × Bool) Refusal) × CellsContract state.executor.world lock found
     × (bytes ≡ reply_text names state.executor.world.history (cells_reply found) ++ 10 ∷ [])
 LookupShows names state Status bytes =
-    (epoch : ℕ) × (bytes ≡ status_text names (status_state epoch state.base state.executor.world) ++ 10 ∷ [])
+    bytes ≡ status_text names (status_state state.epoch state.base state.executor.world) ++ 10 ∷ []
 
 -- The log leads to a state in which the look-up shows this.
 pub record LookupMoment (opening : ServerOpening) (look : SessionLookup) (bytes : List ℕ) (log : List LogEntry) : Type 0
@@ -112,8 +114,8 @@ pub record LookupMoment (opening : ServerOpening) (look : SessionLookup) (bytes 
     pub leads : LogLeads opening log state
     pub shows : LookupShows opening.names state look bytes
 
--- A look-up is answered with what it shows at one moment of the log, at which the session acts and appends nothing, once
--- everything before that moment is durable.
+-- A look-up is answered with what it shows at one moment of the log, at which the session acts and appends nothing,
+-- once everything before that moment is durable.
 pub record DurableLookup {X : Type 0} (holds : X → StoreState) (opening : ServerOpening) (old : SessionMoment)
     (look : SessionLookup) (bytes : List ℕ) (now : SessionMoment) : Type 0 where
   pub session : now.session ≡ old.session
@@ -143,8 +145,8 @@ ask_by (Err why) look = ask_if_bad why look
 abbrev pub line_ask : List (List ℕ) → InputLine → LineAsk
 line_ask names line = ask_by (parsed_order names service_numbers line) (lookup_of_line names line)
 
--- An order is answered by its reply, once everything before the moments of its tries is durable; a look-up likewise; and
--- any other line by why it is refused.
+-- An order is answered by its reply, once everything before the moments of its tries is durable; a look-up likewise;
+-- and any other line by why it is refused.
 abbrev pub DurableLineReply : {X : Type 0} → (X → StoreState) → ClientTerms → SessionMoment → LineAsk → List ℕ
     → SessionMoment → Type 0
 DurableLineReply holds terms old (ask_order its) bytes now =

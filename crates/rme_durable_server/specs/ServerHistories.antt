@@ -1,5 +1,5 @@
 -- A server's life as one history: the entries of its log, and the states between them.
-use Rattle.std.specs.Prelude.{◌≡◌, ◌⊎◌, ℕ, List, [], ◌∷◌, ◌++◌, Some, None, IfSome, slice_get, ⊤}
+use Rattle.std.specs.Prelude.{◌≡◌, ◌⊎◌, ℕ, ◌+◌, List, [], ◌∷◌, ◌++◌, Some, None, IfSome, slice_get, ⊤}
 use Rattle.rme_session_world.specs.Downs.{IsWorkerDown}
 use Rattle.rme_session_world.specs.Executors.{held_session, owned_worker}
 use Rattle.rme_session_world.specs.ExecutorStates.{ExecutorState}
@@ -21,13 +21,15 @@ use Rattle.rme_durable_checkpoint.specs.ClientValues.{client_session}
 use Rattle.rme_durable_checkpoint.specs.EpochStates.{EpochState}
 use Rattle.rme_durable_checkpoint.specs.declared.epoch_base.Base.{Base}
 
--- The state of a server: the world with the session that has each worker, and the base of the epoch.
+-- The state of a server: the world with the session that has each worker, the base of the epoch, and the number of
+-- earlier epochs.
 pub record ServerState : Type 0 where
   pub executor : ExecutorState
   pub base : Base
+  pub epoch : ℕ
 
-abbrev pub server_state : ExecutorState → Base → ServerState
-server_state executor base = record { executor = executor; base = base }
+abbrev pub server_state : EpochState → ServerState
+server_state epoch = record { executor = epoch.executor; base = epoch.base; epoch = epoch.epoch }
 
 -- The names of the locks, and the states with which the server may begin.
 pub record ServerOpening : Type 1 where
@@ -46,19 +48,22 @@ pub record AppendsSessionBatch (names : List (List ℕ)) (session : ℕ) (old : 
   pub applies : AppliesSessionBatch session old.executor batch new.executor
   pub written : AppendsCommands names [] (batch_commands batch) lines
   pub base : new.base ≡ old.base
+  pub epoch : new.epoch ≡ old.epoch
 
--- Bytes begin with a header from which the base is.
-pub record HasBaseInHeader (names : List (List ℕ)) (bytes : List ℕ) (state : ServerState) : Type 0 where
+-- Bytes begin with the header of a state: it has the number of the epoch, and the base.
+pub record HasStateHeader (names : List (List ℕ)) (bytes : List ℕ) (state : ServerState) : Type 0 where
   pub past : HeaderValues
   pub begins : BeginsWithHeader bytes names state.executor.world.shape past
+  pub number : past.epoch ≡ state.epoch
   pub base : IsHeaderBase past state.base
 
--- A new epoch: its bytes are whole lines, recovery of them leads to its world and its base, and clients see the same in
--- it.
+-- A checkpoint begins a new epoch, with the next number: its bytes are whole lines, recovery of them leads to its world,
+-- they begin with its header, and clients see the same in it.
 pub record BeginsEpoch (names : List (List ℕ)) (old : ServerState) (bytes : List ℕ) (new : ServerState) : Type 0 where
   pub whole : AreWholeLines bytes
   pub recovers : RecoversWorld bytes names new.executor.world
-  pub header : HasBaseInHeader names bytes new
+  pub epoch : new.epoch ≡ old.epoch + 1
+  pub header : HasStateHeader names bytes new
   pub same : CheckpointShowsSame old.base old.executor new.base new.executor
 
 -- An entry of the log leads from one state to the next.
@@ -81,10 +86,11 @@ LogLeads opening (first ∷ log) state =
 
 -- The log leads to the state of an executor, and the lines that wait in it are those of the executor.
 pub record IsLogged (opening : ServerOpening) (epoch : EpochState) (log : List LogEntry) (waits : List ℕ) : Type 0 where
-  pub leads : LogLeads opening log (server_state epoch.executor epoch.base)
+  pub leads : LogLeads opening log (server_state epoch)
   pub lines : waits ≡ epoch.lines
 
--- A session appended at most one entry to the log: that of an event batch of its own. Without one the state is the same.
+-- A session appended at most one entry to the log: that of an event batch of its own. Without one the state is the
+-- same.
 abbrev pub AppendsAtMostOne : List (List ℕ) → ℕ → List LogEntry → ServerState → List LogEntry → ServerState → Type 0
 AppendsAtMostOne names session log old after new =
     ((after ≡ log) × (new ≡ old))
@@ -110,8 +116,8 @@ pub record SessionMoment : Type 0 where
 abbrev pub session_moment : SessionState → List LogEntry → SessionMoment
 session_moment session log = record { session = session; log = log }
 
--- A session acted at one moment of the log, since whose earlier moment only other sessions have appended: `before` is the
--- state to which the log led then, and the session appended at most one entry.
+-- A session acted at one moment of the log, since whose earlier moment only other sessions have appended: `before` is
+-- the state to which the log led then, and the session appended at most one entry.
 pub record SessionActs (opening : ServerOpening) (old : SessionMoment) (before : ServerState) (now : SessionMoment)
     (after : ServerState) : Type 0 where
   pub log : List LogEntry

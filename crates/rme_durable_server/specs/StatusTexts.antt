@@ -8,9 +8,11 @@ use Rattle.rme_machine.specs.AbstractCells.{is_lock_settled}
 use Rattle.rme_machine.specs.Views.{lock_words}
 use Rattle.rme_line_text.specs.Texts.{cells_text, lock_name, separated_text}
 use Rattle.rme_world.specs.WorldViews.{WorldView, world_abstract_state, world_memory, world_privates}
-use Rattle.rme_durable_checkpoint.specs.Checkpoints.{client_number, next_client_place, pending_job_of}
+use Rattle.rme_durable_checkpoint.specs.Checkpoints.{client_number, pending_job_of}
+use Rattle.rme_durable_checkpoint.specs.ClientValues.{next_client_place}
 use Rattle.rme_durable_checkpoint.specs.declared.epoch_base.Base.{Base}
 use Rattle.rme_durable_server.specs.declared.status.LockStatus.{LockStatus}
+use Rattle.rme_durable_server.specs.declared.status.StatusSource.{StatusSource}
 use Rattle.rme_durable_server.specs.declared.status.WorkerStance.{WorkerStance}
 use Rattle.rme_durable_server.specs.declared.status.WorkerStance.TheVariants.{Ready, Climb, Held}
 use Rattle.rme_durable_server.specs.declared.status.WorkerStatus.{WorkerStatus}
@@ -23,6 +25,9 @@ pub record StatusState : Type 0 where
 
 abbrev pub status_state : ℕ → Base → WorldView → StatusState
 status_state epoch base world = record { epoch = epoch; base = base; world = world }
+
+abbrev pub source_state : StatusSource → StatusState
+source_state source = status_state source.epoch source.base.now source.world.now
 
 -- ---- the status of a lock and of a worker
 

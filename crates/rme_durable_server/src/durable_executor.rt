@@ -57,7 +57,7 @@ impl<L: LogStore, J: ServerTag> DurableExecutor<L, J> {
         requires waits { appender.waits ≡ [] }
         requires first { (bytes : List ℕ) × (appender.log ≡ Whole bytes ∷ []) }
         requires lines { executor.lines ≡ [] }
-        requires begins { J.opening.begins (server_state executor.executor executor.base) }
+        requires begins { J.opening.begins (server_state executor) }
         ensures { result ≡ executor }
     {
         DurableExecutor {
@@ -94,8 +94,7 @@ impl<L: LogStore, J: ServerTag> DurableExecutor<L, J> {
     /// The end of the log, since whose earlier moment only other sessions have appended; `None` once an event batch
     /// could not be logged.
     pub(crate) fn position_after(&self, session: &DurableSession<L, J>) -> Option<LogPosition<L, J>>
-        ensures leads { IfSome result (λ end. LogLeads J.opening end
-            (server_state self.now.executor self.now.base)) }
+        ensures leads { IfSome result (λ end. LogLeads J.opening end (server_state self.now)) }
         ensures others { IfSome result (λ end. GrowsByOthers session.now.session.session session.now.log end) }
     {
         match &self.appender {
@@ -182,9 +181,8 @@ impl<L: LogStore, J: ServerTag> DurableExecutor<L, J> {
     pub(crate) fn build_checkpoint(&self, alloc: Global, names: &Names) -> Option<Checkpoint>
         requires names { names.now ≡ J.opening.names }
         ensures lines { IfSome result (λ renewed. renewed.executor.lines ≡ []) }
-        ensures begins { IfSome result (λ renewed. BeginsEpoch J.opening.names
-            (server_state self.now.executor self.now.base) (string_bytes renewed.bytes)
-            (server_state renewed.executor.executor renewed.executor.base)) }
+        ensures begins { IfSome result (λ renewed. BeginsEpoch J.opening.names (server_state self.now)
+            (string_bytes renewed.bytes) (server_state renewed.executor)) }
     {
         self.executor.checkpoint(alloc, names).ok()
     }
@@ -197,8 +195,8 @@ impl<L: LogStore, J: ServerTag> DurableExecutor<L, J> {
         renewed: Checkpoint,
     ) -> (Result<LogWriter<L, J>, L>, bool)
         requires lines { renewed.executor.lines ≡ [] }
-        requires begins { BeginsEpoch J.opening.names (server_state self.old.executor self.old.base)
-            (string_bytes renewed.bytes) (server_state renewed.executor.executor renewed.executor.base) }
+        requires begins { BeginsEpoch J.opening.names (server_state self.old) (string_bytes renewed.bytes)
+            (server_state renewed.executor) }
         ensures stops { IfErr result.0 (λ store. (L.holds store).works ≡ false) }
     {
         let Some(appender) = self.appender.take() else {

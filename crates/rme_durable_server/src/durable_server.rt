@@ -54,7 +54,7 @@ impl<L: LogStore, H: CloseHandle, J: ServerTag> DurableServer<L, H, J> {
         requires log { opened ≡ J.book }
         requires lines { executor.lines ≡ [] }
         requires named { names ≡ J.opening.names }
-        requires begins { J.opening.begins (server_state executor.executor executor.base) }
+        requires begins { J.opening.begins (server_state executor) }
     {
         let registry = SessionRegistry::new(alloc, executor.executor().world().shape())?;
         let (appender, commits) = opened.split::<J>(alloc);

@@ -25,8 +25,7 @@ pub(crate) fn write_lookup(
     executor: &EpochExecutor,
     look: SessionLookup,
 ) -> Result<(), NoMemory>
-    ensures { OnOk result (LookupShows names.now (server_state executor.now.executor executor.now.base) look
-        (string_bytes out.new)) }
+    ensures { OnOk result (LookupShows names.now (server_state executor.now) look (string_bytes out.new)) }
 {
     out.clear();
     let world = executor.executor().world();
@@ -71,8 +70,8 @@ fn push_executor_status(
     names: &Names,
     executor: &EpochExecutor,
 ) -> Result<(), NoMemory>
-    ensures { OnOk result ((epoch : ℕ) × (string_bytes out.new ≡ string_bytes out.old ++ status_text names.now
-        (status_state epoch executor.now.base executor.now.executor.world))) }
+    ensures { OnOk result (string_bytes out.new ≡ string_bytes out.old ++ status_text names.now
+        (status_state executor.now.epoch executor.now.base executor.now.executor.world)) }
 {
     push_status(out, names, &StatusSource::of(executor))
 }

@@ -103,8 +103,7 @@ pub fn clients_of(world: &World) -> u32
 pub fn lock_status(told: &StatusSource<'_>, lock: u32, sections: &Sections) -> Option<LockStatus>
     requires lock { lock < told.now.world.now.shape.locks }
     requires sections { AreSectionCounts told.now.world.now.history sections.now }
-    ensures { IfSome result (λ status. status ≡ spec.lock_status
-        (spec.status_state told.now.epoch told.now.base.now told.now.world.now) lock) }
+    ensures { IfSome result (λ status. status ≡ spec.lock_status (spec.source_state told.now) lock) }
 {
     let (Ok((cells, settled)), Ok(owner)) = (told.world.cells(lock), told.world.owner(lock)) else {
         unreachable!();
@@ -120,8 +119,7 @@ pub fn lock_status(told: &StatusSource<'_>, lock: u32, sections: &Sections) -> O
 /// The status of a worker; `None` if its number over all epochs is not a number of 64 bits.
 pub fn worker_status(told: &StatusSource<'_>, worker: u32) -> Option<WorkerStatus>
     requires { worker < told.now.world.now.shape.workers }
-    ensures { IfSome result (λ status. status ≡ spec.worker_status
-        (spec.status_state told.now.epoch told.now.base.now told.now.world.now) worker) }
+    ensures { IfSome result (λ status. status ≡ spec.worker_status (spec.source_state told.now) worker) }
 {
     let before = told.base.worker_base(worker).numbers;
     Some(WorkerStatus {
@@ -165,7 +163,7 @@ fn stance_at_lock(owner: Option<u32>, worker: u32, lock: u32) -> WorkerStance
 /// number over all epochs is not a number of 64 bits; the text is then of no use.
 pub fn push_status(out: &mut String, names: &Names, told: &StatusSource<'_>) -> Result<(), NoMemory>
     ensures { OnOk result (string_bytes out.new ≡ string_bytes out.old ++ spec.status_text names.now
-        (spec.status_state told.now.epoch told.now.base.now told.now.world.now)) }
+        (spec.source_state told.now)) }
 {
     push_status_front(out, told.epoch)?;
     push_locks(out, names, told)?;
@@ -185,7 +183,7 @@ fn push_status_front(out: &mut String, epoch: u64) -> Result<(), AllocError>
 /// Appends the status of each lock, separated by commas.
 fn push_locks(out: &mut String, names: &Names, told: &StatusSource<'_>) -> Result<(), NoMemory>
     ensures { OnOk result (string_bytes out.new ≡ string_bytes out.old ++ spec.locks_text names.now
-        (spec.status_state told.now.epoch told.now.base.now told.now.world.now)) }
+        (spec.source_state told.now)) }
 {
     let sections = Sections::of(told.world);
     let mut later = false;
@@ -258,7 +256,7 @@ fn push_lock_status_end(out: &mut String, sections: u64, settled: bool) -> Resul
 /// Appends the status of each worker that clients may attach, separated by commas.
 fn push_workers(out: &mut String, names: &Names, told: &StatusSource<'_>) -> Result<(), NoMemory>
     ensures { OnOk result (string_bytes out.new ≡ string_bytes out.old ++ spec.workers_text names.now
-        (spec.status_state told.now.epoch told.now.base.now told.now.world.now)) }
+        (spec.source_state told.now)) }
 {
     let mut later = false;
     for worker in 0..clients_of(told.world) {

@@ -1,7 +1,7 @@
 use Rattle.std.proofs.Common.{◌++◌, ◌<◌, ℕ, List, string_bytes, ap, ◌∙◌, arith}
 use Rattle.rme_words.specs.declared.shape.Shape.{Shape}
 use Rattle.rme_line_text.specs.Texts.{lock_name}
-use Rattle.rme_durable_server.specs.StatusTexts.{lock_status_text, lock_text, status_state}
+use Rattle.rme_durable_server.specs.StatusTexts.{lock_status_text, lock_text, source_state}
 use Rattle.rme_durable_server.specs.declared.status.LockStatus.{LockStatus}
 use Rattle.rme_durable_server.proofs.Listing.{numbers_next}
 use Rattle.rme_durable_server.proofs.status.push_locks.Goals as goal
@@ -12,7 +12,7 @@ loop-lock-preserved c =
     let names = c.args.names.now in
     let lock = c.loop-lock.lock in
     let locks = told.world.now.shape.locks in
-    let text = lock_text names (status_state told.epoch told.base.now told.world.now) in
+    let text = lock_text names (source_state told) in
     let below : lock < locks = omega (arith, c.loop-lock-test.true, c.locks-lock-end.ensures, ap (λ (s : Shape). s.locks) c.shape.ensures) in
     let named = ap (λ (n : List ℕ). lock_status_text n c.in-Some.status) c.lock_name.ensures in
     let told_of = ap (λ (s : LockStatus). lock_status_text (lock_name names lock) s) c.in-Some.ensures in

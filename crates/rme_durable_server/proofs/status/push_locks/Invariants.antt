@@ -1,10 +1,10 @@
 -- The written text, with that of the other locks, is the text of all.
 use Rattle.std.proofs.Common.{string_bytes}
-use Rattle.rme_durable_server.specs.StatusTexts.{lock_text, status_state}
+use Rattle.rme_durable_server.specs.StatusTexts.{lock_text, source_state}
 use Rattle.rme_durable_server.proofs.Listing.{SeparatesNumbers}
 use Rattle.rme_durable_server.proofs.status.push_locks.Given as goal
 
 abbrev pub invariant-loop-lock : goal.invariant-loop-lock
 invariant-loop-lock l =
     let told = l.fn.told in
-    SeparatesNumbers (lock_text l.fn.names (status_state told.epoch told.base.now told.world.now)) (string_bytes l.fn.out) told.world.now.shape.locks (string_bytes l.out) l.later l.lock
+    SeparatesNumbers (lock_text l.fn.names (source_state told)) (string_bytes l.fn.out) told.world.now.shape.locks (string_bytes l.out) l.later l.lock

@@ -1,5 +1,5 @@
 use Rattle.std.proofs.Common.{◌++◌, ◌-◌, ◌<◌, ℕ, List, string_bytes, ap, ◌∙◌, arith}
-use Rattle.rme_durable_server.specs.StatusTexts.{status_state, worker_status_text, worker_text}
+use Rattle.rme_durable_server.specs.StatusTexts.{source_state, worker_status_text, worker_text}
 use Rattle.rme_durable_server.specs.declared.status.WorkerStatus.{WorkerStatus}
 use Rattle.rme_durable_server.proofs.Listing.{numbers_next}
 use Rattle.rme_durable_server.proofs.status.push_workers.Goals as goal
@@ -10,7 +10,7 @@ loop-worker-preserved c =
     let names = c.args.names.now in
     let worker = c.loop-worker.worker in
     let clients = told.world.now.shape.workers - 1 in
-    let text = worker_text names (status_state told.epoch told.base.now told.world.now) in
+    let text = worker_text names (source_state told) in
     let below : worker < clients = omega (arith, c.loop-worker-test.true, c.clients_of-worker-end.ensures) in
     let told_of = ap (λ (s : WorkerStatus). worker_status_text names s) c.in-Some.ensures in
     let written = c.in_ok-push_worker.ensures ∙ ap (λ (t : List ℕ). string_bytes c.push_comma.new.out ++ t) told_of in
