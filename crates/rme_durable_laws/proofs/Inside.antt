@@ -43,11 +43,11 @@ held_pending : Session → Option PendingWorker
 held_pending (Held its) = Some its
 held_pending shown = None
 
-same_pending : (one other : PendingWorker) → Held one ≡ Held other → one ≡ other
+pub same_pending : (one other : PendingWorker) → Held one ≡ Held other → one ≡ other
 unfolding held_pending
 same_pending one other same = same_Some _ _ (ap held_pending same)
 
-stance_of_held : (history : List Entry) (worker asked number : ℕ) (stance : JobStance) (job : Job) → worker_session_by history worker asked stance ≡ Held record { worker = worker; number = number; draft = Some job } → IsInSectionOf stance job.lock
+pub stance_of_held : (history : List Entry) (worker asked number : ℕ) (stance : JobStance) (job : Job) → worker_session_by history worker asked stance ≡ Held record { worker = worker; number = number; draft = Some job } → IsInSectionOf stance job.lock
 stance_of_held history worker asked number Idle job shown = absurd (cc)
 stance_of_held history worker asked number (Handed its) job shown = absurd (cc)
 stance_of_held history worker asked number (Waiting k its) job shown = absurd (cc)
@@ -86,7 +86,7 @@ session_alike worker one other alike =
     ∙ ap (λ (p : List (Option Private)). F other.shape (world_memory other) p one.history) alike.privates
     ∙ ap (λ (h : List Entry). F other.shape (world_memory other) other.privates h) alike.history)
 
-inside_alike : (session worker : ℕ) (job : Job) (one other : ServerState) → AreStatesAlike one other → IsSessionInside session worker job one → IsSessionInside session worker job other
+pub inside_alike : (session worker : ℕ) (job : Job) (one other : ServerState) → AreStatesAlike one other → IsSessionInside session worker job one → IsSessionInside session worker job other
 inside_alike session worker job one other alike inside = record {
   client = subst (λ (s : Shape). worker + 1 < s.workers) alike.world.shape inside.client;
   has = ap (λ (h : List (Option ℕ)). slice_get h worker) (sym alike.holders) ∙ inside.has;
@@ -107,7 +107,7 @@ held_shown now (Held pending) was its same =
     let draft : pending.draft ≡ its.draft = ap (λ (p : PendingWorker). p.draft) its_is in
     (pending.number, ap₂ (λ (w : ℕ) (d : Option Job). let p : PendingWorker = record { worker = w; number = pending.number; draft = d } in Held p) worker draft)
 
-inside_kept : (session worker : ℕ) (job : Job) (old new : ServerState) → new.executor.world.shape.workers ≡ old.executor.world.shape.workers → KeepsWorker session worker old new → IsSessionInside session worker job old → IsSessionInside session worker job new
+pub inside_kept : (session worker : ℕ) (job : Job) (old new : ServerState) → new.executor.world.shape.workers ≡ old.executor.world.shape.workers → KeepsWorker session worker old new → IsSessionInside session worker job old → IsSessionInside session worker job new
 inside_kept session worker job old new workers keeps inside =
     let its : PendingWorker = record { worker = worker; number = inside.number; draft = Some job } in
     let found = held_shown new.base (held_session new.executor worker) old.base its (keeps.shown ∙ ap (client_session old.base) inside.shown) in
@@ -115,17 +115,17 @@ inside_kept session worker job old new workers keeps inside =
 
 -- ---- moments
 
-acted_leads : (opening : ServerOpening) (old : SessionMoment) (before : ServerState) (now : SessionMoment) (after : ServerState) → SessionActs opening old before now after → LogLeads opening now.log after
+pub acted_leads : (opening : ServerOpening) (old : SessionMoment) (before : ServerState) (now : SessionMoment) (after : ServerState) → SessionActs opening old before now after → LogLeads opening now.log after
 acted_leads opening old before now after acts = elim acts.appends [
   | inl same ↦ subst (λ (l : List LogEntry). LogLeads opening l after) (sym same.0) (subst (λ (s : ServerState). LogLeads opening acts.log s) (sym same.1) acts.leads)
   | inr one ↦ subst (λ (l : List LogEntry). LogLeads opening l after) (sym one.1) (leads_more opening acts.log before (Lines old.session.session one.0) after acts.leads one.2)
 ]
 
 alike_to_itself : (state : ServerState) → AreStatesAlike state state
-alike_to_itself state = record { world = alike_itself state.executor.world; holders = refl }
+alike_to_itself state = record { world = alike_itself state.executor.world; holders = refl; epoch = refl; places = refl }
 
 -- A state to which a prefix of a log leads is like the one on the way.
-on_the_way : (opening : ServerOpening) (start : ServerState) → BeginsWith opening start → (log rest : List LogEntry) (state later : ServerState) → LogLeads opening log state → LogLeads opening (log ++ rest) later → (mid : ServerState) × LogLeads opening log mid × AreStatesAlike state mid × EntriesLead opening.names mid rest later
+pub on_the_way : (opening : ServerOpening) (start : ServerState) → BeginsWith opening start → (log rest : List LogEntry) (state later : ServerState) → LogLeads opening log state → LogLeads opening (log ++ rest) later → (mid : ServerState) × LogLeads opening log mid × AreStatesAlike state mid × EntriesLead opening.names mid rest later
 on_the_way opening start begins [] rest state later one two = absurd one
 on_the_way opening start begins (first ∷ log) rest state later one two =
     let parts = split_lead opening.names log rest two.0 later two.2 in

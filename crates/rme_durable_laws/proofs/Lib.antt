@@ -9,8 +9,12 @@ pub mod Written
 pub mod Reading
 pub mod Others
 pub mod Batches
+pub mod HeaderPlaces
 pub mod Histories
 pub mod Prefixes
+pub mod Headers
 pub mod Crashes
 pub mod Reaching
 pub mod Inside
+pub mod Sections
+pub mod Places

@@ -45,7 +45,7 @@ use Rattle.rme_durable_server.specs.ServerHistories.{AppendsSessionBatch, Begins
 -- ---- a step of the machine
 
 -- The state of a worker, and its last entry, are the same.
-abbrev SameIn : ℕ → MachineState → MachineState → Type 0
+abbrev pub SameIn : ℕ → MachineState → MachineState → Type 0
 SameIn w old new = (slice_get new.workers w ≡ slice_get old.workers w) × (last_entry_of_worker new.history w ≡ last_entry_of_worker old.history w)
 
 same_then : (w : ℕ) (old mid new : MachineState) → SameIn w old mid → SameIn w mid new → SameIn w old new
@@ -71,7 +71,7 @@ module _ (shape : Shape) (v w : ℕ) (apart : w ≢ v) where
   act_leaves Wait old me new goes = subst (SameIn w old) (sym goes.4) (refl, refl)
 
   -- A label is of this worker, or nothing.
-  abbrev IsOf : Label → Type 0
+  abbrev pub IsOf : Label → Type 0
   IsOf Nothing = Unit {0}
   IsOf (Of u act) = u ≡ v
 
@@ -82,14 +82,14 @@ module _ (shape : Shape) (v w : ℕ) (apart : w ≢ v) where
       act_leaves act old mine.me new mine.goes
 
   -- An event is of this worker.
-  abbrev IsEventOf : Event → Type 0
+  abbrev pub IsEventOf : Event → Type 0
   IsEventOf (event.Submit u job) = u ≡ v
   IsEventOf (event.Step u) = u ≡ v
   IsEventOf (event.Crash u) = u ≡ v
   IsEventOf (event.Restart u) = u ≡ v
   IsEventOf (event.Withdraw u) = u ≡ v
 
-  label_of : (one : Event) → IsEventOf one → (given : Answer) (label : Label) → event_label one given ≡ Some label → IsOf label
+  pub label_of : (one : Event) → IsEventOf one → (given : Answer) (label : Label) → event_label one given ≡ Some label → IsOf label
   label_of one of_it (answer.Refused refusal) label is = subst IsOf (same_Some _ _ is) tt
   label_of (event.Submit u job) of_it (answer.Handed k) label is = subst IsOf (same_Some _ _ is) of_it
   label_of (event.Step u) of_it (answer.Stepped note) label is = subst IsOf (same_Some _ _ is) of_it
@@ -115,14 +115,14 @@ module _ (shape : Shape) (v w : ℕ) (apart : w ≢ v) where
     refines.shape ∙ at,
   )
 
-  event_leaves : (one : Event) → IsEventOf one → (given : Answer) (old new : WorldView) → old.shape ≡ shape → EventContract old one given new → Same old new
+  pub event_leaves : (one : Event) → IsEventOf one → (given : Answer) (old new : WorldView) → old.shape ≡ shape → EventContract old one given new → Same old new
   event_leaves (event.Submit u job) of_it given old new at call = refined (event.Submit u job) of_it _ old new at call.2.headline
   event_leaves (event.Step u) of_it given old new at call = refined (event.Step u) of_it _ old new at call.2.headline
   event_leaves (event.Crash u) of_it given old new at call = refined (event.Crash u) of_it _ old new at call.2.headline
   event_leaves (event.Restart u) of_it given old new at call = refined (event.Restart u) of_it _ old new at call.2.headline
   event_leaves (event.Withdraw u) of_it given old new at call = refined (event.Withdraw u) of_it _ old new at call.2.headline
 
-  abbrev AreEventsOf : List Event → Type 0
+  abbrev pub AreEventsOf : List Event → Type 0
   AreEventsOf [] = Unit {0}
   AreEventsOf (one ∷ events) = IsEventOf one × AreEventsOf events
 
@@ -154,7 +154,7 @@ module _ (shape : Shape) (v w : ℕ) (apart : w ≢ v) where
   crash_of true = (refl, tt)
   crash_of false = tt
 
-  batch_of : (batch : EventBatch) → batch.worker ≡ v → AreEventsOf (batch_events batch)
+  pub batch_of : (batch : EventBatch) → batch.worker ≡ v → AreEventsOf (batch_events batch)
   batch_of batch is =
       let at : AreEventsOf (start_events v batch.begins ++ (step_events v batch.steps ++ crash_events v batch.falls)) = events-append (start_events v batch.begins) (step_events v batch.steps ++ crash_events v batch.falls) (start_of batch.begins) (events-append (step_events v batch.steps) (crash_events v batch.falls) (steps_of batch.steps) (crash_of batch.falls)) in
       subst (λ (u : ℕ). AreEventsOf (start_events u batch.begins ++ (step_events u batch.steps ++ crash_events u batch.falls))) (sym is) at
@@ -179,12 +179,12 @@ view_same w old new within shape same =
 
 -- ---- entries of other sessions
 
-holder_apart : (session author : ℕ) (holders : List (Option ℕ)) (worker its : ℕ) → author ≢ session → slice_get holders worker ≡ Some (Some session) → slice_get holders its ≡ Some (Some author) → worker ≢ its
+pub holder_apart : (session author : ℕ) (holders : List (Option ℕ)) (worker its : ℕ) → author ≢ session → slice_get holders worker ≡ Some (Some session) → slice_get holders its ≡ Some (Some author) → worker ≢ its
 holder_apart session author holders worker its other has had same =
     let e : Some (Some session) ≡ Some (Some author) = sym has ∙ (ap (slice_get holders) same ∙ had) in
     other (sym (same_Some _ _ (same_Some _ _ e)))
 
-nobody_apart : (session : ℕ) (holders : List (Option ℕ)) (worker its : ℕ) → slice_get holders worker ≡ Some (Some session) → slice_get holders its ≡ Some None → worker ≢ its
+pub nobody_apart : (session : ℕ) (holders : List (Option ℕ)) (worker its : ℕ) → slice_get holders worker ≡ Some (Some session) → slice_get holders its ≡ Some None → worker ≢ its
 nobody_apart session holders worker its has had same =
     let e : Some (Some session) ≡ Some None = sym has ∙ (ap (slice_get holders) same ∙ had) in
     none-some session (sym (same_Some _ _ e))
@@ -216,7 +216,7 @@ module _ (session worker : ℕ) where
   keeps_then : (old mid new : ServerState) → KeepsWorker session worker old mid → KeepsWorker session worker mid new → KeepsWorker session worker old new
   keeps_then old mid new one two = record { has = two.has; shown = two.shown ∙ one.shown }
 
-  entry_keeps : (names : List (List ℕ)) (entry : LogEntry) (old new : ServerState) → EntryLeads names old entry new → IsNotByAuthor session entry → worker + 1 < old.executor.world.shape.workers → slice_get old.executor.holders worker ≡ Some (Some session)
+  pub entry_keeps : (names : List (List ℕ)) (entry : LogEntry) (old new : ServerState) → EntryLeads names old entry new → IsNotByAuthor session entry → worker + 1 < old.executor.world.shape.workers → slice_get old.executor.holders worker ≡ Some (Some session)
       → KeepsWorker session worker old new × (new.executor.world.shape.workers ≡ old.executor.world.shape.workers)
   entry_keeps names (Lines author lines) old new lead other within has =
       let keeps = batch_keeps names author old lines new other (omega (arith, within)) has lead in

@@ -193,10 +193,10 @@ grown_recovers names others first log start state world all whole from lead reco
 
 -- ---- the last checkpoint
 
-abbrev LastWhole : List LogEntry → Type 0
+abbrev pub LastWhole : List LogEntry → Type 0
 LastWhole log = (front : List LogEntry) × (bytes : List ℕ) × (rest : List LogEntry) × AreAllLines rest × (log ≡ front ++ Whole bytes ∷ rest)
 
-last_whole : (log : List LogEntry) → AreAllLines log ⊎ LastWhole log
+pub last_whole : (log : List LogEntry) → AreAllLines log ⊎ LastWhole log
 last_whole [] = inl tt
 last_whole (Lines session lines ∷ log) = elim (last_whole log) [
   | inl all ↦ inl all
@@ -213,7 +213,7 @@ split_lead names (entry ∷ one) two old new lead =
     let rest = split_lead names one two lead.0 new lead.2 in
     (rest.0, (lead.0, lead.1, rest.1), rest.2)
 
-bytes_grown : (first : List ℕ) (log : List LogEntry) → AreAllLines log → log_bytes_after first log ≡ first ++ entry_lines log
+pub bytes_grown : (first : List ℕ) (log : List LogEntry) → AreAllLines log → log_bytes_after first log ≡ first ++ entry_lines log
 bytes_grown first log all = bytes_of-more (Whole first ∷ []) log all
 
 pub prefix_recovers : (names others : List (List ℕ)) (first : List ℕ) (log : List LogEntry) (start state : ServerState) (world : WorldView) → AreWholeLines first → RecoversState names first start → EntriesLead names start log state

@@ -36,7 +36,7 @@ refined_reach old new events answers refines reached =
     let there : IsReachable old.shape (world_abstract_state new) = record { start = reached.start; begins = reached.begins; labels = reached.labels ++ refines.told; run = run } in
     (subst (λ (s : Shape). IsReachable s (world_abstract_state new)) (sym refines.shape) there, refines.shape)
 
-event_reach : (one : Event) (given : Answer) (old new : WorldView) → EventContract old one given new → IsWorldReachable old → Keeps old new
+pub event_reach : (one : Event) (given : Answer) (old new : WorldView) → EventContract old one given new → IsWorldReachable old → Keeps old new
 event_reach (event.Submit u job) given old new call reached = refined_reach old new _ _ call.2.headline reached
 event_reach (event.Step u) given old new call reached = refined_reach old new _ _ call.2.headline reached
 event_reach (event.Crash u) given old new call reached = refined_reach old new _ _ call.2.headline reached
@@ -74,7 +74,7 @@ begun_reach bytes names found begun recovers crashed =
 abbrev KeepsWorkers : ServerState → ServerState → Type 0
 KeepsWorkers old new = IsWorldReachable new.executor.world × (new.executor.world.shape.workers ≡ old.executor.world.shape.workers)
 
-entry_reach : (names : List (List ℕ)) (entry : LogEntry) (old new : ServerState) → EntryLeads names old entry new → IsWorldReachable old.executor.world → KeepsWorkers old new
+pub entry_reach : (names : List (List ℕ)) (entry : LogEntry) (old new : ServerState) → EntryLeads names old entry new → IsWorldReachable old.executor.world → KeepsWorkers old new
 entry_reach names (Lines session lines) old new lead reached =
     let happened = lead.applies.happened in
     let kept = list_reach _ happened.0 old.executor.world new.executor.world happened.1 reached in

@@ -15,10 +15,18 @@ ghost use Rattle.rme_durable_format.specs.Recovery.{AcceptsLines, RecoversWorld}
 ghost use Rattle.rme_durable_format.specs.WholeLines.{AreWholeLines};
 ghost use Rattle.rme_durable_log.specs.Logs.{AreNotByAuthor, log_bytes_after};
 ghost use Rattle.rme_durable_log.specs.declared.log_entry.LogEntry.{LogEntry};
-ghost use Rattle.rme_durable_server.specs.ServerHistories.{EntriesLead, KeepsWorker, ServerState, SessionActs, SessionMoment};
+ghost use Rattle.rme_program.specs.declared.note.Receipt.{Receipt};
+ghost use Rattle.rme_session_protocol.specs.declared.order.Order.{Order};
+ghost use Rattle.rme_session_protocol.specs.declared.order.Order.TheVariants.{Commit};
+ghost use Rattle.rme_session_protocol.specs.declared.reply.FencingToken.{FencingToken};
+ghost use Rattle.rme_session_protocol.specs.declared.reply.JobOutcome.TheVariants.{Inside, Receipt as Received};
+ghost use Rattle.rme_session_protocol.specs.declared.reply.SessionReply.TheVariants.{Committed, Entered};
+ghost use Rattle.rme_durable_checkpoint.specs.ClientValues.{next_client_place};
+ghost use Rattle.rme_durable_server.specs.DurableAnswers.{DurableAttempt};
+ghost use Rattle.rme_durable_server.specs.ServerHistories.{EntriesLead, HasStateHeader, KeepsWorker, ServerState, SessionActs, SessionMoment};
 ghost use Rattle.rme_durable_laws.specs.AlikeWorlds.{AreWorldsAlike};
 ghost use Rattle.rme_durable_laws.specs.HeldLocks.{BeginsWith, IsSessionInside, IsWorldReachable, WorkerOwnsLock};
-ghost use Rattle.rme_durable_laws.specs.Histories.{AreStatesAlike, RecoversState};
+ghost use Rattle.rme_durable_laws.specs.Histories.{AreStatesAlike, RecoversState, checkpoint_count};
 ghost use Rattle.rme_durable_laws.specs.LoggedLines.{AreCommandLines, HasAlikeWorldOpen};
 
 use rme_durable_server::ServerTag;
@@ -69,8 +77,24 @@ pub fn recovery_is_prefix_closed()
         → (names ≡ others) × AreWorldsAlike state.executor.world world }
 {}
 
-/// RECOVERY IS IDEMPOTENT: a start appends a crash line for each worker that is up. What recovery reads then is the world
-/// with which that start began, in which all workers are down.
+/// The number of the epoch grows by one with each checkpoint, and by nothing else.
+pub fn epoch_counts_checkpoints()
+    ensures { (names : List (List ℕ)) (log : List LogEntry) (old new : ServerState) → EntriesLead names old log new
+        → new.epoch ≡ old.epoch + checkpoint_count log }
+{}
+
+/// THE HEADER FOLLOWS FROM THE HISTORY: the bytes of any prefix of a server's log, the first entry included, begin with
+/// the header of the state to which that prefix leads: it has the number of its epoch, and its base.
+///
+/// `first` are the bytes at the opening, `log` the entries after them.
+pub fn header_follows_history()
+    ensures { (names : List (List ℕ)) (first : List ℕ) (log : List LogEntry) (start state : ServerState)
+        → AreWholeLines first → HasStateHeader names first start → EntriesLead names start log state
+        → HasStateHeader names (log_bytes_after first log) state }
+{}
+
+/// RECOVERY IS IDEMPOTENT: a start appends a crash line for each worker that is up. What recovery reads then is the
+/// world with which that start began, in which all workers are down.
 pub fn recovery_is_idempotent()
     ensures { (names others : List (List ℕ)) (bytes crashes : List ℕ) (found begun again : WorldView)
         → AreWholeLines bytes → RecoversWorld bytes names found
@@ -101,6 +125,30 @@ pub fn inside_is_kept<J: ServerTag>()
         → BeginsWith J.opening start → SessionActs J.opening old before held after
         → SessionActs J.opening held next now last → IsSessionInside held.session.session worker job after
         → IsSessionInside held.session.session worker job next × WorkerOwnsLock next.executor.world worker job.lock }
+{}
+
+/// THE SECTION IS KEPT: between these two acts the number of the lock's finished sections stays, as clients count them
+/// over all epochs.
+pub fn section_is_kept<J: ServerTag>()
+    ensures { (start : ServerState) (old held now : SessionMoment) (before after next last : ServerState) (worker : ℕ)
+        (job : Job)
+        → BeginsWith J.opening start → SessionActs J.opening old before held after
+        → SessionActs J.opening held next now last → IsSessionInside held.session.session worker job after
+        → next_client_place next.base next.executor.world job.lock
+        ≡ next_client_place after.base after.executor.world job.lock }
+{}
+
+/// THE TOKEN IS THE PLACE: where `enter` told a session a token, and the session acts next by a commit, the receipt has
+/// the place that the token told, whatever other sessions ordered meanwhile, and across checkpoints.
+///
+/// The session's worker is not the checkpoint worker, which no session has.
+pub fn token_is_place<J: ServerTag>()
+    ensures { (start : ServerState) (old held now : SessionMoment) (its : Order) (token : FencingToken)
+        (receipt : Receipt) (enters : DurableAttempt J.opening old its held (Entered (Inside token)))
+        → BeginsWith J.opening start → DurableAttempt J.opening held Commit now (Committed (Received receipt))
+        → ((worker : ℕ) → held.session.worker ≡ Some worker
+        → worker + 1 < enters.after.executor.world.shape.workers)
+        → receipt.place ≡ token.section }
 {}
 
 /// The world with which a start begins, the recovered one after a crash of each worker that was up, is reachable.
