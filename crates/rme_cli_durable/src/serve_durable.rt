@@ -131,7 +131,7 @@ fn serve_logged<J: ServerTag + Send + Sync, R: Threads + Wait + Clock + Sync>(
     requires log { state.log ≡ J.book }
     requires lines { state.executor.lines ≡ [] }
     requires named { state.names ≡ J.opening.names }
-    requires begins { J.opening.begins (server_state state.executor.executor state.executor.base) }
+    requires begins { J.opening.begins (server_state state.executor) }
 {
     let LoggedState {
         names,

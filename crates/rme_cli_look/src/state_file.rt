@@ -1,5 +1,8 @@
 //! The contents of a state's file, whether or not a server uses it.
 
+ghost use Rattle.std.specs.Prelude.{◌≡◌, ◌++◌, ◌∷◌, [], OnOk, string_bytes};
+ghost use Rattle.rme_durable_server.specs.StatusTexts.{source_state, status_state, status_text};
+
 use rme_cli_messages::CliFault;
 use rme_cli_options::OutputFormat;
 use rme_durable_checkpoint::Sections;
@@ -63,7 +66,10 @@ fn push_why(out: &mut String, why: BadLog) -> Result<u8, CliFault> {
 }
 
 /// The source of the status.
-fn status_view_of(recovered: &RecoveredState) -> StatusSource<'_> {
+fn status_view_of(recovered: &RecoveredState) -> StatusSource<'_>
+    ensures { source_state result ≡ status_state recovered.now.log.header.epoch recovered.now.base
+        recovered.now.log.world }
+{
     StatusSource {
         epoch: recovered.log.header.epoch,
         world: &recovered.log.world,
@@ -72,7 +78,11 @@ fn status_view_of(recovered: &RecoveredState) -> StatusSource<'_> {
 }
 
 /// Appends the answer to the order `status`, and answers the status of the process.
-fn push_json(out: &mut String, recovered: &RecoveredState) -> Result<u8, NoMemory> {
+fn push_json(out: &mut String, recovered: &RecoveredState) -> Result<u8, NoMemory>
+    ensures { OnOk result (string_bytes out.new ≡ string_bytes out.old
+        ++ (status_text recovered.now.log.names (status_state recovered.now.log.header.epoch recovered.now.base
+        recovered.now.log.world) ++ 10 ∷ [])) }
+{
     push_status(out, &recovered.log.names, &status_view_of(recovered))?;
     out.push_str("\n")?;
     Ok(0)

@@ -232,7 +232,8 @@ Each line of a client is one JSON object, which is obeyed and answered by one li
                                  {\"ok\":\"submit\",\"withdrawn\":true}: a job counts once. The operations are
                                  those of `rme run --help`
   {\"do\":\"enter\",..}              as submit, and stops inside the lock, for work of one's own:
-                                 {\"number\":N,\"ok\":\"enter\",\"stance\":\"held\"}; nobody else enters before
+                                 {\"number\":N,\"ok\":\"enter\",\"section\":K,\"stance\":\"held\"}; nobody else
+                                 enters before. K is the place that the receipt will have
   {\"do\":\"commit\"}                makes the section and leaves: {\"ok\":\"commit\",\"receipt\":{..}}
   {\"do\":\"resume\"}                goes on with the job that the worker is in, answered as submit is, with
                                  \"ok\":\"resume\"; it takes \"tries\" and \"wait\" too
@@ -242,6 +243,7 @@ Each line of a client is one JSON object, which is obeyed and answered by one li
   {\"do\":\"crash_after\",\"steps\":N} plans a crash after N further own steps, at most 1000000:
                                  {\"ok\":\"crash_after\"}
   {\"do\":\"detach\"}                lets the worker go: {\"ok\":\"detach\"}
+  {\"do\":\"ping\"}                  changes nothing: {\"ok\":\"ping\"}
 
 A line that is refused is answered {\"code\":N,\"error\":NAME} and changes nothing. --why says on the standard
 error what is wrong with one that is no order; where that is a pipe that nobody reads, it is left out. A

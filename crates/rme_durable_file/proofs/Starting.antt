@@ -1,5 +1,5 @@
 -- A server begins with the file that it has read.
-use Rattle.std.proofs.Common.{◌≡◌, ℕ, List, [], ◌∷◌, ◌++◌, length, take, replicate, Option, Some, None, option_map, refl, sym, ap, ◌∙◌}
+use Rattle.std.proofs.Common.{◌≡◌, ℕ, ◌+◌, ◌-◌, ◌^◌, List, [], ◌∷◌, ◌++◌, false, length, length-append, min, take, replicate, Option, Some, None, option_map, arith, refl, sym, ap, ◌∙◌}
 use Rattle.rme_session_world.specs.Executors.{HasCrashedAll}
 use Rattle.rme_durable_format.specs.BatchCommands.{crash_commands_from}
 use Rattle.rme_durable_format.specs.CommandLines.{AppendsCommands}
@@ -19,10 +19,14 @@ pub record StartsFrom (found : RecoveredState) (epoch : EpochState) (crashes : L
   pub crashed : HasCrashedAll found.log.world epoch.executor.world
   pub nobody : epoch.executor.holders ≡ replicate found.log.world.shape.workers None
   pub written : AppendsCommands found.log.names [] (crash_commands_from 0 found.log.world.privates) crashes
+  pub works : epoch.failed ≡ false
 
-pub begins_server : (before cut after : Option (List ℕ)) (whole : ℕ) (found : RecoveredState) (epoch : EpochState) (crashes : List ℕ) → ReadsKnownState before whole found → CutsFile before whole cut → AppendsToFile cut crashes after → StartsFrom found epoch crashes → BeginsKnownServer before found.log.names epoch after
-begins_server None cut after whole found epoch crashes reads cuts appends starts = tt
-begins_server (Some bytes) cut after whole found epoch crashes reads cuts appends starts =
+pub begins_server : (before cut after : Option (List ℕ)) (whole : ℕ) (found : RecoveredState) (epoch : EpochState) (crashes : List ℕ) → ReadsKnownState before whole found → CutsFile before whole cut → AppendsToFile cut crashes after → StartsFrom found epoch crashes → epoch.taken ≡ min (whole + length crashes) (2 ^ 64 - 1)
+    → BeginsKnownServer before found.log.names epoch after
+begins_server None cut after whole found epoch crashes reads cuts appends starts taken = tt
+begins_server (Some bytes) cut after whole found epoch crashes reads cuts appends starts taken =
+    let long : length (reads.lines ++ crashes) ≡ length reads.lines + length crashes = length-append reads.lines crashes in
+    let total : epoch.taken ≡ min (length (reads.lines ++ crashes)) (2 ^ 64 - 1) = omega (arith, taken, long, reads.length) in
     let front : take whole bytes ≡ reads.lines =
     ap (λ (n : ℕ). take n bytes) reads.length ∙ (ap (λ (all : List ℕ). take (length reads.lines) all) reads.are.are ∙ take_front reads.lines reads.are.torn) in
     let all : after ≡ Some (reads.lines ++ crashes) =
@@ -30,17 +34,18 @@ begins_server (Some bytes) cut after whole found epoch crashes reads cuts append
       reads.lines ++ crashes,
       all,
       record {
-        lines = reads.lines;
-        are = reads.are;
+        whole = whole;
         found = found;
-        state = reads.state;
+        reads = reads;
         names_are = refl;
         base = starts.base;
         number = starts.number;
         crashed = starts.crashed;
         nobody = starts.nobody;
+        works = starts.works;
         crashes = crashes;
         written = starts.written;
         after_is = refl;
+        taken = total;
       },
     )

@@ -1,5 +1,5 @@
 -- How a server begins with a file.
-use Rattle.std.specs.Prelude.{◌≡◌, ℕ, List, [], ◌++◌, Option, Some, None, length, replicate, ⊤}
+use Rattle.std.specs.Prelude.{◌≡◌, ℕ, ◌-◌, ◌^◌, List, [], ◌++◌, Option, Some, None, false, length, min, replicate, ⊤}
 use Rattle.rme_world.specs.WorldViews.{WorldView}
 use Rattle.rme_session_world.specs.Executors.{HasCrashedAll}
 use Rattle.rme_durable_format.specs.BatchCommands.{crash_commands_from}
@@ -22,20 +22,22 @@ ReadsKnownState None whole found = ⊤
 ReadsKnownState (Some bytes) whole found = ReadsState bytes whole found
 
 -- A server begins with the state in the whole lines of a file, in which no session has a worker: it crashes each worker
--- that was up, and a line for each of these crashes is in the file behind the whole lines.
+-- that was up, and a line for each of these crashes is in the file behind the whole lines. It counts all bytes of that
+-- file as the epoch's; the greatest `u64` if there are more.
 pub record BeginsServer (bytes : List ℕ) (names : List (List ℕ)) (epoch : EpochState) (after : List ℕ) : Type 0 where
-  pub lines : List ℕ
-  pub are : AreWholeLinesOf bytes lines
+  pub whole : ℕ
   pub found : RecoveredState
-  pub state : AreState lines found
+  pub reads : ReadsState bytes whole found
   pub names_are : names ≡ found.log.names
   pub base : epoch.base ≡ found.base
   pub number : epoch.epoch ≡ found.log.header.epoch
   pub crashed : HasCrashedAll found.log.world epoch.executor.world
   pub nobody : epoch.executor.holders ≡ replicate found.log.world.shape.workers None
+  pub works : epoch.failed ≡ false
   pub crashes : List ℕ
   pub written : AppendsCommands names [] (crash_commands_from 0 found.log.world.privates) crashes
-  pub after_is : after ≡ lines ++ crashes
+  pub after_is : after ≡ reads.lines ++ crashes
+  pub taken : epoch.taken ≡ min (length after) (2 ^ 64 - 1)
 
 -- The same for a file whose bytes are known.
 abbrev pub BeginsKnownServer : Option (List ℕ) → List (List ℕ) → EpochState → Option (List ℕ) → Type 0

@@ -7,4 +7,4 @@ abbrev pub ghosts-serve_logged-J-LogTag : goal.ghosts-serve_logged-J-LogTag
 ghosts-serve_logged-J-LogTag g a = record { book = a.state.log }
 
 abbrev pub ghosts-serve_logged-J-ServerTag : goal.ghosts-serve_logged-J-ServerTag
-ghosts-serve_logged-J-ServerTag g a = record { opening = record { names = a.state.names; begins = λ (start : ServerState). start ≡ server_state a.state.executor.executor a.state.executor.base } }
+ghosts-serve_logged-J-ServerTag g a = record { opening = record { names = a.state.names; begins = λ (start : ServerState). start ≡ server_state a.state.executor } }

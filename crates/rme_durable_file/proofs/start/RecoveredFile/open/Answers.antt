@@ -1,4 +1,4 @@
-use Rattle.std.proofs.Common.{◌≡◌, ℕ, List, None, sym, subst, replicate, string_bytes}
+use Rattle.std.proofs.Common.{◌≡◌, ℕ, ◌+◌, ◌-◌, ◌^◌, List, None, arith, length, min, sym, subst, replicate, string_bytes}
 use Rattle.rme_session_world.specs.Executors.{HasCrashedAll}
 use Rattle.rme_session_world.specs.ExecutorStates.{ExecutorState}
 use Rattle.rme_durable_file.specs.DiskFiles.{AppendsToFile}
@@ -15,7 +15,9 @@ returns-clause-begins g c =
       crashed = subst (λ (e : ExecutorState). HasCrashedAll found.log.world e.world) (sym c.new-2.ensures.executor) c.in_ok-executor.ensures.fallen;
       nobody = subst (λ (e : ExecutorState). e.holders ≡ replicate found.log.world.shape.workers None) (sym c.new-2.ensures.executor) c.in_ok-executor.ensures.nobody;
       written = c.in_ok-crashes.ensures;
+      works = c.new-2.ensures.works;
     } in
+    let taken : c.new-2.result.taken ≡ min (c.self.inside.whole + length crashes) (2 ^ 64 - 1) = grind arith in
     let written : AppendsToFile c.begin.new.self.bytes crashes c.write.new.self.bytes =
     subst (λ (lines : List ℕ). AppendsToFile c.begin.new.self.bytes lines c.write.new.self.bytes) c.as_bytes.ensures.value c.in_default-write.ensures.kept in
-    rw (← c.self.view_is) (begins_server c.self.inside.file.bytes c.begin.new.self.bytes c.write.new.self.bytes c.self.inside.whole found c.new-2.result crashes c.self.invariant.1 c.in_default.ensures.cut written starts)
+    rw (← c.self.view_is) (begins_server c.self.inside.file.bytes c.begin.new.self.bytes c.write.new.self.bytes c.self.inside.whole found c.new-2.result crashes c.self.invariant.1 c.in_default.ensures.cut written starts taken)
