@@ -72,6 +72,28 @@ int rme_pending(struct rme_handle *handle, uint32_t *lock, struct rme_operation 
     return rme_end(handle, has_job ? read_slate(&handle->file, handle->worker, lock, operations, count) : RME_IDLE);
 }
 
+/* A lock's turn is even, and twice the number of its finished sections, up to the moment at which the result of the next
+   one is logged; then it is odd, up to the moment at which that one is finished (TurnClause of
+   crates/rme_machine/specs/Clauses.antt). */
+int rme_section(struct rme_handle *handle, uint64_t *section) {
+    int error = rme_begin(handle, RME_A_RECOVERED_WORKER);
+    if (error != 0) {
+        return error;
+    }
+    struct rme_core_standing standing = rme_standing_of(handle);
+    if (standing.phase != RME_CORE_IN_SECTION) {
+        return rme_end(handle, standing.phase == RME_CORE_ENTERS ? RME_NOT_INSIDE : RME_IDLE);
+    }
+    uint64_t turn = rme_look(&handle->file, RME_CORE_TURN, standing.lock, 0, 0);
+    if (turn >> 32 != 0) {
+        return rme_end(handle, RME_DAMAGED);
+    }
+    if (section != NULL) {
+        *section = turn / 2;
+    }
+    return rme_end(handle, 0);
+}
+
 /* The receipt in the words of a worker that has no pending job, of which this is the last number. */
 static int read_receipt(const struct rme_file *file, uint32_t worker, uint64_t number, struct rme_receipt *receipt,
                         int *there) {
@@ -176,6 +198,17 @@ int rme_cells(struct rme_handle *handle, uint32_t lock, uint64_t *cells, int *se
     }
     for (uint32_t cell = 0; cell < handle->file.shape.cells && cells != NULL; cell++) {
         cells[cell] = rme_look(&handle->file, RME_CORE_CELL, lock, cell, 0);
+    }
+    return rme_end(handle, 0);
+}
+
+int rme_fileno(struct rme_handle *handle, int *descriptor) {
+    int error = rme_begin(handle, RME_A_HANDLE);
+    if (error != 0) {
+        return error;
+    }
+    if (descriptor != NULL) {
+        *descriptor = handle->file.number;
     }
     return rme_end(handle, 0);
 }

@@ -182,6 +182,10 @@ int rme_detach(struct rme_handle *handle);
 /* The sizes of the file. */
 int rme_shape(struct rme_handle *handle, struct rme_shape *shape);
 
+/* The descriptor that has the claim of the worker's number. A child that inherits it (clear FD_CLOEXEC of a copy) keeps
+   the number until it ends too, and must not use it. The handle closes it. */
+int rme_fileno(struct rme_handle *handle, int *descriptor);
+
 /* The number of the lock of this name: RME_NO_LOCK. */
 int rme_lock_number(struct rme_handle *handle, const char *name, uint32_t *lock);
 
@@ -211,6 +215,11 @@ int rme_submit(struct rme_handle *handle, uint32_t lock, const struct rme_operat
    and then more, with growing pauses between, for `wait` milliseconds. RME_BLOCKED: the job waits still, and others may
    wait behind it. RME_IDLE. */
 int rme_enter(struct rme_handle *handle, uint32_t wait);
+
+/* How many sections of the lock were finished before the one that the worker is inside with: the place that its receipt
+   will have. A fencing token: a resource outside that keeps the greatest one that it has seen of the lock, and refuses a
+   lower one, refuses what is written late by a process that others took for dead. RME_IDLE, RME_NOT_INSIDE. */
+int rme_section(struct rme_handle *handle, uint64_t *section);
 
 /* Does the job that the worker is inside with, leaves, and answers the receipt. RME_IDLE, RME_NOT_INSIDE. */
 int rme_commit(struct rme_handle *handle, struct rme_receipt *receipt);

@@ -221,6 +221,8 @@ static int call(struct rme_handle *handle, int number) {
         return rme_owner(handle, 0, NULL);
     case 9:
         return rme_cells(handle, 0, NULL, NULL);
+    case 11:
+        return rme_section(handle, NULL);
     default:
         return rme_recover(handle, NULL);
     }
@@ -228,7 +230,7 @@ static int call(struct rme_handle *handle, int number) {
 
 /* Each call, but the look-ups where `looks`, answers this. */
 static void all_answer(const char *name, struct rme_handle *handle, int wanted, int looks) {
-    for (int number = 0; number <= 10; number++) {
+    for (int number = 0; number <= 11; number++) {
         int is_look = number == 8 || number == 9;
         if (number != 10 || wanted != RME_DOWN) {
             int error = call(handle, number);
@@ -351,6 +353,7 @@ static void try_waiting(void) {
     int there = 9;
     answers("idle", rme_enter(zero, 0), RME_IDLE);
     answers("idle", rme_commit(zero, NULL), RME_IDLE);
+    answers("idle", rme_section(zero, NULL), RME_IDLE);
     answers("idle", rme_withdraw(zero, NULL), RME_IDLE);
     answers("idle", rme_pending(zero, &lock, operations, &count), RME_IDLE);
     check(rme_last(zero, &receipt, &there) == 0 && there == 0, "no receipt yet");
@@ -363,6 +366,7 @@ static void try_waiting(void) {
     answers("busy", rme_run(zero, 0, add_1, 1, 0, NULL), RME_BUSY);
     answers("busy", rme_last(zero, &receipt, &there), RME_BUSY);
     answers("not inside", rme_commit(zero, NULL), RME_NOT_INSIDE);
+    answers("not inside", rme_section(zero, NULL), RME_NOT_INSIDE);
     check(rme_withdraw(zero, &number) == 0 && number == 1, "it gives number 1 up");
     is_at("it is ready", zero, RME_READY, 0, 1);
     check(rme_last(zero, &receipt, &there) == 0 && there == 0, "and has no receipt of it");
@@ -377,12 +381,13 @@ static void try_inside(void) {
     struct rme_operation operations[RME_MOST_OPERATIONS];
     struct rme_receipt receipt;
     uint32_t lock = 9, count = 9, owner = 9;
-    uint64_t cells[1];
+    uint64_t cells[1], section = 9;
     int there = 9, settled = 9;
     must("submit", rme_submit(zero, 1, two, 2, NULL));
     answers("enter", rme_enter(zero, 0), 0);
     answers("enter again", rme_enter(zero, 0), 0);
     is_at("it is inside", zero, RME_INSIDE, 1, 1);
+    check(rme_section(zero, &section) == 0 && section == 0 && rme_section(zero, NULL) == 0, "in the lock's section 0");
     check(rme_pending(zero, &lock, operations, &count) == 0 && lock == 1 && count == 2, "its job is pending");
     answers("inside", rme_withdraw(zero, NULL), RME_NOT_WAITING);
     answers("inside", rme_last(zero, &receipt, &there), RME_BUSY);
@@ -399,8 +404,13 @@ static void try_inside(void) {
     check(rme_last(zero, &receipt, &there) == 0 && there == 1, "its receipt is there");
     check(rme_cells(one, 1, cells, &settled) == 0 && cells[0] == 9 && settled, "the cells are settled");
     answers("the other enters", rme_enter(one, RME_FOREVER), 0);
+    check(rme_section(one, &section) == 0 && section == 1, "the next section of the lock");
+    must("detach", rme_detach(one));
+    one = attached(path, 1);
+    check(rme_section(one, &section) == 0 && section == 1, "the same for the next process of its number");
     answers("commit", rme_commit(one, &receipt), 0);
     same_receipt("commit", &receipt, (struct rme_receipt){1, 1, 1, 1, 10});
+    answers("idle", rme_section(one, &section), RME_IDLE);
     must("detach", rme_detach(zero));
     must("detach", rme_detach(one));
     heading("one that is inside");

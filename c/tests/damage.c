@@ -394,6 +394,7 @@ static void try_way_out(void) {
     answers("submit", rme_submit(handle, 0, add, 2, NULL), RME_BUSY);
     answers("withdraw", rme_withdraw(handle, NULL), RME_NOT_WAITING);
     answers("pending", rme_pending(handle, NULL, NULL, NULL), RME_IDLE);
+    answers("section", rme_section(handle, NULL), RME_IDLE);
     check(rme_last(handle, &receipt, &there) == 0 && there && receipt.number == 1, "it has its receipt");
     answers("commit", rme_commit(handle, &receipt), RME_DAMAGED);
     *turn = turn_was;

@@ -48,12 +48,15 @@ class Job:
 
 class Held:
     """A job whose worker is inside its lock, as it was written down. `again` says that it was pending before the call, so
-    that the block may have been begun for it already, by this process or an earlier one."""
+    that the block may have been begun for it already, by this process or an earlier one. `section` is the fencing token: how
+    many sections of the lock were finished before, which is the place of the job's receipt; `None` where the job is finished
+    already, and damage ended its way out."""
 
-    def __init__(self, job: Job, again: bool = False):
+    def __init__(self, job: Job, again: bool = False, section: Optional[int] = None):
         self.number = job.number
         self.script = job.script
         self.again = again
+        self.section = section
         self.receipt: Optional[Receipt] = None  # there once the block has ended, and the job has counted
 
 
@@ -119,6 +122,24 @@ class Worker:
         except Idle:  # it is finished, and damage ended its way out: a commit goes on
             return None
         return Job(stance.number, self._names[lock.value], [words_of(it) for it in operations[: count.value]])
+
+    def section(self) -> Optional[int]:
+        """How many sections of its lock were finished before that of the worker, which is inside: the place of the job's
+        receipt. `None` where the job is finished already, and damage ended its way out, or where none is pending.
+        `NotInside` where it waits."""
+        section = U64()
+        try:
+            self._call("rme_section", ctypes.byref(section))
+        except Idle:
+            return None
+        return section.value
+
+    def fileno(self) -> int:
+        """The descriptor that has the claim of the worker's number. A child process that has it keeps the worker until it ends
+        too: `subprocess.Popen(.., pass_fds=[worker.fileno()])`. The child must not use it."""
+        descriptor = INT()
+        self._call("rme_fileno", ctypes.byref(descriptor))
+        return descriptor.value
 
     def last(self) -> Optional[Receipt]:
         """The receipt of the last job; `None` where there was none, or it was withdrawn. `Busy` while one is pending."""
@@ -309,7 +330,7 @@ class Worker:
         """The job that the worker is inside with: its own, or one that was pending before, with its own script."""
         # One that is finished, and whose way out damage ended, is not there to read any more.
         found = self.pending() if again else None
-        return Held(found or Job(number, lock, [tuple(words) for words in script]), again)
+        return Held(found or Job(number, lock, [tuple(words) for words in script]), again, self.section())
 
     def _submit(self, lock: str, script: Script) -> int:
         operations, count, number = operations_of(script), len(script), U64()

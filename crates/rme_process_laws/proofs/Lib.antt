@@ -5,3 +5,4 @@ pub mod Happenings
 pub mod Moves
 pub mod Runs
 pub mod Staying
+pub mod Sections

@@ -144,24 +144,31 @@ module _ (shape : Shape) (old : FileState) (fresh : IsNewFile shape old) where
     applies : EventListContract (world_at_opening shape) (crash_of_all shape ++ run_events moves) (fallen.answers ++ leads.answers) leads.world
     applies = then_others (world_at_opening shape) fallen.world leads.world (crash_of_all shape) (run_events moves) fallen.answers leads.answers fallen.applies leads.applies
 
-    one_world : RunIsOfOneWorld shape moves new
-    one_world = record {
-      world = leads.world;
-      run = record {
-        answers = fallen.answers ++ leads.answers;
-        applies = applies;
-        accepted = then_accepted fallen.answers leads.answers fallen.accepted leads.accepted;
-        refines = all_run (world_at_opening shape) leads.world (crash_of_all shape ++ run_events moves) (fallen.answers ++ leads.answers) (tables_of (world_at_opening shape) (kept_sound (world_at_opening shape) opening)) applies;
-      };
-      shows = leads.shows.file;
-    }
+    one_world : (one : RunIsOfOneWorld shape moves new) × ShowsFile shape new one.world
+    one_world = (
+      record {
+        world = leads.world;
+        run = record {
+          answers = fallen.answers ++ leads.answers;
+          applies = applies;
+          accepted = then_accepted fallen.answers leads.answers fallen.accepted leads.accepted;
+          refines = all_run (world_at_opening shape) leads.world (crash_of_all shape ++ run_events moves) (fallen.answers ++ leads.answers) (tables_of (world_at_opening shape) (kept_sound (world_at_opening shape) opening)) applies;
+        };
+        shows = leads.shows.file;
+      },
+      leads.shows,
+    )
 
 -- The file that a new one comes to is a world.
 pub file_shows : (shape : Shape) (old new : FileState) (moves : List ProcessMove) → IsNewFile shape old → ProcessRun shape old moves new → (seen : WorldView) × ShowsFile shape new seen
 file_shows shape old new moves fresh run = let there = leads shape old fresh new moves run in (there.world, there.shows)
 
 pub one_world_law : OneWorldLaw
-one_world_law shape old new moves fresh run = one_world shape old fresh new moves run
+one_world_law shape old new moves fresh run = (one_world shape old fresh new moves run).0
+
+-- The one world, and what the file shows of it.
+pub world_shown : (shape : Shape) (old new : FileState) (moves : List ProcessMove) → IsNewFile shape old → ProcessRun shape old moves new → (one : RunIsOfOneWorld shape moves new) × ShowsFile shape new one.world
+world_shown shape old new moves fresh run = one_world shape old fresh new moves run
 
 -- ---- no damage
 

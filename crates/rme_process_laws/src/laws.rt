@@ -2,6 +2,7 @@
 
 ghost use Rattle.rme_process_laws.specs.InsideRuns.{OwnerStaysLaw};
 ghost use Rattle.rme_process_laws.specs.OneWorld.{OneWorldLaw, NoDamageLaw, SoundRunLaw};
+ghost use Rattle.rme_process_laws.specs.Sections.{SectionLaw};
 
 /// ONE WORLD: any interleaving of calls and operations of processes over one new file is a run of one world, in which
 /// no event is refused. Processes may begin, restart and die at any moment, also within a batch.
@@ -28,4 +29,10 @@ pub fn run_words_are_sound()
 /// owner is dead or recovers.
 pub fn owner_stays()
     ensures { OwnerStaysLaw }
+{}
+
+/// THE SECTION: while a lock's owner has not finished its job, half the lock's turn is the number of the lock's finished
+/// sections, which is the place that the receipt of the job will have. `rme_section` answers it.
+pub fn turn_tells_section()
+    ensures { SectionLaw }
 {}

@@ -86,6 +86,7 @@ def try_runs(rme, worker, other):
     same("expected, told to another process", pickle.loads(pickle.dumps(error)).expected, 2)
     with worker.inside("shop", FIVE) as held:
         same("inside", (held.number, held.receipt, worker.stance, worker.owner("shop")), (2, None, "inside", 0))
+        same("the place that its receipt will have", held.section, 1)
         same("its job", worker.pending(), rme.Job(2, "shop", FIVE))
         raises("in a block", RuntimeError, worker.run, "shop", FIVE)
         raises("the other", rme.Blocked, other.run, "shop", FIVE, wait=0)
@@ -249,7 +250,7 @@ def try_pending(folder):
             raises("it is inside", rme.NotWaiting, worker.withdraw)
             with worker.inside("bank", [("add", 0, 100)]) as held:
                 same("its block is run", (held.again, held.number, worker.owner("bank")), (True, number, 1))
-                same("with its own script", held.script, [("add", 0, 1)])
+                same("with its own script, in the same section", (held.script, held.section), ([("add", 0, 1)], number - 1))
                 raises("nobody comes between", rme.Blocked, other.run, "bank", [], wait=0.02)
             same("then it counts, as it was written down", (held.receipt.number, held.receipt.reply), (number, number))
             other.withdraw()
