@@ -99,6 +99,8 @@ class Member:
                 return
             with own.inside(lock, [["add", 1, 1], ["add", 0, amount]]) as held:
                 self.block(lock, held.number)
+            if held.section not in (None, held.receipt["place"]):
+                self.log(did="wrong", told=f"worker {self.worker} was told section {held.section}: {held.receipt}")
             self.log(did="inside", made=held.receipt, amount=None if held.again else amount, again=held.again)
         except Pending as pending:
             self.settle(own, pending)

@@ -186,6 +186,8 @@ class Storm:
                 self.wrong.append(f"worker {own.worker} is inside {lock} beside worker {self.inside[lock]}")
             time.sleep(0.0005)
             del self.inside[lock]
+        if held.section not in (None, held.receipt["place"]):
+            self.wrong.append(f"worker {own.worker} was told section {held.section}: {held.receipt}")
         return held.receipt
 
     # -- at the end

@@ -8,7 +8,7 @@ ghost use Rattle.rme_session_world.specs.Executors.{is_worker_taken, owned_worke
 use rme_program::Receipt;
 use rme_script::{Job, Op, Script};
 use rme_session_protocol::{
-    Attachment, JobOutcome, Order, Patience, SessionReply, SessionStance, Submission,
+    Attachment, FencingToken, JobOutcome, Order, Patience, SessionReply, SessionStance, Submission,
 };
 use rme_session_world::{ExecutedOrder, Executor, SessionState};
 use rme_words::{NoMemory, Refusal, Shape};
@@ -111,7 +111,14 @@ const READY: SessionReply = SessionReply::Attached(0, SessionStance::Ready);
 
 const HELD: SessionReply = SessionReply::Attached(1, SessionStance::Held);
 
-const WITHIN: SessionReply = SessionReply::Entered(JobOutcome::Inside(1));
+/// A worker is inside with its first job, in this section of the lock.
+fn inside_in(section: u32) -> SessionReply {
+    SessionReply::Entered(JobOutcome::Inside(FencingToken {
+        lock: 0,
+        number: 1,
+        section,
+    }))
+}
 
 /// One worker is inside while the other waits; then the other is inside.
 fn one_after_the_other() -> [Exchange; 7] {
@@ -119,7 +126,7 @@ fn one_after_the_other() -> [Exchange; 7] {
     let not_inside = SessionReply::Refused(Refusal::NotInside);
     [
         (0, attach(0), READY),
-        (0, Order::Enter(adding(5)), WITHIN),
+        (0, Order::Enter(adding(5)), inside_in(0)),
         (1, attach(1), READY),
         (1, Order::Enter(adding(1)), waits),
         (1, Order::Commit, not_inside),
@@ -145,7 +152,7 @@ fn taken_worker() -> [Exchange; 3] {
     [
         (0, attach(0), READY),
         (1, attach(0), SessionReply::Refused(Refusal::Taken)),
-        (0, Order::Enter(adding(5)), WITHIN),
+        (0, Order::Enter(adding(5)), inside_in(0)),
     ]
 }
 
@@ -174,7 +181,7 @@ fn planned_crash() -> [Exchange; 6] {
     [
         (0, attach(0), READY),
         (0, Order::CrashAfter(7), SessionReply::CrashPlanned),
-        (0, Order::Enter(adding(5)), WITHIN),
+        (0, Order::Enter(adding(5)), inside_in(0)),
         (0, Order::Commit, SessionReply::Committed(JobOutcome::Fell)),
         (0, attach(0), HELD),
         (0, Order::Commit, SessionReply::Committed(receipt(0, 0, 5))),
@@ -185,5 +192,31 @@ fn planned_crash() -> [Exchange; 6] {
 fn planned(rt: HostRuntime) -> Result<(), Fail> {
     let mut executor = new_world_executor(rt.alloc())?;
     play(&rt, &mut executor, &mut new_sessions(), &planned_crash())?;
+    Ok(())
+}
+
+/// The token is the place of the receipt, also where `enter` is repeated; a ping changes nothing.
+fn two_sections() -> [Exchange; 10] {
+    [
+        (0, Order::Ping, SessionReply::Pong),
+        (0, attach(0), READY),
+        (0, Order::Enter(adding(5)), inside_in(0)),
+        (0, Order::Ping, SessionReply::Pong),
+        (0, Order::Enter(adding(5)), inside_in(0)),
+        (0, Order::Commit, SessionReply::Committed(receipt(0, 0, 5))),
+        (1, attach(1), READY),
+        (1, Order::Enter(adding(1)), inside_in(1)),
+        (1, Order::Detach, SessionReply::Detached),
+        (1, Order::Ping, SessionReply::Pong),
+    ]
+}
+
+#[test]
+fn tokens(rt: HostRuntime) -> Result<(), Fail> {
+    let mut executor = new_world_executor(rt.alloc())?;
+    assert!(rt; executor.world().finished(0) == Ok(0));
+    play(&rt, &mut executor, &mut new_sessions(), &two_sections())?;
+    assert!(rt; executor.world().finished(0) == Ok(1));
+    assert!(rt; executor.world().finished(1) == Err(Refusal::NoLock));
     Ok(())
 }

@@ -44,10 +44,11 @@ class Rival:
         self.number += 1
         return self.session.told(do="enter", lock="a", number=self.number, script=ONE, tries=3)
 
-    def commits(self):
-        """Whether the job that it is inside with is done."""
+    def commits(self, section):
+        """Whether the job that it is inside with is done, and its receipt has the place that it was told."""
         self.counted += 1
-        return "receipt" in self.session.told(do="commit")
+        receipt = self.session.told(do="commit").get("receipt")
+        return receipt is not None and receipt["place"] == section
 
     def tries(self):
         """Whether it was inside, and committed; or what was answered that may not be."""
@@ -56,8 +57,9 @@ class Rival:
             gone = self.session.told(do="commit"), self.session.told(do="withdraw")
             wanted = {"code": 22, "error": "NotInside"}, {"number": self.number, "ok": "withdraw"}
             return False if gone == wanted else gone
+        section = told.pop("section", None)
         is_held = told == {"number": self.number, "ok": "enter", "stance": "held"}
-        return True if is_held and self.commits() else told
+        return True if is_held and self.commits(section) else (section, told)
 
 
 def ends_of(lines):
@@ -130,7 +132,7 @@ def cut_waiting(server, rival, number, lines, length, hard):
     attempt(server, b"".join(lines)[:length], hard)
     stood = stands(server)
     told = [("ready", number - 1), ("climb", number)]
-    if stood not in (told if hard else [told[length >= ends_of(lines)[1]]]) or not rival.commits():
+    if stood not in (told if hard else [told[length >= ends_of(lines)[1]]]) or not rival.commits(inside.get("section")):
         return inside, stood
     return None if finishes(server, number, number - 1 + rival.counted) else (stood, "not once")
 
@@ -215,7 +217,7 @@ def try_hostile():
         "none": {"code": 19, "error": "NotAttached"},
         "ready": {"last": None, "ok": "last"},
         "climb": ({"code": 9, "error": "Busy"}, {"ok": "enter", "waiting": True}),
-        "held": ({"code": 9, "error": "Busy"}, {"number": 1, "ok": "enter", "stance": "held"}),
+        "held": ({"code": 9, "error": "Busy"}, {"number": 1, "ok": "enter", "section": 0, "stance": "held"}),
     }
     orders = list(hostile())
     for stance, standing_there in wanted.items():

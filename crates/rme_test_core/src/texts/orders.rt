@@ -60,7 +60,7 @@ fn check_order(
 type OrderLine = (&'static str, Order);
 
 /// The orders without a script and with no number of tries or time to wait.
-fn plain_lines() -> [OrderLine; 9] {
+fn plain_lines() -> [OrderLine; 10] {
     [
         (r#"{"do":"attach","worker":0}"#, attach(0, false)),
         (r#"{"worker":9,"do":"attach"}"#, attach(9, false)),
@@ -74,6 +74,7 @@ fn plain_lines() -> [OrderLine; 9] {
         (r#"{"do":"last"}"#, Order::Last),
         (r#"{"do":"crash_after","steps":0}"#, Order::CrashAfter(0)),
         (r#"{"do":"detach"}"#, Order::Detach),
+        (r#"{"do":"ping"}"#, Order::Ping),
     ]
 }
 
