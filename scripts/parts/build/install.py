@@ -19,8 +19,10 @@ from lib.processes import compiler
 from lib.programs import SCRIPTS, TOP, built
 
 COMPILER = compiler()
+PACKAGES = {"python": "rme_client", "processes": "rme_shared", "hold": "rme_hold"}
 SITE = f"lib/python{sys.version_info[0]}.{sys.version_info[1]}/site-packages"
 PROGRAM = ["bin/rme", "share/bash-completion/completions/rme", "share/man/man1/rme.1"]
+HOLD = ["bin/rme-hold", "share/bash-completion/completions/rme-hold", "share/man/man1/rme-hold.1"]
 LIBRARY = ["include/rme.h", "lib/librme.a", "lib/librme.so", "share/man/man3/rme.3"]
 
 
@@ -73,7 +75,7 @@ def found_in(path, pattern):
 
 def try_version(folder):
     version = found_in("CHANGELOG.md", r"^## (\d+\.\d+\.\d+),")
-    for client in ("python", "processes"):
+    for client in ("python", "processes", "hold"):
         same(f"the version of clients/{client}", found_in(f"clients/{client}/pyproject.toml", r'^version = "(.*)"$'), version)
     if not shutil.which("rt"):
         skip("what the program says", "there is no rt, to name the toolchain")
@@ -101,7 +103,11 @@ def try_manual(folder):
     if not shutil.which("groff"):
         skip("the page as it is shown", "there is no groff")
         return
-    ran = subprocess.run(["groff", "-man", "-ww", "-Tutf8", "-P-cbou"], input=page.stdout, capture_output=True, text=True)
+    groff = ["groff", "-man", "-ww", "-Tutf8", "-P-cbou"]
+    for other in ("c/rme.3", "clients/hold/rme-hold.1"):
+        ran = subprocess.run([*groff, os.path.join(TOP, other)], capture_output=True, text=True)
+        same(f"groff has no warning of {other}", (ran.returncode, ran.stderr), (0, ""))
+    ran = subprocess.run(groff, input=page.stdout, capture_output=True, text=True)
     same("groff has no warning", (ran.returncode, ran.stderr), (0, ""))
     shown = words_of(ran.stdout)
     whole, commands = helps_of(built())
@@ -163,7 +169,7 @@ def try_completions(folder):
 
 def packages(*names):
     found = []
-    for client, package in (("python", "rme_client"), ("processes", "rme_shared")):
+    for client, package in PACKAGES.items():
         if package in names:
             held = os.listdir(os.path.join(TOP, "clients", client, package))
             found += [f"{SITE}/{package}/{name}" for name in held if not name.startswith("__pycache__")]
@@ -180,7 +186,7 @@ def try_whole(folder):
     if not check("it is installed", ran[0] == 0, ran):
         return
     library = "/".join([SITE, "rme_shared", "librme.so"])
-    wanted = [*PROGRAM, *LIBRARY, *packages("rme_client", "rme_shared"), library, "share/rme/manifest"]
+    wanted = [*PROGRAM, *LIBRARY, *HOLD, *packages(*PACKAGES.values()), library, "share/rme/manifest"]
     same("what is there", files_in(prefix), sorted(wanted))
     program = subprocess.run([os.path.join(prefix, "bin/rme"), "--version"], capture_output=True, text=True)
     check("the program", program.returncode == 0 and program.stdout.startswith("rme "), program)
@@ -217,15 +223,15 @@ def try_packages(folder, prefix):
     words = [sys.executable, "-c", USES, os.path.join(folder, "by-python")]
     told = subprocess.run(words, capture_output=True, text=True, env=environment, cwd=folder)
     same("the packages", (told.stdout, told.stderr), ("5 Worker\n", ""))
-
-
-PACKAGES = {"python": "rme_client", "processes": "rme_shared"}
+    words = [os.path.join(prefix, "bin/rme-hold"), "--file", os.path.join(folder, "by-python"), "--worker", "1", "bank", "--"]
+    told = subprocess.run([*words, "sh", "-c", "echo $RME_SECTION"], capture_output=True, text=True, cwd=folder)
+    same("rme-hold", (told.stdout, told.stderr, told.returncode), ("1\n", "", 0))
 
 
 def try_pip(folder):
     """What pip installs into a fresh environment, without a network and with nothing beside it."""
     backends = [read(os.path.join(TOP, "clients", client, "build_backend.py")) for client in PACKAGES]
-    same("the packages are built alike", backends[0], backends[1])
+    same("the packages are built alike", {*backends}, {backends[0]})
     there = os.path.join(folder, "environment")
     if subprocess.run([sys.executable, "-m", "venv", there], capture_output=True).returncode != 0:
         skip("what pip installs", "python3 makes no environment that has pip")
@@ -242,6 +248,8 @@ def try_pip(folder):
         same(f"all modules of {package}", sorted(map(os.path.basename, found)), sorted(names))
         told = subprocess.run([python, "-c", f"import {package}; print({package}.__file__)"], capture_output=True, text=True, cwd=folder)
         check(f"{package} is imported from there", told.stdout.startswith(there), told)
+    told = subprocess.run([os.path.join(there, "bin", "rme-hold"), "--help"], capture_output=True, text=True, cwd=folder)
+    check("rme-hold is there", told.returncode == 0 and "RME_SECTION" in told.stdout, told)
 
 
 def try_destdir(folder):
@@ -249,7 +257,7 @@ def try_destdir(folder):
     dest = os.path.join(folder, "dest")
     how = {"env": {**os.environ, "DESTDIR": dest}}
     ran = install("--without-c", "/opt/rme", preexec_fn=lambda: os.umask(0o077), **how)
-    wanted = [*PROGRAM, *packages("rme_client"), "share/rme/manifest"]
+    wanted = [*PROGRAM, *HOLD, *packages("rme_client", "rme_hold"), "share/rme/manifest"]
     check("it is installed", ran[0] == 0, ran)
     same("it says how long it takes, and nothing else", ran[2], "install: all is built; this takes seconds\n")
     same("what is there", files_in(dest), sorted(f"opt/rme/{name}" for name in wanted))

@@ -1,0 +1,1 @@
+"""rme-hold: runs a command while a worker of rme is inside a lock."""

@@ -1,0 +1,148 @@
+"""The command, which keeps the worker for as long as it lives, and whose end is waited for."""
+
+from __future__ import annotations
+
+import os
+import select
+import signal
+import subprocess
+import sys
+import time
+from typing import Any, Callable, Dict, List, Optional
+
+FORWARDED = signal.SIGTERM, signal.SIGHUP, signal.SIGQUIT, signal.SIGUSR1, signal.SIGUSR2, signal.SIGINT
+LOOK = 0.05
+"""How often, in seconds, it is looked whether the worker is still had."""
+OVER = "over"
+
+
+class Command:
+    """A command that runs. It has a process group of its own, by which it is ended with its children, unless it may talk to a
+    terminal: that lets only one group do so."""
+
+    def __init__(self, words: List[str], environment: Dict[str, str], descriptor: int, guard: Optional[Guard]):
+        self._has_group = not sys.stdin.isatty()
+
+        # A signal that comes before it can be handed on waits until it can.
+        mask = signal.pthread_sigmask(signal.SIG_BLOCK, FORWARDED)
+
+        def begin() -> None:
+            for number in FORWARDED:
+                signal.signal(number, signal.SIG_DFL)
+            signal.pthread_sigmask(signal.SIG_SETMASK, mask)
+            # The guard knows the command before it runs: rme-hold may be killed at once.
+            if self._has_group:
+                os.setpgrp()
+            if guard is not None:
+                guard.begins(os.getpid(), os.getpid() if self._has_group else None)
+
+        try:
+            self._child = subprocess.Popen(words, env={**os.environ, **environment}, pass_fds=[descriptor], preexec_fn=begin)
+            for number in FORWARDED:
+                signal.signal(number, self._forward)
+        finally:
+            signal.pthread_sigmask(signal.SIG_SETMASK, mask)
+
+    @property
+    def pid(self) -> int:
+        return self._child.pid
+
+    @property
+    def group(self) -> Optional[int]:
+        return self._child.pid if self._has_group else None
+
+    def _forward(self, number: int, _frame: Any) -> None:
+        # A terminal tells its whole group of an interrupt.
+        if self._has_group or number not in (signal.SIGINT, signal.SIGQUIT):
+            send(self.pid, self.group, number)
+
+    def wait(self, is_there: Callable[[], bool]) -> Optional[int]:
+        """The status of the command, as a shell says it; `None` where the worker was lost, and the command ended."""
+        while True:
+            try:
+                status = self._child.wait(LOOK)
+            except subprocess.TimeoutExpired:
+                if is_there():
+                    continue
+                self.end()
+                return None
+            return 128 - status if status < 0 else status
+
+    def end(self) -> None:
+        """Ends the command and its children at once: others may be inside from now on."""
+        send(self.pid, self.group, signal.SIGKILL)
+        self._child.wait()
+
+
+def send(pid: int, group: Optional[int], number: int) -> None:
+    try:
+        if group is not None:
+            os.killpg(group, number)
+        else:
+            os.kill(pid, number)
+    except (ProcessLookupError, PermissionError):
+        pass
+
+
+class Guard:
+    """A process that outlives rme-hold where that is killed: it keeps the connection for as long as the command's group lives,
+    and ends the group where the connection ends."""
+
+    def __init__(self, descriptor: int):
+        told, self._tells = os.pipe()
+        self._process = os.fork()
+        if self._process == 0:
+            os.close(self._tells)
+            try:
+                guard(told, descriptor)
+            finally:
+                os._exit(0)
+        os.close(told)
+
+    def begins(self, pid: int, group: Optional[int]) -> None:
+        self._tell(f"{pid} {group or 0}")
+
+    def ends(self) -> None:
+        """The command has ended, and is waited for no more."""
+        self._tell(OVER)
+        os.close(self._tells)
+        os.waitpid(self._process, 0)
+
+    def _tell(self, line: str) -> None:
+        try:
+            os.write(self._tells, line.encode() + b"\n")
+        except BrokenPipeError:
+            pass  # the guard was killed: rme-hold sees the end of the connection too
+
+
+def guard(told: int, descriptor: int) -> None:
+    for number in (*FORWARDED, signal.SIGPIPE):
+        signal.signal(number, signal.SIG_IGN)
+    nothing = os.open(os.devnull, os.O_RDWR)
+    for stream in range(3):
+        os.dup2(nothing, stream)
+    with open(told, "rb") as pipe:
+        lines = pipe.read().decode().splitlines()
+    if len(lines) != 1 or lines == [OVER]:
+        return
+    pid, group = map(int, lines[0].split())
+    broken = select.poll()
+    broken.register(descriptor, select.POLLIN | select.POLLHUP | select.POLLERR | select.POLLRDHUP)
+    while is_alive(pid, group or None):
+        if broken.poll(1000 * LOOK):
+            send(pid, group or None, signal.SIGKILL)
+            return
+        time.sleep(LOOK)
+
+
+def is_alive(pid: int, group: Optional[int]) -> bool:
+    try:
+        if group is not None:
+            os.killpg(group, 0)
+        else:
+            os.kill(pid, 0)
+        return True
+    except ProcessLookupError:
+        return False
+    except PermissionError:
+        return True

@@ -1,0 +1,279 @@
+"""A worker of a server: its session is a connection, and lasts as long as a process has that."""
+
+from __future__ import annotations
+
+import json
+import select
+import socket
+import time
+from typing import Any, Dict, List, Optional
+
+from .endings import LATER, NO_SERVER, NOT_ALLOWED, SOFTWARE, WRONG_WORDS, Ended
+from .held import Deadline, Held
+from .words import Words
+
+Answer = Dict[str, Any]
+
+NO_WORKER, BUSY, DIFFERS, TAKEN = 6, 9, 17, 18
+REFUSES_KEY = 25
+FOR_A_SERVER = 10.0
+"""For how many seconds a server that is not there is waited for at most."""
+MOST_WORKERS = 256
+"""The most workers that a server has."""
+AN_ORDER_WAITS = 5.0
+"""For how many seconds the server tries in one order."""
+FOR_ITS_END = 1.0
+"""For how many seconds the command of a session that was taken over is waited for, which ends when it is seen there."""
+AN_ANSWER_TAKES = 60.0
+"""After how many further seconds a server that does not answer is taken for gone."""
+
+
+class Gone(Exception):
+    """The connection ended."""
+
+
+class Session:
+    """A connection to the server, and the lines on it."""
+
+    def __init__(self, words: Words):
+        self.connection = socket.socket(socket.AF_UNIX if words.socket is not None else socket.AF_INET)
+        try:
+            self.connection.settimeout(AN_ANSWER_TAKES)
+            self.connection.connect(words.socket if words.socket is not None else ("127.0.0.1", words.port))
+        except BaseException:
+            self.connection.close()
+            raise
+        self._read = b""
+
+    def ask(self, **order: Any) -> Answer:
+        """The answer to an order. `Gone` where there is none."""
+        try:
+            self.connection.sendall(json.dumps(order).encode() + b"\n")
+            while b"\n" not in self._read:
+                more = self.connection.recv(65536)
+                if not more:
+                    raise Gone("the server closed the connection")
+                self._read += more
+        except OSError as error:
+            raise Gone(str(error)) from error
+        line, _, self._read = self._read.partition(b"\n")
+        try:
+            answer = json.loads(line)
+        except ValueError:
+            answer = None
+        if not isinstance(answer, dict) or (answer.get("ok") != order["do"] and not isinstance(answer.get("code"), int)):
+            raise Ended(SOFTWARE, f"no answer of a server of rme: {line[:200]!r}")
+        return answer
+
+    def is_alive(self) -> bool:
+        """Whether the connection has not ended. A server says nothing unasked."""
+        told = select.poll()
+        told.register(self.connection, select.POLLIN | select.POLLHUP | select.POLLERR | select.POLLRDHUP)
+        return not told.poll(0)
+
+    def close(self) -> None:
+        self.connection.close()
+
+
+def refused(answer: Answer) -> Optional[int]:
+    code = answer.get("code")
+    return code if isinstance(code, int) else None
+
+
+def wrong(answer: Answer) -> Ended:
+    """How rme-hold ends for a refusal that waiting does not change."""
+    code = refused(answer)
+    status = NOT_ALLOWED if code == REFUSES_KEY else WRONG_WORDS
+    return Ended(status, f"the server refuses: {answer.get('error')}, {code}")
+
+
+class ServerWorker:
+    """The worker that the words ask for, once a session has it."""
+
+    def __init__(self, words: Words):
+        self._words = words
+        self._session: Optional[Session] = None
+        self._worker, self._number, self._stance = 0, 0, ""
+        self._own: Optional[int] = None  # the number of the job that was begun here
+
+    # A worker
+
+    def enter(self, deadline: Deadline) -> Held:
+        """Attaches the worker and enters the lock. `Ended` where that cannot be, or not in time: then nothing is pending that
+        was not pending before."""
+        for_a_server = Deadline(FOR_A_SERVER)
+        why = f"{'no worker' if self._words.worker is None else f'worker {self._words.worker}'} is not free"
+        try:
+            while True:
+                try:
+                    if self._attach():
+                        return self._entered(deadline)
+                    for_a_server = Deadline(FOR_A_SERVER)
+                except (Gone, OSError) as error:
+                    if for_a_server.is_over() or (self._own is None and deadline.is_over()):
+                        raise Ended(NO_SERVER, f"no server is there: {error}") from error
+                self._close()
+                if deadline.is_over():
+                    raise Ended(LATER, why)
+                deadline.pause()
+        except BaseException:
+            self._give_up()
+            raise
+
+    def _attach(self) -> bool:
+        """Whether the worker was attached: one that another session has cannot be, unless that is ended."""
+        one = self._words.worker if self._own is None else self._worker
+        if one is not None:
+            return self._attach_one(one, self._words.kill) is None
+        told = self._workers()
+        return self._attach_unseen() if told is None else self._attach_any(told)
+
+    def _attach_any(self, told: List[Answer]) -> bool:
+        """Whether one of these workers was attached: first those with a pending job of this lock, then those that are ready."""
+        free = [worker for worker, it in enumerate(told) if not it.get("attached")]
+        mine = [worker for worker in free if told[worker].get("lock") == self._words.lock]
+        for worker in mine + [worker for worker in free if told[worker].get("stance") == "ready"]:
+            if self._attach_one(worker, False) is None:
+                if self._stance == "ready" or self._lock_of_job() == self._words.lock:
+                    return True
+                self._asked(do="detach")
+        return False
+
+    def _attach_unseen(self) -> bool:
+        """The same where the server does not say how its workers are: each is attached, and a pending job is of this lock
+        where it is entered by the words of this one."""
+        ready = None
+        for worker in range(MOST_WORKERS):
+            code = self._attach_one(worker, False)
+            if code == NO_WORKER:
+                break
+            if code is None:
+                if self._stance == "ready":
+                    ready = worker if ready is None else ready
+                elif refused(self._asked_enter(0)) != DIFFERS:
+                    return True
+                self._asked(do="detach")
+        return ready is not None and self._attach_one(ready, False) is None and self._stance == "ready"
+
+    def _attach_one(self, worker: Optional[int], take: bool) -> Optional[int]:
+        """Why the worker was not attached, where waiting may help; `None` where it was."""
+        if self._session is None:
+            self._session = Session(self._words)
+        answer = self._asked(do="attach", worker=worker, **({"take": True} if take else {}))
+        code = refused(answer)
+        if code in (TAKEN, BUSY) or (code == NO_WORKER and self._words.worker is None):
+            return code
+        if code is not None:
+            raise wrong(answer)
+        self._worker, self._number, self._stance = worker or 0, answer["number"], answer["stance"]
+        if take:
+            time.sleep(FOR_ITS_END)
+        return None
+
+    def _lock_of_job(self) -> Optional[str]:
+        """The lock of the pending job; `None` where the server keeps no state, and does not say."""
+        told = self._workers()
+        return None if told is None else told[self._worker].get("lock")
+
+    def _workers(self) -> Optional[List[Answer]]:
+        """What the server says of all workers; `None` where it keeps no state."""
+        told = self._asked(do="status").get("workers")
+        return told if isinstance(told, list) else None
+
+    def _asked(self, **order: Any) -> Answer:
+        if self._session is None:
+            self._session = Session(self._words)
+        return self._session.ask(**order)
+
+    # A job
+
+    def _asked_enter(self, seconds: float) -> Answer:
+        order = {"lock": self._words.lock, "number": self._number, "script": self._words.script}
+        return self._asked(do="enter", **order, wait=round(1000 * seconds))
+
+    def _entered(self, deadline: Deadline) -> Held:
+        """The job, once the worker is inside with it."""
+        if self._stance == "ready":
+            self._number += 1
+            self._own = self._number
+        is_own = self._number == self._own
+        while True:
+            answer = self._asked_enter(deadline.left(AN_ORDER_WAITS))
+            code = refused(answer)
+            if answer.get("stance") == "held":
+                return self._held(not is_own and self._stance == "held", answer.get("section"))
+            if code == DIFFERS and not is_own:
+                return self._other_job()
+            if code is not None:
+                self._own = None
+                raise wrong(answer)
+            if not answer.get("waiting"):
+                self._own = None
+                raise Ended(LATER, f"another client uses worker {self._worker}: {json.dumps(answer)}")
+            if deadline.is_over():
+                raise Ended(LATER, f"lock {self._words.lock} is not free")
+
+    def _other_job(self) -> Held:
+        """A pending job with another lock or another script: its command is run again where it is inside this lock."""
+        lock = self._lock_of_job()
+        if self._stance == "held" and lock == self._words.lock:
+            return self._held(True, None)
+        of = "another lock or script" if lock is None else f"lock {lock}"
+        raise Ended(LATER, f"worker {self._worker} has a pending job of {of}, number {self._number}")
+
+    def _held(self, again: bool, section: Optional[int]) -> Held:
+        assert self._session is not None
+        self._stance, self._own = "held", None
+        return Held(self._worker, self._number, section, again, self._session.connection.fileno())
+
+    def _give_up(self) -> None:
+        """Gives up a job that was begun here and waits, so that it holds nothing. One that is inside meanwhile stays so, as
+        where a command fails."""
+        own, self._own = self._own, None
+        if own is None:
+            return
+        try:
+            self._close()
+            if self._attach_one(self._worker, False) is None and self._number == own:
+                self._asked(do="withdraw")
+        except (Gone, OSError, Ended):
+            pass
+
+    # Inside
+
+    def is_there(self) -> bool:
+        """Whether the session has not ended: while it lasts no other client has the worker."""
+        return self._session is not None and self._session.is_alive()
+
+    def commit(self, number: int) -> None:
+        """Has the job counted and leaves the lock. Where the answer is lost the worker is attached again, and tells."""
+        deadline = Deadline(FOR_A_SERVER)
+        while not self._is_counted(number):
+            self._close()
+            if deadline.is_over():
+                raise Ended(LATER, f"no answer says whether job {number} of worker {self._worker} counted")
+            deadline.pause()
+
+    def _is_counted(self, number: int) -> bool:
+        """Whether the job is known to have counted: it is committed where it has not."""
+        try:
+            if self._session is None and self._attach_one(self._worker, False) is not None:
+                return False
+            if self._number != number:
+                raise Ended(LATER, f"another client went on with worker {self._worker}")
+            if self._stance == "ready":
+                return True
+            answer = self._asked(do="commit")
+        except (Gone, OSError):
+            return False
+        if "receipt" in answer:
+            return True
+        raise Ended(SOFTWARE, f"the job did not count: {json.dumps(answer)}")
+
+    def close(self) -> None:
+        self._close()
+
+    def _close(self) -> None:
+        session, self._session = self._session, None
+        if session is not None:
+            session.close()

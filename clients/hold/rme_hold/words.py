@@ -1,0 +1,134 @@
+"""The words of the command line."""
+
+from __future__ import annotations
+
+import argparse
+import json
+import sys
+from dataclasses import dataclass
+from typing import Any, List, NoReturn, Optional, Sequence
+
+from .endings import WRONG_WORDS
+
+USAGE = "rme-hold (--port P | --socket PATH | --file FILE) (--worker N | --any) [OPTION..] LOCK -- COMMAND [ARG..]"
+ABOUT = """\
+Runs COMMAND while a worker of rme is inside LOCK, and no other worker is. When COMMAND ends with 0, the job counts, once,
+and the lock is left. If COMMAND fails, or is killed, or this machine is, the lock stays with the worker, and the next
+rme-hold of that worker runs the command again: so it must bear that.
+"""
+ENDINGS = """\
+The environment of COMMAND has RME_LOCK, RME_WORKER, RME_NUMBER, which is the number of the job, and RME_SECTION, a fencing
+token: how many sections of the lock were finished before. RME_AGAIN=1 says that the worker was inside with this job before,
+so that COMMAND may be half done.
+
+COMMAND and its children keep the worker for as long as they live, also where rme-hold itself is killed. Where the
+connection to the server ends meanwhile, rme-hold ends COMMAND: others may then go on with the worker.
+
+The status is that of COMMAND, or 128 and the number of the signal that ended it. Of rme-hold itself: 64 wrong words,
+69 no server, 75 try again later, 77 not allowed, 127 no such command.
+
+Examples:
+  rme-hold --port 7000 --worker 0 bank -- ./transfer 5
+  rme-hold --file /dev/shm/locks --any -n nightly -- ./backup
+"""
+
+
+@dataclass(frozen=True)
+class Words:
+    """What the command line asks for. `wait` is in seconds, `None` for as long as it takes; `worker` is `None` for any."""
+
+    port: Optional[int]
+    socket: Optional[str]
+    file: Optional[str]
+    worker: Optional[int]
+    wait: Optional[float]
+    kill: bool
+    script: List[List[Any]]
+    commits_failure: bool
+    lock: str
+    command: List[str]
+
+
+class Parser(argparse.ArgumentParser):
+    def error(self, message: str) -> NoReturn:
+        self.print_usage(sys.stderr)
+        self.exit(WRONG_WORDS, f"rme-hold: {message}\n")
+
+
+def seconds(text: str) -> float:
+    value = float(text)
+    if not 0 <= value <= 1e9:
+        raise ValueError(text)
+    return value
+
+
+def number(most: int) -> Any:
+    def whole(text: str) -> int:
+        if not text.isascii() or not text.isdigit() or int(text) > most:
+            raise ValueError(text)
+        return int(text)
+
+    whole.__name__ = f"number up to {most}"
+    return whole
+
+
+def script(text: str) -> List[List[Any]]:
+    found = json.loads(text)
+    if not isinstance(found, list) or not all(isinstance(it, list) for it in found):
+        raise ValueError(text)
+    return found
+
+
+def parser() -> Parser:
+    made = Parser(
+        "rme-hold",
+        usage=USAGE,
+        description=ABOUT,
+        epilog=ENDINGS,
+        formatter_class=argparse.RawDescriptionHelpFormatter,
+        allow_abbrev=False,
+    )
+    where = made.add_mutually_exclusive_group(required=True)
+    where.add_argument("--port", type=number(65535), metavar="P", help="the server listens on this port of 127.0.0.1")
+    where.add_argument("--socket", metavar="PATH", help="the server listens on this Unix socket")
+    where.add_argument("--file", metavar="FILE", help="the words lie in this file, which processes map")
+    who = made.add_mutually_exclusive_group(required=True)
+    who.add_argument("--worker", type=number(255), metavar="N", help="this worker")
+    who.add_argument("--any", action="store_true", help="one with a pending job of LOCK, else one that nobody has and is ready")
+    how_long = made.add_mutually_exclusive_group()
+    how_long.add_argument("-n", dest="wait", action="store_const", const=0.0, help="do not wait: 75 where LOCK is not free")
+    how_long.add_argument("--wait", type=seconds, metavar="SECONDS", help="wait so long at most, then 75; else without an end")
+    made.add_argument("--kill", action="store_true", help="end the command of whoever has the worker, and take it over")
+    made.add_argument("--script", type=script, default=[], metavar="JSON", help="the operations of the job, by default []")
+    made.add_argument(
+        "--on-failure",
+        choices=("hold", "commit"),
+        default="hold",
+        help="where COMMAND fails: `hold` keeps the lock for its next run, `commit` lets the job count and leaves",
+    )
+    made.add_argument("lock", metavar="LOCK")
+    return made
+
+
+def parsed(words: Sequence[str]) -> Words:
+    """The words, or the end of the program with status 64."""
+    own = parser()
+    at = words.index("--") if "--" in words else len(words)
+    found = own.parse_args(words[:at])
+    command = list(words[at + 1 :])
+    if not command:
+        own.error("there is no command: write it behind --")
+    if found.kill and found.any:
+        own.error("--kill ends the command of one worker: name it by --worker")
+    return Words(
+        found.port,
+        found.socket,
+        found.file,
+        found.worker,
+        found.wait,
+        found.kill,
+        found.script,
+        found.on_failure == "commit",
+        found.lock,
+        command,
+    )

@@ -1,0 +1,198 @@
+"""Commands that end, fail, are killed and wait: what their environments say, who is inside meanwhile, and each status."""
+
+import os
+import signal
+import socket
+import time
+
+from lib.checks import check, main_in_folders, note, same
+from lib.holds import Way, until, ways
+
+TOLD = 'echo "$RME_LOCK $RME_WORKER $RME_NUMBER $RME_SECTION${RME_AGAIN:+ again}"'
+TELLS = ["bank", "--", "sh", "-c", TOLD]
+LONG = ["bank", "--", "sh", "-c", "echo inside; exec sleep 60"]
+
+
+def each_way(folder, checks):
+    for name in ways():
+        way = Way(name, folder)
+        checks(name, way)
+        way.end()
+
+
+def try_runs(folder):
+    """Commands that end well: each is one section of the lock."""
+
+    def checks(name, way):
+        same(f"{name}: a command", way.hold(*TELLS), (0, "bank 0 1 0\n", ""))
+        same(f"{name}: the next one of another worker", way.hold(*TELLS, worker=2), (0, "bank 2 1 1\n", ""))
+        same(f"{name}: the next one of the first", way.hold(*TELLS), (0, "bank 0 2 2\n", ""))
+        same(f"{name}: another lock", way.hold("shop", *TELLS[1:]), (0, "shop 0 3 0\n", ""))
+        same(f"{name}: with a script", way.hold("--script", '[["add",0,5]]', *TELLS), (0, "bank 0 4 3\n", ""))
+        same(f"{name}: it has the standard input", way.hold("bank", "--", "cat", input="a line\n"), (0, "a line\n", ""))
+
+    each_way(folder, checks)
+
+
+def try_failures(folder):
+    """A command that fails keeps the lock for its next run, unless it is to be counted."""
+
+    def checks(name, way):
+        status, told, why = way.hold("bank", "--", "sh", "-c", f"{TOLD}; exit 3")
+        same(f"{name}: its own status", (status, told), (3, "bank 0 1 0\n"))
+        check(f"{name}: it is said that the lock is kept", "worker 0 stays inside bank" in why, why)
+        same(f"{name}: nobody else comes in", way.hold("-n", *TELLS, worker=1)[:2], (75, ""))
+        same(f"{name}: the other lock is free", way.hold("-n", "shop", *TELLS[1:], worker=1)[0], 0)
+        status, _, why = way.hold("-n", "shop", *TELLS[1:])
+        check(f"{name}: its worker is not free for the other", status == 75 and "pending job" in why, why)
+        killed = way.hold("bank", "--", "sh", "-c", f"{TOLD}; kill -9 $$")
+        same(f"{name}: it is run again, and killed", killed[:2], (137, "bank 0 1 0 again\n"))
+        same(f"{name}: and again", way.hold(*TELLS)[:2], (0, "bank 0 1 0 again\n"))
+        same(f"{name}: then the lock is free", way.hold("-n", *TELLS, worker=1)[:2], (0, "bank 1 3 1\n"))
+        same(f"{name}: one that counts though it fails", way.hold("--on-failure", "commit", "bank", "--", "false")[0], 1)
+        same(f"{name}: the lock is free", way.hold("-n", *TELLS, worker=3)[:2], (0, "bank 3 1 3\n"))
+
+    each_way(folder, checks)
+
+
+def try_waits(folder):
+    """A lock that another has: at once, for a time, until it is free; and what waits no more holds nothing."""
+
+    def checks(name, way):
+        first = way.begin(*LONG)
+        same(f"{name}: a command is inside", first.stdout.readline(), "inside\n")
+        began = time.monotonic()
+        same(f"{name}: not at once", way.hold("-n", *TELLS, worker=1)[0], 75)
+        same(f"{name}: not in half a second", way.hold("--wait", "0.5", *TELLS, worker=1)[0], 75)
+        check(f"{name}: it was waited for", time.monotonic() - began > 0.5)
+        same(f"{name}: nor its own worker", way.hold("-n", *TELLS)[0], 75)
+        waits = way.begin(*TELLS, worker=1)
+        until(lambda: handles(waits.pid, signal.SIGTERM))
+        time.sleep(0.5)
+        waits.send_signal(signal.SIGTERM)
+        same(f"{name}: a signal ends the waiting", waits.wait(20), 143)
+        waits = way.begin(*TELLS, worker=2)
+        time.sleep(0.3)
+        first.send_signal(signal.SIGTERM)
+        same(f"{name}: a signal is the command's", first.wait(20), 143)
+        same(f"{name}: it is inside still", way.hold("-n", *TELLS, worker=3)[0], 75)
+        same(f"{name}: its next run", way.hold(*TELLS)[:2], (0, "bank 0 1 0 again\n"))
+        # Worker 1 gave up three jobs, each by a number of its own, and holds nothing that could keep this one out.
+        same(f"{name}: the one that waited", (waits.stdout.read(), waits.wait(20)), ("bank 2 1 1\n", 0))
+
+    each_way(folder, checks)
+
+
+def try_kills(folder):
+    """rme-hold is killed, and its command goes on: it has the worker until it ends."""
+
+    def checks(name, way):
+        first = way.begin("bank", "--", "sh", "-c", "echo inside; sleep 1.5; echo over")
+        same(f"{name}: a command is inside", first.stdout.readline(), "inside\n")
+        first.kill()
+        first.wait()
+        began = time.monotonic()
+        same(f"{name}: nobody else comes in", way.hold("-n", *TELLS, worker=1)[0], 75)
+        same(f"{name}: the next of its worker waits for it", way.hold(*TELLS)[:2], (0, "bank 0 1 0 again\n"))
+        check(f"{name}: as long as it lived", first.stdout.read() == "over\n" and time.monotonic() - began > 0.5)
+        first = way.begin("bank", "--", "sh", "-c", "echo $$; sleep 60")
+        child = int(first.stdout.readline())
+        first.kill()
+        first.wait()
+        told = way.hold("--kill", "--wait", "20", *TELLS)
+        same(f"{name}: or ends it", (told[:2], until(lambda: not is_alive(child))), ((0, "bank 0 2 1 again\n"), True))
+
+    each_way(folder, checks)
+
+
+def handles(process, number):
+    """Whether a process has a handler for this signal."""
+    with open(f"/proc/{process}/status", encoding="utf-8") as file:
+        masks = dict(line.split(":", 1) for line in file)
+    return bool(int(masks["SigCgt"], 16) >> (number - 1) & 1)
+
+
+def is_alive(process):
+    try:
+        with open(f"/proc/{process}/stat", encoding="utf-8") as file:
+            return file.read().rpartition(")")[2].split()[0] != "Z"
+    except OSError:
+        return False
+
+
+def try_any(folder):
+    """Whatever worker is free; first of all one with a job of this lock that is not over."""
+
+    def checks(name, way):
+        first, second = way.begin(*LONG, worker=None), way.begin("shop", *LONG[1:], worker=None)
+        same(f"{name}: two at once", (first.stdout.readline(), second.stdout.readline()), ("inside\n", "inside\n"))
+        same(f"{name}: a third for the lock of one", way.hold("-n", *TELLS, worker=None)[0], 75)
+        for it in (first, second):
+            it.send_signal(signal.SIGTERM)
+            it.wait(20)
+        told = sorted(way.hold(lock, *TELLS[1:], worker=None)[1] for lock in ("bank", "shop"))
+        wanted = ["bank 0 1 0 again\n", "shop 1 1 0 again\n"], ["bank 1 1 0 again\n", "shop 0 1 0 again\n"]
+        check(f"{name}: each goes on with its own job", told in wanted, told)
+        same(f"{name}: then the first that is ready", way.hold(*TELLS, worker=None)[1].split()[1], "0")
+
+    each_way(folder, checks)
+
+
+def try_broken(folder):
+    """The server ends while a command runs: the command is ended too. The next one goes on with its job, where there is a
+    state."""
+    for name in ("plain", "state"):
+        way = Way(name, folder)
+        first = way.begin("bank", "--", "sh", "-c", "echo $$; sleep 60")
+        child = int(first.stdout.readline())
+        port = way.server.port
+        way.server.program.kill()
+        same(f"{name}: the server ends", (first.wait(20), until(lambda: not is_alive(child))), (75, True))
+        same(f"{name}: no server", way.hold("-n", *TELLS)[0], 69)
+        way.start(port)
+        wanted = "bank 0 1 0 again\n" if name == "state" else "bank 0 1 0\n"
+        same(f"{name}: the next server", way.hold(*TELLS)[:2], (0, wanted))
+        way.end()
+
+
+def try_wrong(folder):
+    """Words that are wrong, and what is not there."""
+    way = Way("state", folder)
+    rows = {
+        "no command": ["bank"],
+        "no command behind the dashes": ["bank", "--"],
+        "no lock": ["--", "true"],
+        "an option that is none": ["--loud", *TELLS],
+        "half an option": ["--scr", "[]", *TELLS],
+        "a wait that is none": ["--wait", "long", *TELLS],
+        "a script that is none": ["--script", "{}", *TELLS],
+        "a script of no operations": ["--script", '[["mul",0,1]]', *TELLS],
+        "no such lock": ["yard", "--", "true"],
+        "two ways to wait": ["-n", "--wait", "1", *TELLS],
+    }
+    for name, words in rows.items():
+        status, told, why = way.hold(*words)
+        check(name, (status, told) == (64, "") and why, (status, told, why))
+    same("no such worker", way.hold(*TELLS, worker=9)[0], 64)
+    same("a worker that is none", way.hold(*TELLS, worker="x")[0], 64)
+    same("any worker is no one's to be ended", way.hold("--kill", *TELLS, worker=None)[0], 64)
+    same("no such program", way.hold("bank", "--", "no-such-program")[0], 127)
+    same("nothing of this was a job", way.hold(*TELLS)[:2], (0, "bank 0 1 0\n"))
+    status, told, _ = way.hold("--help")
+    check("help", status == 0 and "RME_SECTION" in told and "75 try again later" in told, told)
+    way.end()
+    with socket.socket() as other:
+        other.bind(("127.0.0.1", 0))
+        other.listen()
+        way.server.port = other.getsockname()[1]
+        other.close()
+    same("nobody listens", way.hold("-n", *TELLS)[0], 69)
+    way.name, way.path = "file", os.path.join(folder, "no-such-file")
+    if "file" in ways():
+        same("no such file", way.hold("-n", *TELLS)[0], 69)
+    else:
+        note("no C compiler: files are left out")
+
+
+def part():
+    main_in_folders(try_runs, try_failures, try_waits, try_kills, try_any, try_broken, try_wrong, minutes=5)
