@@ -26,7 +26,12 @@ def read(path):
 
 def project():
     """The name, the version and so on of pyproject.toml: the lines of [project] that are texts."""
-    lines = read("pyproject.toml").decode().partition("[project]\n")[2].partition("\n[")[0]
+    return table("project")
+
+
+def table(name):
+    """The lines of a table of pyproject.toml that are texts."""
+    lines = read("pyproject.toml").decode().partition(f"[{name}]\n")[2].partition("\n[")[0]
     return dict(re.findall(r'^([\w-]+) = "(.*)"$', lines, re.M))
 
 
@@ -51,6 +56,9 @@ def write_wheel(folder, files):
     tag, about = f"py3-none-{platform}", f"{name}-{version}.dist-info"
     kind = f"Wheel-Version: 1.0\nGenerator: build_backend\nRoot-Is-Purelib: {str(platform == 'any').lower()}\nTag: {tag}\n"
     files = {**files, f"{about}/METADATA": metadata(), f"{about}/WHEEL": kind.encode()}
+    if programs := table("project.scripts"):
+        starts = "".join(f"{program} = {function}\n" for program, function in programs.items())
+        files[f"{about}/entry_points.txt"] = f"[console_scripts]\n{starts}".encode()
     record = ""
     with zipfile.ZipFile(os.path.join(folder, f"{name}-{version}-{tag}.whl"), "w", zipfile.ZIP_DEFLATED) as wheel:
         for path, held in files.items():

@@ -27,12 +27,13 @@ OUTCOMES = {
 
 class Session:
     """A session that has the worker. `number` and `stance` are the worker's by the last answer; `lock` is the pending
-    job's, where it was handed over in this session."""
+    job's, where it was handed over in this session, and `section` that of the job, where it was entered in this session."""
 
     def __init__(self, connection: Connection, worker: int, timeout: float):
         self.connection, self.worker, self.timeout = connection, worker, timeout
         self.number, self.stance = 0, READY
         self.lock: Optional[str] = None
+        self.section: Optional[int] = None
         self._asked = 0.0  # when the last order was sent that was answered
 
     def attach(self, take: bool, timeout: float) -> bool:
@@ -82,6 +83,7 @@ class Session:
             if (answer.one_of("stance", HELD), answer.number("number")) != (HELD, number):
                 raise answer.broken(f"it is not about job {number}")
             self._stands(HELD, number, order["lock"])
+            self.section = answer.number("section")
             return None
         answer.says(outcome[0])
         if outcome == ["fell"]:
@@ -137,4 +139,4 @@ class Session:
         return receipt
 
     def _stands(self, stance: str, number: int, lock: Optional[str] = None) -> None:
-        self.stance, self.number, self.lock = stance, number, lock
+        self.stance, self.number, self.lock, self.section = stance, number, lock, None

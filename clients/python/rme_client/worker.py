@@ -36,12 +36,15 @@ logger.addHandler(logging.NullHandler())
 class Held:
     """A job whose worker is inside its lock.
 
-    `again` says whether the job was pending before this call, so that its block may have been begun before. `receipt` is
-    there once the block has ended and the job has counted.
+    `again` says whether the job was pending before this call, so that its block may have been begun before. `section` is the
+    fencing token: how many sections of the lock were finished before, which is the place of the job's receipt. A resource
+    outside that keeps the greatest section that it has seen, and refuses a lower one, refuses what a client writes that was
+    cut off while others went on. It is `None` where the pending job has another script than the call: the server did not say
+    it. `receipt` is there once the block has ended and the job has counted.
     """
 
-    def __init__(self, number: int, again: bool):
-        self.number, self.again = number, again
+    def __init__(self, number: int, again: bool, section: Optional[int]):
+        self.number, self.again, self.section = number, again, section
         self.receipt: Optional[Receipt] = None
 
 
@@ -327,7 +330,7 @@ class Worker:
             self._must_be_inside(session, job)
             receipt = None
         if receipt is None:
-            return Held(number, job.again)
+            return Held(number, job.again, session.section)
         if job.given is None:  # somebody else made it, and its block was not run here
             raise Overtaken(number, number, receipt)
         raise Done(receipt)

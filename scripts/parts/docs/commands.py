@@ -1,6 +1,7 @@
-"""commands [PROGRAM]: runs the commands that README.md and docs/*.md show, and compares what they print.
+"""commands [PROGRAM]: runs the commands that README.md, docs/*.md and clients/README.md show, and compares what they print.
 
-Each document has a fresh folder with ./rme and examples/, in which its blocks are run in order by bash:
+Each document has a fresh folder with ./rme, examples/ and clients/, in which its blocks are run in order by bash, with
+rme-hold in the path:
 
   ```console          each line `$ COMMAND` is run; the lines below it are what it prints
   ```sh               the block is run as one; what it prints is not shown
@@ -98,10 +99,16 @@ class Folder:
         os.symlink(PROGRAM, os.path.join(path, "rme"))
         for name in ("examples", "clients"):
             shutil.copytree(os.path.join(TOP, name), os.path.join(path, name))
+        os.mkdir(os.path.join(path, "bin"))
+        hold = os.path.join(path, "bin", "rme-hold")
+        with open(hold, "w", encoding="utf-8") as file:
+            file.write(f"#!/bin/sh\nPYTHONPATH={path}/clients/hold exec {sys.executable} -m rme_hold \"$@\"\n")
+        os.chmod(hold, 0o755)
+        self.environment = {**os.environ, "PATH": os.pathsep.join((os.path.join(path, "bin"), os.environ["PATH"]))}
 
     def start(self, command):
         words = ["bash", "-e", "-o", "pipefail", "-c", command.replace("7000", self.port)]
-        return subprocess.Popen(words, cwd=self.path, stdin=subprocess.DEVNULL, stdout=subprocess.PIPE,
+        return subprocess.Popen(words, cwd=self.path, env=self.environment, stdin=subprocess.DEVNULL, stdout=subprocess.PIPE,
                                 stderr=subprocess.PIPE, text=True, start_new_session=True)
 
     def run(self, place, command, wanted):
@@ -189,7 +196,8 @@ def try_page(page):
 
 
 def try_pages():
-    pages = ["README.md"] + sorted(os.path.relpath(path, TOP) for path in glob.glob(os.path.join(TOP, "docs", "*.md")))
+    paths = glob.glob(os.path.join(TOP, "docs", "*.md")) + [os.path.join(TOP, "clients", "README.md")]
+    pages = ["README.md"] + sorted(os.path.relpath(path, TOP) for path in paths)
     for page in pages:
         try_page(page)
 
