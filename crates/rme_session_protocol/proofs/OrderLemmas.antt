@@ -70,7 +70,11 @@ module _ (names : List (List ℕ)) (most : ℕ) where
                           | inr detach ↦
                               elim (cases_Bool (bytes_eq word (codes "ping"))) [
                                 | inl t ↦ bare_named order word (codes "ping") t (λ e. e)
-                                | inr ping ↦ (λ e. let none : None ≡ Some order = rw (withdraw, commit, last, detach, ping) at e in absurd (none-some order none))
+                                | inr ping ↦
+                                    elim (cases_Bool (bytes_eq word (codes "pending"))) [
+                                      | inl t ↦ bare_named order word (codes "pending") t (λ e. e)
+                                      | inr pending ↦ (λ e. let none : None ≡ Some order = rw (withdraw, commit, last, detach, ping, pending) at e in absurd (none-some order none))
+                                    ]
                               ]
                         ]
                   ]

@@ -4,7 +4,7 @@ use Rattle.serde_json.specs.Data.{Data}
 use Rattle.serde_json.specs.Events.{members_len}
 use Rattle.serde_json.specs.Find.{as_bool, as_object, get}
 use Rattle.rme_session_protocol.specs.declared.order.Order.{Order}
-use Rattle.rme_session_protocol.specs.declared.order.Order.TheVariants.{Attach, Submit, Resume, Enter, Commit, Withdraw, Last, CrashAfter, Detach, Ping}
+use Rattle.rme_session_protocol.specs.declared.order.Order.TheVariants.{Attach, Submit, Resume, Enter, Commit, Withdraw, Last, CrashAfter, Detach, Ping, Pending}
 use Rattle.rme_session_protocol.specs.declared.order.Patience.{Patience}
 use Rattle.rme_session_protocol.specs.declared.order.Patience.TheVariants.{Tries, Wait}
 use Rattle.rme_session_protocol.specs.declared.order.Submission.{Submission}
@@ -85,7 +85,8 @@ order_by word =
     else (if bytes_eq word (codes "last") then Some Last
     else (if bytes_eq word (codes "detach") then Some Detach
     else (if bytes_eq word (codes "ping") then Some Ping
-    else None))))
+    else (if bytes_eq word (codes "pending") then Some Pending
+    else None)))))
 
 unfoldable pub bare_order : List ℕ → ℕ → Option Order
 bare_order word count = if count == 1 then order_by word else None

@@ -6,7 +6,7 @@ use Rattle.rme_words.specs.declared.refusal.Refusal.TheVariants.{NoWorker, Busy,
 use Rattle.rme_script.specs.declared.job.Job.{Job}
 use Rattle.rme_script.specs.JobRefusals.{job_refusal_within}
 use Rattle.rme_session_protocol.specs.declared.order.Order.{Order}
-use Rattle.rme_session_protocol.specs.declared.order.Order.TheVariants.{Attach, Submit, Resume, Enter, Commit, Withdraw, Last, CrashAfter, Detach, Ping}
+use Rattle.rme_session_protocol.specs.declared.order.Order.TheVariants.{Attach, Submit, Resume, Enter, Commit, Withdraw, Last, CrashAfter, Detach, Ping, Pending}
 use Rattle.rme_session_protocol.specs.declared.order.Submission.{Submission}
 use Rattle.rme_session_protocol.specs.declared.refusal.SubmissionKind.{SubmissionKind}
 use Rattle.rme_session_protocol.specs.declared.refusal.SubmissionKind.TheVariants.{Post, Repeat}
@@ -77,7 +77,7 @@ SubmitRefusalWithin sizes (at.Held pending) its why = PendingJobRefusal pending.
 abbrev pub SubmitRefusal : Shape → Session → Submission → Option Refusal → Type 0
 SubmitRefusal shape = SubmitRefusalWithin (service_sizes shape)
 
--- RESUME, COMMIT, WITHDRAW, LAST: the session has no worker, or its worker is in another stance.
+-- RESUME and PENDING, COMMIT, WITHDRAW, LAST: the session has no worker, or its worker is in another stance.
 abbrev pub resume_refusal : Session → Option Refusal
 resume_refusal at.Nobody = Some NotAttached
 resume_refusal (at.Ready ready) = Some Idle
@@ -117,6 +117,7 @@ OrderRefusalWithin sizes session Last why = why ≡ last_refusal session
 OrderRefusalWithin sizes session (CrashAfter steps) why = why ≡ bare_refusal session
 OrderRefusalWithin sizes session Detach why = why ≡ bare_refusal session
 OrderRefusalWithin sizes session Ping why = why ≡ None
+OrderRefusalWithin sizes session Pending why = why ≡ resume_refusal session
 
 abbrev pub OrderRefusal : Shape → Session → Order → Option Refusal → Type 0
 OrderRefusal shape = OrderRefusalWithin (service_sizes shape)

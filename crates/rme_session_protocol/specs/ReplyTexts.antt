@@ -4,11 +4,12 @@ use Rattle.rme_program.specs.declared.note.Receipt.{Receipt}
 use Rattle.rme_session_protocol.specs.declared.reply.FencingToken.{FencingToken}
 use Rattle.rme_session_protocol.specs.declared.reply.JobOutcome.{JobOutcome}
 use Rattle.rme_session_protocol.specs.declared.reply.JobOutcome.TheVariants as outcome
+use Rattle.rme_session_protocol.specs.declared.reply.PendingJob.{PendingJob}
 use Rattle.rme_session_protocol.specs.declared.reply.SessionReply.{SessionReply}
-use Rattle.rme_session_protocol.specs.declared.reply.SessionReply.TheVariants.{Attached, Submitted, Resumed, Entered, Committed, Withdrew, WithdrawFell, Last, CrashPlanned, Detached, Pong, Refused}
+use Rattle.rme_session_protocol.specs.declared.reply.SessionReply.TheVariants.{Attached, Submitted, Resumed, Entered, Committed, Withdrew, WithdrawFell, Last, CrashPlanned, Detached, Pong, Pending, Refused}
 use Rattle.rme_session_protocol.specs.declared.reply.SessionStance.{SessionStance}
 use Rattle.rme_session_protocol.specs.declared.reply.SessionStance.TheVariants.{Ready, Climb, Held}
-use Rattle.rme_line_text.specs.Texts.{receipt_text}
+use Rattle.rme_line_text.specs.Texts.{lock_name, ops_text, receipt_text}
 use Rattle.rme_line_text.specs.Replies.{last_text, refusal_text}
 
 abbrev pub stance_word : SessionStance → List ℕ
@@ -47,6 +48,20 @@ job_outcome_text names word outcome.Waiting = codes "{\"ok\":\"" ++ (word ++ cod
 job_outcome_text names word outcome.Fell = fell_text word
 job_outcome_text names word (outcome.Inside token) = inside_text word token
 
+-- `{"lock":..,"number":..,"ok":"pending","script":[..],"stance":..}`, before and after the operations, and whole
+abbrev pub pending_front : List ℕ → ℕ → List ℕ
+pending_front name number =
+    codes "{\"lock\":\"" ++ (name ++ (codes "\",\"number\":" ++ (decimal number
+    ++ codes ",\"ok\":\"pending\",\"script\":[")))
+
+abbrev pub pending_end : List ℕ → List ℕ
+pending_end standing = codes "],\"stance\":\"" ++ (standing ++ codes "\"}")
+
+abbrev pub pending_text : List (List ℕ) → PendingJob → List ℕ
+pending_text names pending =
+    pending_front (lock_name names pending.job.lock) pending.number
+    ++ (ops_text pending.job.script.ops ++ pending_end (stance_word pending.stance))
+
 abbrev pub session_reply_text : List (List ℕ) → SessionReply → List ℕ
 session_reply_text names (Attached number standing) = stance_text number (codes "attach") (stance_word standing)
 session_reply_text names (Submitted became) = job_outcome_text names (codes "submit") became
@@ -59,4 +74,5 @@ session_reply_text names (Last last) = last_text names last
 session_reply_text names CrashPlanned = codes "{\"ok\":\"crash_after\"}"
 session_reply_text names Detached = codes "{\"ok\":\"detach\"}"
 session_reply_text names Pong = codes "{\"ok\":\"ping\"}"
+session_reply_text names (Pending pending) = pending_text names pending
 session_reply_text names (Refused refusal) = refusal_text refusal

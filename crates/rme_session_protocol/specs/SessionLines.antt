@@ -4,6 +4,7 @@ use Rattle.rme_words.specs.declared.refusal.Refusal.TheVariants.{BadLine, LineTo
 use Rattle.rme_session_protocol.specs.declared.reply.SessionReply.{SessionReply}
 use Rattle.rme_session_protocol.specs.declared.reply.SessionReply.TheVariants.{Refused}
 use Rattle.rme_session_protocol.specs.ReplyTexts.{session_reply_text}
+use Rattle.rme_session_protocol.specs.WorkerChoices.{choice_reply_text}
 use Rattle.rme_line_io.specs.Pieces.{InputLine, text, too_long}
 use Rattle.rme_session_protocol.specs.declared.order.Order.{Order}
 use Rattle.rme_session_protocol.specs.Orders.{order_of_line}
@@ -11,6 +12,10 @@ use Rattle.rme_session_protocol.specs.Orders.{order_of_line}
 -- An answer and its newline.
 abbrev pub session_reply_line : List (List ℕ) → SessionReply → List ℕ
 session_reply_line names reply = session_reply_text names reply ++ 10 ∷ []
+
+-- The answer to a session whose worker the server chose, and its newline.
+abbrev pub choice_reply_line : List (List ℕ) → ℕ → SessionReply → List ℕ
+choice_reply_line names worker reply = choice_reply_text names worker reply ++ 10 ∷ []
 
 -- How a server's session executes an order: its state before, the order, its state afterwards, and the reply.
 abbrev pub OrderRelation : Type 0 → Type 1

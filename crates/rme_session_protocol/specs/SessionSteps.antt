@@ -6,6 +6,7 @@ use Rattle.rme_program.specs.declared.note.Receipt.{Receipt}
 use Rattle.rme_session_protocol.specs.Patience.{least_tries}
 use Rattle.rme_session_protocol.specs.declared.reply.FencingToken.{FencingToken}
 use Rattle.rme_session_protocol.specs.declared.reply.JobOutcome.{JobOutcome}
+use Rattle.rme_session_protocol.specs.declared.reply.PendingJob.{PendingJob}
 use Rattle.rme_session_protocol.specs.declared.reply.JobOutcome.TheVariants as outcome
 use Rattle.rme_session_protocol.specs.declared.reply.SessionStance.{SessionStance}
 use Rattle.rme_session_protocol.specs.declared.reply.SessionStance.TheVariants as standing
@@ -131,6 +132,16 @@ abbrev pub LastOrderEffect : Session → Option Receipt → Type 0
 LastOrderEffect (Ready ready) receipt = receipt ≡ ready.last
 LastOrderEffect other receipt = ⊥
 
+-- PENDING: the worker's job, as it was submitted, with its number and the worker's stance.
+abbrev pub IsPendingJob : PendingWorker → SessionStance → PendingJob → Type 0
+IsPendingJob pending stance told =
+    (told.number ≡ pending.number) × (pending.draft ≡ Some told.job) × (told.stance ≡ stance)
+
+abbrev pub PendingOrderEffect : Session → PendingJob → Type 0
+PendingOrderEffect (Climb pending) told = IsPendingJob pending standing.Climb told
+PendingOrderEffect (Held pending) told = IsPendingJob pending standing.Held told
+PendingOrderEffect other told = ⊥
+
 -- A worker that crashes made exactly the planned number of own steps; the session then has no worker, and nothing is
 -- planned. Without a crash, the planned one comes earlier by the steps that the worker made.
 abbrev pub PlanAfterOrder : ℕ → SessionView → SessionView → JobOutcome → Type 0
@@ -166,6 +177,7 @@ OrderEffect made old (order.CrashAfter steps) now reply.CrashPlanned =
     now ≡ record { session = old.session; planned = After steps }
 OrderEffect made old order.Detach now reply.Detached = now ≡ detached_view
 OrderEffect made old order.Ping now reply.Pong = now ≡ old
+OrderEffect made old order.Pending now (reply.Pending told) = PendingOrderEffect old.session told × (now ≡ old)
 OrderEffect made old its now answer = ⊥
 
 -- A session of a service of these sizes executed an order, with this number of own steps: either the order is refused

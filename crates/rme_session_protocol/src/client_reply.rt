@@ -3,8 +3,9 @@
 ghost use Rattle.std.specs.Prelude.{◌≡◌};
 ghost use Rattle.rme_session_protocol.specs.ClientReplies as spec;
 
-use crate::reply::{FencingToken, JobOutcome, SessionReply, SessionStance};
+use crate::reply::{FencingToken, JobOutcome, PendingJob, SessionReply, SessionStance};
 use rme_line_text::{ClientReceipt, client_receipt_of};
+use rme_script::Job;
 use rme_words::Refusal;
 
 /// A fencing token over all worlds of a service: as `FencingToken`, but its number and section may exceed those of one
@@ -14,6 +15,14 @@ pub struct ClientToken {
     pub lock: u32,
     pub number: u64,
     pub section: u64,
+}
+
+/// A pending job over all worlds of a service: as `PendingJob`, but its number may exceed those of one world.
+#[derive(Clone, Copy, PartialEq, Eq)]
+pub struct ClientPendingJob {
+    pub number: u64,
+    pub job: Job,
+    pub stance: SessionStance,
 }
 
 /// The outcome of a job, as its client gets it.
@@ -41,6 +50,7 @@ pub enum ClientReply {
     CrashPlanned,
     Detached,
     Pong,
+    Pending(ClientPendingJob),
     Refused(Refusal),
 }
 
@@ -52,6 +62,18 @@ impl From<FencingToken> for ClientToken {
             lock: token.lock,
             number: u64::from(token.number),
             section: u64::from(token.section),
+        }
+    }
+}
+
+impl From<PendingJob> for ClientPendingJob {
+    ghost from_gives = { λ pending told. spec.pending_job_of_client told ≡ pending };
+
+    fn from(pending: PendingJob) -> ClientPendingJob {
+        ClientPendingJob {
+            number: u64::from(pending.number),
+            job: pending.job,
+            stance: pending.stance,
         }
     }
 }
@@ -88,6 +110,9 @@ impl From<SessionReply> for ClientReply {
             SessionReply::CrashPlanned => ClientReply::CrashPlanned,
             SessionReply::Detached => ClientReply::Detached,
             SessionReply::Pong => ClientReply::Pong,
+            SessionReply::Pending(pending) => {
+                ClientReply::Pending(ClientPendingJob::from(pending))
+            }
             SessionReply::Refused(refusal) => ClientReply::Refused(refusal),
         }
     }

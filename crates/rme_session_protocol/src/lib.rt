@@ -21,16 +21,20 @@ mod refusal;
 mod reply;
 mod tokens;
 mod view;
+mod worker_choice;
 
 pub use attempts::{
     is_client_waiting, is_still_waiting, merge_client_replies, merge_replies, order_patience,
     retry_order, with_tries,
 };
-pub use client_reply::{ClientOutcome, ClientReply, ClientToken};
+pub use client_reply::{ClientOutcome, ClientPendingJob, ClientReply, ClientToken};
 pub use order::{
     Attachment, Order, Patience, SERVICE_NUMBERS, Submission, WORLD_NUMBERS, parse_order,
 };
 pub use planned_crash::{Countdown, PlannedCrash};
 pub use refusal::{SubmissionKind, classify_submission, pending_refusal};
-pub use reply::{FencingToken, JobOutcome, SessionReply, SessionStance, push_session_reply};
+pub use reply::{
+    FencingToken, JobOutcome, PendingJob, SessionReply, SessionStance, push_session_reply,
+};
 pub use view::{PendingWorker, ReadyWorker, Session, SessionView};
+pub use worker_choice::{WorkerChoice, parse_worker_choice, push_choice_reply};

@@ -98,6 +98,8 @@ pub enum Order {
     Detach,
     /// Answer, and do nothing else: the session is alive.
     Ping,
+    /// Answer the pending job.
+    Pending,
 }
 
 /// The order of a session's line, or `None` if it is no order.
@@ -303,6 +305,9 @@ pub(crate) fn bare_order(word: &str, count: usize) -> Option<Order>
     }
     if word == "ping" {
         return Some(Order::Ping);
+    }
+    if word == "pending" {
+        return Some(Order::Pending);
     }
     None
 }

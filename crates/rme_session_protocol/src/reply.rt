@@ -2,12 +2,15 @@
 
 ghost use Rattle.std.specs.Prelude.{◌≡◌, ◌++◌, OnOk, string_bytes};
 ghost use Rattle.rme_session_protocol.specs.ReplyTexts as spec;
-ghost use Rattle.rme_session_protocol.specs.ClientReplies.{outcome_of_client, reply_of_client, token_of_client};
+ghost use Rattle.rme_session_protocol.specs.ClientReplies.{outcome_of_client, pending_job_of_client, reply_of_client, token_of_client};
 ghost use Rattle.rme_line_text.specs.ClientReceipts.{as_receipt};
 
-use crate::client_reply::{ClientOutcome, ClientReply, ClientToken};
-use rme_line_text::{ClientReceipt, Names, push_last, push_receipt, push_refusal};
+use crate::client_reply::{ClientOutcome, ClientPendingJob, ClientReply, ClientToken};
+use rme_line_text::{
+    ClientReceipt, Names, lock_name, push_last, push_ops, push_receipt, push_refusal,
+};
 use rme_program::Receipt;
+use rme_script::Job;
 use rme_words::Refusal;
 use std::alloc::AllocError;
 
@@ -23,7 +26,7 @@ pub enum SessionStance {
 }
 
 impl SessionStance {
-    fn word(self) -> &'static str
+    pub(crate) fn word(self) -> &'static str
         ensures { result.now ≡ spec.stance_word self }
     {
         match self {
@@ -62,6 +65,17 @@ pub enum JobOutcome {
     Inside(FencingToken),
 }
 
+/// The pending job of a session's worker.
+#[derive(Clone, Copy, PartialEq, Eq)]
+pub struct PendingJob {
+    /// The number of the job.
+    pub number: u32,
+    /// The job, as it was submitted.
+    pub job: Job,
+    /// Whether the worker waits for the lock of the job, or is inside it.
+    pub stance: SessionStance,
+}
+
 /// The answer to a line of a session.
 #[derive(Clone, Copy, PartialEq, Eq)]
 pub enum SessionReply {
@@ -80,6 +94,7 @@ pub enum SessionReply {
     Detached,
     /// The answer to a ping.
     Pong,
+    Pending(PendingJob),
     Refused(Refusal),
 }
 
@@ -108,6 +123,7 @@ pub fn push_session_reply(
         ClientReply::CrashPlanned => out.push_str("{\"ok\":\"crash_after\"}"),
         ClientReply::Detached => out.push_str("{\"ok\":\"detach\"}"),
         ClientReply::Pong => out.push_str("{\"ok\":\"ping\"}"),
+        ClientReply::Pending(pending) => push_pending(out, names, &pending),
         ClientReply::Refused(refusal) => push_refusal(out, refusal),
     }
 }
@@ -121,6 +137,38 @@ fn push_stance(out: &mut String, number: u64, word: &str, standing: &str) -> Res
         out,
         "{{\"number\":{number},\"ok\":\"{word}\",\"stance\":\"{standing}\"}}"
     )
+}
+
+/// Appends a pending job.
+fn push_pending(
+    out: &mut String,
+    names: &Names,
+    pending: &ClientPendingJob,
+) -> Result<(), AllocError>
+    ensures { OnOk result (string_bytes out.new ≡ string_bytes out.old ++ spec.pending_text names.now
+        (pending_job_of_client pending.now)) }
+{
+    push_pending_front(out, lock_name(names, pending.job.lock), pending.number)?;
+    push_ops(out, &pending.job.script)?;
+    push_pending_end(out, pending.stance.word())?;
+    Ok(())
+}
+
+/// Appends the text of a pending job before its operations.
+fn push_pending_front(out: &mut String, name: &str, number: u64) -> Result<(), AllocError>
+    ensures { OnOk result (string_bytes out.new ≡ string_bytes out.old ++ spec.pending_front name.now number) }
+{
+    write!(
+        out,
+        "{{\"lock\":\"{name}\",\"number\":{number},\"ok\":\"pending\",\"script\":["
+    )
+}
+
+/// Appends the text of a pending job after its operations.
+fn push_pending_end(out: &mut String, standing: &str) -> Result<(), AllocError>
+    ensures { OnOk result (string_bytes out.new ≡ string_bytes out.old ++ spec.pending_end standing.now) }
+{
+    write!(out, "],\"stance\":\"{standing}\"}}")
 }
 
 /// Appends the outcome of a job, with the word of the line that asked.
