@@ -4,7 +4,7 @@ use Rattle.std.specs.Prelude.{true, false, Bool, nat_lt, ◌||◌, Option, Some,
 use Rattle.std.proofs.lemmas.Bool.{cases_Bool, lt-ltb}
 use Rattle.std.proofs.lemmas.Option.{none-some, same_Some, slice_get_within}
 use Rattle.rme_session_protocol.specs.declared.order.Order.{Order}
-use Rattle.rme_session_protocol.specs.declared.order.Order.TheVariants.{Attach, Submit as SubmitOrder, Resume, Enter, Commit, Withdraw as WithdrawOrder, Last, CrashAfter, Detach, Ping}
+use Rattle.rme_session_protocol.specs.declared.order.Order.TheVariants.{Attach, Submit as SubmitOrder, Resume, Enter, Commit, Withdraw as WithdrawOrder, Last, CrashAfter, Detach, Ping, Pending}
 use Rattle.rme_world.specs.WorldViews.{WorldView}
 use Rattle.rme_world.specs.WorldInvariants.{WorldInvariant}
 use Rattle.rme_session_world.specs.AppliedOrders.{AppliesOrder, IsOrderWorker}
@@ -82,6 +82,7 @@ module _ (old new : WorldView) (holders after : List (Option ℕ)) (stand : Sess
   free_at none (CrashAfter steps) same worker own within = absurd own
   free_at none Detach same worker own within = absurd own
   free_at none Ping same worker own within = absurd own
+  free_at none Pending same worker own within = absurd own
 
   resting_within : (worker : ℕ) → IsAtRest new worker → worker < length holders
   resting_within worker rests = omega (arith, slice_get_within new.privates worker (Some rests.0) rests.1, carries.long, kept.all_privates, tended.all)

@@ -1,6 +1,6 @@
 -- Workers at the start of an order: their session view, and their progress with the job.
 use Rattle.std.proofs.Common.{◌≡◌, ◌≢◌, ℕ, ◌+◌, arith, refl, sym, ◌∙◌, ap, subst}
-use Rattle.std.specs.Prelude.{Some, slice_get}
+use Rattle.std.specs.Prelude.{IsSome, None, Some, slice_get}
 use Rattle.std.proofs.lemmas.Option.{none-some, same_Some}
 use Rattle.rme_script.specs.declared.job.Job.{Job}
 use Rattle.rme_program.specs.Phases.{phase_of}
@@ -12,6 +12,7 @@ use Rattle.rme_program.specs.declared.stage.Slate.{Slate}
 use Rattle.rme_machine.specs.declared.stance.JobStance.{JobStance}
 use Rattle.rme_machine.specs.declared.stance.JobStance.TheVariants.{Handed, Waiting, Inside}
 use Rattle.rme_machine.specs.Views.{slate_job}
+use Rattle.rme_session_protocol.specs.Refusals.{resume_refusal}
 use Rattle.rme_session_protocol.specs.SessionViews.{pending_worker_job, next_worker_job}
 use Rattle.rme_session_protocol.specs.declared.view.PendingWorker.{PendingWorker}
 use Rattle.rme_session_protocol.specs.declared.view.ReadyWorker.{ReadyWorker}
@@ -21,7 +22,7 @@ use Rattle.rme_world.specs.WorldViews.{WorldView}
 use Rattle.rme_world.specs.WorldInvariants.{WorldInvariant}
 use Rattle.rme_world.specs.Events.{SubmitChange}
 use Rattle.rme_world.specs.Queries.{world_worker_words}
-use Rattle.rme_session_world.specs.WorkerSessions.{IsAtRest, IsNumberWithinJobs, last_receipt_under, worker_state_in, worker_session}
+use Rattle.rme_session_world.specs.WorkerSessions.{HasDraft, IsAtRest, IsNumberWithinJobs, last_receipt_under, worker_state_in, worker_session}
 use Rattle.rme_session_world.proofs.Posting.{posted_found}
 use Rattle.rme_session_world.proofs.Viewing.{climb_shown, held_shown, inside_of, phase_shown, ready_shown, shows_phase, waiting_of}
 use Rattle.rme_session_world.proofs.Stances.{IsNumbered, Suits, begun_known, fits, numbered, post_begun, post_stance, suits}
@@ -79,6 +80,13 @@ module _ (seen : WorldView) (worker : ℕ) (kept : WorldInvariant seen) (rests :
 
   pub held_parts : (pending : PendingWorker) → Held pending ≡ worker_session seen worker → pending ≡ record { worker = worker; number = (worker_state_in seen worker).asked; draft = Some (slate_job (world_worker_words seen worker)) }
   held_parts pending is = let q = is ∙ held_is (held_phase pending is) in cc
+
+  -- A worker that is not ready has a job that was submitted.
+  pub has_draft : (session : Session) → session ≡ worker_session seen worker → None ≡ resume_refusal session → HasDraft session
+  has_draft Nobody is none = none-some _ none
+  has_draft (Ready ready) is none = none-some _ none
+  has_draft (Climb pending) is none = subst (λ (p : PendingWorker). IsSome p.draft) (sym (climb_parts pending is)) refl
+  has_draft (Held pending) is none = subst (λ (p : PendingWorker). IsSome p.draft) (sym (held_parts pending is)) refl
 
   -- A worker with a pending job is on its way with it.
   way_at : (pending : PendingWorker) (p : Phase) (stance : JobStance) → pending ≡ record { worker = worker; number = (worker_state_in seen worker).asked; draft = Some (slate_job (world_worker_words seen worker)) }

@@ -15,7 +15,7 @@ use Rattle.rme_session_protocol.specs.declared.planned_crash.PlannedCrash.{Plann
 use Rattle.rme_session_protocol.specs.declared.view.Session.{Session}
 use Rattle.rme_session_protocol.specs.declared.view.Session.TheVariants.{Nobody, Ready, Climb, Held}
 use Rattle.rme_session_protocol.specs.declared.order.Order.{Order}
-use Rattle.rme_session_protocol.specs.declared.order.Order.TheVariants.{Attach, Submit, Resume, Enter, Commit, Withdraw, Last, CrashAfter, Detach, Ping}
+use Rattle.rme_session_protocol.specs.declared.order.Order.TheVariants.{Attach, Submit, Resume, Enter, Commit, Withdraw, Last, CrashAfter, Detach, Ping, Pending}
 use Rattle.rme_session_protocol.specs.declared.reply.JobOutcome.{JobOutcome}
 use Rattle.rme_session_protocol.specs.declared.reply.JobOutcome.TheVariants as outcome
 use Rattle.rme_session_protocol.specs.declared.reply.SessionReply.{SessionReply}
@@ -60,6 +60,7 @@ tried_too shape session Last why refuses = refuses
 tried_too shape session (CrashAfter steps) why refuses = refuses
 tried_too shape session Detach why refuses = refuses
 tried_too shape session Ping why refuses = refuses
+tried_too shape session Pending why refuses = refuses
 
 rests_after : (falls : Bool) (worker : ℕ) (new : WorldView) (its : Order) → (falls ≡ false → IsAtRest new worker) → IfSome (worker_after_run falls worker) (λ w. IsOrderWorker (Some worker) its w × IsAtRest new w)
 rests_after true worker new its rests = tt

@@ -10,7 +10,7 @@ use Rattle.rme_session_protocol.specs.SessionSteps.{SessionStep, TellsSection}
 use Rattle.rme_session_protocol.specs.Attempts.{is_still_waiting, with_tries}
 use Rattle.rme_session_protocol.specs.declared.planned_crash.PlannedCrash.{PlannedCrash}
 use Rattle.rme_session_protocol.specs.declared.order.Order.{Order}
-use Rattle.rme_session_protocol.specs.declared.order.Order.TheVariants.{Attach, Submit, Resume, Enter, Commit, Withdraw, Last, CrashAfter, Detach, Ping}
+use Rattle.rme_session_protocol.specs.declared.order.Order.TheVariants.{Attach, Submit, Resume, Enter, Commit, Withdraw, Last, CrashAfter, Detach, Ping, Pending}
 use Rattle.rme_world.specs.WorldViews.{WorldView}
 use Rattle.rme_world.specs.WorldInvariants.{WorldInvariant}
 use Rattle.rme_session_world.specs.AppliedOrders.{AppliesOrder, IsOrderWorker, IsSessionStopped, worker_view}
@@ -60,6 +60,7 @@ is_one None Last worker other one two = absurd one
 is_one None (CrashAfter steps) worker other one two = absurd one
 is_one None Detach worker other one two = absurd one
 is_one None Ping worker other one two = absurd one
+is_one None Pending worker other one two = absurd one
 
 module _ (old new : WorldView) (holders : List (Option ℕ)) (session : ℕ) (tended : ExecutorInvariant record { world = old; holders = holders }) where
   -- One worker has another holder, and is in place for it; all others are unchanged.

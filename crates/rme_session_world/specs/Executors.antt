@@ -7,7 +7,11 @@ use Rattle.rme_session_protocol.specs.declared.order.Order.{Order}
 use Rattle.rme_session_protocol.specs.declared.order.Order.TheVariants.{Attach}
 use Rattle.rme_program.specs.declared.event.Event.{Event}
 use Rattle.rme_program.specs.declared.event.Event.TheVariants as event
+use Rattle.rme_session_protocol.specs.declared.worker_choice.WorkerChoice.{WorkerChoice}
+use Rattle.rme_session_protocol.specs.WorkerChoices.{is_chosen}
 use Rattle.rme_world.specs.WorldViews.{WorldView}
+use Rattle.rme_world.specs.Queries.{world_worker_words}
+use Rattle.rme_machine.specs.Views.{is_pending}
 use Rattle.rme_session_world.specs.declared.executor.SessionState.{SessionState}
 use Rattle.rme_session_world.specs.EventBatches.{AppliesEvents}
 use Rattle.rme_session_world.specs.Downs.{IsWorkerDown}
@@ -54,6 +58,21 @@ has_holder (Some (Some session)) = true
 abbrev pub is_worker_taken : ExecutorState → Option ℕ → Order → Bool
 is_worker_taken executor None (Attach asked) = has_holder (slice_get executor.holders asked.worker)
 is_worker_taken executor seat its = false
+
+-- A session that leaves the choice of its worker to the executor may get this one: it is one of the first `workers`
+-- workers, no session has it, and it has a pending job, or has none, as the choice says.
+pub record IsCandidate (executor : ExecutorState) (choice : WorkerChoice) (workers worker : ℕ) : Type 0 where
+  pub within : worker < workers
+  pub free : slice_get executor.holders worker ≡ Some None
+  pub fits : is_chosen choice (is_pending (world_worker_words executor.world worker)) ≡ true
+
+-- It gets the lowest of them.
+pub record IsChosenWorker (executor : ExecutorState) (choice : WorkerChoice) (workers worker : ℕ) : Type 0 where
+  pub candidate : IsCandidate executor choice workers worker
+  pub lowest : (other : ℕ) → other < worker → IsCandidate executor choice workers other → ⊥
+
+abbrev pub HasNoCandidate : ExecutorState → WorkerChoice → ℕ → Type 0
+HasNoCandidate executor choice workers = (worker : ℕ) → IsCandidate executor choice workers worker → ⊥
 
 -- Only crashes led from one world to another, in which all workers are down.
 abbrev pub AreCrashes : List Event → Type 0

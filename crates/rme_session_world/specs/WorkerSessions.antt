@@ -1,5 +1,5 @@
 -- The session view of a worker of a world: the machine's state of the worker.
-use Rattle.std.specs.Prelude.{◌≡◌, ℕ, ◌≤◌, ◌==◌, List, Option, Some, None, if◌then◌else◌, slice_get, Bool, true, false}
+use Rattle.std.specs.Prelude.{◌≡◌, ℕ, ◌≤◌, ◌==◌, List, Option, Some, None, if◌then◌else◌, slice_get, Bool, true, false, IsSome}
 use Rattle.rme_words.specs.declared.shape.Shape.{Shape}
 use Rattle.rme_program.specs.declared.kinds.Phase.{Phase}
 use Rattle.rme_program.specs.declared.kinds.Phase.TheVariants as phase
@@ -41,6 +41,12 @@ worker_session_by history worker asked stance = Nobody
 abbrev pub worker_session : WorldView → ℕ → Session
 worker_session seen worker =
     worker_session_by seen.history worker (worker_state_in seen worker).asked (worker_state_in seen worker).stance
+
+-- A worker that waits or is inside has a job that was submitted.
+abbrev pub HasDraft : Session → Type 0
+HasDraft (Climb pending) = IsSome pending.draft
+HasDraft (Held pending) = IsSome pending.draft
+HasDraft session = ⊥
 
 abbrev pub is_resting_phase : Phase → Bool
 is_resting_phase phase.Ready = true

@@ -9,7 +9,7 @@ use crate::event_batch::{EventBatch, batch_with_events};
 use crate::orders::{apply_order, detach};
 use crate::session_of_worker::worker_session;
 use crate::work::{crash_worker, recall_invariant};
-use rme_session_protocol::{Order, PlannedCrash, Session, SessionReply};
+use rme_session_protocol::{Order, PlannedCrash, Session, SessionReply, WorkerChoice};
 use rme_words::{NoMemory, Refusal};
 use rme_world::World;
 use std::alloc::Global;
@@ -67,13 +67,13 @@ impl SessionState {
 }
 
 impl Executor {
-    ghost use Rattle.std.specs.Prelude.{◌≡◌, ◌<◌, ◌↔◌, IfOk, IfSome, OnErr, None, Some, replicate, slice_get, true};
+    ghost use Rattle.std.specs.Prelude.{◌≡◌, ◌<◌, ◌≤◌, ◌↔◌, ℕ, IfOk, IfSome, IsFalse, IsTrue, OnErr, None, Some, replicate, slice_get, true};
     ghost use Rattle.rme_session_protocol.specs.SessionSteps.{SessionStep, TellsPlace, TellsSection};
     ghost use Rattle.rme_session_protocol.specs.Attempts.{is_still_waiting, with_tries};
     ghost use Rattle.rme_session_world.specs.AppliedOrders.{IsOrderWorker, IsSessionStopped};
     ghost use Rattle.rme_session_world.specs.FencingTokens.{HasFinished};
     ghost use Rattle.rme_session_world.specs.SessionBatches.{AppliesSessionOrder};
-    ghost use Rattle.rme_session_world.specs.Executors.{HasCrashedAll, is_worker_taken, owned_worker, held_session, executor_session_view};
+    ghost use Rattle.rme_session_world.specs.Executors.{HasCrashedAll, HasNoCandidate, IsCandidate, IsChosenWorker, is_worker_taken, owned_worker, held_session, executor_session_view};
     ghost use Rattle.rme_session_protocol.specs.SessionViews.{detached_view};
     ghost use Rattle.rme_session_world.specs.Downs.{IsWorkerDown};
     ghost use Rattle.rme_session_world.specs.ExecutorStates.{ExecutorInvariant};
@@ -165,6 +165,31 @@ impl Executor {
         match self.holders.get(worker as usize) {
             Some(Some(holder)) if *holder == stand.session => Some(worker),
             _ => None,
+        }
+    }
+
+    /// The lowest of the first `workers` workers that no session has and that has a pending job, or has none, as the
+    /// choice says; `None` if there is none.
+    pub fn choose_worker(&self, choice: WorkerChoice, workers: u32) -> Option<u32>
+        ensures chosen { IfSome result (λ worker. IsChosenWorker self.now choice workers worker) }
+        ensures none { result ≡ None → HasNoCandidate self.now choice workers }
+    {
+        for worker in 0..workers {
+            if self.is_candidate(choice, worker) {
+                return Some(worker);
+            }
+        }
+        None
+    }
+
+    /// Whether no session has the worker, and the choice takes it.
+    fn is_candidate(&self, choice: WorkerChoice, worker: u32) -> bool
+        ensures is { IsTrue result → (workers : ℕ) → worker < workers → IsCandidate self.now choice workers worker }
+        ensures not { IsFalse result → (workers : ℕ) → IsCandidate self.now choice workers worker → ⊥ }
+    {
+        match self.holders.get(worker as usize) {
+            Some(None) => choice.is_chosen(self.world.pending(worker).is_some()),
+            _ => false,
         }
     }
 

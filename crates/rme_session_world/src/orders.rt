@@ -1,11 +1,12 @@
 //! The orders of a session, applied as events of a world.
 
-ghost use Rattle.std.specs.Prelude.{◌≡◌, ◌<◌, IfOk, None, OnErr, Some};
+ghost use Rattle.std.specs.Prelude.{◌≡◌, ◌<◌, IfOk, IsSome, None, OnErr, Some};
 ghost use Rattle.rme_session_world.specs.AppliedOrders.{AppliesOrder, IsSessionAtRest, IsAttachable, worker_view};
 ghost use Rattle.rme_session_world.specs.Downs.{IsWorkerDown};
-ghost use Rattle.rme_session_world.specs.WorkerSessions.{IsAtRest, worker_session};
+ghost use Rattle.rme_session_world.specs.WorkerSessions.{HasDraft, IsAtRest, worker_session};
 ghost use Rattle.rme_session_world.specs.Replies.{attach_reply, worked_order, goal_for, unchanged_order, pong_order, ready_receipt, waiting_number, order_for, refused_order, reply_for, withdraw_reply};
 ghost use Rattle.rme_session_protocol.specs.Refusals.{PendingJobRefusal, OrderRefusal, posting_refusal};
+ghost use Rattle.rme_session_protocol.specs.SessionSteps.{IsPendingJob, PendingOrderEffect};
 ghost use Rattle.rme_session_protocol.specs.declared.order.Submission.{Submission};
 ghost use Rattle.rme_session_protocol.specs.declared.planned_crash.PlannedCrash.{PlannedCrash};
 ghost use Rattle.rme_session_protocol.specs.declared.view.Session.TheVariants as at;
@@ -22,7 +23,7 @@ use crate::work::{
 };
 use rme_program::Receipt;
 use rme_session_protocol::{
-    JobOutcome, Order, PendingWorker, PlannedCrash, ReadyWorker, Session, SessionReply,
+    JobOutcome, Order, PendingJob, PendingWorker, PlannedCrash, ReadyWorker, Session, SessionReply,
     SessionStance, Submission,
 };
 use rme_words::{NoMemory, Refusal};
@@ -246,6 +247,11 @@ fn apply_with_worker(
         )),
         Order::Detach => Ok(detach(world, worker)),
         Order::Ping => Ok(pong(Some(worker), planned)),
+        Order::Pending => Ok(unchanged_order(
+            worker,
+            planned,
+            SessionReply::Pending(pending_job(session)),
+        )),
         Order::Attach(_) => unreachable!(),
     }
 }
@@ -400,6 +406,33 @@ fn ready_receipt(session: &Session) -> Option<Receipt>
     match session {
         Session::Ready(ready) => ready.last,
         _ => None,
+    }
+}
+
+/// The pending job of a worker that waits or is inside.
+fn pending_job(session: &Session) -> PendingJob
+    requires { HasDraft session.now }
+    ensures { PendingOrderEffect session.now result }
+{
+    match session {
+        Session::Climb(pending) => told_job(pending, SessionStance::Climb),
+        Session::Held(pending) => told_job(pending, SessionStance::Held),
+        Session::Nobody | Session::Ready(_) => unreachable!(),
+    }
+}
+
+/// A pending job, with the stance of its worker.
+fn told_job(pending: &PendingWorker, stance: SessionStance) -> PendingJob
+    requires { IsSome pending.now.draft }
+    ensures { IsPendingJob pending.now stance result }
+{
+    let Some(job) = pending.draft else {
+        unreachable!();
+    };
+    PendingJob {
+        number: pending.number,
+        job,
+        stance,
     }
 }
 

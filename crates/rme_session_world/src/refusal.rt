@@ -17,7 +17,7 @@ pub(crate) fn order_refusal(shape: Shape, session: &Session, order: &Order) -> O
     match order {
         Order::Attach(asked) => attach_refusal(shape, asked.worker, session),
         Order::Submit(its) | Order::Enter(its) => submit_refusal(shape, session, its),
-        Order::Resume(_) => resume_refusal(session),
+        Order::Resume(_) | Order::Pending => resume_refusal(session),
         Order::Commit => commit_refusal(session),
         Order::Withdraw => withdraw_order_refusal(session),
         Order::Last => last_refusal(session),

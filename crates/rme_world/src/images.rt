@@ -12,6 +12,7 @@ use rme_words::{Bank, NoMemory, Refusal};
 use std::alloc::Global;
 
 impl World {
+    ghost use Rattle.std.specs.Prelude.{◌≡◌, IfOk};
     ghost use Rattle.rme_world.specs.Images.{LoadContract, SaveContract};
 
     /// The image of the world, in version 2: its sizes, its words and its history. It holds no private states and no
@@ -23,6 +24,18 @@ impl World {
     {
         let alloc = *self.counts.allocator();
         encode(alloc, self.shape(), self.bank.words(), &self.history)
+    }
+
+    /// A copy of the words, which a reader can look at while the world goes on. Takes memory for it; `NoMemory` if that
+    /// was refused.
+    pub fn copy_words(&self) -> Result<Bank, NoMemory>
+        ensures shape { IfOk result (λ bank. bank.shape ≡ self.now.shape) }
+        ensures words { IfOk result (λ bank. bank.words ≡ self.now.words) }
+    {
+        let alloc = *self.counts.allocator();
+        let mut words = Vec::new(alloc);
+        words.extend_from_slice(self.bank.words())?;
+        Ok(Bank::of(self.shape(), words))
     }
 
     /// The world of an image, of version 2 or of the older version 1. All its workers are down, and all its counts are

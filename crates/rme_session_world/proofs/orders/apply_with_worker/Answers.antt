@@ -8,7 +8,7 @@ use Rattle.rme_session_protocol.specs.declared.order.Order.TheVariants as order
 use Rattle.rme_session_world.specs.AppliedOrders.{AppliesOrder}
 use Rattle.rme_session_world.specs.declared.orders.AppliedOrder.{AppliedOrder}
 use Rattle.rme_session_world.specs.WorkerSessions.{IsNumberWithinJobs}
-use Rattle.rme_session_world.proofs.Beginning.{not_nobody, number_within}
+use Rattle.rme_session_world.proofs.Beginning.{has_draft, not_nobody, number_within}
 use Rattle.rme_session_world.proofs.Sorting.{attach_refused, commits, refused_carries, resumed}
 use Rattle.rme_session_world.proofs.orders.apply_with_worker.Goals as goal
 
@@ -50,6 +50,11 @@ returns-in-Commit-clause-carries c =
     (subst P (sym c.worked_order-in-Commit.ensures)
     (commits c.args.world.now c.continue_job-worked-in-Commit.new.world c.args.worker c.args.planned c.continue_job-worked-in-Commit.result c.requires.rests c.continue_job-worked-in-Commit.ensures.went c.args.session.now c.requires.session
     (subst O c.in-Commit.is c.in_default.ensures)))
+
+pub pending_job-requires : goal.pending_job-requires
+pending_job-requires c =
+    let O = λ (its : Order). OrderRefusal c.shape.result c.args.session.now its None in
+    has_draft c.args.world.now c.args.worker c.recall_invariant.ensures c.requires.rests c.args.session.now c.requires.session (subst O c.in-Pending.is c.in_default.ensures)
 
 pub returns-in-Detach-clause-carries : goal.returns-in-Detach-clause-carries
 returns-in-Detach-clause-carries c =
