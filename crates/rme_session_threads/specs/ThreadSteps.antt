@@ -134,6 +134,7 @@ ThreadOrderEffect ident count made change (order.CrashAfter steps) answer =
     (change.now.value ≡ change.old.value) × (change.let_go ≡ None)
 ThreadOrderEffect ident count made change order.Detach answer = change.let_go ≡ held_worker change.old.value
 ThreadOrderEffect ident count made change order.Ping answer = (change.now ≡ change.old) × (change.let_go ≡ None)
+ThreadOrderEffect ident count made change order.Pending answer = (change.now ≡ change.old) × (change.let_go ≡ None)
 ThreadOrderEffect ident count made change its answer = ⊥
 
 -- SUBMIT, RESUME, ENTER and COMMIT of a worker that was inside: it does not wait, and its receipt has the place that it

@@ -21,7 +21,7 @@ ghost use Rattle.rme_session_threads.specs.ThreadSteps.{stand_change, ThreadOrde
 use crate::crash_plan::CountdownChance;
 use crate::refusal::{
     RefusedOrder, check_attach, check_attached, check_commit, check_last, check_withdraw,
-    find_resume_work, find_submit_work,
+    find_resume_work, find_submit_work, read_pending,
 };
 use crate::slots::Slots;
 use crate::stand::{Holding, Stand};
@@ -88,6 +88,7 @@ fn execute_order<K: Tag, R: Wait>(
         Order::CrashAfter(steps) => plan_crash(stand, *steps, slots),
         Order::Detach => detach(stand, slots),
         Order::Ping => (stand, SessionReply::Pong, None),
+        Order::Pending => answer_pending(stand, service, slots),
     }
 }
 
@@ -398,6 +399,23 @@ fn answer_last<K: Tag>(stand: Stand, service: &Service, slots: &Slots<K>) -> Ord
     let last = ready.last(service);
     let value = Holding::Ready(ready);
     (Stand { value, planned }, SessionReply::Last(last), None)
+}
+
+/// Answers the pending job.
+fn answer_pending<K: Tag>(stand: Stand, service: &Service, slots: &Slots<K>) -> OrderResult
+    requires service { service.now ≡ K.ident }
+    requires ours { IsValidHolding K.ident slots.now stand.value }
+    ensures ours { IsValidHolding K.ident slots.now result.0.value }
+    ensures slot { IfSome result.2 (HasSlot K.ident slots.now) }
+    ensures acts { ThreadOrderExecution K.ident slots.now
+        (stand_change stand result.0 result.2) order.Pending result.1 }
+{
+    let Stand { value, planned } = stand;
+    let (value, told) = match read_pending(value, service) {
+        Ok(found) => found,
+        Err(refused) => return refuse_order(refused, planned),
+    };
+    (Stand { value, planned }, SessionReply::Pending(told), None)
 }
 
 /// Plans the worker's crash.

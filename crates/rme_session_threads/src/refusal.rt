@@ -2,9 +2,11 @@
 //!
 //! Each order takes the session's value by move: a refused order gives it back, and any other gives the step to make.
 
-ghost use Rattle.std.specs.Prelude.{◌≡◌, ℕ, Some, None, IfOk, IfErr, OnOk};
+ghost use Rattle.std.specs.Prelude.{◌≡◌, ℕ, Some, None, IfOk, IfErr, OnOk, false};
 ghost use Rattle.rme_session_protocol.specs.Refusals as spec;
 ghost use Rattle.rme_session_protocol.specs.Patience.{least_tries};
+ghost use Rattle.rme_session_protocol.specs.SessionSteps.{PendingOrderEffect};
+ghost use Rattle.rme_table.specs.Calls.{is_section_over};
 ghost use Rattle.rme_session_threads.specs.Stands.{IsValidHolding, holding_session};
 ghost use Rattle.rme_session_threads.specs.SessionWorks.{HasWorkTries, IsResumeWork, IsSubmitWork, work_holding};
 ghost use Rattle.rme_session_threads.specs.declared.stand.Holding.TheVariants as holds;
@@ -12,7 +14,8 @@ ghost use Rattle.rme_session_threads.specs.declared.stand.Holding.TheVariants as
 use crate::stand::Holding;
 use crate::work::{SessionWork, WorkGoal};
 use rme_session_protocol::{
-    Patience, Submission, SubmissionKind, classify_submission, pending_refusal,
+    Patience, PendingJob, SessionStance, Submission, SubmissionKind, classify_submission,
+    pending_refusal,
 };
 use rme_table::{Climb, Held, Ready, Service};
 use rme_words::{Refusal, Shape};
@@ -173,6 +176,54 @@ pub(crate) fn check_withdraw(value: Holding) -> Result<Climb, RefusedOrder>
         Holding::Empty => Err((Holding::Empty, Refusal::NotAttached)),
         value => Err((value, Refusal::NotWaiting)),
     }
+}
+
+/// The pending job, read from the worker's slate.
+pub(crate) fn read_pending(
+    value: Holding,
+    service: &Service,
+) -> Result<(Holding, PendingJob), RefusedOrder>
+    requires ours { (count : ℕ) × IsValidHolding service.now count value }
+    ensures same { IfOk result (λ found. found.0 ≡ value) }
+    ensures told { IfOk result (λ found. PendingOrderEffect (holding_session None value) found.1) }
+    ensures refused { IfErr result (λ refused. (refused.0 ≡ value)
+        × (spec.resume_refusal (holding_session None value) ≡ Some refused.1)) }
+{
+    match value {
+        Holding::Climb(climb) => Ok(read_waiting(climb, service)),
+        Holding::Held(held) => Ok(read_inside(held, service)),
+        Holding::Empty => Err((Holding::Empty, Refusal::NotAttached)),
+        Holding::Ready(ready) => Err((Holding::Ready(ready), Refusal::Idle)),
+    }
+}
+
+fn read_waiting(climb: Climb, service: &Service) -> (Holding, PendingJob)
+    requires ours { climb.ident ≡ service.now }
+    ensures same { result.0 ≡ holds.Climb climb }
+    ensures told { PendingOrderEffect (holding_session None (holds.Climb climb)) result.1 }
+{
+    let mut climb = climb;
+    let told = PendingJob {
+        number: climb.number(),
+        job: climb.job(service),
+        stance: SessionStance::Climb,
+    };
+    (Holding::Climb(climb), told)
+}
+
+fn read_inside(held: Held, service: &Service) -> (Holding, PendingJob)
+    requires ours { held.ident ≡ service.now }
+    requires pending { is_section_over held.part.private.stage ≡ false }
+    ensures same { result.0 ≡ holds.Held held }
+    ensures told { PendingOrderEffect (holding_session None (holds.Held held)) result.1 }
+{
+    let mut held = held;
+    let told = PendingJob {
+        number: held.number(),
+        job: held.job(service),
+        stance: SessionStance::Held,
+    };
+    (Holding::Held(held), told)
 }
 
 /// The ready worker, to answer its last receipt.
