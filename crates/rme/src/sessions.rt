@@ -14,7 +14,7 @@ pub use rme_server::{
     Stand, obey, serve, session,
 };
 pub use rme_session_protocol::{
-    Attachment, ClientOutcome, ClientReply, ClientToken, FencingToken, JobOutcome, Order, Patience,
-    SERVICE_NUMBERS, SessionReply, SessionStance, Submission, WORLD_NUMBERS, parse_order,
-    push_session_reply,
+    Attachment, ClientOutcome, ClientPendingJob, ClientReply, ClientToken, FencingToken,
+    JobOutcome, Order, Patience, PendingJob, SERVICE_NUMBERS, SessionReply, SessionStance,
+    Submission, WORLD_NUMBERS, WorkerChoice, parse_order, push_session_reply,
 };

@@ -1,1 +1,2 @@
 pub mod ServiceAttempts
+pub mod ServiceChoices

@@ -8,6 +8,7 @@
 #![tactic(auto)]
 
 mod service_backend;
+mod worker_choice;
 
 pub use rme_line_io::{LineReader, ServeFault};
 pub use rme_session_server::{

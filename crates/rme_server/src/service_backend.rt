@@ -1,16 +1,18 @@
 //! The running service as a backend of sessions.
 
-ghost use Rattle.std.specs.Prelude.{◌≤◌};
+ghost use Rattle.std.specs.Prelude.{◌≡◌, ◌≤◌};
+ghost use Rattle.rme_session_protocol.specs.ClientReplies.{reply_of_client};
 
+use crate::worker_choice::ChosenWorker;
 use rme_session_protocol::{
-    ClientReply, Order, Patience, SessionReply, WORLD_NUMBERS, is_still_waiting, merge_replies,
-    order_patience, retry_order, with_tries,
+    ClientReply, Order, Patience, SessionReply, WORLD_NUMBERS, WorkerChoice, is_still_waiting,
+    merge_replies, order_patience, retry_order, with_tries,
 };
 use rme_session_server::{
     AnswerError, AttemptError, Backend, Buffers, Client, CloseHandle, FirstReply, OrderAttempts,
     OrderRequest, OrderRun, SessionRegistry, update_claim,
 };
-use rme_session_threads::{Holding, Slots, Stand, detach_session, obey};
+use rme_session_threads::{Holding, Slots, Stand, obey};
 use rme_table::{Service, Tag};
 use rme_wire::{Names, Sink};
 use rme_words::Refusal;
@@ -39,11 +41,8 @@ pub struct ServiceBackend<'a, K: Tag, H: CloseHandle> {
 /// crashes, and the worker's Down is back in its slot.
 impl<K: Tag, H: CloseHandle> Backend for ServiceBackend<'_, K, H> {
     ghost use Rattle.std.specs.Prelude.{◌≡◌, ⊤};
-    ghost use Rattle.rme_session_protocol.specs.SessionLines.{SessionLineAnswer};
-    ghost use Rattle.rme_server.specs.ServiceAttempts.{SessionStepUntilGone};
-    ghost use Rattle.rme_session_protocol.specs.Orders.{world_numbers};
+    ghost use Rattle.rme_server.specs.ServiceChoices.{ServiceLineAnswer};
     ghost use Rattle.rme_session_threads.specs.Stands as stands;
-    ghost use Rattle.rme_session_threads.specs.ThreadSteps.{ThreadSessionStep};
 
     type Stand = Stand;
 
@@ -57,9 +56,7 @@ impl<K: Tag, H: CloseHandle> Backend for ServiceBackend<'_, K, H> {
 
     ghost nobody = { λ _. stands.empty_stand };
 
-    ghost answers = { λ host gone.
-        SessionLineAnswer (SessionStepUntilGone gone (ThreadSessionStep K.ident host.slots.now)) host.names.now
-        world_numbers };
+    ghost answers = { λ host gone. ServiceLineAnswer gone K.ident host.slots.now host.names.now };
 
     fn alloc(&self) -> Global {
         self.alloc
@@ -87,10 +84,7 @@ impl<K: Tag, H: CloseHandle> Backend for ServiceBackend<'_, K, H> {
     ) -> (Stand, Result<(), AnswerError>) {
         let order = match buffers.parse_order(self.names, WORLD_NUMBERS) {
             Ok(Ok(order)) => order,
-            Ok(Err(why)) => return (
-                stand,
-                buffers.write_reply(self.names, SessionReply::Refused(why)),
-            ),
+            Ok(Err(why)) => return self.answer_non_order(rt, stand, why, buffers, client),
             Err(_) => return (stand, Err(AnswerError::NoMemory)),
         };
         let run = OrderRun {
@@ -105,12 +99,7 @@ impl<K: Tag, H: CloseHandle> Backend for ServiceBackend<'_, K, H> {
     }
 
     fn end_session<R: Wait>(&self, rt: &R, stand: Stand) -> Result<(), AttemptError> {
-        let claim = self.registry.claim_worker(rt, stand.worker());
-        detach_session(rt, stand, self.slots);
-        if let Some(mut claim) = claim {
-            *claim = None;
-        }
-        self.registry.notify_worker_free(rt);
+        self.release(rt, stand);
         Ok(())
     }
 }
@@ -184,12 +173,69 @@ impl<K: Tag, H: CloseHandle> OrderAttempts for ServiceBackend<'_, K, H> {
 }
 
 impl<K: Tag, H: CloseHandle> ServiceBackend<'_, K, H> {
-    ghost use Rattle.std.specs.Prelude.{◌≡◌};
+    ghost use Rattle.std.specs.Prelude.{◌≡◌, IfErr, OnOk, string_bytes};
+    ghost use Rattle.rme_server.specs.ServiceChoices.{NonOrderAnswer, ServiceChoice};
+    ghost use Rattle.rme_session_protocol.specs.WorkerChoices.{choice_of_bytes};
     ghost use Rattle.rme_session_threads.specs.ThreadSteps.{ThreadSessionStep};
     ghost use Rattle.rme_session_threads.specs.Stands.{IsValidHolding};
 
+    /// Answers a line that is no order: its choice of a worker, or why it is refused.
+    fn answer_non_order<R: Wait, C: Client<Handle = H>>(
+        &self,
+        rt: &R,
+        stand: Stand,
+        why: Refusal,
+        buffers: &mut Buffers,
+        client: &C,
+    ) -> (Stand, Result<(), AnswerError>)
+        requires ours { self.now.service.now ≡ K.ident }
+        requires stand { IsValidHolding K.ident self.now.slots.now stand.value }
+        ensures ours { IsValidHolding K.ident self.now.slots.now result.0.value }
+        ensures answers { OnOk result.1 (NonOrderAnswer K.ident self.now.slots.now self.now.names.now stand why
+            (choice_of_bytes buffers.old.exchange.line.items) (string_bytes buffers.new.text) result.0) }
+        ensures same { buffers.new.exchange ≡ buffers.old.exchange }
+        ensures err { IfErr result.1 (λ why. why ≡ AnswerError.NoMemory) }
+    {
+        let refused = SessionReply::Refused(why);
+        if why != Refusal::BadLine {
+            return (stand, buffers.write_reply(self.names, refused));
+        }
+        match buffers.parse_worker_choice() {
+            Ok(Some(choice)) => self.answer_choice(rt, stand, choice, buffers, client),
+            Ok(None) => (stand, buffers.write_reply(self.names, refused)),
+            Err(_) => (stand, Err(AnswerError::NoMemory)),
+        }
+    }
+
+    /// Attaches a session to a worker of the service's choice, and answers which, or why it gets none.
+    fn answer_choice<R: Wait, C: Client<Handle = H>>(
+        &self,
+        rt: &R,
+        stand: Stand,
+        choice: WorkerChoice,
+        buffers: &mut Buffers,
+        client: &C,
+    ) -> (Stand, Result<(), AnswerError>)
+        requires ours { self.now.service.now ≡ K.ident }
+        requires stand { IsValidHolding K.ident self.now.slots.now stand.value }
+        ensures ours { IsValidHolding K.ident self.now.slots.now result.0.value }
+        ensures answers { OnOk result.1 (ServiceChoice K.ident self.now.slots.now self.now.names.now stand choice
+            (string_bytes buffers.new.text) result.0) }
+        ensures same { buffers.new.exchange ≡ buffers.old.exchange }
+        ensures err { IfErr result.1 (λ why. why ≡ AnswerError.NoMemory) }
+    {
+        let (stand, found) = self.attach_any(rt, stand, choice, client);
+        let told = match found {
+            Ok(ChosenWorker { worker, reply }) => {
+                buffers.write_choice_reply(self.names, worker, ClientReply::from(reply))
+            }
+            Err(why) => buffers.write_reply(self.names, SessionReply::Refused(why)),
+        };
+        (stand, told)
+    }
+
     /// Executes an order with its worker's claim locked, and updates the claim.
-    fn attempt<R: Wait, C: Client<Handle = H>>(
+    pub(crate) fn attempt<R: Wait, C: Client<Handle = H>>(
         &self,
         rt: &R,
         stand: Stand,
@@ -207,9 +253,16 @@ impl<K: Tag, H: CloseHandle> ServiceBackend<'_, K, H> {
         let (stand, reply) = obey(rt, stand, order, self.service, self.slots);
         drop(turn);
         update_claim(claim, client, had, stand.worker().is_some());
-        self.registry.notify_reply(rt, ClientReply::from(reply));
+        self.registry.notify_reply(rt, client_reply(&reply));
         (stand, reply)
     }
+}
+
+/// The reply, as its client gets it.
+fn client_reply(reply: &SessionReply) -> ClientReply
+    ensures { reply_of_client result ≡ reply.now }
+{
+    ClientReply::from(*reply)
 }
 
 /// The number of tries of a first attempt: one if it is hurried, else at most `QUICK_TRIES`, and at most as many as the

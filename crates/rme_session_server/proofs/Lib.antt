@@ -1,3 +1,2 @@
-pub mod Asking
 mod Talking
 mod Retrying

@@ -1,11 +1,14 @@
 //! The buffers of a session: the line that it reads, and the text of its answer.
 
 ghost use Rattle.std.specs.Prelude.{◌≡◌, ◌++◌, OnOk, string_bytes};
-ghost use Rattle.rme_session_protocol.specs.SessionLines.{session_reply_line};
+ghost use Rattle.rme_session_protocol.specs.SessionLines.{choice_reply_line, session_reply_line};
 ghost use Rattle.rme_session_protocol.specs.ClientReplies.{reply_of_client};
 
 use crate::attempt_error::AnswerError;
-use rme_session_protocol::{ClientReply, Order, SessionReply, parse_order, push_session_reply};
+use rme_session_protocol::{
+    ClientReply, Order, SessionReply, WorkerChoice, parse_order, parse_worker_choice,
+    push_choice_reply, push_session_reply,
+};
 use rme_wire::{Cut, Exchange, Names, ValueReader};
 use rme_words::{NoMemory, Refusal};
 use std::alloc::{AllocError, Global};
@@ -25,7 +28,8 @@ pub struct Buffers {
 impl Buffers {
     ghost use Rattle.std.specs.Prelude.{◌≡◌, [], IfOk, IfErr, OnOk, string_bytes};
     ghost use Rattle.rme_line_io.specs.Cuts.{input_line_of};
-    ghost use Rattle.rme_session_protocol.specs.SessionLines.{session_reply_line};
+    ghost use Rattle.rme_session_protocol.specs.SessionLines.{choice_reply_line, session_reply_line};
+    ghost use Rattle.rme_session_protocol.specs.WorkerChoices.{choice_of_bytes};
     ghost use Rattle.rme_session_server.specs.SessionAnswers.{parsed_order};
     ghost use Rattle.rme_session_protocol.specs.ClientReplies.{reply_of_client};
 
@@ -63,6 +67,14 @@ impl Buffers {
         Ok(Ok(order))
     }
 
+    /// The choice of a worker that the last line leaves to the server; `None` if it leaves none.
+    pub fn parse_worker_choice(&mut self) -> Result<Option<WorkerChoice>, NoMemory>
+        ensures choice { IfOk result (λ choice. choice ≡ choice_of_bytes self.old.exchange.line.items) }
+        ensures same { self.new.exchange ≡ self.old.exchange }
+    {
+        parse_worker_choice(&mut self.values, self.exchange.line())
+    }
+
     /// Replaces the text by a reply and a newline. After an error the text is unspecified.
     pub fn write_reply(&mut self, names: &Names, reply: SessionReply) -> Result<(), AnswerError>
         ensures says { OnOk result (string_bytes self.new.text ≡ session_reply_line names.now reply) }
@@ -88,6 +100,40 @@ impl Buffers {
             Err(_) => Err(AnswerError::NoMemory),
         }
     }
+
+    /// Replaces the text by the reply to the attachment of this worker, which the server chose, and a newline. After an
+    /// error the text is unspecified.
+    pub fn write_choice_reply(
+        &mut self,
+        names: &Names,
+        worker: u32,
+        told: ClientReply,
+    ) -> Result<(), AnswerError>
+        ensures says { OnOk result (string_bytes self.new.text ≡ choice_reply_line names.now worker
+            (reply_of_client told)) }
+        ensures err { IfErr result (λ fault. fault ≡ AnswerError.NoMemory) }
+        ensures same { self.new.exchange ≡ self.old.exchange }
+    {
+        self.text.clear();
+        match push_choice_line(&mut self.text, names, worker, told) {
+            Ok(()) => Ok(()),
+            Err(_) => Err(AnswerError::NoMemory),
+        }
+    }
+}
+
+/// Appends the reply to the attachment of a worker that the server chose, and a newline.
+fn push_choice_line(
+    text: &mut String,
+    names: &Names,
+    worker: u32,
+    told: ClientReply,
+) -> Result<(), AllocError>
+    ensures { OnOk result (string_bytes text.new ≡ string_bytes text.old ++ choice_reply_line names.now worker
+        (reply_of_client told)) }
+{
+    push_choice_reply(text, names, worker, told)?;
+    text.push_str("\n")
 }
 
 /// Appends a reply and a newline.
