@@ -1,9 +1,10 @@
 -- The header values of a JSON value are unique.
-use Rattle.std.proofs.Common.{◌≡◌, ℕ, ℤ, List, [], ◌∷◌, refl, ap, subst}
-use Rattle.std.specs.Prelude.{codes}
+use Rattle.std.proofs.Common.{◌≡◌, ◌∙◌, ℕ, ℤ, List, [], ◌∷◌, length, refl, sym, ap, subst}
+use Rattle.std.specs.Prelude.{codes, Option, None, Some}
+use Rattle.serde_json.specs.Find.{get}
 use Rattle.serde_json.specs.Data.{Data, Items, no_items, item}
 use Rattle.rme_line_text.specs.declared.client_receipt.ClientReceipt.{ClientReceipt}
-use Rattle.rme_durable_format.specs.Headers.{HeaderValues, AreItemsOf, IsListMember, IsJobCount, HasHeaderMembers, IsPlaceCount, IsReceiptObject, IsLastJobObject}
+use Rattle.rme_durable_format.specs.Headers.{HeaderValues, AreHeaderLives, AreItemsOf, AreLivesFound, IsListMember, IsJobCount, HasHeaderMembers, IsPlaceCount, IsReceiptObject, IsLastJobObject}
 use Rattle.rme_durable_format.specs.declared.header.LastJob.{LastJob}
 use Rattle.rme_durable_format.specs.declared.header.LastJob.TheVariants.{Nothing, Withdrawn, Receipt}
 
@@ -55,14 +56,31 @@ list_same {A} Tells one name value xs ys s t =
     let same : t.0 ≡ s.0 = cc in
     let P : Items → Type 0 = λ (items : Items). AreItemsOf Tells items ys in each_same Tells one s.0 xs ys s.2 (subst P same t.2)
 
-past_by : (e f : ℕ) (l m : List LastJob) (n o : List ℕ) (p q : List ℤ) → e ≡ f → l ≡ m → n ≡ o → p ≡ q
-    → (let a : HeaderValues = record { epoch = e; last = l; numbers = n; places = p } in a) ≡ (let b : HeaderValues = record { epoch = f; last = m; numbers = o; places = q } in b)
-past_by e f l m n o p q g h i j = cc
+pub counts_same : (value : Data) (xs ys : List ℕ) → IsListMember IsJobCount (codes "numbers") value xs → IsListMember IsJobCount (codes "numbers") value ys → xs ≡ ys
+counts_same = list_same IsJobCount same_number (codes "numbers")
+
+-- So are the lives, of a number of workers and of a header.
+lives_same : (found : Option Data) (value : Data) (workers : ℕ) (xs ys : List ℕ) → AreLivesFound found value workers xs → AreLivesFound found value workers ys → xs ≡ ys
+lives_same None value workers xs ys s t = s ∙ sym t
+lives_same (Some list) value workers xs ys s t = list_same IsJobCount same_number (codes "lives") value xs ys s t
+
+pub header_lives : (names : List (List ℕ)) (value : Data) (past : HeaderValues) (counts lives : List ℕ) → HasHeaderMembers names value past → IsListMember IsJobCount (codes "numbers") value counts → AreHeaderLives value (length counts) lives
+    → lives ≡ past.lives
+header_lives names value past counts lives tells numbers told =
+    let same : counts ≡ past.numbers = counts_same value counts past.numbers numbers tells.numbers in
+    let of_all : AreHeaderLives value (length past.numbers) lives = subst (λ (c : List ℕ). AreHeaderLives value (length c) lives) same told in
+    lives_same (get (codes "lives") value) value (length past.numbers) lives past.lives of_all tells.lives
+
+past_by : (e f : ℕ) (l m : List LastJob) (c d n o : List ℕ) (p q : List ℤ) → e ≡ f → l ≡ m → c ≡ d → n ≡ o → p ≡ q
+    → (let a : HeaderValues = record { epoch = e; last = l; lives = c; numbers = n; places = p } in a) ≡ (let b : HeaderValues = record { epoch = f; last = m; lives = d; numbers = o; places = q } in b)
+past_by e f l m c d n o p q g h k i j = cc
 
 pub same_past : (names : List (List ℕ)) (value : Data) (a b : HeaderValues) → HasHeaderMembers names value a → HasHeaderMembers names value b → a ≡ b
 same_past names value a b s t =
     let epoch : a.epoch ≡ b.epoch = let e = s.epoch in let f = t.epoch in cc in
     let last : a.last ≡ b.last = list_same (IsLastJobObject names) (same_word names) (codes "last") value a.last b.last s.last t.last in
     let numbers : a.numbers ≡ b.numbers = list_same IsJobCount same_number (codes "numbers") value a.numbers b.numbers s.numbers t.numbers in
+    let lives : a.lives ≡ b.lives =
+    lives_same (get (codes "lives") value) value (length b.numbers) a.lives b.lives (subst (λ (counts : List ℕ). AreHeaderLives value (length counts) a.lives) numbers s.lives) t.lives in
     let places : a.places ≡ b.places = list_same IsPlaceCount same_place (codes "places") value a.places b.places s.places t.places in
-    past_by a.epoch b.epoch a.last b.last a.numbers b.numbers a.places b.places epoch last numbers places
+    past_by a.epoch b.epoch a.last b.last a.lives b.lives a.numbers b.numbers a.places b.places epoch last lives numbers places

@@ -1,22 +1,25 @@
 -- Line 1 of a file: the base that earlier epochs left.
-use Rattle.std.specs.Prelude.{◌≡◌, ◌≢◌, ℕ, ◌-◌, ◌^◌, ◌<◌, ◌≤◌, true, ℤ, pos, unsigned_abs, List, [], ◌∷◌, length, replicate, slice_get, codes, Option, Some, None, option_map, option_and_then}
+use Rattle.std.specs.Prelude.{◌≡◌, ◌≢◌, ℕ, ◌+◌, ◌-◌, ◌^◌, ◌<◌, ◌≤◌, true, ℤ, pos, unsigned_abs, List, [], ◌∷◌, length, replicate, slice_get, codes, Option, Some, None, option_map, option_and_then}
 use Rattle.std.specs.List.{All}
 use Rattle.serde_json.specs.Data.{Data, null, boolean, number, string, array, unsigned, Items, no_items, item}
 use Rattle.serde_json.specs.Events.{members_len}
 use Rattle.serde_json.specs.Find.{get, as_i64, as_number, as_object}
 use Rattle.rme_line_json.specs.Values.{json_value_of}
 use Rattle.rme_words.specs.declared.shape.Shape.{Shape}
+use Rattle.rme_wire.specs.Commands.{member_count}
 use Rattle.rme_line_text.specs.Names.{name_number}
 use Rattle.rme_line_text.specs.declared.client_receipt.ClientReceipt.{ClientReceipt}
 use Rattle.rme_durable_format.specs.declared.header.LastJob.{LastJob}
 use Rattle.rme_durable_format.specs.declared.header.LastJob.TheVariants.{Nothing, Withdrawn, Receipt}
 use Rattle.rme_durable_format.specs.declared.header.LogHeader.{LogHeader}
 
--- The number of earlier epochs; for each worker but the checkpoint worker its last job, and how many numbers it had;
--- and for each lock how many sections it had, less those that the checkpoint worker made in this epoch.
+-- The number of earlier epochs; for each worker but the checkpoint worker its last job, how often it was restarted, and
+-- how many numbers it had; and for each lock how many sections it had, less those that the checkpoint worker made in
+-- this epoch.
 pub record HeaderValues : Type 0 where
   pub epoch : ℕ
   pub last : List LastJob
+  pub lives : List ℕ
   pub numbers : List ℕ
   pub places : List ℤ
 
@@ -25,6 +28,7 @@ header_values header =
     record {
       epoch = header.epoch;
       last = header.last.items;
+      lives = header.lives.items;
       numbers = header.numbers.items;
       places =
           header.places.items;
@@ -60,7 +64,7 @@ IsLastJobObject names value Nothing = value ≡ null
 IsLastJobObject names value Withdrawn = IsWithdrawalObject value
 IsLastJobObject names value (Receipt receipt) = IsReceiptObject names value receipt
 
--- The count of numbers that a worker had: a whole number up to 2^53.
+-- The count of numbers or of restarts that a worker had: a whole number up to 2^53.
 abbrev pub IsJobCount : Data → ℕ → Type 0
 IsJobCount value n = (value ≡ number (unsigned n)) × (n ≤ 2 ^ 53)
 
@@ -80,16 +84,27 @@ abbrev pub IsListMember : {A : Type 0} → (Data → A → Type 0) → List ℕ 
 IsListMember Tells name value list =
     (items : Items) × (get name value ≡ Some (array items)) × AreItemsOf Tells items list
 
--- `{"epoch":..,"last":[..],"numbers":[..],"places":[..],"rme":..,"version":..}`, with these names of the locks
+-- The member `lives` of this number of workers. A log that was written before there were lives has none; then no worker
+-- was restarted.
+abbrev pub AreLivesFound : Option Data → Data → ℕ → List ℕ → Type 0
+AreLivesFound None value workers lives = lives ≡ replicate workers 0
+AreLivesFound (Some list) value workers lives = IsListMember IsJobCount (codes "lives") value lives
+
+abbrev pub AreHeaderLives : Data → ℕ → List ℕ → Type 0
+AreHeaderLives value = AreLivesFound (get (codes "lives") value) value
+
+-- `{"epoch":..,"last":[..],"lives":[..],"numbers":[..],"places":[..],"rme":..,"version":..}`, with these names of the
+-- locks
 pub record HasHeaderMembers (names : List (List ℕ)) (value : Data) (past : HeaderValues) : Type 0 where
   pub epoch : HasNumberMember (codes "epoch") value past.epoch
   pub last : IsListMember (IsLastJobObject names) (codes "last") value past.last
+  pub lives : AreHeaderLives value (length past.numbers) past.lives
   pub numbers : IsListMember IsJobCount (codes "numbers") value past.numbers
   pub places : IsListMember IsPlaceCount (codes "places") value past.places
 
--- The object has the fields of a log header of version 1.
+-- The object has the fields of a log header of version 1, among which `lives` may be absent.
 pub record IsLogVersion (value : Data) : Type 0 where
-  pub six : HasMemberCount 6 value
+  pub members : HasMemberCount (6 + member_count (get (codes "lives") value)) value
   pub rme : get (codes "rme") value ≡ Some (string (codes "kept"))
   pub version : HasNumberMember (codes "version") value 1
 
@@ -111,18 +126,21 @@ IsPossibleLastJob worker n (Receipt receipt) = (n ≢ 0) × (receipt.worker ≡ 
 -- In the first epoch no worker has had a number, and no lock a section.
 pub record IsPossibleHeader (shape : Shape) (past : HeaderValues) : Type 0 where
   pub words : length past.last ≡ shape.workers - 1
+  pub lived : length past.lives ≡ shape.workers - 1
   pub counts : length past.numbers ≡ shape.workers - 1
   pub locks : length past.places ≡ shape.locks
   pub own : (worker n : ℕ) (word : LastJob) → slice_get past.numbers worker ≡ Some n
       → slice_get past.last worker ≡ Some word → IsPossibleLastJob worker n word
   pub beginning : past.epoch ≡ 0 → All (λ n. n ≡ 0) past.numbers × All (λ place. place ≡ pos 0) past.places
 
--- The base of a first epoch of a world of this shape: no worker has had a number, and no lock a section.
+-- The base of a first epoch of a world of this shape: no worker has had a number or was restarted, and no lock has had
+-- a section.
 abbrev pub first_header_values : Shape → HeaderValues
 first_header_values shape =
     record {
       epoch = 0;
       last = replicate (shape.workers - 1) Nothing;
+      lives = replicate (shape.workers - 1) 0;
       numbers = replicate (shape.workers - 1) 0;
       places =
           replicate shape.locks (pos 0);

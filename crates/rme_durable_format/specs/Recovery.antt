@@ -139,7 +139,7 @@ abbrev pub RecoveryStopsFor : Option (List ℕ) → EngineState → BadLog → T
 RecoveryStopsFor left old bad.NoMemory = Unit {0}
 RecoveryStopsFor left old (bad.Line number) = RecoveryStopsAt left old number
 
--- The number of a header's line and of the lines after it, whose bytes are known or not; the greatest `u64` if there are
+-- The number of a header's line and of the lines after it, if their bytes are known; the greatest `u64` if there are
 -- more.
 abbrev pub CountsLines : Option (List ℕ) → ℕ → Type 0
 CountsLines None count = Unit {0}

@@ -1,8 +1,10 @@
 //! The log lines of an order.
 
-ghost use Rattle.std.specs.Prelude.{◌≡◌, OnOk, length, string_bytes};
+ghost use Rattle.std.specs.Prelude.{◌≡◌, IfErr, OnOk, length, string_bytes};
 ghost use Rattle.rme_durable_format.specs.BatchCommands.{start_commands, batch_commands, crash_commands, crash_commands_from, step_commands};
 ghost use Rattle.rme_durable_format.specs.CommandLines.{AppendsCommands};
+ghost use Rattle.rme_durable_format.specs.CommandTexts.{OneHasNoLine};
+ghost use Rattle.rme_durable_format.specs.declared.fault.LineFault.TheVariants as LineFault;
 
 use crate::command_writer::CommandWriter;
 use crate::fault::LineFault;
@@ -20,8 +22,9 @@ pub fn append_batch(
     names: &Names,
     batch: EventBatch,
 ) -> Result<(), LineFault>
-    ensures { OnOk result (AppendsCommands names.now (string_bytes out.old) (batch_commands batch)
+    ensures written { OnOk result (AppendsCommands names.now (string_bytes out.old) (batch_commands batch)
         (string_bytes out.new)) }
+    ensures none { IfErr result (λ why. why ≡ LineFault.NoLine → OneHasNoLine names.now (batch_commands batch)) }
 {
     append_start(out, writer, names, batch.worker, batch.begins)?;
     append_steps(out, writer, names, batch.worker, batch.steps)?;
@@ -36,8 +39,10 @@ fn append_start(
     worker: u32,
     begins: BatchStart,
 ) -> Result<(), LineFault>
-    ensures { OnOk result (AppendsCommands names.now (string_bytes out.old) (start_commands worker begins)
+    ensures written { OnOk result (AppendsCommands names.now (string_bytes out.old) (start_commands worker begins)
         (string_bytes out.new)) }
+    ensures none { IfErr result (λ why. why ≡ LineFault.NoLine
+        → OneHasNoLine names.now (start_commands worker begins)) }
 {
     match begins {
         BatchStart::Restart => writer.push(out, names, Command::Restart(worker)),
@@ -55,8 +60,10 @@ fn append_steps(
     worker: u32,
     steps: u32,
 ) -> Result<(), LineFault>
-    ensures { OnOk result (AppendsCommands names.now (string_bytes out.old) (step_commands worker steps)
+    ensures written { OnOk result (AppendsCommands names.now (string_bytes out.old) (step_commands worker steps)
         (string_bytes out.new)) }
+    ensures none { IfErr result (λ why. why ≡ LineFault.NoLine
+        → OneHasNoLine names.now (step_commands worker steps)) }
 {
     if steps == 0 {
         return Ok(());
@@ -77,8 +84,9 @@ fn append_crash(
     worker: u32,
     falls: bool,
 ) -> Result<(), LineFault>
-    ensures { OnOk result (AppendsCommands names.now (string_bytes out.old) (crash_commands worker falls)
+    ensures written { OnOk result (AppendsCommands names.now (string_bytes out.old) (crash_commands worker falls)
         (string_bytes out.new)) }
+    ensures err { IfErr result (λ why. why ≡ LineFault.NoMemory) }
 {
     if !falls {
         return Ok(());
@@ -95,8 +103,9 @@ pub fn append_crashes(
     names: &Names,
     world: &World,
 ) -> Result<(), LineFault>
-    ensures { OnOk result (AppendsCommands names.now (string_bytes out.old) (crash_commands_from 0 world.now.privates)
-        (string_bytes out.new)) }
+    ensures written { OnOk result (AppendsCommands names.now (string_bytes out.old)
+        (crash_commands_from 0 world.now.privates) (string_bytes out.new)) }
+    ensures err { IfErr result (λ why. why ≡ LineFault.NoMemory) }
 {
     let mut writer = CommandWriter::new(alloc);
     for worker in 0..worker_count(world) {

@@ -1,8 +1,9 @@
 //! The line of a command.
 
-ghost use Rattle.std.specs.Prelude.{◌≡◌, ◌≤◌, ◌++◌, ◌∷◌, [], IsTrue, OnOk, length, string_bytes, true};
+ghost use Rattle.std.specs.Prelude.{◌≡◌, ◌≤◌, ◌++◌, ◌∷◌, ◌↔◌, [], IfErr, IsTrue, OnOk, length, string_bytes, true};
 ghost use Rattle.std.specs.List.{list_all};
 ghost use Rattle.rme_durable_format.specs.CommandLines.{is_no_newline};
+ghost use Rattle.rme_durable_format.specs.declared.fault.LineFault.TheVariants as LineFault;
 
 use crate::command_text::push_text;
 use crate::fault::LineFault;
@@ -25,8 +26,10 @@ pub struct CommandWriter {
 }
 
 impl CommandWriter {
-    ghost use Rattle.std.specs.Prelude.{OnOk, string_bytes};
+    ghost use Rattle.std.specs.Prelude.{◌≡◌, IfErr, OnOk, string_bytes};
     ghost use Rattle.rme_durable_format.specs.CommandLines.{AppendsCommand};
+    ghost use Rattle.rme_durable_format.specs.CommandTexts.{HasNoLine};
+    ghost use Rattle.rme_durable_format.specs.declared.fault.LineFault.TheVariants as LineFault;
 
     /// A writer; it takes its memory with the first line.
     pub fn new(alloc: Global) -> CommandWriter {
@@ -47,7 +50,9 @@ impl CommandWriter {
         names: &Names,
         command: Command,
     ) -> Result<(), LineFault>
-        ensures { OnOk result (AppendsCommand names.now (string_bytes out.old) command (string_bytes out.new)) }
+        ensures written { OnOk result (AppendsCommand names.now (string_bytes out.old) command
+            (string_bytes out.new)) }
+        ensures none { IfErr result (λ why. why ≡ LineFault.NoLine → HasNoLine names.now command) }
     {
         self.line.clear();
         push_text(&mut self.line, names, &command)?;
@@ -67,7 +72,7 @@ impl CommandWriter {
 
 /// Whether these bytes may be a line.
 fn is_line(bytes: &[u8]) -> bool
-    ensures { IsTrue result → (list_all is_no_newline bytes.now ≡ true) × (length bytes.now ≤ 65536) }
+    ensures { IsTrue result ↔ ((list_all is_no_newline bytes.now ≡ true) × (length bytes.now ≤ 65536)) }
 {
     bytes.len() <= LINE_LIMIT && are_no_newlines(bytes)
 }
@@ -87,7 +92,8 @@ fn is_no_newline(byte: u8) -> bool
 
 /// Appends a text and a newline.
 fn push_whole(out: &mut String, text: &str) -> Result<(), LineFault>
-    ensures { OnOk result (string_bytes out.new ≡ string_bytes out.old ++ (text.now ++ 10 ∷ [])) }
+    ensures grown { OnOk result (string_bytes out.new ≡ string_bytes out.old ++ (text.now ++ 10 ∷ [])) }
+    ensures err { IfErr result (λ why. why ≡ LineFault.NoMemory) }
 {
     out.push_str(text)?;
     out.push_str("\n")?;

@@ -1,6 +1,8 @@
 //! The base that earlier epochs left, and its line, the first of a file.
 
-ghost use Rattle.std.specs.Prelude.{◌≡◌, ◌-◌};
+ghost use Rattle.std.specs.Prelude.{◌≡◌, ◌-◌, ◌++◌, OnOk, string_bytes};
+ghost use Rattle.rme_durable_format.specs.Headers.{header_values};
+ghost use Rattle.rme_durable_format.specs.HeaderTexts as spec;
 
 use rme_line_text::{ClientReceipt, push_receipt};
 use rme_wire::Names;
@@ -24,6 +26,8 @@ pub struct LogHeader {
     pub epoch: u64,
     /// For each worker but the checkpoint worker its last job.
     pub last: Vec<LastJob>,
+    /// For each of them the count of its restarts.
+    pub lives: Vec<u64>,
     /// For each of them the count of its numbers.
     pub numbers: Vec<u64>,
     /// For each lock the count of its sections, less those that the checkpoint worker made in this epoch.
@@ -42,6 +46,7 @@ impl LogHeader {
         Ok(LogHeader {
             epoch: 0,
             last: vec![in alloc; LastJob::Nothing; workers]?,
+            lives: vec![in alloc; 0u64; workers]?,
             numbers: vec![in alloc; 0u64; workers]?,
             places: vec![in alloc; 0i64; shape.locks() as usize]?,
         })
@@ -56,9 +61,14 @@ pub(crate) fn clients_in(shape: Shape) -> usize
 }
 
 /// Appends the line of a header, and its newline. After an error the text is of no use.
-pub fn push_header(out: &mut String, names: &Names, header: &LogHeader) -> Result<(), AllocError> {
+pub fn push_header(out: &mut String, names: &Names, header: &LogHeader) -> Result<(), AllocError>
+    ensures { OnOk result (string_bytes out.new ≡ string_bytes out.old ++ spec.header_line names.now
+        (header_values header.now)) }
+{
     write!(out, "{{\"epoch\":{},\"last\":[", header.epoch)?;
     push_last_jobs(out, names, header.last.as_slice())?;
+    out.push_str("],\"lives\":[")?;
+    push_numbers(out, header.lives.as_slice())?;
     out.push_str("],\"numbers\":[")?;
     push_numbers(out, header.numbers.as_slice())?;
     out.push_str("],\"places\":[")?;
@@ -66,7 +76,9 @@ pub fn push_header(out: &mut String, names: &Names, header: &LogHeader) -> Resul
     out.push_str("],\"rme\":\"kept\",\"version\":1}\n")
 }
 
-fn push_last_jobs(out: &mut String, names: &Names, words: &[LastJob]) -> Result<(), AllocError> {
+fn push_last_jobs(out: &mut String, names: &Names, words: &[LastJob]) -> Result<(), AllocError>
+    ensures { OnOk result (string_bytes out.new ≡ string_bytes out.old ++ spec.last_jobs_text names.now words.now) }
+{
     let mut comma = "";
     for word in words {
         out.push_str(comma)?;
@@ -77,7 +89,9 @@ fn push_last_jobs(out: &mut String, names: &Names, words: &[LastJob]) -> Result<
 }
 
 /// Appends a last job.
-pub fn push_last_job(out: &mut String, names: &Names, word: LastJob) -> Result<(), AllocError> {
+fn push_last_job(out: &mut String, names: &Names, word: LastJob) -> Result<(), AllocError>
+    ensures { OnOk result (string_bytes out.new ≡ string_bytes out.old ++ spec.last_job_text names.now word) }
+{
     match word {
         LastJob::Nothing => out.push_str("null"),
         LastJob::Withdrawn => out.push_str("{\"withdrawn\":true}"),
@@ -85,7 +99,9 @@ pub fn push_last_job(out: &mut String, names: &Names, word: LastJob) -> Result<(
     }
 }
 
-fn push_numbers(out: &mut String, numbers: &[u64]) -> Result<(), AllocError> {
+fn push_numbers(out: &mut String, numbers: &[u64]) -> Result<(), AllocError>
+    ensures { OnOk result (string_bytes out.new ≡ string_bytes out.old ++ spec.numbers_text numbers.now) }
+{
     let mut comma = "";
     for number in numbers {
         write!(out, "{comma}{number}")?;
@@ -94,7 +110,9 @@ fn push_numbers(out: &mut String, numbers: &[u64]) -> Result<(), AllocError> {
     Ok(())
 }
 
-fn push_places(out: &mut String, places: &[i64]) -> Result<(), AllocError> {
+fn push_places(out: &mut String, places: &[i64]) -> Result<(), AllocError>
+    ensures { OnOk result (string_bytes out.new ≡ string_bytes out.old ++ spec.places_text places.now) }
+{
     let mut comma = "";
     for place in places {
         write!(out, "{comma}{place}")?;

@@ -1,12 +1,12 @@
 //! Reading line 1 of a file, the base that earlier epochs left.
 
-ghost use Rattle.std.specs.Prelude.{◌≡◌, ◌<◌, ◌≤◌, ◌^◌, ◌↔◌, ℕ, Some, IfOk, IsTrue, codes, option_map, pos, slice_get};
+ghost use Rattle.std.specs.Prelude.{◌≡◌, ◌<◌, ◌≤◌, ◌^◌, ◌↔◌, ℕ, List, Some, IfOk, IsTrue, codes, length, option_map, pos, slice_get};
 ghost use Rattle.std.specs.List.{All};
 ghost use Rattle.serde_json.specs.Data.{array, string};
 ghost use Rattle.serde_json.specs.Find.{get};
 ghost use Rattle.rme_line_json.specs.Values.{json_value_of};
 ghost use Rattle.rme_line_json.specs.View.{items_view, value_view};
-ghost use Rattle.rme_durable_format.specs.Headers.{HeaderSearch, HasNumberMember, IsPossibleLastJob, IsLogVersion, IsPossibleHeader, AreItemsOf, IsListMember, IsJobCount, HasHeaderMembers, IsPlaceCount, IsReceiptObject, IsWithdrawalObject, IsLastJobObject, header_values};
+ghost use Rattle.rme_durable_format.specs.Headers.{HeaderSearch, HasNumberMember, IsPossibleLastJob, IsLogVersion, IsPossibleHeader, AreItemsOf, IsListMember, IsJobCount, HasHeaderMembers, IsPlaceCount, IsReceiptObject, IsWithdrawalObject, IsLastJobObject, AreHeaderLives, HeaderValues, header_values};
 ghost use Rattle.rme_durable_format.specs.declared.header.LastJob.{LastJob};
 
 use crate::header::{LastJob, LogHeader, clients_in};
@@ -38,7 +38,8 @@ pub(crate) fn header_value<'a>(
 fn is_log_version(value: &Value<'_>) -> bool
     ensures { IsTrue result ↔ IsLogVersion (value_view value.now) }
 {
-    if value.key_count() != Some(6) {
+    let members = 6 + usize::from(value.get("lives").is_some());
+    if value.key_count() != Some(members) {
         return false;
     }
     if text_in(value, "rme") != Some("kept") {
@@ -84,12 +85,16 @@ fn header_of_value(
     let Some(numbers) = numbers_in(alloc, value)? else {
         return Ok(None);
     };
+    let Some(lives) = lives_in(alloc, value, numbers.as_slice())? else {
+        return Ok(None);
+    };
     let Some(places) = places_in(alloc, value)? else {
         return Ok(None);
     };
     Ok(Some(LogHeader {
         epoch,
         last,
+        lives,
         numbers,
         places,
     }))
@@ -100,7 +105,7 @@ fn is_possible_header(shape: Shape, header: &LogHeader) -> bool
     ensures { IsTrue result ↔ IsPossibleHeader shape (header_values header.now) }
 {
     let workers = clients_in(shape);
-    if header.last.len() != workers {
+    if header.last.len() != workers || header.lives.len() != workers {
         return false;
     }
     if header.numbers.len() != workers {
@@ -231,6 +236,38 @@ fn receipt_of(names: &Names, value: &Value<'_>) -> Option<ClientReceipt>
         place,
         reply,
     })
+}
+
+/// The lives of a header; of a value that is no header, an empty list.
+pub(crate) fn first_lives(alloc: Global, value: &Value<'_>) -> Result<Vec<u64>, AllocError>
+    ensures { IfOk result (λ lives. (names : List (List ℕ)) (past : HeaderValues)
+        → HasHeaderMembers names (value_view value.now) past → lives.items ≡ past.lives) }
+{
+    let Some(numbers) = numbers_in(alloc, value)? else {
+        return Ok(Vec::new(alloc));
+    };
+    let Some(lives) = lives_in(alloc, value, numbers.as_slice())? else {
+        return Ok(Vec::new(alloc));
+    };
+    Ok(lives)
+}
+
+/// The member `lives` of a value; without one, no life of each of the workers with these numbers.
+fn lives_in(
+    alloc: Global,
+    value: &Value<'_>,
+    numbers: &[u64],
+) -> Result<Option<Vec<u64>>, AllocError>
+    ensures { IfOk result (λ found. HeaderSearch (AreHeaderLives (value_view value.now) (length numbers.now))
+        (option_map (λ lives. lives.items) found)) }
+{
+    if value.get("lives").is_none() {
+        return Ok(Some(vec![in alloc; 0u64; numbers.len()]?));
+    }
+    let Some(items) = items_in(value, "lives") else {
+        return Ok(None);
+    };
+    numbers_of(alloc, items)
 }
 
 /// The member `numbers` of a value.

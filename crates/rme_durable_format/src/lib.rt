@@ -18,6 +18,7 @@ mod file_lines;
 mod header;
 mod header_reader;
 pub mod laws;
+mod lives;
 mod recovery;
 mod requests;
 
@@ -25,5 +26,6 @@ pub use batch_lines::{append_batch, append_crashes};
 pub use command_writer::CommandWriter;
 pub use fault::{BadLog, LineFault};
 pub use file_lines::{first_two_lines, whole_lines};
-pub use header::{LastJob, LogHeader, push_header, push_last_job};
+pub use header::{LastJob, LogHeader, push_header};
+pub use lives::{count_batch, life_of};
 pub use recovery::{RecoveredLog, RecoveryProgress, recover_log};

@@ -1,17 +1,19 @@
 //! Recovery: replaying the bytes of a file.
 
-ghost use Rattle.std.specs.Prelude.{◌≡◌, ◌-◌, ◌^◌, IfErr, IfOk, OnOk, false, length, min, true};
+ghost use Rattle.std.specs.Prelude.{◌≡◌, ◌-◌, ◌^◌, IfErr, IfOk, IfSome, None, OnOk, Some, length, min};
 ghost use Rattle.rme_line_io.specs.Cuts.{input_line_of};
 ghost use Rattle.rme_line_io.specs.Pieces.{lines_of};
 ghost use Rattle.rme_line_io.specs.Readers.{bytes_left};
 ghost use Rattle.rme_line_engine.specs.Engines.{engine_state_of};
 ghost use Rattle.rme_wire.specs.Requests.{request_read};
 ghost use Rattle.rme_durable_format.specs.Headers.{header_values};
+ghost use Rattle.rme_durable_format.specs.Lives.{CountsKnownLives, RecoversLives, lives_after_request};
 ghost use Rattle.rme_durable_format.specs.Recovery.{AcceptsLine, AcceptsKnownLines, BeginsWithHeader, CountsLines, IsBadLog, RejectsLine, RecoversWorld, RecoveryStopsFor, changes_world, is_log_request, reply_refusal};
 
 use crate::fault::BadLog;
 use crate::header::LogHeader;
-use crate::header_reader::{header_of, header_value};
+use crate::header_reader::{first_lives, header_of, header_value};
+use crate::lives::count_restart;
 use rme_line_engine::{Engine, TalliedWorld};
 use rme_line_text::Reply;
 use rme_wire::{
@@ -27,6 +29,8 @@ pub struct RecoveredLog {
     pub header: LogHeader,
     pub names: Names,
     pub world: World,
+    /// For each worker but the checkpoint worker how often it was restarted, over all epochs.
+    pub lives: Vec<u64>,
     /// The number of lines, the header included.
     pub lines: u64,
 }
@@ -44,7 +48,7 @@ const TELLING: u64 = 65_536;
 /// that changes it.
 ///
 /// Each line must be accepted. A command that is refused or changes nothing, and a line that is no command, make the
-/// file bad.
+/// file bad. The lives are those of the header, and one more for each restart among the lines.
 pub fn recover_log<P: RecoveryProgress>(
     alloc: Global,
     bytes: &[u8],
@@ -53,6 +57,8 @@ pub fn recover_log<P: RecoveryProgress>(
     ensures ok { IfOk result (λ started. RecoversWorld bytes.now started.names started.world) }
     ensures header { IfOk result (λ started. BeginsWithHeader bytes.now started.names started.world.shape
         (header_values started.header)) }
+    ensures lives { IfOk result (λ started. RecoversLives bytes.now (header_values started.header).lives
+        started.lives.items) }
     ensures lines { IfOk result (λ started. started.lines ≡ min (2 ^ 64 - 1) (length (lines_of bytes.now))) }
     ensures err { IfErr result (λ why. IsBadLog bytes.now why) }
 {
@@ -68,8 +74,9 @@ pub fn recover_log<P: RecoveryProgress>(
     let Some(header) = header_value(&mut values, &mut room, line.as_slice())? else {
         return Err(BadLog::Line(1));
     };
+    let mut lives = first_lives(alloc, &header)?;
     let mut engine = Engine::new(alloc)?;
-    let lines = replay_lines(alloc, &mut engine, &mut reader, progress)?;
+    let lines = replay_lines(alloc, &mut engine, &mut lives, &mut reader, progress)?;
     let Some((names, tallied)) = engine.into_world() else {
         return Err(BadLog::Line(2));
     };
@@ -79,21 +86,26 @@ pub fn recover_log<P: RecoveryProgress>(
             header,
             names,
             world,
+            lives,
             lines,
         }),
         None => Err(BadLog::Line(1)),
     }
 }
 
-/// Executes each of the lines after a header, and answers the number of lines, the header included.
+/// Executes each of the lines after a header, counts the restarts of each worker among them, and answers the number of
+/// lines, the header included.
 fn replay_lines<R: Source + Drop, P: RecoveryProgress>(
     alloc: Global,
     engine: &mut Engine,
+    lives: &mut Vec<u64>,
     reader: &mut LineReader<R>,
     progress: &P,
 ) -> Result<u64, BadLog>
     ensures ok { OnOk result (AcceptsKnownLines (bytes_left R.remaining reader.old) (engine_state_of engine.old)
         (engine_state_of engine.new)) }
+    ensures lives { OnOk result (CountsKnownLives (bytes_left R.remaining reader.old) (engine_state_of engine.old)
+        (engine_state_of engine.new) lives.old.items lives.new.items) }
     ensures count { IfOk result (CountsLines (bytes_left R.remaining reader.old)) }
     ensures err { IfErr result (λ why. RecoveryStopsFor (bytes_left R.remaining reader.old) (engine_state_of engine.old)
         why) }
@@ -108,43 +120,46 @@ fn replay_lines<R: Source + Drop, P: RecoveryProgress>(
             return Ok(count);
         }
         count = count.saturating_add(1);
-        if !replay_line(alloc, &mut values, engine, cut, line.as_slice())? {
+        let Some(request) = replay_line(alloc, &mut values, engine, cut, line.as_slice())? else {
             return Err(BadLog::Line(count));
-        }
+        };
+        count_restart(lives, request);
         if count % TELLING == 0 {
             progress.read(count);
         }
     }
 }
 
-/// Executes a line, and answers whether it was accepted.
+/// Executes a line, and answers its request if it was accepted.
 fn replay_line(
     alloc: Global,
     values: &mut ValueReader,
     engine: &mut Engine,
     cut: Cut,
     line: &[u8],
-) -> Result<bool, NoMemory>
-    ensures accepts { IfOk result (λ accepted. accepted ≡ true
-        → AcceptsLine (engine_state_of engine.old) (input_line_of cut line.now) (engine_state_of engine.new)) }
-    ensures rejects { IfOk result (λ accepted. accepted ≡ false
+) -> Result<Option<Request>, NoMemory>
+    ensures accepts { IfOk result (λ accepted. IfSome accepted (λ _.
+        AcceptsLine (engine_state_of engine.old) (input_line_of cut line.now) (engine_state_of engine.new))) }
+    ensures request { IfOk result (λ accepted. IfSome accepted (λ request. Some request
+        ≡ request_read (engine_state_of engine.old).names (input_line_of cut line.now))) }
+    ensures rejects { IfOk result (λ accepted. accepted ≡ None
         → RejectsLine (engine_state_of engine.old)
         (request_read (engine_state_of engine.old).names (input_line_of cut line.now))) }
 {
     if cut == Cut::TooLong {
-        return Ok(false);
+        return Ok(None);
     }
     let Some(request) = request_of(alloc, values, engine.names(), line)? else {
-        return Ok(false);
+        return Ok(None);
     };
     if !is_log_request(&request) {
-        return Ok(false);
+        return Ok(None);
     }
     let reply = engine.obey_request(&request);
     match reply_refusal(&reply) {
-        None => Ok(true),
+        None => Ok(Some(request)),
         Some(Refusal::NoMemory) => Err(NoMemory),
-        Some(_) => Ok(false),
+        Some(_) => Ok(None),
     }
 }
 

@@ -1,15 +1,16 @@
 //! The request of a parsed line.
 
-ghost use Rattle.std.specs.Prelude.{◌≡◌, IsTrue, Some};
+ghost use Rattle.std.specs.Prelude.{◌≡◌, ◌↔◌, IsTrue, Some, true};
 ghost use Rattle.rme_wire.specs.declared.command.Command.TheVariants as command;
 ghost use Rattle.rme_wire.specs.declared.request.Request.TheVariants.{World};
+ghost use Rattle.rme_durable_format.specs.CommandTexts.{has_text};
 
 use rme_script::Job;
 use rme_wire::{Command, Request, Walk};
 
-/// Whether the request is this command.
+/// Whether the request is this command, which has a text.
 pub(crate) fn is_request_for(asked: &Option<Request>, command: Command) -> bool
-    ensures { IsTrue result → asked.now ≡ Some (World command) }
+    ensures { IsTrue result ↔ ((has_text command ≡ true) × (asked.now ≡ Some (World command))) }
 {
     match asked {
         Some(Request::World(found)) => is_same_command(*found, command),
@@ -17,9 +18,9 @@ pub(crate) fn is_request_for(asked: &Option<Request>, command: Command) -> bool
     }
 }
 
-/// Whether a command is the wanted one, which changes a world.
+/// Whether a command is the wanted one, which has a text.
 fn is_same_command(found: Command, wanted: Command) -> bool
-    ensures { IsTrue result → found ≡ wanted }
+    ensures { IsTrue result ↔ ((has_text wanted ≡ true) × (found ≡ wanted)) }
 {
     match wanted {
         Command::Submit(worker, job) => is_submission(found, worker, job),
@@ -32,7 +33,7 @@ fn is_same_command(found: Command, wanted: Command) -> bool
 }
 
 fn is_submission(found: Command, worker: u32, job: Job) -> bool
-    ensures { IsTrue result → found ≡ command.Submit worker job }
+    ensures { IsTrue result ↔ (found ≡ command.Submit worker job) }
 {
     let Command::Submit(same, its) = found else {
         return false;
@@ -45,7 +46,7 @@ fn is_submission(found: Command, worker: u32, job: Job) -> bool
 
 /// Whether the walks are equal; neither ends at a kind of note.
 fn is_same_walk(found: Command, walk: Walk) -> bool
-    ensures { IsTrue result → found ≡ command.Walk walk }
+    ensures { IsTrue result ↔ ((has_text (command.Walk walk) ≡ true) × (found ≡ command.Walk walk)) }
 {
     let Command::Walk(its) = found else {
         return false;
@@ -60,7 +61,7 @@ fn is_same_walk(found: Command, walk: Walk) -> bool
 }
 
 fn is_crash(found: Command, worker: u32) -> bool
-    ensures { IsTrue result → found ≡ command.Crash worker }
+    ensures { IsTrue result ↔ (found ≡ command.Crash worker) }
 {
     let Command::Crash(same) = found else {
         return false;
@@ -69,7 +70,7 @@ fn is_crash(found: Command, worker: u32) -> bool
 }
 
 fn is_restart(found: Command, worker: u32) -> bool
-    ensures { IsTrue result → found ≡ command.Restart worker }
+    ensures { IsTrue result ↔ (found ≡ command.Restart worker) }
 {
     let Command::Restart(same) = found else {
         return false;
@@ -78,7 +79,7 @@ fn is_restart(found: Command, worker: u32) -> bool
 }
 
 fn is_withdrawal(found: Command, worker: u32) -> bool
-    ensures { IsTrue result → found ≡ command.Withdraw worker }
+    ensures { IsTrue result ↔ (found ≡ command.Withdraw worker) }
 {
     let Command::Withdraw(same) = found else {
         return false;

@@ -8,13 +8,16 @@ use Rattle.rme_line_engine.specs.Engines.{engine_state_of}
 use Rattle.rme_durable_format.specs.Headers.{HasLogVersion, IsLogVersion, IsPossibleHeader, HeaderValues, HasHeaderMembers, header_values}
 use Rattle.rme_durable_format.specs.Recovery.{IsBadLog}
 use Rattle.rme_durable_format.proofs.Stopping.{bad_cut, bad_from, bad_header, bad_second, bad_version, counts_from, err_is}
+use Rattle.rme_durable_format.specs.Lives.{RecoversLives}
 use Rattle.rme_durable_format.proofs.Leading.{begins_with, starts_from}
+use Rattle.rme_durable_format.proofs.Living.{lives_from}
 use Rattle.rme_durable_format.proofs.recovery.recover_log.Goals as goal
 
 pub returns-in-TooLong : goal.returns-in-TooLong
 returns-in-TooLong g c = record {
   ok = tt;
   header = tt;
+  lives = tt;
   lines = tt;
   err = bad_cut c.args.bytes.now c.next_line.new.line.items _ _ c.in_ok-cut.cut c.in_ok-reader.ensures.bytes c.in_ok-cut.ensures.cut c.in-TooLong.is;
 }
@@ -39,6 +42,9 @@ returns-in-Some-2 g c =
           c.in_ok-lines.ensures.ok c.in-Some-into_world.ensures;
       header = begins_with c.args.bytes.now c.next_line.new.line.items _ _ c.in_ok-cut.cut names c.in-Some-into_world.tallied.world.shape value past c.in_ok-reader.ensures.bytes c.in_ok-cut.ensures.cut c.in-Line.is
           (subst R c.as_slice.ensures.value reads) (subst T c.shape.ensures tells);
+      lives = subst (λ (begun : List ℕ). RecoversLives c.args.bytes.now begun c.replay_lines.new.lives.items) (c.in_ok-lives.ensures names past tells.0)
+          (lives_from c.args.bytes.now c.next_line.new.line.items _ _ c.in_ok-cut.cut _ _ c.in_ok-lives.lives.items c.replay_lines.new.lives.items c.in_ok-reader.ensures.bytes c.in_ok-cut.ensures.cut c.in-Line.is c.in_ok-engine.ensures
+          c.in_ok-lines.ensures.lives);
       lines = counts_from c.args.bytes.now c.next_line.new.line.items _ _ c.in_ok-cut.cut _ c.in_ok-reader.ensures.bytes c.in_ok-cut.ensures.cut c.in-Line.is c.in_ok-lines.ensures.count;
       err = tt;
     }
