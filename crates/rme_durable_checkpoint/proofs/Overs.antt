@@ -9,6 +9,7 @@ use Rattle.rme_script.specs.declared.job.Job.{Job}
 use Rattle.rme_program.specs.declared.note.Receipt.{Receipt}
 use Rattle.rme_session_protocol.specs.declared.reply.JobOutcome.{JobOutcome}
 use Rattle.rme_session_protocol.specs.declared.reply.JobOutcome.TheVariants as outcome
+use Rattle.rme_session_protocol.specs.declared.reply.PendingJob.{PendingJob}
 use Rattle.rme_session_protocol.specs.declared.reply.SessionStance.{SessionStance}
 use Rattle.rme_session_protocol.specs.declared.reply.SessionStance.TheVariants as standing
 use Rattle.rme_session_protocol.specs.declared.reply.SessionReply.{SessionReply}
@@ -17,7 +18,7 @@ use Rattle.rme_session_protocol.specs.declared.order.Attachment.{Attachment}
 use Rattle.rme_session_protocol.specs.declared.order.Order.{Order}
 use Rattle.rme_session_protocol.specs.declared.order.Order.TheVariants as order
 use Rattle.rme_session_protocol.specs.declared.order.Submission.{Submission}
-use Rattle.rme_session_protocol.specs.SessionSteps.{AttachOrderEffect, CommitOrderEffect, OrderEffect, EnterOrderEffect, EnterPendingEffect, PendingJobEffect, ReadySubmitEffect, ReadyEnterEffect, PlanAfterOrder, WaitsAfterTries, LastOrderEffect, SessionStepInSteps, SessionStepWithin, ResumeOrderEffect, SubmitOrderEffect, WithdrawOrderEffect, JobEffect, last_outcome}
+use Rattle.rme_session_protocol.specs.SessionSteps.{AttachOrderEffect, CommitOrderEffect, OrderEffect, EnterOrderEffect, EnterPendingEffect, PendingJobEffect, ReadySubmitEffect, ReadyEnterEffect, PlanAfterOrder, WaitsAfterTries, LastOrderEffect, PendingOrderEffect, SessionStepInSteps, SessionStepWithin, ResumeOrderEffect, SubmitOrderEffect, WithdrawOrderEffect, JobEffect, last_outcome}
 use Rattle.rme_session_protocol.specs.Attempts.{submission_with_tries, with_tries}
 use Rattle.rme_session_protocol.specs.Refusals.{OrderRefusal, ServiceSizes, attach_refusal, posting_refusal, posting_refusal_within}
 use Rattle.rme_session_protocol.specs.SessionViews.{IsJobReceipt, WorkerJob, withdrawn_worker, pending_worker_job, next_worker_job, waiting_worker}
@@ -30,7 +31,7 @@ use Rattle.rme_session_protocol.specs.declared.view.Session.TheVariants.{Nobody,
 use Rattle.rme_session_protocol.specs.declared.view.SessionView.{SessionView}
 use Rattle.rme_session_protocol.proofs.Counting.{leaves_none}
 use Rattle.rme_session_protocol.proofs.Refusing.{last_repeated_within}
-use Rattle.rme_durable_checkpoint.specs.ClientValues.{client_last, numbers_for, epoch_order, client_outcome, worker_base, client_pending, client_ready, client_receipt, client_reply, client_session, client_sizes, epoch_submission, client_view}
+use Rattle.rme_durable_checkpoint.specs.ClientValues.{client_last, numbers_for, epoch_order, client_outcome, worker_base, client_pending, client_pending_job, client_ready, client_receipt, client_reply, client_session, client_sizes, epoch_submission, client_view}
 use Rattle.rme_durable_checkpoint.specs.ImmediateReplies.{is_repeat_submission, immediate_reply}
 use Rattle.rme_durable_checkpoint.specs.declared.epoch_base.Base.{Base}
 use Rattle.rme_durable_checkpoint.specs.declared.epoch_base.WorkerBase.{WorkerBase}
@@ -90,6 +91,11 @@ module _ (base : Base) where
       ap (λ (l : Option Receipt). record { worker = pending.worker; number = before pending.worker + pending.number; last = l }) (none_last (worker_base base pending.worker) pending.number some) in
       (ap (client_ready base) same ∙ gone, ap (λ (n : ℕ). before pending.worker + n) is)
   withdraws_over order_ start session number some withdraws = absurd withdraws
+
+  pending_over : (start : Session) (told : PendingJob) → PendingOrderEffect start told → PendingOrderEffect (client_session base start) (client_pending_job (numbers_for base start order.Pending) told)
+  pending_over (Climb pending) told (number, job, stance) = (ap (λ (n : ℕ). before pending.worker + n) number, job, stance)
+  pending_over (Held pending) told (number, job, stance) = (ap (λ (n : ℕ). before pending.worker + n) number, job, stance)
+  pending_over start told is = absurd is
 
   -- ---- a new job
 
@@ -219,6 +225,7 @@ module _ (base : Base) where
     does_over (order.CrashAfter steps) reply.CrashPlanned some new none same = ap (client_view base) same
     does_over order.Detach reply.Detached some new none same = ap (client_view base) same
     does_over order.Ping reply.Pong some new none same = ap (client_view base) same
+    does_over order.Pending (reply.Pending told) some new none (is, same) = (pending_over old.session told is, ap (client_view base) same)
     does_over its answer some new none does = absurd does
 
     pub obeys_over : (its : Order) (answer : SessionReply) → HasNumber old.session → AsksMore base shape old.session its → SessionStepInSteps shape made old (with_tries 1 (epoch_order (numbers its) its)) now answer
@@ -236,6 +243,7 @@ module _ (base : Base) where
     obeys_over its reply.CrashPlanned some new (none, does) = (refuses_over base shape old.session its None some new none, does_over its reply.CrashPlanned some new none does)
     obeys_over its reply.Detached some new (none, does) = (refuses_over base shape old.session its None some new none, does_over its reply.Detached some new none does)
     obeys_over its reply.Pong some new (none, does) = (refuses_over base shape old.session its None some new none, does_over its reply.Pong some new none does)
+    obeys_over its (reply.Pending told) some new (none, does) = (refuses_over base shape old.session its None some new none, does_over its (reply.Pending told) some new none does)
 
 -- ---- replies that need no event
 
@@ -299,6 +307,7 @@ asks_more base shape (Ready ready) order.Withdraw is = tt
 asks_more base shape (Ready ready) (order.CrashAfter steps) is = tt
 asks_more base shape (Ready ready) order.Detach is = tt
 asks_more base shape (Ready ready) order.Ping is = tt
+asks_more base shape (Ready ready) order.Pending is = tt
 asks_more base shape Nobody (order.Attach asked) is = tt
 asks_more base shape Nobody (order.Submit its) is = tt
 asks_more base shape Nobody (order.Resume patience) is = tt
@@ -309,6 +318,7 @@ asks_more base shape Nobody order.Last is = tt
 asks_more base shape Nobody (order.CrashAfter steps) is = tt
 asks_more base shape Nobody order.Detach is = tt
 asks_more base shape Nobody order.Ping is = tt
+asks_more base shape Nobody order.Pending is = tt
 asks_more base shape (Climb pending) (order.Attach asked) is = tt
 asks_more base shape (Climb pending) (order.Submit its) is = tt
 asks_more base shape (Climb pending) (order.Resume patience) is = tt
@@ -319,6 +329,7 @@ asks_more base shape (Climb pending) order.Last is = tt
 asks_more base shape (Climb pending) (order.CrashAfter steps) is = tt
 asks_more base shape (Climb pending) order.Detach is = tt
 asks_more base shape (Climb pending) order.Ping is = tt
+asks_more base shape (Climb pending) order.Pending is = tt
 asks_more base shape (Held pending) (order.Attach asked) is = tt
 asks_more base shape (Held pending) (order.Submit its) is = tt
 asks_more base shape (Held pending) (order.Resume patience) is = tt
@@ -329,3 +340,4 @@ asks_more base shape (Held pending) order.Last is = tt
 asks_more base shape (Held pending) (order.CrashAfter steps) is = tt
 asks_more base shape (Held pending) order.Detach is = tt
 asks_more base shape (Held pending) order.Ping is = tt
+asks_more base shape (Held pending) order.Pending is = tt

@@ -11,7 +11,7 @@ use Rattle.rme_script.specs.Programs.{Program}
 use Rattle.rme_script.specs.Scripts.{script_check, op_is_within}
 use Rattle.rme_session_protocol.specs.declared.order.Submission.{Submission}
 use Rattle.rme_session_protocol.specs.declared.order.Order.{Order}
-use Rattle.rme_session_protocol.specs.declared.order.Order.TheVariants.{Attach, Submit, Resume, Enter, Commit, Withdraw, Last, CrashAfter, Detach, Ping}
+use Rattle.rme_session_protocol.specs.declared.order.Order.TheVariants.{Attach, Submit, Resume, Enter, Commit, Withdraw, Last, CrashAfter, Detach, Ping, Pending}
 use Rattle.rme_session_protocol.specs.Attempts.{submission_with_tries, with_tries}
 use Rattle.rme_session_protocol.specs.Refusals.{IsWorkerUnavailable, IsWorkerUnavailableWithin, PendingJobRefusal, OrderRefusal, OrderRefusalWithin, SubmitRefusal, SubmitRefusalWithin, attach_refusal, attach_refusal_within, new_job_refusal_within, posting_refusal_within, busy_refusal, bare_refusal, commit_refusal, last_refusal, posting_refusal, repeat_refusal, resume_refusal, withdraw_order_refusal}
 use Rattle.rme_script.specs.JobRefusals.{job_refusal, refusal_or_next}
@@ -196,6 +196,7 @@ module _ (base : Base) (shape : Shape) where
   refuses_over session (CrashAfter steps) why some new is = ap (over (numbers_for base session (CrashAfter steps))) is ∙ sym (bare_over (numbers_for base session (CrashAfter steps)) base session)
   refuses_over session Detach why some new is = ap (over (numbers_for base session Detach)) is ∙ sym (bare_over (numbers_for base session Detach) base session)
   refuses_over session Ping why some new is = ap (over (numbers_for base session Ping)) is
+  refuses_over session Pending why some new is = ap (over (numbers_for base session Pending)) is ∙ sym (resume_over (numbers_for base session Pending) base session)
 
   none_over : (numbers : ℕ) (asked : ℕ) (session : Session) → attach_refusal shape asked session ≡ None → attach_refusal_within (client_sizes numbers shape) asked (client_session base session) ≡ None
   none_over numbers asked session none = attach_over numbers base shape asked session ∙ ap (over numbers) none

@@ -14,6 +14,7 @@ use Rattle.rme_session_world.specs.Executors.{held_session}
 use Rattle.rme_session_world.specs.ExecutorStates.{ExecutorState}
 use Rattle.rme_durable_checkpoint.specs.ClientValues.{client_last, next_client_place, worker_base, client_session}
 use Rattle.rme_durable_format.specs.Headers.{HeaderValues}
+use Rattle.rme_durable_format.specs.Lives.{RecoversLives}
 use Rattle.rme_durable_format.specs.Recovery.{BeginsWithHeader}
 use Rattle.rme_durable_checkpoint.specs.EpochStates.{EpochState}
 use Rattle.rme_durable_checkpoint.specs.HeaderBases.{IsHeaderBase}
@@ -79,9 +80,11 @@ pub record CheckpointShowsSame (base : Base) (before : ExecutorState) (later : B
     pub places : (lock : ℕ) → lock < before.world.shape.locks
         → next_client_place later after.world lock ≡ next_client_place base before.world lock
 
--- Bytes begin with the header of an executor's world: it has the number of the epoch, and the base.
+-- Bytes begin with the header of an executor's world: it has the number of the epoch, and the base; and from its lives
+-- the lines lead to those of the executor.
 pub record BeginsEpochHeader (bytes : List ℕ) (names : List (List ℕ)) (epoch : EpochState) : Type 0 where
   pub past : HeaderValues
   pub begins : BeginsWithHeader bytes names epoch.executor.world.shape past
   pub number : past.epoch ≡ epoch.epoch
   pub base : IsHeaderBase past epoch.base
+  pub counts : RecoversLives bytes past.lives epoch.lives

@@ -11,6 +11,7 @@ use Rattle.rme_session_protocol.specs.declared.order.Order.TheVariants as order
 use Rattle.rme_session_protocol.specs.declared.order.Submission.{Submission}
 use Rattle.rme_session_protocol.specs.declared.reply.FencingToken.{FencingToken}
 use Rattle.rme_session_protocol.specs.declared.reply.JobOutcome.{JobOutcome}
+use Rattle.rme_session_protocol.specs.declared.reply.PendingJob.{PendingJob}
 use Rattle.rme_session_protocol.specs.declared.reply.JobOutcome.TheVariants as outcome
 use Rattle.rme_session_protocol.specs.declared.reply.SessionReply.{SessionReply}
 use Rattle.rme_session_protocol.specs.declared.reply.SessionReply.TheVariants as reply
@@ -121,6 +122,9 @@ client_outcome base numbers (outcome.Receipt receipt) = outcome.Receipt (client_
 client_outcome base numbers (outcome.Inside token) = outcome.Inside (client_token base numbers token)
 client_outcome base numbers became = became
 
+abbrev pub client_pending_job : ℕ → PendingJob → PendingJob
+client_pending_job numbers told = record { number = numbers + told.number; job = told.job; stance = told.stance }
+
 abbrev pub client_refusal : ℕ → Refusal → Refusal
 client_refusal numbers (WrongNumber next) = WrongNumber (numbers + next)
 client_refusal numbers why = why
@@ -133,6 +137,7 @@ client_reply base numbers (reply.Entered became) = reply.Entered (client_outcome
 client_reply base numbers (reply.Committed became) = reply.Committed (client_outcome base numbers became)
 client_reply base numbers (reply.Withdrew number) = reply.Withdrew (numbers + number)
 client_reply base numbers (reply.Last receipt) = reply.Last (option_map (client_receipt base numbers) receipt)
+client_reply base numbers (reply.Pending told) = reply.Pending (client_pending_job numbers told)
 client_reply base numbers (reply.Refused why) = reply.Refused (client_refusal numbers why)
 client_reply base numbers answer = answer
 

@@ -11,12 +11,13 @@ use Rattle.rme_session_protocol.specs.declared.reply.SessionReply.{SessionReply}
 use Rattle.rme_durable_checkpoint.specs.ClientValues.{numbers_for, client_sizes, client_view, next_client_place}
 use Rattle.rme_durable_checkpoint.specs.declared.epoch_base.Base.{Base}
 
--- The executor, the pending lines, the base, and the number of earlier epochs; the bytes of the epoch's lines before the
--- pending ones; and whether an event batch could not be logged.
+-- The executor, the pending lines, the base, the lives of the workers, and the number of earlier epochs; the bytes of the
+-- epoch's lines before the pending ones; and whether an event batch could not be logged.
 pub record EpochState : Type 0 where
   pub executor : ExecutorState
   pub lines : List ℕ
   pub base : Base
+  pub lives : List ℕ
   pub epoch : ℕ
   pub taken : ℕ
   pub failed : Bool

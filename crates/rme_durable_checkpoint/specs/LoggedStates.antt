@@ -1,22 +1,25 @@
 -- An executor and the lines of its events.
-use Rattle.std.specs.Prelude.{ℕ, List, Option}
+use Rattle.std.specs.Prelude.{◌≡◌, ℕ, List, Option}
 use Rattle.rme_session_world.specs.ExecutorStates.{ExecutorState}
 use Rattle.rme_session_world.specs.SessionBatches.{AppliesSessionOrder}
 use Rattle.rme_session_world.specs.declared.event_batch.EventBatch.{EventBatch}
 use Rattle.rme_durable_format.specs.BatchCommands.{batch_commands_if}
 use Rattle.rme_durable_format.specs.CommandLines.{AppendsCommands}
+use Rattle.rme_durable_format.specs.Lives.{lives_after_batch_if}
 
--- The executor, and the pending lines.
+-- The executor, the lives of the workers, and the pending lines.
 pub record LoggedState : Type 0 where
   pub executor : ExecutorState
+  pub lives : List ℕ
   pub lines : List ℕ
 
-abbrev pub logged_state : ExecutorState → List ℕ → LoggedState
-logged_state executor lines = record { executor = executor; lines = lines }
+abbrev pub logged_state : ExecutorState → List ℕ → List ℕ → LoggedState
+logged_state executor lives lines = record { executor = executor; lives = lives; lines = lines }
 
--- One event batch of a session was applied, or none: the executor changed by it alone, and the lines grew by the
--- commands of its events.
+-- One event batch of a session was applied, or none: the executor changed by it alone, the lines grew by the commands of
+-- its events, and a restart in it is one more life of its worker.
 abbrev pub LoggedStep : List (List ℕ) → ℕ → LoggedState → LoggedState → Type 0
 LoggedStep names session old new =
     (batch : Option EventBatch) × AppliesSessionOrder session old.executor batch new.executor
     × AppendsCommands names old.lines (batch_commands_if batch) new.lines
+    × (new.lives ≡ lives_after_batch_if old.lives batch)

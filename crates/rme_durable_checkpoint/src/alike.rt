@@ -66,6 +66,13 @@ pub(crate) fn same_job(one: Option<Job>, other: Option<Job>) -> bool
     }
 }
 
+/// Whether two lists of lives are equal.
+pub(crate) fn same_lives(one: &[u64], other: &[u64]) -> bool
+    ensures { IsTrue result → one.now ≡ other.now }
+{
+    one == other
+}
+
 /// Whether two lists of names are equal.
 pub(crate) fn same_names(one: &Names, other: &Names) -> bool
     ensures { IsTrue result → one.now ≡ other.now }

@@ -7,10 +7,10 @@ ghost use Rattle.rme_durable_format.specs.Headers.{header_values};
 ghost use Rattle.rme_durable_format.specs.WholeLines.{AreWholeLines};
 ghost use Rattle.rme_history.specs.Legal.{rows_of_locks};
 
-use crate::alike::same_names;
+use crate::alike::{same_lives, same_names};
 use crate::checkpoint_builder::{CheckpointBuilder, CheckpointFailed, JobProgress};
 use crate::epoch_base::Base;
-use crate::epoch_executor::EpochExecutor;
+use crate::epoch_executor::{EpochExecutor, EpochStart};
 use crate::outgoing::next_header;
 use crate::setting::set_cells;
 use crate::validation::{ComparedState, is_checkpoint_same};
@@ -57,6 +57,7 @@ impl EpochExecutor {
             renewed.executor.executor.world) }
         ensures whole { IfOk result (λ renewed. AreWholeLines (string_bytes renewed.bytes)) }
         ensures epoch { IfOk result (λ renewed. renewed.executor.epoch ≡ self.now.epoch + 1) }
+        ensures lives { IfOk result (λ renewed. renewed.executor.lives ≡ self.now.lives) }
         ensures header { IfOk result (λ renewed. BeginsEpochHeader (string_bytes renewed.bytes) names.now
             renewed.executor) }
         ensures lines { IfOk result (λ renewed. renewed.executor.lines ≡ []) }
@@ -72,12 +73,13 @@ impl EpochExecutor {
             header,
             names: own,
             world,
+            lives,
             ..
         } = started;
         if !same_names(&own, names) || !are_whole_lines(bytes.as_bytes()) {
             return Err(CheckpointFailed);
         }
-        if !is_next_epoch(self.epoch(), header.epoch) {
+        if !is_next_epoch(self.epoch(), header.epoch) || !same_lives(&lives, self.lives()) {
             return Err(CheckpointFailed);
         }
         let base = base_of(alloc, &header)?;
@@ -99,8 +101,14 @@ impl EpochExecutor {
         if !is_checkpoint_same(&before, &shown) {
             return Err(CheckpointFailed);
         }
-        let length = bytes.len() as u64;
-        let executor = EpochExecutor::new(alloc, executor, base, header.epoch, length);
+        let start = EpochStart {
+            executor,
+            base,
+            lives,
+            epoch: header.epoch,
+            bytes: bytes.len() as u64,
+        };
+        let executor = EpochExecutor::new(alloc, start);
         Ok(Checkpoint { bytes, executor })
     }
 

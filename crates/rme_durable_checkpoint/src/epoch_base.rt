@@ -2,13 +2,14 @@
 
 ghost use Rattle.std.specs.Prelude.{◌≡◌, ◌+◌, ◌-◌, IfSome};
 ghost use Rattle.rme_durable_checkpoint.specs.ClientValues as spec;
+ghost use Rattle.rme_session_protocol.specs.ClientReplies.{pending_job_of_client};
 
 use crate::client_session::{ClientPending, ClientReady, ClientSession};
 use rme_line_text::ClientReceipt;
 use rme_program::Receipt;
 use rme_session_protocol::{
-    ClientOutcome, ClientReply, ClientToken, FencingToken, JobOutcome, Order, PendingWorker,
-    ReadyWorker, Session, SessionReply, Submission,
+    ClientOutcome, ClientPendingJob, ClientReply, ClientToken, FencingToken, JobOutcome, Order,
+    PendingJob, PendingWorker, ReadyWorker, Session, SessionReply, Submission,
 };
 use rme_words::Refusal;
 
@@ -206,6 +207,9 @@ impl Base {
             SessionReply::CrashPlanned => ClientReply::CrashPlanned,
             SessionReply::Detached => ClientReply::Detached,
             SessionReply::Pong => ClientReply::Pong,
+            SessionReply::Pending(told) => {
+                ClientReply::Pending(client_pending_job(numbers, told)?)
+            }
         })
     }
 }
@@ -216,6 +220,17 @@ fn offset_place(shift: PlaceOffset, place: u32) -> Option<u64>
 {
     let over = u64::from(place).checked_add(shift.more)?;
     Some(over.saturating_sub(shift.less))
+}
+
+/// A pending job, as the client sees it.
+fn client_pending_job(numbers: u64, told: PendingJob) -> Option<ClientPendingJob>
+    ensures { IfSome result (λ over. pending_job_of_client over ≡ spec.client_pending_job numbers told) }
+{
+    Some(ClientPendingJob {
+        number: numbers.checked_add(u64::from(told.number))?,
+        job: told.job,
+        stance: told.stance,
+    })
 }
 
 /// A refusal, as the client sees it.

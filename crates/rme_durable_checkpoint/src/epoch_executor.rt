@@ -9,7 +9,7 @@ ghost use Rattle.rme_durable_format.specs.CommandLines.{AppendsCommands};
 use crate::apply_error::ApplyError;
 use crate::epoch_base::{Base, epoch_order};
 use crate::immediate::immediate_reply;
-use rme_durable_format::{CommandWriter, append_batch};
+use rme_durable_format::{CommandWriter, append_batch, count_batch};
 use rme_session_protocol::{ClientReply, Order, Session, SessionReply, is_still_waiting};
 use rme_session_world::{EventBatch, Executor, SessionState};
 use rme_wire::Names;
@@ -36,7 +36,20 @@ struct EpochAnswer {
     waits_for: Option<u32>,
 }
 
-/// An executor, the pending lines of its event batches, and its base.
+/// The beginning of an epoch.
+#[derive(Drop)]
+pub struct EpochStart {
+    pub executor: Executor,
+    pub base: Base,
+    /// For each worker but the checkpoint worker how often it was restarted, over all epochs.
+    pub lives: Vec<u64>,
+    /// The number of earlier epochs.
+    pub epoch: u64,
+    /// The bytes of the lines that led to the executor.
+    pub bytes: u64,
+}
+
+/// An executor, the pending lines of its event batches, its base, and the lives of its workers.
 #[derive(Drop)]
 pub struct EpochExecutor {
     executor: Executor,
@@ -45,6 +58,8 @@ pub struct EpochExecutor {
     /// Whether an event batch could not be logged. No order is executed after that.
     is_failed: bool,
     base: Base,
+    /// For each worker but the checkpoint worker how often it was restarted, over all epochs.
+    lives: Vec<u64>,
     /// The number of earlier epochs.
     epoch: u64,
     /// The bytes of the epoch's lines, without the pending ones: of those that were taken. The greatest `u64` if there
@@ -62,6 +77,7 @@ impl Model for EpochExecutor {
       executor = epoch.executor;
       lines = string_bytes epoch.lines;
       base = epoch.base;
+      lives = epoch.lives.items;
       epoch = epoch.epoch;
       taken = epoch.bytes;
       failed = epoch.is_failed;
@@ -83,28 +99,30 @@ impl EpochExecutor {
     ghost use Rattle.rme_durable_checkpoint.specs.ImmediateReplies.{immediate_reply};
     ghost use Rattle.rme_durable_checkpoint.specs.declared.apply_error.ApplyError.TheVariants as error;
 
-    /// An executor of the epoch that follows this number of epochs, without pending lines. Lines of this many bytes led
-    /// to it.
-    pub fn new(
-        alloc: Global,
-        executor: Executor,
-        base: Base,
-        epoch: u64,
-        bytes: u64,
-    ) -> EpochExecutor
-        ensures executor { result.executor ≡ executor }
+    /// An executor of an epoch that begins so, without pending lines.
+    pub fn new(alloc: Global, start: EpochStart) -> EpochExecutor
+        ensures executor { result.executor ≡ start.executor }
         ensures lines { result.lines ≡ [] }
-        ensures base { result.base ≡ base }
-        ensures epoch { result.epoch ≡ epoch }
-        ensures taken { result.taken ≡ bytes }
+        ensures base { result.base ≡ start.base }
+        ensures lives { result.lives ≡ start.lives.items }
+        ensures epoch { result.epoch ≡ start.epoch }
+        ensures taken { result.taken ≡ start.bytes }
         ensures works { result.failed ≡ false }
     {
+        let EpochStart {
+            executor,
+            base,
+            lives,
+            epoch,
+            bytes,
+        } = start;
         EpochExecutor {
             executor,
             writer: CommandWriter::new(alloc),
             lines: String::new(alloc),
             is_failed: false,
             base,
+            lives,
             epoch,
             bytes,
         }
@@ -129,6 +147,13 @@ impl EpochExecutor {
         ensures { result.now ≡ self.now.base }
     {
         &self.base
+    }
+
+    /// For each worker but the checkpoint worker how often it was restarted, over all epochs.
+    pub fn lives(&self) -> &[u64]
+        ensures { result.now ≡ self.now.lives }
+    {
+        self.lives.as_slice()
     }
 
     /// The number of earlier epochs.
@@ -169,7 +194,8 @@ impl EpochExecutor {
         ensures place { IfOk result (λ answered. TellsClientPlace self.old.base self.old.executor.world
             (reply_of_client answered.reply)) }
         ensures written { OnOk result (LoggedStep names.now session.old.session
-            (logged_state self.old.executor self.old.lines) (logged_state self.new.executor self.new.lines)) }
+            (logged_state self.old.executor self.old.lives self.old.lines)
+            (logged_state self.new.executor self.new.lives self.new.lines)) }
         ensures session { session.new.session ≡ session.old.session }
         ensures base { self.new.base ≡ self.old.base }
         ensures epoch { self.new.epoch ≡ self.old.epoch }
@@ -231,7 +257,8 @@ impl EpochExecutor {
             (executor_session_view self.new.executor session.new).session executed.reply) }
         ensures place { IfOk result (λ executed. TellsPlace (HasFinished self.old.executor.world) executed.reply) }
         ensures written { OnOk result (LoggedStep names.now session.old.session
-            (logged_state self.old.executor self.old.lines) (logged_state self.new.executor self.new.lines)) }
+            (logged_state self.old.executor self.old.lives self.old.lines)
+            (logged_state self.new.executor self.new.lives self.new.lines)) }
         ensures session { session.new.session ≡ session.old.session }
         ensures base { self.new.base ≡ self.old.base }
         ensures epoch { self.new.epoch ≡ self.old.epoch }
@@ -252,13 +279,14 @@ impl EpochExecutor {
             Ok(done) => done,
             Err(_) => return Err(ApplyError::NoMemory),
         };
+        count_batch(&mut self.lives, &done.batch);
         if log_batch(&mut self.lines, &mut self.writer, names, done.batch).is_err() {
             return Err(self.fail());
         }
-        let reply = done.reply;
+        let waits_for = self.lock_waited_for(session, &done.reply);
         Ok(EpochAnswer {
-            reply,
-            waits_for: self.lock_waited_for(session, reply),
+            reply: done.reply,
+            waits_for,
         })
     }
 
@@ -271,7 +299,8 @@ impl EpochExecutor {
         ensures down { IfSome (owned_worker self.old.executor session.old) (λ worker.
             IsWorkerDown self.new.executor.world worker × (slice_get self.new.executor.holders worker ≡ Some None)) }
         ensures written { OnOk result (LoggedStep names.now session.old.session
-            (logged_state self.old.executor self.old.lines) (logged_state self.new.executor self.new.lines)) }
+            (logged_state self.old.executor self.old.lives self.old.lines)
+            (logged_state self.new.executor self.new.lives self.new.lines)) }
         ensures session { session.new.session ≡ session.old.session }
         ensures base { self.new.base ≡ self.old.base }
         ensures epoch { self.new.epoch ≡ self.old.epoch }
@@ -280,6 +309,7 @@ impl EpochExecutor {
         ensures works { OnOk result ((self.old.failed ≡ false) × (self.new.failed ≡ false)) }
     {
         let batch = self.executor.detach_session(session);
+        count_batch(&mut self.lives, &batch);
         if self.is_failed || log_batch(&mut self.lines, &mut self.writer, names, batch).is_err() {
             return Err(self.fail());
         }
@@ -292,6 +322,7 @@ impl EpochExecutor {
         ensures taken { IfSome result (λ lines. string_bytes lines ≡ self.old.lines) }
         ensures left { OnSome result (self.new.lines ≡ string_bytes empty) }
         ensures executor { self.new.executor ≡ self.old.executor }
+        ensures lives { self.new.lives ≡ self.old.lives }
         ensures base { self.new.base ≡ self.old.base }
         ensures epoch { self.new.epoch ≡ self.old.epoch }
         ensures bytes { OnSome result (self.new.taken ≡ min (self.old.taken + length self.old.lines) (2 ^ 64 - 1)) }
@@ -310,6 +341,7 @@ impl EpochExecutor {
     fn fail(&mut self) -> ApplyError
         ensures why { result ≡ error.NotLogged }
         ensures executor { self.new.executor ≡ self.old.executor }
+        ensures lives { self.new.lives ≡ self.old.lives }
         ensures base { self.new.base ≡ self.old.base }
         ensures epoch { self.new.epoch ≡ self.old.epoch }
         ensures taken { self.new.taken ≡ self.old.taken }
@@ -321,8 +353,8 @@ impl EpochExecutor {
     }
 
     /// The lock of a session's job, if the reply says that the job waits.
-    fn lock_waited_for(&self, session: &SessionState, reply: SessionReply) -> Option<u32> {
-        if !is_still_waiting(reply) {
+    fn lock_waited_for(&self, session: &SessionState, reply: &SessionReply) -> Option<u32> {
+        if !is_still_waiting(*reply) {
             return None;
         }
         let worker = session.worker?;

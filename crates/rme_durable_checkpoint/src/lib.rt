@@ -30,6 +30,6 @@ pub use checkpoint_builder::CheckpointFailed;
 pub use checkpointing::Checkpoint;
 pub use client_session::{ClientPending, ClientReady, ClientSession};
 pub use epoch_base::{Base, PlaceOffset, WorkerBase};
-pub use epoch_executor::{ClientAnswer, EpochExecutor};
+pub use epoch_executor::{ClientAnswer, EpochExecutor, EpochStart};
 pub use sections::Sections;
 pub use setting::MOST_SET;

@@ -23,7 +23,11 @@ pub(crate) fn next_header(
     let Some(epoch) = old.epoch().checked_add(1) else {
         return Err(CheckpointFailed);
     };
+    let Ok(lives) = old.lives().to_vec(alloc) else {
+        return Err(CheckpointFailed);
+    };
     header.epoch = epoch;
+    header.lives = lives;
     set_places(&mut header, old, sections_made)?;
     set_workers(alloc, &mut header, old)?;
     Ok(header)

@@ -4,6 +4,7 @@ use Rattle.rme_words.specs.declared.shape.Shape.{Shape}
 use Rattle.rme_world.specs.WorldViews.{WorldView}
 use Rattle.rme_session_world.specs.ExecutorStates.{ExecutorState}
 use Rattle.rme_durable_format.specs.Headers.{header_values}
+use Rattle.rme_durable_format.specs.Lives.{RecoversLives}
 use Rattle.rme_durable_format.specs.Recovery.{BeginsWithHeader}
 use Rattle.rme_durable_format.specs.WholeLines.{AreWholeLines}
 use Rattle.rme_durable_checkpoint.specs.HeaderBases.{IsHeaderBase}
@@ -23,4 +24,10 @@ returns-clause-header c =
     let told = subst (λ (b : List ℕ). B b c.in-Ok.started.names c.in-Ok.started.world.shape) c.as_bytes.ensures.value c.in-Ok.ensures.header in
     let named = subst (λ (n : List (List ℕ)). B bytes n c.in-Ok.started.world.shape) (c.if-not-same_names.ensures refl) told in
     let world = sym (ap (λ (e : ExecutorState). e.world.shape) c.new-executor.ensures.executor ∙ ap (λ (w : WorldView). w.shape) c.in-Some.ensures.0) in
-    record { past = past; begins = subst (B bytes c.args.names.now) world named; number = sym c.new-executor.ensures.epoch; base = subst (IsHeaderBase past) (sym c.new-executor.ensures.base) c.in_ok-base.ensures }
+    record {
+      past = past;
+      begins = subst (B bytes c.args.names.now) world named;
+      number = sym c.new-executor.ensures.epoch;
+      base = subst (IsHeaderBase past) (sym c.new-executor.ensures.base) c.in_ok-base.ensures;
+      counts = subst (λ (l : List ℕ). RecoversLives bytes past.lives l) (sym c.new-executor.ensures.lives) (subst (λ (b : List ℕ). RecoversLives b past.lives c.in-Ok.started.lives.items) c.as_bytes.ensures.value c.in-Ok.ensures.lives);
+    }
