@@ -11,6 +11,7 @@ use Rattle.rme_durable_log.specs.declared.log_entry.LogEntry.{LogEntry}
 use Rattle.rme_durable_log.specs.declared.log_entry.LogEntry.TheVariants.{Lines, Whole}
 use Rattle.rme_durable_format.specs.BatchCommands.{batch_commands, batch_commands_if}
 use Rattle.rme_durable_format.specs.CommandLines.{AppendsCommands}
+use Rattle.rme_durable_format.specs.Lives.{lives_after_batch, lives_after_batch_if}
 use Rattle.rme_durable_checkpoint.specs.EpochStates.{EpochState}
 use Rattle.rme_durable_checkpoint.specs.declared.epoch_base.Base.{Base}
 use Rattle.rme_durable_checkpoint.specs.LoggedStates.{LoggedStep, logged_state}
@@ -32,11 +33,12 @@ leads_more opening (first ∷ log) old entry new leads one = (leads.0, leads.1, 
 
 -- ---- a step of a session
 
-abbrev state_with : ExecutorState → Base → ℕ → ServerState
-state_with executor base epoch = record { executor = executor; base = base; epoch = epoch }
+abbrev state_with : ExecutorState → Base → List ℕ → ℕ → ServerState
+state_with executor base lives epoch = record { executor = executor; base = base; lives = lives; epoch = epoch }
 
-same_state : (one two : EpochState) → one.executor ≡ two.executor → one.base ≡ two.base → one.epoch ≡ two.epoch → server_state one ≡ server_state two
-same_state one two executor base epoch = ap (λ (e : ExecutorState). state_with e one.base one.epoch) executor ∙ ap₂ (λ (b : Base) (n : ℕ). state_with two.executor b n) base epoch
+same_state : (one two : EpochState) → one.executor ≡ two.executor → one.base ≡ two.base → one.lives ≡ two.lives → one.epoch ≡ two.epoch → server_state one ≡ server_state two
+same_state one two executor base lives epoch =
+    ap₂ (λ (e : ExecutorState) (l : List ℕ). state_with e one.base l one.epoch) executor lives ∙ ap₂ (λ (b : Base) (n : ℕ). state_with two.executor b two.lives n) base epoch
 
 -- A session appended at most one entry, and the log leads to the state after it.
 abbrev pub Appended : ServerOpening → ℕ → EpochState → EpochState → AppenderState → AppenderState → Type 0
@@ -44,12 +46,12 @@ Appended opening session old new from to = AppendsAtMostOne opening.names sessio
 
 module _ (opening : ServerOpening) (session : ℕ) (old new : EpochState) (from to : AppenderState) (logged : IsLogged opening old from.log from.waits) (base : new.base ≡ old.base) (epoch : new.epoch ≡ old.epoch) where
   -- without an event batch
-  still : new.executor ≡ old.executor → new.lines ≡ old.lines → AppendsIfAny session (drop (length old.lines) new.lines) from to → Appended opening session old new from to
-  still same lines appends =
+  still : new.executor ≡ old.executor → new.lives ≡ old.lives → new.lines ≡ old.lines → AppendsIfAny session (drop (length old.lines) new.lines) from to → Appended opening session old new from to
+  still same lives lines appends =
       let none : drop (length old.lines) new.lines ≡ [] = ap (drop (length old.lines)) lines ∙ drop_all old.lines in
       let kept : to ≡ from = subst (λ (rest : List ℕ). AppendsIfAny session rest from to) none appends in
       let log : to.log ≡ from.log = ap (λ (a : AppenderState). a.log) kept in
-      let state : server_state new ≡ server_state old = same_state new old same base epoch in (
+      let state : server_state new ≡ server_state old = same_state new old same base lives epoch in (
         inl (log, state),
         record {
           leads = subst (λ (l : List LogEntry). LogLeads opening l (server_state new)) (sym log) (subst (λ (s : ServerState). LogLeads opening from.log s) (sym state) logged.leads);
@@ -57,10 +59,10 @@ module _ (opening : ServerOpening) (session : ℕ) (old new : EpochState) (from 
         },
       )
 
-  some_by : (batch : EventBatch) → AppliesSessionBatch session old.executor batch new.executor → (rest : List ℕ) → new.lines ≡ old.lines ++ rest → AppendsCommands opening.names [] (batch_commands batch) rest → rest ≢ [] → AppendsIfAny session rest from to → Appended opening session old new from to
-  some_by batch applies [] more written some appends = absurd (some refl)
-  some_by batch applies (byte ∷ lines) more written some appends =
-      let appended : AppendsSessionBatch opening.names session (server_state old) (byte ∷ lines) (server_state new) = record { batch = batch; applies = applies; written = written; base = base; epoch = epoch } in (
+  some_by : (batch : EventBatch) → AppliesSessionBatch session old.executor batch new.executor → new.lives ≡ lives_after_batch old.lives batch → (rest : List ℕ) → new.lines ≡ old.lines ++ rest → AppendsCommands opening.names [] (batch_commands batch) rest → rest ≢ [] → AppendsIfAny session rest from to → Appended opening session old new from to
+  some_by batch applies lives [] more written some appends = absurd (some refl)
+  some_by batch applies lives (byte ∷ lines) more written some appends =
+      let appended : AppendsSessionBatch opening.names session (server_state old) (byte ∷ lines) (server_state new) = record { batch = batch; applies = applies; written = written; base = base; lives = lives; epoch = epoch } in (
         inr (byte ∷ lines, appends.0, appended),
         record {
           leads = subst (λ (l : List LogEntry). LogLeads opening l (server_state new)) (sym appends.0) (leads_more opening from.log (server_state old) (Lines session (byte ∷ lines)) (server_state new) logged.leads appended);
@@ -68,15 +70,15 @@ module _ (opening : ServerOpening) (session : ℕ) (old new : EpochState) (from 
         },
       )
 
-  by_batch : (batch : Option EventBatch) → AppliesSessionOrder session old.executor batch new.executor → AppendsCommands opening.names old.lines (batch_commands_if batch) new.lines → AppendsIfAny session (drop (length old.lines) new.lines) from to → Appended opening session old new from to
-  by_batch None applies written appends = still applies written appends
-  by_batch (Some batch) applies written appends =
+  by_batch : (batch : Option EventBatch) → AppliesSessionOrder session old.executor batch new.executor → AppendsCommands opening.names old.lines (batch_commands_if batch) new.lines → new.lives ≡ lives_after_batch_if old.lives batch → AppendsIfAny session (drop (length old.lines) new.lines) from to → Appended opening session old new from to
+  by_batch None applies written lives appends = still applies lives written appends
+  by_batch (Some batch) applies written lives appends =
       let rest = appends_from opening.names old.lines (batch_commands batch) new.lines written in
-      some_by batch applies rest.0 rest.1 rest.2 (rest.3 (commands_some batch applies.some)) (subst (λ (r : List ℕ). AppendsIfAny session r from to) (drop_rest old.lines rest.0 new.lines rest.1) appends)
+      some_by batch applies lives rest.0 rest.1 rest.2 (rest.3 (commands_some batch applies.some)) (subst (λ (r : List ℕ). AppendsIfAny session r from to) (drop_rest old.lines rest.0 new.lines rest.1) appends)
 
   -- A step of a session appends at most its own entry, and the log leads to the state after it.
-  pub appended : LoggedStep opening.names session (logged_state old.executor old.lines) (logged_state new.executor new.lines) → AppendsIfAny session (drop (length old.lines) new.lines) from to → Appended opening session old new from to
-  appended written appends = by_batch written.0 written.1 written.2 appends
+  pub appended : LoggedStep opening.names session (logged_state old.executor old.lives old.lines) (logged_state new.executor new.lives new.lines) → AppendsIfAny session (drop (length old.lines) new.lines) from to → Appended opening session old new from to
+  appended written appends = by_batch written.0 written.1 written.2 written.3 appends
 
 pub logged_some : (opening : ServerOpening) (found : Option AppenderState) (appender : AppenderState) (epoch : EpochState) → found ≡ Some appender → IfSome found (λ (a : AppenderState). IsLogged opening epoch a.log a.waits) → IsLogged opening epoch appender.log appender.waits
 logged_some opening found appender epoch is logged = subst (λ (o : Option AppenderState). IfSome o (λ (a : AppenderState). IsLogged opening epoch a.log a.waits)) is logged
@@ -96,17 +98,17 @@ logged_epoch opening old new log after waits pending bytes logged begins more no
 }
 
 -- Lines only grow.
-pub lines_grow : (names : List (List ℕ)) (session : ℕ) (old new : EpochState) → LoggedStep names session (logged_state old.executor old.lines) (logged_state new.executor new.lines) → length old.lines ≤ length new.lines
+pub lines_grow : (names : List (List ℕ)) (session : ℕ) (old new : EpochState) → LoggedStep names session (logged_state old.executor old.lives old.lines) (logged_state new.executor new.lives new.lines) → length old.lines ≤ length new.lines
 lines_grow names session old new written =
     let rest = appends_from names old.lines (batch_commands_if written.0) new.lines written.2 in
     omega (arith, ap length rest.1, length-append old.lines rest.0)
 
 -- A step of a session, for the values that the code found.
 pub logged_step : (opening : ServerOpening) (names : List (List ℕ)) (session author : ℕ) (old new : EpochState) (from to : AppenderState) (looked : List ℕ) → IsLogged opening old from.log from.waits → names ≡ opening.names → author ≡ session → looked ≡ old.lines → new.base ≡ old.base → new.epoch ≡ old.epoch
-    → LoggedStep names session (logged_state old.executor old.lines) (logged_state new.executor new.lines) → AppendsIfAny author (drop (length looked) new.lines) from to → Appended opening session old new from to
+    → LoggedStep names session (logged_state old.executor old.lives old.lines) (logged_state new.executor new.lives new.lines) → AppendsIfAny author (drop (length looked) new.lines) from to → Appended opening session old new from to
 logged_step opening names session author old new from to looked logged named by saw base epoch written appends =
     appended opening session old new from to logged base epoch
-    (subst (λ (n : List (List ℕ)). LoggedStep n session (logged_state old.executor old.lines) (logged_state new.executor new.lines)) named written)
+    (subst (λ (n : List (List ℕ)). LoggedStep n session (logged_state old.executor old.lives old.lines) (logged_state new.executor new.lives new.lines)) named written)
     (subst (λ (a : ℕ). AppendsIfAny a (drop (length old.lines) new.lines) from to) by (subst (λ (l : List ℕ). AppendsIfAny author (drop (length l) new.lines) from to) saw appends))
 
 -- The session acted at this moment.

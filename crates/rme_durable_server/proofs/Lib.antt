@@ -6,3 +6,4 @@ pub mod Leading
 pub mod Extending
 pub mod Keeping
 pub mod Listing
+mod Choosing

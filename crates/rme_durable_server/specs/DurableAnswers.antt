@@ -1,12 +1,18 @@
 -- How the lines of a session of the durable server are answered.
-use Rattle.std.specs.Prelude.{◌≡◌, ◌⊎◌, ℕ, zero, suc, nat_le, Bool, true, false, List, [], ◌∷◌, ◌++◌, Option, Some, None, Result, Ok, Err}
+use Rattle.std.specs.Prelude.{◌≡◌, ◌≢◌, ◌⊎◌, ℕ, zero, suc, nat_le, Bool, true, false, List, [], ◌∷◌, ◌++◌, Option, Some, None, Result, Ok, Err}
 use Rattle.rme_line_io.specs.Pieces.{InputLine}
 use Rattle.rme_durable_checkpoint.specs.EpochStates.{SessionStepAcrossCheckpoints, TellsClientPlace, TellsClientSection, executor_session}
 use Rattle.rme_durable_log.specs.StoreCalls.{StoreState}
 use Rattle.rme_durable_log.specs.Logs.{AreNotByAuthor, IsLogDurable}
 use Rattle.rme_durable_log.specs.declared.log_entry.LogEntry.{LogEntry}
 use Rattle.rme_session_protocol.specs.Attempts.{merged_reply, retry_order, is_still_waiting}
-use Rattle.rme_session_protocol.specs.SessionLines.{session_reply_line}
+use Rattle.rme_session_protocol.specs.SessionLines.{choice_reply_line, session_reply_line}
+use Rattle.rme_session_protocol.specs.WorkerChoices.{choice_of_line}
+use Rattle.rme_session_protocol.specs.declared.view.Session.TheVariants.{Nobody}
+use Rattle.rme_session_protocol.specs.declared.worker_choice.WorkerChoice.{WorkerChoice}
+use Rattle.rme_session_world.specs.Executors.{HasNoCandidate, IsChosenWorker, executor_session_view}
+use Rattle.rme_session_world.specs.ExecutorStates.{ExecutorState}
+use Rattle.rme_session_world.specs.declared.executor.SessionState.{SessionState}
 use Rattle.rme_session_protocol.specs.declared.planned_crash.PlannedCrash.TheVariants.{Nothing}
 use Rattle.rme_session_server.specs.SessionAnswers.{parsed_order}
 use Rattle.rme_session_protocol.specs.Orders.{service_numbers}
@@ -15,7 +21,7 @@ use Rattle.rme_session_protocol.specs.declared.order.Order.TheVariants.{Attach}
 use Rattle.rme_session_protocol.specs.declared.reply.SessionReply.{SessionReply}
 use Rattle.rme_session_protocol.specs.declared.reply.SessionReply.TheVariants.{Refused}
 use Rattle.rme_words.specs.declared.refusal.Refusal.{Refusal}
-use Rattle.rme_words.specs.declared.refusal.Refusal.TheVariants.{BadLine, NoWorker, Taken}
+use Rattle.rme_words.specs.declared.refusal.Refusal.TheVariants.{BadLine, Busy, NoWorker, Taken}
 use Rattle.rme_line_text.specs.Replies.{reply_text}
 use Rattle.rme_line_text.specs.declared.reply.Reply.{Reply}
 use Rattle.rme_line_text.specs.declared.reply.Reply.TheVariants as line
@@ -23,6 +29,10 @@ use Rattle.rme_world.specs.Calls.{CellsContract, OwnerContract}
 use Rattle.rme_durable_server.specs.declared.lookup.SessionLookup.{SessionLookup}
 use Rattle.rme_durable_server.specs.declared.lookup.SessionLookup.TheVariants.{Owner, Cells, Status}
 use Rattle.rme_durable_server.specs.Lookups.{lookup_of_line}
+use Rattle.rme_durable_server.specs.declared.worker_choice.Chosen.{Chosen}
+use Rattle.rme_durable_server.specs.declared.worker_choice.Chosen.TheVariants as chosen
+use Rattle.rme_durable_server.specs.declared.worker_choice.Chosen.TheVariants.{Worker}
+use Rattle.rme_session_protocol.specs.ClientReplies.{reply_of_client}
 use Rattle.rme_durable_server.specs.StatusTexts.{status_state, status_text}
 use Rattle.rme_durable_server.specs.ServerHistories.{LogLeads, ServerOpening, ServerState, SessionActs, SessionEnds, SessionMoment}
 
@@ -38,6 +48,11 @@ pub record DurableAttempt (opening : ServerOpening) (old : SessionMoment) (its :
       (executor_session after.executor now.session) answer
   pub section : TellsClientSection before.base (executor_session after.executor now.session) answer
   pub place : TellsClientPlace before.base before.executor.world answer
+
+-- One try, from this state.
+abbrev pub AttemptFrom : ServerState → ServerOpening → SessionMoment → Order → SessionMoment → SessionReply → Type 0
+AttemptFrom state opening old its now answer =
+    (attempt : DurableAttempt opening old its now answer) × (attempt.before ≡ state)
 
 -- An order with this reply is continued: its job waits, or another session has the worker that it would take over.
 abbrev pub IsAnswerUnfinished : SessionReply → Type 0
@@ -127,32 +142,74 @@ pub record DurableLookup {X : Type 0} (holds : X → StoreState) (opening : Serv
 abbrev pub IsSessionEndDurable : {X : Type 0} → (X → StoreState) → ServerOpening → SessionMoment → Type 0
 IsSessionEndDurable holds opening old = (log : List LogEntry) × SessionEnds opening old log × IsLogDurable holds log
 
--- What a line asks: an order, a look-up, or neither, with why it is refused.
+-- A session that leaves the choice of its worker to the server gets none: it has a worker, or no session lacks one that
+-- the choice takes.
+abbrev pub IsWhyNoneChosen : ℕ → ExecutorState → SessionState → WorkerChoice → Refusal → Type 0
+IsWhyNoneChosen clients executor session choice Busy = (executor_session_view executor session).session ≢ Nobody
+IsWhyNoneChosen clients executor session choice Taken = HasNoCandidate executor choice clients
+IsWhyNoneChosen clients executor session choice why = ⊥
+
+-- That is so at one moment of the log, at which the session acts and appends nothing.
+pub record ChoiceIsRefused (terms : ClientTerms) (old : SessionMoment) (choice : WorkerChoice) (why : Refusal)
+    (now : SessionMoment) : Type 0 where
+  pub state : ServerState
+  pub session : now.session ≡ old.session
+  pub acts : SessionActs terms.opening old state now state
+  pub none : IsWhyNoneChosen terms.clients state.executor old.session choice why
+
+-- At one moment of the log the session attaches the lowest worker that the choice takes then.
+pub record AttachesChosen (opening : ServerOpening) (clients : ℕ) (old : SessionMoment) (choice : WorkerChoice)
+    (worker : ℕ) (now : SessionMoment) (answer : SessionReply) : Type 0 where
+  pub attempt : DurableAttempt opening old (Attach record { worker = worker; take = false }) now answer
+  pub chosen : IsChosenWorker attempt.before.executor choice clients worker
+
+-- What a session gets that leaves the choice to the server, and its answer, once everything before its moment is
+-- durable.
+abbrev pub ChoiceOutcome : ClientTerms → SessionMoment → WorkerChoice → Chosen → SessionMoment → Type 0
+ChoiceOutcome terms old choice (Worker worker told) now =
+    AttachesChosen terms.opening terms.clients old choice worker now (reply_of_client told)
+ChoiceOutcome terms old choice (chosen.Refused why) now = ChoiceIsRefused terms old choice why now
+
+abbrev pub chosen_line : List (List ℕ) → Chosen → List ℕ
+chosen_line names (Worker worker told) = choice_reply_line names worker (reply_of_client told)
+chosen_line names (chosen.Refused why) = session_reply_line names (Refused why)
+
+abbrev pub DurableChoice : {X : Type 0} → (X → StoreState) → ClientTerms → SessionMoment → WorkerChoice → List ℕ
+    → SessionMoment → Type 0
+DurableChoice holds terms old choice bytes now =
+    (found : Chosen) × ChoiceOutcome terms old choice found now × IsLogDurable holds now.log
+    × (bytes ≡ chosen_line terms.opening.names found)
+
+-- What a line asks: an order, a look-up, a worker of the server's choice, or nothing, with why it is refused.
 pub data LineAsk : Type 0 where
   ask_order : Order → LineAsk
   ask_lookup : SessionLookup → LineAsk
+  ask_choice : WorkerChoice → LineAsk
   ask_nothing : Refusal → LineAsk
 
--- A line that is refused as no order may be a look-up.
-abbrev pub ask_if_bad : Refusal → Option SessionLookup → LineAsk
-ask_if_bad BadLine (Some look) = ask_lookup look
-ask_if_bad why look = ask_nothing why
+-- A line that is refused as no order may be a look-up, or leave the choice of a worker to the server.
+abbrev pub ask_if_bad : Refusal → Option SessionLookup → Option WorkerChoice → LineAsk
+ask_if_bad BadLine (Some look) choice = ask_lookup look
+ask_if_bad BadLine None (Some choice) = ask_choice choice
+ask_if_bad why look choice = ask_nothing why
 
-abbrev pub ask_by : Result Order Refusal → Option SessionLookup → LineAsk
-ask_by (Ok its) look = ask_order its
-ask_by (Err why) look = ask_if_bad why look
+abbrev pub ask_by : Result Order Refusal → Option SessionLookup → Option WorkerChoice → LineAsk
+ask_by (Ok its) look choice = ask_order its
+ask_by (Err why) look choice = ask_if_bad why look choice
 
 abbrev pub line_ask : List (List ℕ) → InputLine → LineAsk
-line_ask names line = ask_by (parsed_order names service_numbers line) (lookup_of_line names line)
+line_ask names line =
+    ask_by (parsed_order names service_numbers line) (lookup_of_line names line) (choice_of_line line)
 
--- An order is answered by its reply, once everything before the moments of its tries is durable; a look-up likewise;
--- and any other line by why it is refused.
+-- An order is answered by its reply, once everything before the moments of its tries is durable; a look-up and a
+-- choice likewise; and any other line by why it is refused.
 abbrev pub DurableLineReply : {X : Type 0} → (X → StoreState) → ClientTerms → SessionMoment → LineAsk → List ℕ
     → SessionMoment → Type 0
 DurableLineReply holds terms old (ask_order its) bytes now =
     (reply : SessionReply) × DurableOrderEffect holds terms old its now reply
     × (bytes ≡ session_reply_line terms.opening.names reply)
 DurableLineReply holds terms old (ask_lookup look) bytes now = DurableLookup holds terms.opening old look bytes now
+DurableLineReply holds terms old (ask_choice choice) bytes now = DurableChoice holds terms old choice bytes now
 DurableLineReply holds terms old (ask_nothing why) bytes now =
     (now ≡ old) × (bytes ≡ session_reply_line terms.opening.names (Refused why))
 

@@ -6,17 +6,19 @@ use Rattle.rme_world.specs.WorldViews.{WorldView}
 use Rattle.rme_line_engine.specs.EngineStates.{nothing_open}
 use Rattle.rme_line_engine.specs.Tallies.{tallied_opening}
 use Rattle.rme_durable_format.specs.Headers.{HasLogVersion, HeaderValues, IsLogHeader, header_values}
+use Rattle.rme_durable_format.specs.Lives.{RecoversLives}
 use Rattle.rme_durable_format.specs.Recovery.{AcceptsLine, BeginsWithHeader, IsDamagedAfterHeader, IsDamagedLog, RecoversWorld}
 use Rattle.rme_durable_format.specs.declared.fault.BadLog.{BadLog}
 use Rattle.rme_durable_format.specs.declared.fault.BadLog.TheVariants as bad
 use Rattle.rme_durable_checkpoint.specs.HeaderBases.{IsHeaderBase, LeavesRoom}
 use Rattle.rme_durable_server.specs.declared.recovery.RecoveredState.{RecoveredState}
 
--- The bytes are the state's: all lines after the first lead to its world; the first is the header of that world, and
--- leaves room for one more epoch; and the base is the header's.
+-- The bytes are the state's: all lines after the first lead to its world, and from the lives of the header to its lives;
+-- the first is the header of that world, and leaves room for one more epoch; and the base is the header's.
 pub record AreState (bytes : List ℕ) (recovered : RecoveredState) : Type 0 where
   pub world : RecoversWorld bytes recovered.log.names recovered.log.world
   pub header : BeginsWithHeader bytes recovered.log.names recovered.log.world.shape (header_values recovered.log.header)
+  pub lives : RecoversLives bytes (header_values recovered.log.header).lives recovered.log.lives.items
   pub room : LeavesRoom (header_values recovered.log.header)
   pub base : IsHeaderBase (header_values recovered.log.header) recovered.base
 

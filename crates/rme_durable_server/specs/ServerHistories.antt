@@ -13,6 +13,7 @@ use Rattle.rme_durable_log.specs.declared.log_entry.LogEntry.TheVariants.{Lines,
 use Rattle.rme_durable_format.specs.BatchCommands.{batch_commands}
 use Rattle.rme_durable_format.specs.CommandLines.{AppendsCommands}
 use Rattle.rme_durable_format.specs.Headers.{HeaderValues}
+use Rattle.rme_durable_format.specs.Lives.{RecoversLives, lives_after_batch}
 use Rattle.rme_durable_format.specs.Recovery.{BeginsWithHeader, RecoversWorld}
 use Rattle.rme_durable_format.specs.WholeLines.{AreWholeLines}
 use Rattle.rme_durable_checkpoint.specs.Checkpoints.{CheckpointShowsSame}
@@ -21,15 +22,17 @@ use Rattle.rme_durable_checkpoint.specs.ClientValues.{client_session}
 use Rattle.rme_durable_checkpoint.specs.EpochStates.{EpochState}
 use Rattle.rme_durable_checkpoint.specs.declared.epoch_base.Base.{Base}
 
--- The state of a server: the world with the session that has each worker, the base of the epoch, and the number of
--- earlier epochs.
+-- The state of a server: the world with the session that has each worker, the base of the epoch, how often each worker
+-- was restarted, and the number of earlier epochs.
 pub record ServerState : Type 0 where
   pub executor : ExecutorState
   pub base : Base
+  pub lives : List ℕ
   pub epoch : ℕ
 
 abbrev pub server_state : EpochState → ServerState
-server_state epoch = record { executor = epoch.executor; base = epoch.base; epoch = epoch.epoch }
+server_state epoch =
+    record { executor = epoch.executor; base = epoch.base; lives = epoch.lives; epoch = epoch.epoch }
 
 -- The names of the locks, and the states with which the server may begin.
 pub record ServerOpening : Type 1 where
@@ -41,13 +44,14 @@ abbrev pub no_opening : ServerOpening
 no_opening = record { names = []; begins = λ _. ⊤ }
 
 -- An event batch of a session: its events lead from one state to the next, and its lines are those of their commands.
--- They are events of one worker, which that session had, or no session had.
+-- They are events of one worker, which that session had, or no session had; a restart is one more life of the worker.
 pub record AppendsSessionBatch (names : List (List ℕ)) (session : ℕ) (old : ServerState) (lines : List ℕ)
     (new : ServerState) : Type 0 where
   pub batch : EventBatch
   pub applies : AppliesSessionBatch session old.executor batch new.executor
   pub written : AppendsCommands names [] (batch_commands batch) lines
   pub base : new.base ≡ old.base
+  pub lives : new.lives ≡ lives_after_batch old.lives batch
   pub epoch : new.epoch ≡ old.epoch
 
 -- Bytes begin with the header of a state: it has the number of the epoch, and the base.
@@ -57,13 +61,15 @@ pub record HasStateHeader (names : List (List ℕ)) (bytes : List ℕ) (state : 
   pub number : past.epoch ≡ state.epoch
   pub base : IsHeaderBase past state.base
 
--- A checkpoint begins a new epoch, with the next number: its bytes are whole lines, recovery of them leads to its world,
--- they begin with its header, and clients see the same in it.
+-- A checkpoint begins a new epoch, with the next number: its bytes are whole lines, recovery of them leads to its world
+-- and its lives, they begin with its header, the lives are those before it, and clients see the same in it.
 pub record BeginsEpoch (names : List (List ℕ)) (old : ServerState) (bytes : List ℕ) (new : ServerState) : Type 0 where
   pub whole : AreWholeLines bytes
   pub recovers : RecoversWorld bytes names new.executor.world
   pub epoch : new.epoch ≡ old.epoch + 1
   pub header : HasStateHeader names bytes new
+  pub counts : RecoversLives bytes header.past.lives new.lives
+  pub lives : new.lives ≡ old.lives
   pub same : CheckpointShowsSame old.base old.executor new.base new.executor
 
 -- An entry of the log leads from one state to the next.

@@ -8,6 +8,7 @@ use Rattle.rme_machine.specs.AbstractCells.{is_lock_settled}
 use Rattle.rme_machine.specs.Views.{lock_words}
 use Rattle.rme_line_text.specs.Texts.{cells_text, lock_name, separated_text}
 use Rattle.rme_world.specs.WorldViews.{WorldView, world_abstract_state, world_memory, world_privates}
+use Rattle.rme_waiting.specs.Waiting.{blocked_by}
 use Rattle.rme_durable_checkpoint.specs.Checkpoints.{client_number, pending_job_of}
 use Rattle.rme_durable_checkpoint.specs.ClientValues.{next_client_place}
 use Rattle.rme_durable_checkpoint.specs.declared.epoch_base.Base.{Base}
@@ -57,10 +58,12 @@ stance_by_job seen worker (Some job) = stance_at_lock (owner_or_nobody seen job.
 abbrev pub worker_stance : WorldView → ℕ → WorkerStance
 worker_stance seen worker = stance_by_job seen worker (pending_job_of seen worker)
 
--- The status of a worker: whether a session has it, the number of its last job as clients see it, and its stance.
+-- The status of a worker: whether a session has it, the worker that it waits for, the number of its last job as clients
+-- see it, and its stance.
 abbrev pub worker_status : StatusState → ℕ → WorkerStatus
 worker_status state worker = record {
   attached = is_some (world_privates state.world worker);
+  blocked_by = blocked_by state.world.shape (world_memory state.world) worker;
   number = client_number state.base state.world worker;
   stance = worker_stance state.world worker;
 }
@@ -105,18 +108,25 @@ abbrev pub lock_member_text : List (List ℕ) → Option ℕ → List ℕ
 lock_member_text names None = []
 lock_member_text names (Some lock) = codes ",\"lock\":\"" ++ (lock_name names lock ++ codes "\"")
 
--- the text of a worker's status before its lock, and after it
+-- the text of a worker's status before its lock, with the worker that it waits for if there is one, and after its lock
 abbrev pub attached_text : Bool → List ℕ
 attached_text attached = codes "{\"attached\":" ++ bool_text attached
+
+abbrev pub blocked_by_text : Option ℕ → List ℕ
+blocked_by_text None = []
+blocked_by_text (Some other) = codes ",\"blocked_by\":" ++ decimal other
+
+abbrev pub worker_front : Bool → Option ℕ → List ℕ
+worker_front attached blocked_by = attached_text attached ++ blocked_by_text blocked_by
 
 abbrev pub worker_status_end : ℕ → List ℕ → List ℕ
 worker_status_end number word =
     codes ",\"number\":" ++ (decimal number ++ (codes ",\"stance\":\"" ++ (word ++ codes "\"}")))
 
--- `{"attached":..,"lock":..,"number":..,"stance":..}`
+-- `{"attached":..,"blocked_by":..,"lock":..,"number":..,"stance":..}`
 abbrev pub worker_status_text : List (List ℕ) → WorkerStatus → List ℕ
 worker_status_text names status =
-    attached_text status.attached ++ (lock_member_text names (worker_stance_lock status.stance) ++
+    worker_front status.attached status.blocked_by ++ (lock_member_text names (worker_stance_lock status.stance) ++
     worker_status_end status.number (worker_stance_word status.stance))
 
 -- ---- the whole text

@@ -9,8 +9,9 @@ ghost use Rattle.rme_session_server.specs.SessionAnswers.{AnswerFailure};
 use crate::durable_server::DurableServer;
 use crate::lookup::{SessionLookup, parse_lookup};
 use crate::session::{DurableSession, ServerTag};
+use crate::worker_choice::Chosen;
 use rme_durable_log::LogStore;
-use rme_session_protocol::{ClientReply, SERVICE_NUMBERS, SessionReply};
+use rme_session_protocol::{ClientReply, SERVICE_NUMBERS, SessionReply, WorkerChoice};
 use rme_session_server::{
     AnswerError, AttemptError, Backend, Buffers, Client, CloseHandle, OrderRequest, OrderRun,
 };
@@ -72,7 +73,7 @@ impl<L: LogStore, H: CloseHandle, J: ServerTag> Backend for DurableServer<L, H, 
         let order = match buffers.parse_order(&self.names, SERVICE_NUMBERS) {
             Ok(Ok(order)) => order,
             Ok(Err(why)) => {
-                let (session, answered) = self.answer_non_order(rt, session, why, buffers);
+                let (session, answered) = self.answer_non_order(rt, session, why, buffers, client);
                 return (Some(session), answered);
             }
             Err(_) => return (Some(session), Err(AnswerError::NoMemory)),
@@ -101,11 +102,13 @@ impl<L: LogStore, H: CloseHandle, J: ServerTag> Backend for DurableServer<L, H, 
 }
 
 impl<L: LogStore, H: CloseHandle, J: ServerTag> DurableServer<L, H, J> {
-    ghost use Rattle.std.specs.Prelude.{◌≡◌, ◌≢◌, IfErr, IfOk, IfSome, OnOk, string_bytes, Err};
-    ghost use Rattle.rme_durable_server.specs.DurableAnswers.{DurableLineReply, DurableLookup, IsSessionBegun, ask_if_bad, client_terms};
+    ghost use Rattle.std.specs.Prelude.{◌≡◌, ◌≢◌, IfErr, IfOk, IfSome, None, OnOk, string_bytes, Err};
+    ghost use Rattle.rme_durable_server.specs.DurableAnswers.{DurableChoice, DurableLineReply, DurableLookup, IsSessionBegun, ask_if_bad, client_terms};
     ghost use Rattle.rme_durable_server.specs.Lookups.{lookup_of_bytes};
     ghost use Rattle.rme_durable_log.specs.Logs.{IsLogDurable};
-    ghost use Rattle.rme_session_protocol.specs.SessionLines.{session_reply_line};
+    ghost use Rattle.rme_session_protocol.specs.SessionLines.{choice_reply_line, session_reply_line};
+    ghost use Rattle.rme_session_protocol.specs.WorkerChoices.{choice_of_bytes};
+    ghost use Rattle.rme_words.specs.declared.refusal.Refusal.TheVariants.{BadLine};
     ghost use Rattle.rme_session_protocol.specs.ClientReplies.{reply_of_client};
 
     /// Answers the reply to an order of a session, once everything before the session's position is durable.
@@ -128,17 +131,18 @@ impl<L: LogStore, H: CloseHandle, J: ServerTag> DurableServer<L, H, J> {
         }
     }
 
-    /// Answers a line that is no order: its look-up, or why it is refused.
-    fn answer_non_order<R: Wait>(
+    /// Answers a line that is no order: its look-up, its choice of a worker, or why it is refused.
+    fn answer_non_order<R: Wait, C: Client<Handle = H>>(
         &self,
         rt: &R,
         session: DurableSession<L, J>,
         why: Refusal,
         buffers: &mut Buffers,
+        client: &C,
     ) -> (DurableSession<L, J>, Result<(), AnswerError>)
         ensures answers { OnOk result.1 (DurableLineReply L.holds (client_terms self.now.clients J.opening) session
-            (ask_if_bad why (lookup_of_bytes self.now.names buffers.old.exchange.line.items))
-            (string_bytes buffers.new.text) result.0) }
+            (ask_if_bad why (lookup_of_bytes self.now.names buffers.old.exchange.line.items)
+            (choice_of_bytes buffers.old.exchange.line.items)) (string_bytes buffers.new.text) result.0) }
         ensures same { buffers.new.exchange ≡ buffers.old.exchange }
         ensures err { IfErr result.1 (λ why. why ≢ AnswerError.WriteFailed) }
     {
@@ -148,9 +152,83 @@ impl<L: LogStore, H: CloseHandle, J: ServerTag> DurableServer<L, H, J> {
         }
         match parse_lookup(self.alloc, &self.names, buffers.exchange.line()) {
             Ok(Some(look)) => self.answer_lookup(rt, session, look, &mut buffers.text),
-            Ok(None) => (session, buffers.write_reply(&self.names, refused)),
+            Ok(None) => self.answer_choice_or_bad(rt, session, buffers, client),
             Err(_) => (session, Err(AnswerError::NoMemory)),
         }
+    }
+
+    /// Answers a line that is neither an order nor a look-up: its choice of a worker, or that it is a bad line.
+    fn answer_choice_or_bad<R: Wait, C: Client<Handle = H>>(
+        &self,
+        rt: &R,
+        session: DurableSession<L, J>,
+        buffers: &mut Buffers,
+        client: &C,
+    ) -> (DurableSession<L, J>, Result<(), AnswerError>)
+        ensures answers { OnOk result.1 (DurableLineReply L.holds (client_terms self.now.clients J.opening) session
+            (ask_if_bad BadLine None (choice_of_bytes buffers.old.exchange.line.items))
+            (string_bytes buffers.new.text) result.0) }
+        ensures same { buffers.new.exchange ≡ buffers.old.exchange }
+        ensures err { IfErr result.1 (λ why. why ≢ AnswerError.WriteFailed) }
+    {
+        match buffers.parse_worker_choice() {
+            Ok(Some(choice)) => self.answer_choice(rt, session, choice, buffers, client),
+            Ok(None) => {
+                let refused = SessionReply::Refused(Refusal::BadLine);
+                (session, buffers.write_reply(&self.names, refused))
+            }
+            Err(_) => (session, Err(AnswerError::NoMemory)),
+        }
+    }
+
+    /// Attaches the session to a worker of the server's choice, and answers which, once its lines are durable; or why it
+    /// gets none.
+    fn answer_choice<R: Wait, C: Client<Handle = H>>(
+        &self,
+        rt: &R,
+        session: DurableSession<L, J>,
+        choice: WorkerChoice,
+        buffers: &mut Buffers,
+        client: &C,
+    ) -> (DurableSession<L, J>, Result<(), AnswerError>)
+        ensures answers { OnOk result.1 (DurableChoice L.holds (client_terms self.now.clients J.opening) session
+            choice (string_bytes buffers.new.text) result.0) }
+        ensures same { buffers.new.exchange ≡ buffers.old.exchange }
+        ensures err { IfErr result.1 (λ why. why ≢ AnswerError.WriteFailed) }
+    {
+        let (session, found) = self.attach_any(rt, session, choice, client);
+        let told = match found {
+            Ok(Chosen::Worker(worker, reply)) => {
+                self.answer_chosen(rt, &session, worker, reply, buffers)
+            }
+            Ok(Chosen::Refused(why)) => {
+                self.answer_committed(rt, &session, ClientReply::Refused(why), buffers)
+            }
+            Err(why) => Err(why),
+        };
+        (session, told)
+    }
+
+    /// Answers which worker the session has, and the reply to its attachment, once everything before the session's
+    /// position is durable.
+    fn answer_chosen<R: Wait>(
+        &self,
+        rt: &R,
+        session: &DurableSession<L, J>,
+        worker: u32,
+        reply: ClientReply,
+        buffers: &mut Buffers,
+    ) -> Result<(), AnswerError>
+        ensures says { OnOk result (string_bytes buffers.new.text ≡ choice_reply_line self.now.names worker
+            (reply_of_client reply)) }
+        ensures kept { OnOk result (IsLogDurable L.holds session.now.log) }
+        ensures same { buffers.new.exchange ≡ buffers.old.exchange }
+        ensures err { IfErr result (λ why. why ≢ AnswerError.WriteFailed) }
+    {
+        let Ok(()) = self.commit(rt, &session.end) else {
+            return Err(AnswerError::NotLogged);
+        };
+        buffers.write_choice_reply(&self.names, worker, reply)
     }
 
     /// Answers a look-up, once all log lines that its answer depends on are durable.

@@ -209,11 +209,14 @@ impl<L: LogStore, H: CloseHandle, J: ServerTag> DurableServer<L, H, J> {
             worker,
             take: false,
         });
-        let answered = match executor.execute(&self.names, &session, &order) {
-            Ok(done) => Some(session.advance(done)),
-            Err(_) => None,
+        let is_done = match executor.execute(&self.names, &session, &order) {
+            Ok(done) => {
+                let _answered = session.advance(done);
+                true
+            }
+            Err(_) => false,
         };
         executor.detach_session(&self.names, session).ok()?;
-        answered.map(|_| ())
+        is_done.then_some(())
     }
 }

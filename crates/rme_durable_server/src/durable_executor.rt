@@ -48,7 +48,7 @@ impl<L: LogStore, J: ServerTag> DurableExecutor<L, J> {
     ghost use Rattle.std.specs.Prelude.{◌≡◌, ◌∷◌, [], IfErr, IfOk, IfSome, List, None, false, ℕ, string_bytes};
     ghost use Rattle.rme_durable_log.specs.Logs.{GrowsByOthers};
     ghost use Rattle.rme_durable_log.specs.declared.log_entry.LogEntry.TheVariants.{Whole};
-    ghost use Rattle.rme_durable_server.specs.DurableAnswers.{DurableAttempt, IsSessionBegun};
+    ghost use Rattle.rme_durable_server.specs.DurableAnswers.{AttemptFrom, IsSessionBegun};
     ghost use Rattle.rme_durable_server.specs.ServerHistories.{BeginsEpoch, LogLeads, SessionEnds, server_state, session_moment};
     ghost use Rattle.rme_session_protocol.specs.ClientReplies.{reply_of_client};
 
@@ -114,7 +114,7 @@ impl<L: LogStore, J: ServerTag> DurableExecutor<L, J> {
         order: &Order,
     ) -> Result<DurableReply<L, J>, ApplyError>
         requires names { names.now ≡ J.opening.names }
-        ensures { IfOk result (λ done. DurableAttempt J.opening session.now order.now
+        ensures { IfOk result (λ done. AttemptFrom (server_state self.old) J.opening session.now order.now
             (session_moment done.state done.end) (reply_of_client done.answered.reply)) }
     {
         let Some(appender) = self.appender.take() else {
@@ -184,7 +184,10 @@ impl<L: LogStore, J: ServerTag> DurableExecutor<L, J> {
         ensures begins { IfSome result (λ renewed. BeginsEpoch J.opening.names (server_state self.now)
             (string_bytes renewed.bytes) (server_state renewed.executor)) }
     {
-        self.executor.checkpoint(alloc, names).ok()
+        match self.executor.checkpoint(alloc, names) {
+            Ok(renewed) => Some(renewed),
+            Err(_) => None,
+        }
     }
 
     /// Replaces the log's bytes by those of a new epoch, once the store holds all lines, and the executor by that of the

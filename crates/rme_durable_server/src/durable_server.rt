@@ -27,7 +27,7 @@ pub struct DurableServer<L: LogStore, H: CloseHandle, J: ServerTag> {
     pub(crate) alloc: Global,
     pub(crate) names: Names,
     /// The number of workers that sessions may attach.
-    clients: u32,
+    pub(crate) clients: u32,
     pub(crate) registry: SessionRegistry<H>,
     pub(crate) due: CheckpointPolicy,
     pub(crate) executor: Mutex<DurableExecutor<L, J>>,

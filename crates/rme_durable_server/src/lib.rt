@@ -20,6 +20,7 @@ mod order_attempts;
 mod recovery;
 mod session;
 mod status;
+mod worker_choice;
 
 pub use durable_server::DurableServer;
 pub use lookup::{SessionLookup, parse_lookup};

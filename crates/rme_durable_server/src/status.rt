@@ -3,13 +3,15 @@
 ghost use Rattle.std.specs.Prelude.{◌≡◌, ◌++◌, ◌-◌, ◌<◌, IfSome, OnOk, string_bytes};
 ghost use Rattle.rme_line_text.specs.Texts.{cells_text, comma_text};
 ghost use Rattle.rme_durable_checkpoint.specs.Checkpoints.{AreSectionCounts};
+ghost use Rattle.rme_waiting.specs.WorldWords.{world_bank};
 ghost use Rattle.rme_durable_server.specs.StatusTexts as spec;
 
 use rme_durable_checkpoint::{Base, EpochExecutor, Sections};
 use rme_line_text::lock_name;
 use rme_script::Row;
+use rme_waiting::{blocked_by, world_words};
 use rme_wire::Names;
-use rme_words::NoMemory;
+use rme_words::{Bank, NoMemory};
 use rme_world::World;
 use std::alloc::AllocError;
 
@@ -51,6 +53,8 @@ impl WorkerStance {
 pub struct WorkerStatus {
     /// Whether a session has the worker.
     pub attached: bool,
+    /// The worker that it waits for, if it waits and another worker holds the next node that it needs.
+    pub blocked_by: Option<u32>,
     /// The number of its last job.
     pub number: u64,
     pub stance: WorkerStance,
@@ -116,14 +120,17 @@ pub fn lock_status(told: &StatusSource<'_>, lock: u32, sections: &Sections) -> O
     })
 }
 
-/// The status of a worker; `None` if its number over all epochs is not a number of 64 bits.
-pub fn worker_status(told: &StatusSource<'_>, worker: u32) -> Option<WorkerStatus>
-    requires { worker < told.now.world.now.shape.workers }
+/// The status of a worker, given the words of the world; `None` if its number over all epochs is not a number of 64
+/// bits.
+pub fn worker_status(told: &StatusSource<'_>, words: &Bank, worker: u32) -> Option<WorkerStatus>
+    requires worker { worker < told.now.world.now.shape.workers }
+    requires words { words.now ≡ world_bank told.now.world.now }
     ensures { IfSome result (λ status. status ≡ spec.worker_status (spec.source_state told.now) worker) }
 {
     let before = told.base.worker_base(worker).numbers;
     Some(WorkerStatus {
         attached: told.world.known(worker).is_some(),
+        blocked_by: blocked_by(words, worker),
         number: before.checked_add(told.world.number(worker))?,
         stance: worker_stance(told.world, worker),
     })
@@ -258,9 +265,10 @@ fn push_workers(out: &mut String, names: &Names, told: &StatusSource<'_>) -> Res
     ensures { OnOk result (string_bytes out.new ≡ string_bytes out.old ++ spec.workers_text names.now
         (spec.source_state told.now)) }
 {
+    let words = world_words(told.world)?;
     let mut later = false;
     for worker in 0..clients_of(told.world) {
-        let Some(status) = worker_status(told, worker) else {
+        let Some(status) = worker_status(told, &words, worker) else {
             return Err(NoMemory);
         };
         push_comma(out, later)?;
@@ -274,9 +282,22 @@ fn push_workers(out: &mut String, names: &Names, told: &StatusSource<'_>) -> Res
 fn push_worker(out: &mut String, names: &Names, status: WorkerStatus) -> Result<(), AllocError>
     ensures { OnOk result (string_bytes out.new ≡ string_bytes out.old ++ spec.worker_status_text names.now status) }
 {
-    push_attached(out, status.attached)?;
+    push_worker_front(out, status.attached, status.blocked_by)?;
     push_lock_member(out, names, status.stance.lock())?;
     push_worker_status_end(out, status.number, status.stance.word())?;
+    Ok(())
+}
+
+/// Appends the text of a worker's status before its lock.
+fn push_worker_front(
+    out: &mut String,
+    attached: bool,
+    blocked_by: Option<u32>,
+) -> Result<(), AllocError>
+    ensures { OnOk result (string_bytes out.new ≡ string_bytes out.old ++ spec.worker_front attached blocked_by) }
+{
+    push_attached(out, attached)?;
+    push_blocked_by(out, blocked_by)?;
     Ok(())
 }
 
@@ -284,6 +305,15 @@ fn push_attached(out: &mut String, attached: bool) -> Result<(), AllocError>
     ensures { OnOk result (string_bytes out.new ≡ string_bytes out.old ++ spec.attached_text attached) }
 {
     write!(out, "{{\"attached\":{attached}")
+}
+
+fn push_blocked_by(out: &mut String, blocked_by: Option<u32>) -> Result<(), AllocError>
+    ensures { OnOk result (string_bytes out.new ≡ string_bytes out.old ++ spec.blocked_by_text blocked_by) }
+{
+    match blocked_by {
+        Some(other) => write!(out, ",\"blocked_by\":{other}"),
+        None => Ok(()),
+    }
 }
 
 fn push_lock_member(out: &mut String, names: &Names, lock: Option<u32>) -> Result<(), AllocError>

@@ -1,0 +1,28 @@
+-- A session attaches the worker that the server chose at the same moment.
+use Rattle.std.proofs.Common.{ℕ, List, false, inl, refl, subst, sym}
+use Rattle.rme_words.specs.declared.refusal.Refusal.{Refusal}
+use Rattle.rme_durable_log.specs.Logs.{GrowsByOthers}
+use Rattle.rme_durable_log.specs.declared.log_entry.LogEntry.{LogEntry}
+use Rattle.rme_session_protocol.specs.declared.order.Order.TheVariants.{Attach}
+use Rattle.rme_session_protocol.specs.declared.reply.SessionReply.{SessionReply}
+use Rattle.rme_session_protocol.specs.declared.worker_choice.WorkerChoice.{WorkerChoice}
+use Rattle.rme_session_world.specs.Executors.{IsChosenWorker}
+use Rattle.rme_durable_server.specs.DurableAnswers.{AttachesChosen, AttemptFrom, ChoiceIsRefused, IsWhyNoneChosen, client_terms}
+use Rattle.rme_durable_server.specs.ServerHistories.{LogLeads, ServerOpening, ServerState, SessionMoment, session_moment}
+
+pub attaches_chosen : (state : ServerState) (opening : ServerOpening) (clients : ℕ) (old : SessionMoment) (choice : WorkerChoice) (worker : ℕ) (now : SessionMoment) (answer : SessionReply)
+    → AttemptFrom state opening old (Attach record { worker = worker; take = false }) now answer → IsChosenWorker state.executor choice clients worker → AttachesChosen opening clients old choice worker now answer
+attaches_chosen state opening clients old choice worker now answer (attempt, is) chosen = record {
+  attempt = attempt;
+  chosen = subst (λ (s : ServerState). IsChosenWorker s.executor choice clients worker) (sym is) chosen;
+}
+
+-- A session gets no worker: at one moment it has one, or there is none that the choice takes.
+pub none_chosen : (opening : ServerOpening) (clients : ℕ) (old : SessionMoment) (choice : WorkerChoice) (why : Refusal) (log : List LogEntry) (state : ServerState) → LogLeads opening log state → GrowsByOthers old.session.session old.log log
+    → IsWhyNoneChosen clients state.executor old.session choice why → ChoiceIsRefused (client_terms clients opening) old choice why (session_moment old.session log)
+none_chosen opening clients old choice why log state leads others none = record {
+  state = state;
+  session = refl;
+  acts = record { log = log; others = others; leads = leads; appends = inl (refl, refl); session = refl };
+  none = none;
+}
