@@ -122,7 +122,7 @@ acted_leads opening old before now after acts = elim acts.appends [
 ]
 
 alike_to_itself : (state : ServerState) → AreStatesAlike state state
-alike_to_itself state = record { world = alike_itself state.executor.world; holders = refl; epoch = refl; places = refl }
+alike_to_itself state = record { world = alike_itself state.executor.world; holders = refl; lives = refl; epoch = refl; places = refl }
 
 -- A state to which a prefix of a log leads is like the one on the way.
 pub on_the_way : (opening : ServerOpening) (start : ServerState) → BeginsWith opening start → (log rest : List LogEntry) (state later : ServerState) → LogLeads opening log state → LogLeads opening (log ++ rest) later → (mid : ServerState) × LogLeads opening log mid × AreStatesAlike state mid × EntriesLead opening.names mid rest later

@@ -73,6 +73,7 @@ step_held sizes made old order.Last now token (none, does) = absurd does
 step_held sizes made old (order.CrashAfter steps) now token (none, does) = absurd does
 step_held sizes made old order.Detach now token (none, does) = absurd does
 step_held sizes made old order.Ping now token (none, does) = absurd does
+step_held sizes made old order.Pending now token (none, does) = absurd does
 
 -- The receipt of a commit is of the lock of the job with which the worker was inside.
 commit_lock : (start : PendingWorker) (session : Session) (receipt : Receipt) (job : Job) → start.draft ≡ Some job → CommitOrderEffect (Held start) session (outcome.Receipt receipt) → receipt.lock ≡ job.lock

@@ -7,11 +7,12 @@ use Rattle.rme_world.specs.WorldViews.{WorldView}
 use Rattle.rme_durable_format.specs.Recovery.{RecoversWorld}
 use Rattle.rme_durable_laws.specs.AlikeWorlds.{AreWorldsAlike}
 
--- The same sessions have the same workers, the epochs have the same number and the same places of their locks, and nothing
--- that a worker finds, owns, knows or is answered distinguishes the worlds.
+-- The same sessions have the same workers, the epochs have the same number and the same places of their locks, each worker
+-- was restarted as often, and nothing that a worker finds, owns, knows or is answered distinguishes the worlds.
 pub record AreStatesAlike (one other : ServerState) : Type 0 where
   pub world : AreWorldsAlike one.executor.world other.executor.world
   pub holders : one.executor.holders ≡ other.executor.holders
+  pub lives : one.lives ≡ other.lives
   pub epoch : one.epoch ≡ other.epoch
   pub places : one.base.places.items ≡ other.base.places.items
 
