@@ -119,11 +119,11 @@ pub lacks_none : (bytes : List ℕ) (why : FileDefect) (file : ProcessFileView) 
 lacks_none bytes NoMagic file lacks is = absurd (lacks is.page.magic)
 lacks_none bytes TooShort file lacks is = let size = is.page.size in absurd (omega (arith, lacks, size))
 lacks_none bytes ByteOrder file lacks is = absurd (lacks is.page.order)
-lacks_none bytes Version file lacks is = absurd (lacks is.page.version)
+lacks_none bytes Version file lacks is = let read = is.page.version in absurd (let clash : true ≡ false = sym read ∙ lacks in cc)
 lacks_none bytes Limits file lacks is =
     let sizes = is.page.sizes in absurd (lacks (rw (sizes.workers, sizes.locks, sizes.cells, sizes.jobs) file.shape.counted.limits))
 lacks_none bytes Size file lacks is = absurd (lacks file.shape is.page.sizes is.page.counted is.page.size)
 lacks_none bytes Names file lacks is = let none = rw is.page.sizes.locks at lacks in absurd (none-some file.names (sym none ∙ is.names))
-lacks_none bytes Rest file lacks is = let some = rw is.page.sizes.locks at lacks in let zeros = is.page.rest in absurd (let clash : true ≡ false = sym zeros ∙ some in cc)
+lacks_none bytes Rest file lacks is = let some = rw (is.page.sizes.locks, is.page.sizes.workers) at lacks in let zeros = is.page.rest in absurd (let clash : true ≡ false = sym zeros ∙ some in cc)
 lacks_none bytes Moved file lacks is = let mark = is.page.mark in absurd (omega (arith, lacks, mark))
 lacks_none bytes NoMemory file lacks is = refl

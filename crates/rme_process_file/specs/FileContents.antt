@@ -8,6 +8,7 @@ use Rattle.rme_script.specs.declared.job.Job.{Job}
 use Rattle.rme_script.specs.Programs.{Program}
 use Rattle.rme_script.specs.Scripts.{op_is_within}
 use Rattle.rme_machine.specs.Views.{WorkerWords, worker_words, lock_words, is_pending, slate_script, slate_job}
+use Rattle.rme_waiting.specs.Waiting.{blocked_by}
 use Rattle.rme_process_file.specs.declared.stance.FileStance.{FileStance}
 use Rattle.rme_process_file.specs.declared.stance.FileStance.TheVariants.{Ready, Climb, Held}
 use Rattle.rme_process_file.specs.ProcessFiles.{ProcessFileView, file_memory}
@@ -63,3 +64,12 @@ file_stance_of_job file worker (Some job) =
 
 abbrev pub file_stance_in : ProcessFileView → ℕ → FileStance
 file_stance_in file worker = file_stance_of_job file worker (pending_in file.shape (worker_words_in file worker))
+
+-- The worker that a worker waits for, if it waits and there is one.
+abbrev pub blocked_at_stance : ProcessFileView → ℕ → FileStance → Option ℕ
+blocked_at_stance file worker Ready = None
+blocked_at_stance file worker (Climb lock) = blocked_by file.shape (file_memory file) worker
+blocked_at_stance file worker (Held lock) = None
+
+abbrev pub blocked_by_in : ProcessFileView → ℕ → Option ℕ
+blocked_by_in file worker = blocked_at_stance file worker (file_stance_in file worker)

@@ -1,63 +1,13 @@
--- The texts of a file's contents: lines for people, and JSON with sorted keys.
+-- The texts of a file's contents: JSON with sorted keys, and the names of damaged words.
 use Rattle.std.specs.Prelude.{ℕ, List, [], ◌++◌, Bool, true, false, codes, decimal, slice_get, Option, Some, None}
-use Rattle.std.specs.List.{flat_map, range_with_len}
+use Rattle.std.specs.List.{range_with_len}
 use Rattle.rme_line_text.specs.Texts.{lock_name, cells_text, separated_text}
 use Rattle.rme_process_file.specs.declared.damage.Damage.{Damage}
 use Rattle.rme_process_file.specs.declared.damage.Damage.TheVariants as damage
 use Rattle.rme_process_file.specs.declared.stance.FileStance.{FileStance}
 use Rattle.rme_process_file.specs.declared.stance.FileStance.TheVariants.{Ready, Climb, Held}
 use Rattle.rme_process_file.specs.ProcessFiles.{ProcessFileView}
-use Rattle.rme_process_file.specs.FileContents.{worker_words_in, lock_owner_in, cells_in, is_lock_settled_in, sections_in, file_stance_in}
-
--- ---- lines
-
--- `lock bank owner 0 cells 5,7 unsettled sections 2`: the text before the cells, and the text after them
-abbrev pub lock_line_front : List ℕ → Option ℕ → List ℕ
-lock_line_front name None = codes "lock " ++ (name ++ codes " owner nobody cells ")
-lock_line_front name (Some worker) = codes "lock " ++ (name ++ (codes " owner " ++ (decimal worker ++ codes " cells ")))
-
-abbrev pub lock_line_end : Bool → ℕ → List ℕ
-lock_line_end true sections = codes " sections " ++ (decimal sections ++ codes "\n")
-lock_line_end false sections = codes " unsettled sections " ++ (decimal sections ++ codes "\n")
-
-abbrev pub lock_line : ProcessFileView → ℕ → List ℕ
-lock_line file lock =
-    lock_line_front (lock_name file.names lock) (lock_owner_in file lock) ++
-    (cells_text (cells_in file lock) ++ lock_line_end (is_lock_settled_in file lock) (sections_in file lock))
-
--- whether the process of a worker without a job lives, if that is known: if it does not, the number is free
-abbrev pub ready_word : Option Bool → List ℕ
-ready_word None = []
-ready_word (Some true) = codes " living"
-ready_word (Some false) = codes " free"
-
--- whether the process of a worker with a job lives, if that is known
-abbrev pub living_word : Option Bool → List ℕ
-living_word None = []
-living_word (Some true) = codes " living"
-living_word (Some false) = codes " dead"
-
--- `worker 0 living held bank 3`
-abbrev pub stance_line : List (List ℕ) → ℕ → Option Bool → FileStance → ℕ → List ℕ
-stance_line names worker living Ready number =
-    codes "worker " ++ (decimal worker ++ (ready_word living ++ (codes " ready " ++ (decimal number ++ codes "\n"))))
-stance_line names worker living (Climb lock) number =
-    codes "worker " ++ (decimal worker ++ (living_word living ++
-    (codes " climb " ++ (lock_name names lock ++ (codes " " ++ (decimal number ++ codes "\n"))))))
-stance_line names worker living (Held lock) number =
-    codes "worker " ++ (decimal worker ++ (living_word living ++
-    (codes " held " ++ (lock_name names lock ++ (codes " " ++ (decimal number ++ codes "\n"))))))
-
-abbrev pub worker_line : ProcessFileView → List Bool → ℕ → List ℕ
-worker_line file living worker =
-    stance_line file.names worker (slice_get living worker) (file_stance_in file worker)
-    (worker_words_in file worker).begun
-
--- a line for each lock, and one for each worker
-abbrev pub file_lines : ProcessFileView → List Bool → List ℕ
-file_lines file living =
-    flat_map (lock_line file) (range_with_len 0 file.shape.locks) ++ flat_map (worker_line file living)
-    (range_with_len 0 file.shape.workers)
+use Rattle.rme_process_file.specs.FileContents.{worker_words_in, lock_owner_in, cells_in, is_lock_settled_in, sections_in, file_stance_in, blocked_by_in}
 
 -- ---- JSON
 
@@ -85,20 +35,27 @@ living_key None = []
 living_key (Some true) = codes "\"living\":true,"
 living_key (Some false) = codes "\"living\":false,"
 
--- `{"living":true,"lock":"bank","number":3,"stance":"held"}`
+-- the worker that a worker waits for, if there is one
+abbrev pub blocked_by_front : Option ℕ → List ℕ
+blocked_by_front None = codes "{"
+blocked_by_front (Some other) = codes "{\"blocked_by\":" ++ (decimal other ++ codes ",")
+
+-- the rest: `"living":true,"lock":"bank","number":3,"stance":"climb"}`
 abbrev pub stance_object : List (List ℕ) → Option Bool → FileStance → ℕ → List ℕ
 stance_object names living Ready number =
-    codes "{" ++ (living_key living ++ (codes "\"number\":" ++ (decimal number ++ codes ",\"stance\":\"ready\"}")))
+    living_key living ++ (codes "\"number\":" ++ (decimal number ++ codes ",\"stance\":\"ready\"}"))
 stance_object names living (Climb lock) number =
-    codes "{" ++ (living_key living ++ (codes "\"lock\":\"" ++ (lock_name names lock ++ (codes "\",\"number\":" ++
-    (decimal number ++ codes ",\"stance\":\"climb\"}")))))
+    living_key living ++ (codes "\"lock\":\"" ++ (lock_name names lock ++ (codes "\",\"number\":" ++
+    (decimal number ++ codes ",\"stance\":\"climb\"}"))))
 stance_object names living (Held lock) number =
-    codes "{" ++ (living_key living ++ (codes "\"lock\":\"" ++ (lock_name names lock ++ (codes "\",\"number\":" ++
-    (decimal number ++ codes ",\"stance\":\"held\"}")))))
+    living_key living ++ (codes "\"lock\":\"" ++ (lock_name names lock ++ (codes "\",\"number\":" ++
+    (decimal number ++ codes ",\"stance\":\"held\"}"))))
 
+-- `{"blocked_by":0,"living":true,"lock":"bank","number":3,"stance":"climb"}`
 abbrev pub worker_object : ProcessFileView → List Bool → ℕ → List ℕ
 worker_object file living worker =
-    stance_object file.names (slice_get living worker) (file_stance_in file worker) (worker_words_in file worker).begun
+    blocked_by_front (blocked_by_in file worker) ++ stance_object file.names (slice_get living worker)
+    (file_stance_in file worker) (worker_words_in file worker).begun
 
 abbrev pub between_lists : Bool → List ℕ
 between_lists true = codes "],\"moved\":true,\"ok\":\"status\",\"workers\":["

@@ -1,5 +1,5 @@
 -- The bytes of a file of words that processes map: the page before the words, and the words.
-use Rattle.std.specs.Prelude.{◌≡◌, ℕ, zero, suc, ◌+◌, ◌*◌, ◌≤◌, Bool, true, ◌==◌, ◌&&◌, List, [], ◌∷◌, ◌++◌, length, take, drop, slice_range, map, position, unwrap_or, codes, Option, Some, None, if◌then◌else◌}
+use Rattle.std.specs.Prelude.{◌≡◌, ℕ, zero, suc, ◌+◌, ◌*◌, ◌≤◌, Bool, true, ◌==◌, ◌&&◌, ◌||◌, List, [], ◌∷◌, ◌++◌, length, take, drop, slice_range, map, position, unwrap_or, codes, Option, Some, None, if◌then◌else◌}
 use Rattle.std.specs.List.{list_all, range_with_len}
 use Rattle.std.specs.Int.{w64, from_le_bytes}
 use Rattle.rme_words.specs.declared.shape.Shape.{Shape}
@@ -59,6 +59,19 @@ with_name_fields bytes zero lock names = Some names
 with_name_fields bytes (suc count) lock names =
     names_if_some (with_name_fields bytes count (lock + 1)) (with_name_field names (name_field_of bytes lock))
 
+-- The version of a file: 2 if its page has the lives of its workers, 1 if it has none.
+abbrev pub is_file_version : ℕ → Bool
+is_file_version version = version == 1 || version == 2
+
+-- The lives of the workers, how often each was restarted: the numbers from byte 2048 on, one for each worker.
+abbrev pub life_count : ℕ → ℕ → ℕ
+life_count version workers = if version == 2 then workers else 0
+
+-- The page is 0 between the names of a number of locks and the lives, and after a number of lives.
+abbrev pub is_zero_around_lives : List ℕ → ℕ → ℕ → Bool
+is_zero_around_lives bytes locks lives =
+    are_zero (slice_range bytes (112 + 32 * locks) 2048) && are_zero (slice_range bytes (2048 + 8 * lives) 4096)
+
 -- The sizes in the page are those of a shape.
 pub record PageHasSizes (bytes : List ℕ) (shape : Shape) : Type 0 where
   pub workers : file_u64_at bytes 8 ≡ shape.workers
@@ -66,17 +79,17 @@ pub record PageHasSizes (bytes : List ℕ) (shape : Shape) : Type 0 where
   pub cells : file_u64_at bytes 10 ≡ shape.cells
   pub jobs : file_u64_at bytes 11 ≡ shape.jobs
 
--- The page of 4096 bytes before the words: it begins with "rmewords", has version 1 and little-endian numbers, the
--- sizes of a shape, the number of its words and whether the file was renewed, and zeros after the names of the locks;
--- and that number of words follows it.
+-- The page of 4096 bytes before the words: it begins with "rmewords", has a version and little-endian numbers, the
+-- sizes of a shape, the number of its words and whether the file was renewed, and zeros after the names of the locks,
+-- but for the lives of the workers; and that number of words follows it.
 pub record IsPage (bytes : List ℕ) (shape : Shape) : Type 0 where
   pub magic : take 8 bytes ≡ codes "rmewords"
-  pub version : file_u64_at bytes 1 ≡ 1
+  pub version : is_file_version (file_u64_at bytes 1) ≡ true
   pub order : file_u64_at bytes 2 ≡ 0x0102030405060708
   pub sizes : PageHasSizes bytes shape
   pub counted : file_u64_at bytes 12 ≡ word_count shape
   pub size : length bytes ≡ 4096 + 8 * word_count shape
-  pub rest : are_zero (slice_range bytes (112 + 32 * shape.locks) 4096) ≡ true
+  pub rest : is_zero_around_lives bytes shape.locks (life_count (file_u64_at bytes 1) shape.workers) ≡ true
   pub mark : file_u64_at bytes 13 ≤ 1
 
 -- THE BYTES ARE THIS FILE: a valid page with a name for each lock, followed by the words, each in eight bytes.

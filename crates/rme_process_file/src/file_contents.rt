@@ -4,16 +4,18 @@ use crate::process_file::ProcessFile;
 use crate::stance::FileStance;
 use rme_core_image_check::{is_pending, slate};
 use rme_script::{Job, Row};
-use rme_tree::owner;
+use rme_tree::{held, owner};
+use rme_waiting::blocked_by;
 use rme_words::Address;
 
 impl ProcessFile {
-    ghost use Rattle.std.specs.Prelude.{◌≡◌, ◌<◌, ◌↔◌, IsTrue, IsSome, IfSome, true};
+    ghost use Rattle.std.specs.Prelude.{◌≡◌, ◌≢◌, ◌<◌, ◌↔◌, IsTrue, IsSome, IfSome, true};
     ghost use Rattle.rme_words.specs.declared.address.Address.{Address};
     ghost use Rattle.rme_machine.specs.Views.{is_pending, slate_job};
     ghost use Rattle.rme_machine.specs.Invariant.{SlateHasJob};
     ghost use Rattle.rme_process_file.specs.ProcessFiles.{file_memory};
-    ghost use Rattle.rme_process_file.specs.FileContents.{worker_words_in, lock_owner_in, cells_in, is_lock_settled_in, sections_in, has_slate_job, pending_in, file_stance_in};
+    ghost use Rattle.rme_process_file.specs.FileContents.{worker_words_in, lock_owner_in, cells_in, is_lock_settled_in, sections_in, has_slate_job, pending_in, file_stance_in, blocked_by_in};
+    ghost use Rattle.rme_tree.specs.Nodes.{held_levels_in};
 
     /// The worker that owns a lock, or `None`. `lock` is below the shape's locks.
     pub fn owner(&self, lock: u32) -> Option<u32>
@@ -140,5 +142,28 @@ impl ProcessFile {
             Some(owner) if owner == worker => FileStance::Held(job.lock),
             _ => FileStance::Climb(job.lock),
         }
+    }
+    /// The worker that a worker waits for, as `rme_waiting::blocked_by` reads it from the words. `None` if the worker
+    /// does not wait, or nobody holds the next node that it needs. `worker` is below the shape's workers.
+    pub fn blocked_by(&self, worker: u32) -> Option<u32>
+        requires { worker < self.now.shape.workers }
+        ensures blocked { result ≡ blocked_by_in self.now worker }
+        ensures worker { IfSome result (λ other. other < self.now.shape.workers) }
+        ensures other { IfSome result (λ other. other ≢ worker) }
+    {
+        match self.stance(worker) {
+            FileStance::Climb(_) => blocked_by(&self.bank, worker),
+            _ => None,
+        }
+    }
+
+    /// The number of levels of its path that a worker holds in a lock. `lock` and `worker` are below the shape's locks
+    /// and workers.
+    pub fn levels(&self, lock: u32, worker: u32) -> u32
+        requires lock { lock < self.now.shape.locks }
+        requires worker { worker < self.now.shape.workers }
+        ensures { result ≡ held_levels_in self.now.shape (file_memory self.now) worker lock }
+    {
+        held(&self.bank, lock, worker)
     }
 }

@@ -15,7 +15,7 @@ pub enum FileDefect {
     #[error("its byte order is that of another machine")]
     ByteOrder,
     /// They are of another version of the format.
-    #[error("its version is not 1")]
+    #[error("its version is neither 1 nor 2")]
     Version,
     /// A size of the shape is outside the limits.
     #[error("its shape is outside the limits")]
@@ -26,7 +26,7 @@ pub enum FileDefect {
     /// A lock has no name, or that of another.
     #[error("its locks do not have names")]
     Names,
-    /// The page has a byte other than 0 after the names of the locks.
+    /// The page has a byte other than 0 after the names of the locks, and not in a life.
     #[error("its first page has more than there is to say")]
     Rest,
     /// The mark of a renewal is neither 0 nor 1: a renewal was not finished, or the mark is invalid.

@@ -4,7 +4,7 @@ ghost use Rattle.std.specs.Prelude.{◌≡◌, ◌<◌, ◌≤◌, ◌==◌, ◌
 ghost use Rattle.rme_words.specs.Shapes.{IsWithinLimits};
 ghost use Rattle.rme_words.specs.Words.{word_count};
 ghost use Rattle.rme_line_io.specs.Names.{is_name};
-ghost use Rattle.rme_process_file.specs.ProcessFiles.{PageHasSizes, file_u64_at, are_zero, name_field_length, name_field_text, is_zero_padded, with_name_field, with_name_fields};
+ghost use Rattle.rme_process_file.specs.ProcessFiles.{PageHasSizes, file_u64_at, are_zero, is_file_version, life_count, is_zero_around_lives, name_field_length, name_field_text, is_zero_padded, with_name_field, with_name_fields};
 
 use rme_line_io::{Names, is_name};
 use rme_words::{NoMemory, Refusal, Shape};
@@ -16,9 +16,12 @@ pub const PAGE: usize = 4096;
 /// The number of words that would fit the page.
 pub const PAGE_WORDS: usize = 512;
 
-/// The values of the version field and of the byte-order field.
-pub const VERSION: u64 = 1;
+/// The versions: of a file without lives of its workers, and of one with them.
+const WITHOUT_LIVES: u64 = 1;
 
+const WITH_LIVES: u64 = 2;
+
+/// The value of the byte-order field.
 pub const ORDER: u64 = 0x0102_0304_0506_0708;
 
 /// The offset and the length of the machine's boot.
@@ -30,6 +33,11 @@ pub const BOOT_BYTES: usize = 40;
 const NAMES_AT: usize = 112;
 
 const NAME_BYTES: usize = 32;
+
+/// The offset of the lives, and the length of each.
+const LIVES_AT: usize = 2048;
+
+const LIFE_BYTES: usize = 8;
 
 /// Whether bytes begin as those of a file of words, which distinguishes such a file from other kinds.
 pub fn is_process_file(bytes: &[u8]) -> bool
@@ -108,13 +116,32 @@ fn are_zero(bytes: &[u8]) -> bool
     bytes.iter().all(|byte| *byte == 0)
 }
 
-/// Whether the page has only zeros after the names of the locks.
-pub fn page_ends_in_zeros(bytes: &[u8], locks: u32) -> bool
+/// Whether a file of this version is one that is read.
+pub fn is_file_version(version: u64) -> bool
+    ensures { result ≡ is_file_version version }
+{
+    version == WITHOUT_LIVES || version == WITH_LIVES
+}
+
+/// The number of lives in the page of a file of this version.
+pub fn life_count(version: u64, workers: u32) -> u32
+    ensures count { result ≡ life_count version workers }
+    ensures few { result ≤ workers }
+{
+    if version == WITH_LIVES { workers } else { 0 }
+}
+
+/// Whether the page has only zeros after the names of the locks, but for the lives.
+pub fn is_zero_around_lives(bytes: &[u8], locks: u32, lives: u32) -> bool
     requires page { 4096 ≤ length bytes.now }
     requires locks { locks ≤ 16 }
-    ensures { result ≡ are_zero (slice_range bytes.now (112 + 32 * locks) 4096) }
+    requires lives { lives ≤ 256 }
+    ensures { result ≡ is_zero_around_lives bytes.now locks lives }
 {
-    are_zero(&bytes[NAMES_AT + NAME_BYTES * locks as usize..PAGE])
+    if !are_zero(&bytes[NAMES_AT + NAME_BYTES * locks as usize..LIVES_AT]) {
+        return false;
+    }
+    are_zero(&bytes[LIVES_AT + LIFE_BYTES * lives as usize..PAGE])
 }
 
 /// The index of the first 0, if there is one.

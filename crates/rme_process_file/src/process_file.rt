@@ -7,8 +7,8 @@ ghost use Rattle.rme_process_file.specs.FileDefects.{HasFileDefect};
 
 use crate::file_defect::FileDefect;
 use crate::page::{
-    BOOT_BYTES, ORDER, PAGE, PAGE_WORDS, VERSION, boot_of, file_u64_at, is_of_size,
-    is_process_file, names_of, page_ends_in_zeros, shape_of,
+    BOOT_BYTES, ORDER, PAGE, PAGE_WORDS, boot_of, file_u64_at, is_file_version, is_of_size,
+    is_process_file, is_zero_around_lives, life_count, names_of, shape_of,
 };
 use rme_line_io::Names;
 use rme_words::{Bank, NoMemory, Shape};
@@ -69,7 +69,8 @@ fn checked_shape(bytes: &[u8]) -> Result<Shape, FileDefect>
     if file_u64_at(bytes, 2) != ORDER {
         return Err(FileDefect::ByteOrder);
     }
-    if file_u64_at(bytes, 1) != VERSION {
+    let version = file_u64_at(bytes, 1);
+    if !is_file_version(version) {
         return Err(FileDefect::Version);
     }
     let Some(shape) = shape_of(bytes) else {
@@ -78,7 +79,7 @@ fn checked_shape(bytes: &[u8]) -> Result<Shape, FileDefect>
     if !is_of_size(bytes, shape) {
         return Err(FileDefect::Size);
     }
-    if !page_ends_in_zeros(bytes, shape.locks) {
+    if !is_zero_around_lives(bytes, shape.locks, life_count(version, shape.workers)) {
         return Err(FileDefect::Rest);
     }
     if file_u64_at(bytes, 13) > 1 {

@@ -1,9 +1,9 @@
-//! The texts of a file's contents: lines for people, and JSON with sorted keys.
+//! The texts of a file's contents: JSON with sorted keys, and the names of damaged words.
 //!
 //! An error always means that memory was refused; the text is then of no use.
 
 ghost use Rattle.std.specs.Prelude.{◌≡◌, ◌<◌, ◌++◌, OnOk, decimal, false, slice_get, string_bytes};
-ghost use Rattle.std.specs.List.{flat_map, range_with_len};
+ghost use Rattle.std.specs.List.{range_with_len};
 ghost use Rattle.rme_line_text.specs.Texts.{cells_text, comma_text, separated_text};
 ghost use Rattle.rme_process_file.specs.FileTexts as spec;
 
@@ -15,21 +15,10 @@ use rme_line_text::lock_name;
 use rme_script::Row;
 use std::alloc::AllocError;
 
-/// Appends a line for each lock and one for each worker, as `lock bank owner 0 cells 5,7 unsettled sections 2` and
-/// `worker 0 living held bank 3`.
+/// Appends one object, as `{"locks":[..],"moved":false,"ok":"status","workers":[..]}`, without a newline.
 ///
-/// `living` has for each worker, by its number, whether its process lives; the line of a worker beyond it leaves that
+/// `living` has for each worker, by its number, whether its process lives; the object of a worker beyond it leaves that
 /// out.
-pub fn push_text(out: &mut String, mapped: &ProcessFile, living: &[bool]) -> Result<(), AllocError>
-    ensures { OnOk result (string_bytes out.new ≡ string_bytes out.old ++ spec.file_lines mapped.now living.now) }
-{
-    push_lock_lines(out, mapped)?;
-    push_worker_lines(out, mapped, living)?;
-    Ok(())
-}
-
-/// Appends one object, as `{"locks":[..],"moved":false,"ok":"status","workers":[..]}`, without a newline. `living` is
-/// as for `push_text`.
 pub fn push_json(out: &mut String, mapped: &ProcessFile, living: &[bool]) -> Result<(), AllocError>
     ensures { OnOk result (string_bytes out.new ≡ string_bytes out.old ++ spec.file_object mapped.now living.now) }
 {
@@ -75,64 +64,6 @@ fn push_word(out: &mut String, word: &str, name: &str) -> Result<(), AllocError>
     write!(out, "the word {word} of lock {name}")
 }
 
-fn push_lock_lines(out: &mut String, mapped: &ProcessFile) -> Result<(), AllocError>
-    ensures { OnOk result (string_bytes out.new ≡ string_bytes out.old ++ flat_map (spec.lock_line mapped.now)
-        (range_with_len 0 mapped.now.shape.locks)) }
-{
-    let shape = mapped.shape();
-    for lock in 0..shape.locks {
-        push_lock_line(out, mapped, lock)?;
-    }
-    Ok(())
-}
-
-fn push_worker_lines(
-    out: &mut String,
-    mapped: &ProcessFile,
-    living: &[bool],
-) -> Result<(), AllocError>
-    ensures { OnOk result (string_bytes out.new ≡ string_bytes out.old ++ flat_map
-        (spec.worker_line mapped.now living.now) (range_with_len 0 mapped.now.shape.workers)) }
-{
-    let shape = mapped.shape();
-    for worker in 0..shape.workers {
-        push_worker_line(out, mapped, living, worker)?;
-    }
-    Ok(())
-}
-
-fn push_lock_line(out: &mut String, mapped: &ProcessFile, lock: u32) -> Result<(), AllocError>
-    requires { lock < mapped.now.shape.locks }
-    ensures { OnOk result (string_bytes out.new ≡ string_bytes out.old ++ spec.lock_line mapped.now lock) }
-{
-    let name = lock_name(mapped.names(), lock);
-    let (cells, settled) = mapped.cells(lock);
-    push_lock_front(out, name, mapped.owner(lock))?;
-    push_cells(out, &cells)?;
-    push_lock_end(out, settled, mapped.sections(lock))?;
-    Ok(())
-}
-
-/// Appends the text of a lock's line before its cells.
-fn push_lock_front(out: &mut String, name: &str, owner: Option<u32>) -> Result<(), AllocError>
-    ensures { OnOk result (string_bytes out.new ≡ string_bytes out.old ++ spec.lock_line_front name.now owner) }
-{
-    match owner {
-        None => write!(out, "lock {name} owner nobody cells "),
-        Some(worker) => write!(out, "lock {name} owner {worker} cells "),
-    }
-}
-
-/// Appends the text of a lock's line after its cells.
-fn push_lock_end(out: &mut String, settled: bool, sections: u64) -> Result<(), AllocError>
-    ensures { OnOk result (string_bytes out.new ≡ string_bytes out.old ++ spec.lock_line_end settled sections) }
-{
-    if settled {
-        return write!(out, " sections {sections}\n");
-    }
-    write!(out, " unsettled sections {sections}\n")
-}
-
 /// Whether the process of a worker lives, if that is known.
 fn lives(living: &[bool], worker: u32) -> Option<bool>
     ensures { result ≡ slice_get living.now worker }
@@ -140,79 +71,6 @@ fn lives(living: &[bool], worker: u32) -> Option<bool>
     match living.get(worker as usize) {
         Some(lives) => Some(*lives),
         None => None,
-    }
-}
-
-/// Whether the process of a worker without a job lives, if that is known: if it does not, the number is free.
-fn ready_word(lives: Option<bool>) -> &'static str
-    ensures { result.now ≡ spec.ready_word lives }
-{
-    match lives {
-        None => "",
-        Some(true) => " living",
-        Some(false) => " free",
-    }
-}
-
-/// Whether the process of a worker with a job lives, if that is known.
-fn living_word(lives: Option<bool>) -> &'static str
-    ensures { result.now ≡ spec.living_word lives }
-{
-    match lives {
-        None => "",
-        Some(true) => " living",
-        Some(false) => " dead",
-    }
-}
-
-fn push_worker_line(
-    out: &mut String,
-    mapped: &ProcessFile,
-    living: &[bool],
-    worker: u32,
-) -> Result<(), AllocError>
-    requires { worker < mapped.now.shape.workers }
-    ensures { OnOk result (string_bytes out.new ≡ string_bytes out.old
-        ++ spec.worker_line mapped.now living.now worker) }
-{
-    let report = WorkerReport {
-        worker,
-        lives: lives(living, worker),
-        stance: mapped.stance(worker),
-        number: mapped.number(worker),
-    };
-    push_stance_line(out, mapped.names(), report)
-}
-
-/// What a worker's line says: its own number, whether its process lives, where that is known, its stance, and the
-/// number of the last job that it has begun.
-#[derive(Clone, Copy)]
-struct WorkerReport {
-    worker: u32,
-    lives: Option<bool>,
-    stance: FileStance,
-    number: u64,
-}
-
-fn push_stance_line(out: &mut String, names: &Names, report: WorkerReport) -> Result<(), AllocError>
-    ensures { OnOk result (string_bytes out.new ≡ string_bytes out.old ++ spec.stance_line names.now report.worker
-        report.lives report.stance report.number) }
-{
-    let WorkerReport { worker, number, .. } = report;
-    let alive = living_word(report.lives);
-    match report.stance {
-        FileStance::Ready => {
-            let alive = ready_word(report.lives);
-            write!(out, "worker {worker}{alive} ready {number}\n")
-        }
-        FileStance::Climb(lock) => {
-            let name = lock_name(names, lock);
-            write!(out, "worker {worker}{alive} climb {name} {number}\n")
-        }
-        FileStance::Held(lock) => {
-            let name = lock_name(names, lock);
-            write!(out, "worker {worker}{alive} held {name} {number}\n")
-        }
     }
 }
 
@@ -344,7 +202,19 @@ fn push_worker_object(
 {
     let alive = lives(living, worker);
     let number = mapped.number(worker);
-    push_stance_object(out, mapped.names(), alive, mapped.stance(worker), number)
+    push_blocked_by(out, mapped.blocked_by(worker))?;
+    push_stance_object(out, mapped.names(), alive, mapped.stance(worker), number)?;
+    Ok(())
+}
+
+/// Appends the text of a worker's object before the rest of it: the worker that it waits for, if there is one.
+fn push_blocked_by(out: &mut String, blocked_by: Option<u32>) -> Result<(), AllocError>
+    ensures { OnOk result (string_bytes out.new ≡ string_bytes out.old ++ spec.blocked_by_front blocked_by) }
+{
+    match blocked_by {
+        None => out.push_str("{"),
+        Some(other) => write!(out, "{{\"blocked_by\":{other},"),
+    }
 }
 
 fn living_key(lives: Option<bool>) -> &'static str
@@ -357,6 +227,7 @@ fn living_key(lives: Option<bool>) -> &'static str
     }
 }
 
+/// Appends the text of a worker's object after the worker that it waits for.
 fn push_stance_object(
     out: &mut String,
     names: &Names,
@@ -369,19 +240,19 @@ fn push_stance_object(
 {
     let alive = living_key(lives);
     match stance {
-        FileStance::Ready => write!(out, "{{{alive}\"number\":{number},\"stance\":\"ready\"}}"),
+        FileStance::Ready => write!(out, "{alive}\"number\":{number},\"stance\":\"ready\"}}"),
         FileStance::Climb(lock) => {
             let name = lock_name(names, lock);
             write!(
                 out,
-                "{{{alive}\"lock\":\"{name}\",\"number\":{number},\"stance\":\"climb\"}}"
+                "{alive}\"lock\":\"{name}\",\"number\":{number},\"stance\":\"climb\"}}"
             )
         }
         FileStance::Held(lock) => {
             let name = lock_name(names, lock);
             write!(
                 out,
-                "{{{alive}\"lock\":\"{name}\",\"number\":{number},\"stance\":\"held\"}}"
+                "{alive}\"lock\":\"{name}\",\"number\":{number},\"stance\":\"held\"}}"
             )
         }
     }
