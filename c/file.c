@@ -15,12 +15,13 @@
 #include <unistd.h>
 
 static const char magic[8] = {'r', 'm', 'e', 'w', 'o', 'r', 'd', 's'};
-static const uint64_t version = 1, order = 0x0102030405060708;
+static const uint64_t order = 0x0102030405060708;
 
 static _Thread_local const char *why = "";
 
 _Static_assert(sizeof(struct rme_page) == RME_PAGE, "the page has its size");
 _Static_assert(offsetof(struct rme_page, workers) == 64 && offsetof(struct rme_page, names) == 112, "and its fields");
+_Static_assert(offsetof(struct rme_page, lives) == RME_LIVES_AT, "the second half of it has the lives");
 _Static_assert(sizeof(_Atomic uint64_t) == 8 && ATOMIC_LLONG_LOCK_FREE == 2, "a word is the machine's own");
 
 int rme_say(int error, const char *text) {
@@ -88,7 +89,7 @@ static int are_names(const struct rme_page *page, uint32_t locks) {
 
 int rme_page_fill(struct rme_page *page, const struct rme_shape *shape, const char *const *names) {
     uint32_t words = 0;
-    *page = (struct rme_page){.version = version, .order = order};
+    *page = (struct rme_page){.version = RME_WITH_LIVES, .order = order};
     memcpy(page->magic, magic, sizeof magic);
     if (rme_core_words(shape->workers, shape->locks, shape->cells, shape->jobs, &words) != 0 || names == NULL) {
         return RME_BAD_SHAPE;
@@ -112,6 +113,22 @@ static int is_mark(uint64_t moved) {
     return (moved & RME_MARK_KIND) == RME_MARK_MOVING || (moved & RME_MARK_KIND) == RME_MARK_UNFINISHED;
 }
 
+/* How many workers' lives the page has. */
+static uint64_t lives_of(const struct rme_page *page) {
+    return page->version == RME_WITH_LIVES ? page->workers : 0;
+}
+
+/* The page has zeros between its names and its lives, and behind these. */
+static int ends_in_zeros(const struct rme_page *page) {
+    static const unsigned char none[sizeof page->rest] = {0};
+    for (uint64_t worker = lives_of(page); worker < RME_MOST_WORKERS; worker++) {
+        if (page->lives[worker] != 0) {
+            return 0;
+        }
+    }
+    return memcmp(page->rest, none, sizeof none) == 0;
+}
+
 /* What of a page of a file of this size is not as it must be, or NULL. */
 static const char *fault_of(const struct rme_page *page, off_t size) {
     uint32_t words = 0;
@@ -121,8 +138,8 @@ static const char *fault_of(const struct rme_page *page, off_t size) {
     if (page->order != order) {
         return "its byte order is that of another machine";
     }
-    if (page->version != version) {
-        return "its version is not 1";
+    if (page->version != RME_WITHOUT_LIVES && page->version != RME_WITH_LIVES) {
+        return "its version is neither 1 nor 2";
     }
     if (page->workers > RME_MOST_WORKERS || page->locks > RME_MOST_LOCKS || page->cells > RME_MOST_CELLS ||
         page->jobs > RME_MOST_JOBS ||
@@ -136,10 +153,8 @@ static const char *fault_of(const struct rme_page *page, off_t size) {
     if (!are_names(page, (uint32_t)page->locks)) {
         return "its locks do not have names";
     }
-    for (size_t at = 0; at < sizeof page->rest; at++) {
-        if (page->rest[at] != 0) {
-            return "its first page has more than there is to say";
-        }
+    if (!ends_in_zeros(page)) {
+        return "its first page has more than there is to say";
     }
     return page->moved > 1 && !is_mark(page->moved) ? "its mark of a renewal is none" : NULL;
 }
@@ -356,6 +371,32 @@ uint64_t rme_file_mark_of(uint64_t kind, const struct rme_file *file) {
 
 void rme_file_put_moved(struct rme_file *file, uint64_t from, uint64_t to) {
     atomic_compare_exchange_strong(&file->front->moved, &from, to);
+}
+
+/* LIVES */
+
+/* A load and a store are enough, and no operation that is both: who has the worker's claim is the only one who stores its
+   count. It is stored before the restart's first step. So where the process is killed, at any instruction, the count is as
+   it was and the restart made no step, or it has counted, and no later one answers the same life. */
+int rme_file_begin_life(const struct rme_file *file, uint32_t worker, uint64_t *life) {
+    *life = 0;
+    if (worker >= lives_of(&file->page)) {
+        return 0;
+    }
+    uint64_t before = atomic_load(&file->front->lives[worker]);
+    if (before == UINT64_MAX) {
+        return RME_DAMAGED;
+    }
+    *life = before + 1;
+    atomic_store(&file->front->lives[worker], *life);
+    return 0;
+}
+
+void rme_file_take_lives(const struct rme_file *file, const struct rme_file *from) {
+    for (uint64_t worker = 0; worker < lives_of(&file->page); worker++) {
+        /* What a page of version 1 has there is 0. */
+        atomic_store(&file->front->lives[worker], atomic_load(&from->front->lives[worker]));
+    }
 }
 
 /* CLAIMS */

@@ -9,13 +9,16 @@
 #include <stddef.h>
 #include <sys/types.h>
 
-enum { RME_PAGE = 4096 };
+enum { RME_PAGE = 4096, RME_LIVES_AT = 2048 };
+
+/* A file that is made has the version with lives; one without them is used as it is. */
+enum { RME_WITHOUT_LIVES = 1, RME_WITH_LIVES = 2 };
 
 /* The file begins with this page, in the machine's byte order; the words follow, word i at byte 4096 + 8 i, and end the
    file. What is not named here is 0. */
 struct rme_page {
     unsigned char magic[8];                             /*   0: "rmewords" */
-    uint64_t version;                                   /*   8: 1 */
+    uint64_t version;                                   /*   8: 1 or 2 */
     uint64_t order;                                     /*  16: 0x0102030405060708 */
     unsigned char boot[40];                             /*  24: /proc/sys/kernel/random/boot_id, 36 bytes */
     uint64_t workers;                                   /*  64 */
@@ -25,7 +28,8 @@ struct rme_page {
     uint64_t words;                                     /*  96: how many words there are */
     _Atomic uint64_t moved;                             /* 104: 1 once the file was renewed, or a mark below */
     unsigned char names[RME_MOST_LOCKS][RME_MOST_NAME]; /* 112: of the locks */
-    unsigned char rest[RME_PAGE - 112 - RME_MOST_LOCKS * RME_MOST_NAME];
+    unsigned char rest[RME_LIVES_AT - 112 - RME_MOST_LOCKS * RME_MOST_NAME];
+    _Atomic uint64_t lives[RME_MOST_WORKERS]; /* 2048: how often each worker was restarted */
 };
 
 /* What `moved` is in a renewal, beside 0 and 1. The lower bits say which the other file is, so that a renewal that was
@@ -79,6 +83,14 @@ uint64_t rme_file_mark_of(uint64_t kind, const struct rme_file *file);
 
 /* Puts `moved` of a mapped file from one value to another, in one step; nothing happens where it has a third one. */
 void rme_file_put_moved(struct rme_file *file, uint64_t from, uint64_t to);
+
+/* Counts a restart of a worker that this file has claimed, and is mapped for, and answers its life: how often it was
+   restarted, this time included. 0 in a file of version 1, where nothing is stored. RME_DAMAGED: the count is the
+   greatest number, which no run reaches. */
+int rme_file_begin_life(const struct rme_file *file, uint32_t worker, uint64_t *life);
+
+/* Gives each worker of a mapped file the count that it has in another one; none where that is of version 1. */
+void rme_file_take_lives(const struct rme_file *file, const struct rme_file *from);
 
 /* Claims so many workers' numbers from `first` on until the file is closed, or none: RME_TAKEN. */
 int rme_file_claim(const struct rme_file *file, uint32_t first, uint32_t count);

@@ -9,6 +9,8 @@ struct rme_handle {
     struct rme_file file;
     struct rme_core_worker core;
     uint32_t worker; /* RME_NOBODY where the handle is for look-ups */
+    int is_counted; /* whether its restart was */
+    uint64_t life;
     int has_recovered;
     atomic_int busy;             /* 1 while a thread is in a call */
     volatile unsigned char *own; /* 1 in the process that attached, 0 in a child of it */

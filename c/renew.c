@@ -50,11 +50,13 @@ static int give_up_one(struct rme_handle *to) {
     return error != 0 ? error : rme_withdraw(to, NULL);
 }
 
-/* Makes the new file whole, with the mark that it is not the one to use, under the name beside that it answers. */
+/* Makes the new file whole, with the mark that it is not the one to use, under the name beside that it answers. Its
+   workers have the lives that they had: what this process did as worker 0 is no life of that. */
 static int make_next(const struct rme_file *from, const char *path, char beside[PATH_MAX], struct rme_handle **handle) {
     struct rme_page page = from->page;
     struct rme_file file;
     struct rme_handle *to;
+    page.version = RME_WITH_LIVES;
     page.moved = rme_file_mark_of(RME_MARK_UNFINISHED, from);
     int error = rme_file_make(&page, path, beside, &file);
     if (error != 0) {
@@ -70,6 +72,8 @@ static int make_next(const struct rme_file *from, const char *path, char beside[
         error = error != 0 ? error : rme_file_take_rights(&to->file, from);
         if (error != 0) {
             rme_lower(to);
+        } else {
+            rme_file_take_lives(&to->file, from);
         }
     }
     if (error != 0) {

@@ -8,6 +8,7 @@
    - `make_batch` below does each operation that the crate told, in order, once, as one sequentially consistent
      operation of one 64-bit word of the mapping, and hands on what it found; it ends behind a swap that put nothing, and
      behind a load that was expected to find something else. No other function stores a word.
+   - `rme_file_begin_life` of file.c counts a worker's restarts in the file's first page; no step depends on the count.
    - `rme_look` of looks.c reads one word once, for look-ups; no step depends on what it answers.
    - core.h declares the crate's exports as they are.
    - A handle is used by one call at a time (`rme_begin`), in the process that attached it (`own`, a page that the
@@ -264,7 +265,19 @@ static void fill(struct rme_handle *self, struct rme_stance *stance) {
         stance->where = where(standing.phase);
         stance->lock = stance->where == RME_READY ? 0 : standing.lock;
         stance->number = standing.number;
+        stance->life = self->life;
     }
+}
+
+/* Counts the restart before its first step, and makes its steps. Where damage ends these, the next call goes on with the
+   same restart. */
+static int restart(struct rme_handle *self) {
+    int error = self->is_counted ? 0 : rme_file_begin_life(&self->file, self->worker, &self->life);
+    if (error != 0) {
+        return error;
+    }
+    self->is_counted = 1;
+    return recover(self);
 }
 
 int rme_recover(struct rme_handle *handle, struct rme_stance *stance) {
@@ -272,7 +285,7 @@ int rme_recover(struct rme_handle *handle, struct rme_stance *stance) {
     if (error != 0) {
         return error;
     }
-    error = handle->has_recovered ? RME_UP : recover(handle);
+    error = handle->has_recovered ? RME_UP : restart(handle);
     if (error == 0) {
         handle->has_recovered = 1;
         fill(handle, stance);
@@ -288,6 +301,25 @@ int rme_standing(struct rme_handle *handle, struct rme_stance *stance) {
     fill(handle, stance);
     return rme_end(handle, 0);
 }
+
+/* The first version of these two calls, which a program has that was linked before a stance had a life: of its stance they
+   write no more than it has room for. */
+enum { STANCE_WITHOUT_LIFE = offsetof(struct rme_stance, life) };
+
+#define RME_FIRST_VERSION(name) \
+    __attribute__((visibility("default"))) int name##_first(struct rme_handle *handle, void *stance); \
+    __asm__(".symver " #name "_first, " #name "@RME_1"); \
+    int name##_first(struct rme_handle *handle, void *stance) { \
+        struct rme_stance found; \
+        int error = name(handle, &found); \
+        if (error == 0 && stance != NULL) { \
+            memcpy(stance, &found, STANCE_WITHOUT_LIFE); \
+        } \
+        return error; \
+    }
+
+RME_FIRST_VERSION(rme_recover)
+RME_FIRST_VERSION(rme_standing)
 
 int rme_submit(struct rme_handle *handle, uint32_t lock, const struct rme_operation *operations, uint32_t count,
                uint64_t *number) {

@@ -103,11 +103,14 @@ struct rme_receipt {
 enum rme_where { RME_READY, RME_WAITING, RME_INSIDE };
 
 /* Where a worker is. `number` is that of its pending job, or of its last one where it is ready; a worker's jobs are
-   numbered from 1. `lock` is that of its pending job, and 0 where it is ready. */
+   numbered from 1. `lock` is that of its pending job, and 0 where it is ready. `life` is how often the worker was
+   restarted, by the rme_recover of this handle the last time: it rises by one with each, also where processes are
+   killed. It is 0 in a file of version 1, which has no lives. */
 struct rme_stance {
     uint32_t where;
     uint32_t lock;
     uint64_t number;
+    uint64_t life;
 };
 
 struct rme_shape {
@@ -129,12 +132,13 @@ int rme_create(const char *path, uint32_t workers, uint32_t locks, uint32_t cell
                const char *const *names);
 
 /* Makes a new file of the same shape and names, in which jobs of worker 0 have set the cells to what they are in the
-   old one, and marks the old one as moved: each call on it but rme_outcome is RME_MOVED from then on. Numbers, places
-   and receipts do not carry over. Worker 0 has used up to two jobs a lock there, and behind them, if the shape allows
-   it, one that is given up, so that it has no receipt: its own numbers go on from its stance, not from 1. The new file
-   has the mode of the old one, and its owner and group where this process may give them; where it may not give the
-   group, the mode's bits for it are no more than those for everybody. It is made only at rest: RME_TAKEN where a
-   worker has a living process, RME_BUSY where one has a pending job. RME_EXISTS where `new_path` is there;
+   old one, and marks the old one as moved: each call on it but rme_outcome is RME_MOVED from then on. Lives carry
+   over, and begin at 0 where the old file is of version 1. Numbers, places and receipts do not carry over. Worker 0 has
+   used up to two jobs a lock there, and behind them, if the shape allows it, one that is given up, so that it has no
+   receipt: its own numbers go on from its stance, not from 1. The new file has the mode of the old one, and its owner
+   and group where this process may give them; where it may not give the group, the mode's bits for it are no more than
+   those for everybody. It is made only at rest: RME_TAKEN where a worker has a living process, RME_BUSY where one has a
+   pending job. RME_EXISTS where `new_path` is there;
    RME_TOO_MANY_JOBS where the shape allows less jobs than the cells need; RME_DAMAGED; those of rme_attach for the old
    file; RME_SYSTEM. Where it answers anything but 0, the old file stands as it was, and no new one was made.
    At no moment can both files be attached: the new one gets its name with a mark, and is RME_UNFINISHED for each call
@@ -196,7 +200,8 @@ int rme_lock_name(struct rme_handle *handle, uint32_t lock, char *name);
    each may answer RME_DAMAGED. After that the worker is where it was before the damaged word was read, and the call
    may be made again once the word is mended; rme_run is gone on with by rme_enter and rme_commit. */
 
-/* Finds out from the words where the worker is, and makes a finished job's way out. RME_UP where it was done. */
+/* Begins the worker's next life, finds out from the words where it is, and makes a finished job's way out. RME_UP where
+   it was done. After RME_DAMAGED the next call goes on with the same life. */
 int rme_recover(struct rme_handle *handle, struct rme_stance *stance);
 
 /* Where the worker is now. */
@@ -217,8 +222,9 @@ int rme_submit(struct rme_handle *handle, uint32_t lock, const struct rme_operat
 int rme_enter(struct rme_handle *handle, uint32_t wait);
 
 /* How many sections of the lock were finished before the one that the worker is inside with: the place that its receipt
-   will have. A fencing token: a resource outside that keeps the greatest one that it has seen of the lock, and refuses a
-   lower one, refuses what is written late by a process that others took for dead. RME_IDLE, RME_NOT_INSIDE. */
+   will have. With the stance's life it is a fencing token: a resource outside that keeps the greatest pair (section,
+   life) that it has seen of the file's lock, and refuses a lower one, refuses what is written late by a process that
+   others took for dead. RME_IDLE, RME_NOT_INSIDE. */
 int rme_section(struct rme_handle *handle, uint64_t *section);
 
 /* Does the job that the worker is inside with, leaves, and answers the receipt. RME_IDLE, RME_NOT_INSIDE. */

@@ -13,7 +13,7 @@
 #include <sys/stat.h>
 #include <sys/wait.h>
 
-enum { WORKERS = 3, LOCKS = 2, CELLS = 2, JOBS = 10, PAGE = 4096 };
+enum { WORKERS = 3, LOCKS = 2, CELLS = 2, JOBS = 10, PAGE = 4096, LIVES_AT = 2048 };
 
 /* Of three workers a lock has 4 leaves: 31 words a worker, 4 + 2 + 2C a lock. */
 enum { WORDS = 31 * WORKERS + LOCKS * (6 + 2 * CELLS), SIZE = PAGE + 8 * WORDS };
@@ -58,11 +58,19 @@ static void try_page(const unsigned char *bytes, size_t byte, const char *how) {
     write_file(bytes, SIZE);
     int error = attach_only(0);
     int is_jobs = byte >= 88 && byte < 96, is_names = byte >= 112 && byte < 624;
+    int is_life = byte >= LIVES_AT && byte < LIVES_AT + 8 * WORKERS;
     if (memcmp(bytes, template, SIZE) == 0) {
         return;
     }
     if (byte >= 24 && byte < 64) {
         check(error == RME_OLD_BOOT, "%s of byte %zu: %d", how, byte, error);
+    } else if (byte >= 8 && byte < 16) {
+        /* The worker has no life yet, so that the page is one of version 1 too. */
+        uint64_t version;
+        memcpy(&version, bytes + 8, 8);
+        check(error == (version == 1 ? 0 : RME_NOT_RME), "%s of byte %zu: %d", how, byte, error);
+    } else if (is_life) {
+        check(error == 0, "%s of byte %zu: %d", how, byte, error);
     } else if (byte >= 104 && byte < 112) {
         uint64_t mark;
         memcpy(&mark, bytes + 104, 8);
@@ -102,6 +110,12 @@ static void try_pages(void) {
     memcpy(bytes + 112 + 32, bytes + 112, 32);
     write_file(bytes, SIZE);
     answers("a name that stands twice", attach_only(0), RME_NOT_RME);
+    memcpy(bytes, template, SIZE);
+    bytes[8] = 1;
+    bytes[LIVES_AT + 8] = 1;
+    write_file(bytes, SIZE);
+    answers("a life in a page of version 1", attach_only(0), RME_NOT_RME);
+    check(strstr(rme_why(), "more than there is to say") != NULL, "its why: %s", rme_why());
     heading("the first page");
 }
 

@@ -6,7 +6,8 @@
    one. The worker is the last one, on lock 1 of 2, with 2 cells and a job of three operations. After each kill: who
    owns the lock stays the owner, and another worker is blocked then; the number's next process is where the words
    say, finishes the job, and it counts once; or gives it up where it waits. Then the same for a second kill, before
-   each own step of that next process. */
+   each own step of that next process. Each process is one life of the worker, also where it is killed before its first
+   step. */
 #include "check.h"
 #include "steps.h"
 
@@ -18,6 +19,7 @@ enum { LOCK = 1, BEFORE = 7 };
 
 static char path[4096];
 static uint32_t workers, worker;
+static uint64_t lives; /* of the worker's processes so far */
 static const struct rme_operation job[] = {{RME_ADD, 0, 5}, {RME_COPY, 0, 1}, {RME_ADD, 0, 1}};
 
 static struct rme_handle *attached(uint32_t number, struct rme_stance *stance) {
@@ -48,6 +50,7 @@ static void work(int gives_up) {
    before. */
 static int run_to(unsigned point, int gives_up) {
     int status = 0;
+    lives++;
     pid_t child = fork();
     if (child == 0) {
         steps = 0;
@@ -72,6 +75,7 @@ static void open_file(void) {
     struct rme_handle *handle = attached(worker, &stance);
     must("run", rme_run(handle, LOCK, first, 1, 0, NULL));
     must("detach", rme_detach(handle));
+    lives = 1;
 }
 
 static uint32_t owner_now(void) {
@@ -121,6 +125,7 @@ static void finish(unsigned point, int gives_up) {
     int there = 0, counts = 1;
     uint32_t owner = owner_now();
     struct rme_handle *handle = attached(worker, &stance);
+    check(stance.life == lives + 1, "point %u: life %d", point, (int)stance.life);
     check(stance.number == 1 || stance.number == 2, "point %u: number %d", point, (int)stance.number);
     check((stance.where == RME_INSIDE) == (owner == worker && stance.where != RME_READY), "point %u: re-enters", point);
     if (stance.where == RME_READY && stance.number == 1) {
