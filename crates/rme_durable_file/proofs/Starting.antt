@@ -1,5 +1,5 @@
 -- A server begins with the file that it has read.
-use Rattle.std.proofs.Common.{◌≡◌, ℕ, ◌+◌, ◌-◌, ◌^◌, List, [], ◌∷◌, ◌++◌, false, length, length-append, min, take, replicate, Option, Some, None, option_map, arith, refl, sym, ap, ◌∙◌}
+use Rattle.std.proofs.Common.{◌≡◌, ℕ, ◌+◌, ◌-◌, ◌^◌, List, [], ◌∷◌, ◌++◌, false, length, length-append, min, take, replicate, Option, Some, None, option_map, arith, refl, ap, ◌∙◌}
 use Rattle.rme_session_world.specs.Executors.{HasCrashedAll}
 use Rattle.rme_durable_format.specs.BatchCommands.{crash_commands_from}
 use Rattle.rme_durable_format.specs.CommandLines.{AppendsCommands}
@@ -15,6 +15,7 @@ take_front (byte ∷ front) behind = ap (λ (bytes : List ℕ). byte ∷ bytes) 
 -- The executor of a recovered state, and the lines of its crashes.
 pub record StartsFrom (found : RecoveredState) (epoch : EpochState) (crashes : List ℕ) : Type 0 where
   pub base : epoch.base ≡ found.base
+  pub lives : epoch.lives ≡ found.log.lives.items
   pub number : epoch.epoch ≡ found.log.header.epoch
   pub crashed : HasCrashedAll found.log.world epoch.executor.world
   pub nobody : epoch.executor.holders ≡ replicate found.log.world.shape.workers None
@@ -39,6 +40,7 @@ begins_server (Some bytes) cut after whole found epoch crashes reads cuts append
         reads = reads;
         names_are = refl;
         base = starts.base;
+        lives = starts.lives;
         number = starts.number;
         crashed = starts.crashed;
         nobody = starts.nobody;

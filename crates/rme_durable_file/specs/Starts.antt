@@ -1,10 +1,10 @@
 -- How a server begins with a file.
 use Rattle.std.specs.Prelude.{◌≡◌, ℕ, ◌-◌, ◌^◌, List, [], ◌++◌, Option, Some, None, false, length, min, replicate, ⊤}
-use Rattle.rme_world.specs.WorldViews.{WorldView}
 use Rattle.rme_session_world.specs.Executors.{HasCrashedAll}
 use Rattle.rme_durable_format.specs.BatchCommands.{crash_commands_from}
 use Rattle.rme_durable_format.specs.CommandLines.{AppendsCommands}
 use Rattle.rme_durable_format.specs.WholeLines.{AreWholeLinesOf}
+use Rattle.rme_durable_format.specs.declared.recovery.RecoveredLog.{RecoveredLog}
 use Rattle.rme_durable_checkpoint.specs.EpochStates.{EpochState}
 use Rattle.rme_durable_server.specs.RecoveredStates.{AreState}
 use Rattle.rme_durable_server.specs.declared.recovery.RecoveredState.{RecoveredState}
@@ -21,15 +21,21 @@ abbrev pub ReadsKnownState : Option (List ℕ) → ℕ → RecoveredState → Ty
 ReadsKnownState None whole found = ⊤
 ReadsKnownState (Some bytes) whole found = ReadsState bytes whole found
 
--- A server begins with the state in the whole lines of a file, in which no session has a worker: it crashes each worker
--- that was up, and a line for each of these crashes is in the file behind the whole lines. It counts all bytes of that
--- file as the epoch's; the greatest `u64` if there are more.
+-- A log is that of the state in a file whose bytes are known.
+abbrev pub ReadsKnownLog : Option (List ℕ) → RecoveredLog → Type 0
+ReadsKnownLog bytes log =
+    (whole : ℕ) × (found : RecoveredState) × ReadsKnownState bytes whole found × (log ≡ found.log)
+
+-- A server begins with the state in the whole lines of a file, its lives among it, in which no session has a worker: it
+-- crashes each worker that was up, and a line for each of these crashes is in the file behind the whole lines. It counts
+-- all bytes of that file as the epoch's; the greatest `u64` if there are more.
 pub record BeginsServer (bytes : List ℕ) (names : List (List ℕ)) (epoch : EpochState) (after : List ℕ) : Type 0 where
   pub whole : ℕ
   pub found : RecoveredState
   pub reads : ReadsState bytes whole found
   pub names_are : names ≡ found.log.names
   pub base : epoch.base ≡ found.base
+  pub lives : epoch.lives ≡ found.log.lives.items
   pub number : epoch.epoch ≡ found.log.header.epoch
   pub crashed : HasCrashedAll found.log.world epoch.executor.world
   pub nobody : epoch.executor.holders ≡ replicate found.log.world.shape.workers None

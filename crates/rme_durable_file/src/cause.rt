@@ -25,8 +25,14 @@ pub enum Cause {
 }
 
 impl Cause {
-    /// The code of the cause; never 0.
-    pub(crate) fn code(self) -> u64 {
+    ghost use Rattle.std.specs.Prelude.{◌≡◌};
+    ghost use Rattle.rme_durable_file.specs.Causes.{IsCause, cause_code};
+    ghost use Rattle.rme_durable_file.specs.declared.cause.Cause.{Cause};
+
+    /// The code of the cause.
+    pub(crate) fn code(self) -> u64
+        ensures { result ≡ cause_code self }
+    {
         match self {
             Cause::System(number) => u64::from(number),
             Cause::NoMemory => OWN,
@@ -39,7 +45,9 @@ impl Cause {
     }
 
     /// The cause of a code.
-    pub(crate) fn of_code(code: u64) -> Cause {
+    pub(crate) fn of_code(code: u64) -> Cause
+        ensures { (cause : Cause) → IsCause cause → code ≡ cause_code cause → result ≡ cause }
+    {
         match u32::try_from(code) {
             Ok(number) => Cause::System(number),
             Err(_) => match code - OWN {

@@ -9,7 +9,7 @@ use crate::faults::{read_fault, write_fault};
 use crate::reading::{ReadState, recover_reporting};
 use crate::state_file::StateFile;
 use rme_cli_messages::CliFault;
-use rme_durable_checkpoint::EpochExecutor;
+use rme_durable_checkpoint::{EpochExecutor, EpochStart};
 use rme_durable_format::{RecoveredLog, append_crashes};
 use rme_durable_server::RecoveredState;
 use rme_session_world::Executor;
@@ -49,7 +49,7 @@ pub struct OpenedState<'a, F: DiskFile> {
 
 impl<'a, F: DiskFile> RecoveredFile<'a, F> {
     ghost use Rattle.std.specs.Prelude.{◌≡◌, [], IfOk, true};
-    ghost use Rattle.rme_durable_file.specs.Starts.{BeginsKnownServer};
+    ghost use Rattle.rme_durable_file.specs.Starts.{BeginsKnownServer, ReadsKnownLog};
 
     /// Recovers the state of an open file, which may end with a torn line, and reports the number of lines and the time
     /// on the standard error. The file is not changed.
@@ -71,7 +71,9 @@ impl<'a, F: DiskFile> RecoveredFile<'a, F> {
     }
 
     /// The recovered log.
-    pub fn log(&self) -> &RecoveredLog {
+    pub fn log(&self) -> &RecoveredLog
+        ensures { ReadsKnownLog self.now result.now }
+    {
         &self.recovered.log
     }
 
@@ -96,18 +98,25 @@ impl<'a, F: DiskFile> RecoveredFile<'a, F> {
         if let Err(error) = file.write(crashes.as_bytes()) {
             return Err(write_fault(rt, file.path(), error)?);
         }
-        let length = whole.saturating_add(crashes.len()) as u64;
         let RecoveredState { log, base } = recovered;
         let RecoveredLog {
             header,
             names,
             world,
+            lives,
             ..
         } = log;
         let executor = Executor::new(rt.alloc(), world)?;
+        let start = EpochStart {
+            executor,
+            base,
+            lives,
+            epoch: header.epoch,
+            bytes: whole.saturating_add(crashes.len()) as u64,
+        };
         Ok(OpenedState {
             names,
-            executor: EpochExecutor::new(rt.alloc(), executor, base, header.epoch, length),
+            executor: EpochExecutor::new(rt.alloc(), start),
             file,
         })
     }

@@ -11,6 +11,7 @@ returns-clause-begins g c =
     let crashes = string_bytes c.in_ok-crashes.crashes in
     let starts : StartsFrom found c.new-2.result crashes = record {
       base = c.new-2.ensures.base;
+      lives = c.new-2.ensures.lives;
       number = c.new-2.ensures.epoch;
       crashed = subst (λ (e : ExecutorState). HasCrashedAll found.log.world e.world) (sym c.new-2.ensures.executor) c.in_ok-executor.ensures.fallen;
       nobody = subst (λ (e : ExecutorState). e.holders ≡ replicate found.log.world.shape.workers None) (sym c.new-2.ensures.executor) c.in_ok-executor.ensures.nobody;
