@@ -1,0 +1,167 @@
+//! What answers say of a worker and of its job.
+
+ghost use Rattle.std.specs.Prelude.{◌≡◌, Some, IfOk, codes};
+ghost use Rattle.serde_json.specs.View.{view};
+ghost use Rattle.rme_ask_client.specs.JobAnswers as spec;
+
+use crate::client_error::ClientError;
+use crate::members::{flag, lock_name, member, number, text};
+use serde_json::Value;
+use std::alloc::Global;
+use std::fmt;
+
+/// The stance of a worker.
+#[derive(Clone, Copy, Debug, PartialEq, Eq)]
+pub enum WorkerStance {
+    /// No job is pending.
+    Ready,
+    /// Its job waits for the lock.
+    Climb,
+    /// It is inside its lock.
+    Held,
+}
+
+/// A worker that a session has taken: its stance, and the number of its pending job or, if there is none, of its last.
+#[derive(Clone, Copy, Debug, PartialEq, Eq)]
+pub struct AttachedWorker {
+    pub number: u64,
+    pub stance: WorkerStance,
+}
+
+/// The pending job of a worker.
+#[derive(Drop)]
+pub struct PendingJob {
+    pub lock: String,
+    pub number: u64,
+    /// The script, in JSON.
+    pub script: String,
+    pub stance: WorkerStance,
+}
+
+/// The receipt of a job that counts.
+#[derive(Debug, Drop)]
+pub struct Receipt {
+    pub lock: String,
+    pub number: u64,
+    /// The number of sections of the lock that were finished before.
+    pub place: u64,
+    pub reply: u64,
+    pub worker: u64,
+}
+
+impl fmt::Display for Receipt {
+    ghost use Rattle.rme_ask_client.specs.JobAnswers.{receipt_output};
+
+    ghost output = { λ receipt. Some (receipt_output receipt) };
+
+    fn fmt<W: fmt::Write>(&self, f: &mut fmt::Formatter<W>) -> fmt::Result {
+        let Receipt {
+            lock,
+            number,
+            place,
+            reply,
+            worker,
+        } = self;
+        write!(
+            f,
+            "job {number} of worker {worker} on lock {lock}: place {place}, reply {reply}"
+        )
+    }
+}
+
+/// The outcome of a request that goes on with a job.
+#[derive(Debug, Drop)]
+pub enum JobOutcome {
+    /// It is finished.
+    Receipt(Receipt),
+    /// It still waits for its lock.
+    Waiting,
+    /// It was withdrawn, and never counts.
+    Withdrawn,
+    /// The worker crashed by plan, and the session has none any more.
+    Fell,
+}
+
+/// The worker of the answer to `attach`.
+pub fn attached_worker(value: &Value) -> Result<AttachedWorker, ClientError>
+    ensures { IfOk result (spec.AttachedSays (view value.now)) }
+{
+    Ok(AttachedWorker {
+        number: number(value, "number")?,
+        stance: stance(value)?,
+    })
+}
+
+/// The stance of an answer.
+pub(crate) fn stance(value: &Value) -> Result<WorkerStance, ClientError>
+    ensures { IfOk result (λ stance. spec.stance_member (view value.now) ≡ Some (spec.stance_word stance)) }
+{
+    match text(value, "stance")? {
+        "ready" => Ok(WorkerStance::Ready),
+        "climb" => Ok(WorkerStance::Climb),
+        "held" => Ok(WorkerStance::Held),
+        _ => Err(ClientError::NoMember("stance")),
+    }
+}
+
+/// The job of the answer to `pending`.
+pub fn pending_job(alloc: Global, value: &Value) -> Result<PendingJob, ClientError>
+    ensures { IfOk result (spec.PendingSays (view value.now)) }
+{
+    Ok(PendingJob {
+        lock: lock_name(alloc, value, "lock")?,
+        number: number(value, "number")?,
+        script: member(value, "script")?.to_string(alloc)?,
+        stance: stance(value)?,
+    })
+}
+
+/// The outcome of the answer to `resume`.
+pub fn job_outcome(alloc: Global, value: &Value) -> Result<JobOutcome, ClientError>
+    ensures { IfOk result (spec.OutcomeSays (view value.now)) }
+{
+    if let Some(receipt) = value.get("receipt") {
+        return Ok(JobOutcome::Receipt(receipt_of(alloc, receipt)?));
+    }
+    if flag(value, "waiting") == Ok(true) {
+        return Ok(JobOutcome::Waiting);
+    }
+    if flag(value, "withdrawn") == Ok(true) {
+        return Ok(JobOutcome::Withdrawn);
+    }
+    if flag(value, "fell")? {
+        return Ok(JobOutcome::Fell);
+    }
+    Err(ClientError::NoMember("receipt"))
+}
+
+/// The number of the answer to `withdraw`.
+pub fn withdrawn_number(value: &Value) -> Result<u64, ClientError>
+    ensures { IfOk result (λ number. spec.withdrawn_member (view value.now) ≡ Some number) }
+{
+    number(value, "number")
+}
+
+/// The receipt of the answer to `last`, or `None` if there is no last job that counts.
+pub fn last_receipt(alloc: Global, value: &Value) -> Result<Option<Receipt>, ClientError>
+    ensures { IfOk result (spec.LastSays (view value.now)) }
+{
+    let last = member(value, "last")?;
+    if last.is_null() {
+        return Ok(None);
+    }
+    Ok(Some(receipt_of(alloc, last)?))
+}
+
+/// The receipt of a value.
+fn receipt_of(alloc: Global, value: &Value) -> Result<Receipt, ClientError>
+    ensures { IfOk result (spec.ReceiptSays (view value.now)) }
+{
+    Ok(Receipt {
+        lock: lock_name(alloc, value, "lock")?,
+        number: number(value, "number")?,
+        place: number(value, "place")?,
+        reply: number(value, "reply")?,
+        worker: number(value, "worker")?,
+    })
+}

@@ -1,0 +1,31 @@
+//! A client of a server: the requests that it sends, the lines of a conversation, and what the answers say.
+//!
+//! A `Conversation` sends one line and receives one, over any two streams. The crate stands on rme_line_io, which cuts
+//! and writes lines, and on serde_json, which reads the answers; it knows no world and no server. Its contracts: the
+//! lines that are sent are those of the requests (`specs/RequestTexts.antt`), an answer is the line that was received
+//! (`specs/Conversations.antt`), and each number and name of an answer is that of its member (`specs/Answers.antt`).
+//! Begin with `conversation.rt`, then `request.rt` and `answer.rt`.
+#![tactic(auto)]
+
+mod answer;
+mod client_error;
+mod conversation;
+mod job_answers;
+mod members;
+mod request;
+mod status_answer;
+
+pub use answer::{Answer, RefusedAnswer};
+pub use client_error::ClientError;
+pub use conversation::Conversation;
+pub use job_answers::{
+    AttachedWorker, JobOutcome, PendingJob, Receipt, WorkerStance, attached_worker, job_outcome,
+    last_receipt, pending_job, withdrawn_number,
+};
+pub use request::{Request, push_request};
+pub use status_answer::{
+    CellsAnswer, LockStatus, ServerStatus, WorkerStatus, cells_answer, owner_answer, server_status,
+};
+
+#[cfg(test)]
+mod tests;

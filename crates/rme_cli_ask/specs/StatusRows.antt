@@ -1,0 +1,132 @@
+-- The rows of the tables of locks and workers.
+use Rattle.std.specs.Prelude.{ℕ, ◌+◌, ◌&&◌, Bool, true, false, List, [], ◌∷◌, ◌++◌, codes, decimal, count_by, if◌then◌else◌, map, Option, Some, None, slice_get, string_bytes, String}
+use Rattle.std.specs.List.{flat_map}
+use Rattle.std.specs.Str.{bytes_eq}
+use Rattle.std.specs.declared.alloc.Global.{Global}
+use Rattle.rme_ask_client.specs.JobAnswers.{stance_word}
+use Rattle.rme_ask_client.specs.declared.job_answers.WorkerStance.{WorkerStance}
+use Rattle.rme_ask_client.specs.declared.job_answers.WorkerStance.TheVariants.{Ready, Climb, Held}
+use Rattle.rme_ask_client.specs.declared.status_answer.CellsAnswer.{CellsAnswer}
+use Rattle.rme_ask_client.specs.declared.status_answer.LockStatus.{LockStatus}
+use Rattle.rme_ask_client.specs.declared.status_answer.ServerStatus.{ServerStatus}
+use Rattle.rme_ask_client.specs.declared.status_answer.WorkerStatus.{WorkerStatus}
+pub use Rattle.rme_cli_ask.specs.Tables.{row_view, rows_view}
+use Rattle.rme_cli_ask.specs.Tables.{table_text}
+
+-- the number of an owner, or `nobody`
+abbrev pub owner_text : Option ℕ → List ℕ
+owner_text None = codes "nobody"
+owner_text (Some worker) = decimal worker
+
+-- whether a session has the worker of a number
+abbrev pub attached_or_not : Option WorkerStatus → Bool
+attached_or_not None = false
+attached_or_not (Some worker) = worker.attached
+
+abbrev pub has_session : List WorkerStatus → ℕ → Bool
+has_session workers number = attached_or_not (slice_get workers number)
+
+-- `held` where a session has the owner, else `DEAD`
+abbrev pub owner_state : List WorkerStatus → Option ℕ → List ℕ
+owner_state workers None = codes "-"
+owner_state workers (Some owner) = if has_session workers owner then codes "held" else codes "DEAD"
+
+-- numbers, separated by commas
+abbrev pub next_number_text : ℕ → List ℕ
+next_number_text number = codes "," ++ decimal number
+
+abbrev pub numbers_text : List ℕ → List ℕ
+numbers_text [] = []
+numbers_text (number ∷ numbers) = decimal number ++ flat_map next_number_text numbers
+
+abbrev pub cells_text : List ℕ → Bool → List ℕ
+cells_text cells true = numbers_text cells
+cells_text cells false = numbers_text cells ++ codes " unsettled"
+
+-- whether a worker waits for the lock of this name
+abbrev pub is_climb : WorkerStance → Bool
+is_climb Ready = false
+is_climb Climb = true
+is_climb Held = false
+
+abbrev pub is_name : List ℕ → Option (String Global) → Bool
+is_name lock None = false
+is_name lock (Some name) = bytes_eq (string_bytes name) lock
+
+abbrev pub waits_for : List ℕ → WorkerStatus → Bool
+waits_for lock worker = is_name lock worker.lock && is_climb worker.stance
+
+-- ---- the rows
+
+abbrev pub lock_row : List WorkerStatus → LockStatus → List (List ℕ)
+lock_row workers lock =
+    string_bytes lock.name ∷ owner_text lock.owner ∷ owner_state workers lock.owner ∷
+    cells_text lock.cells.items lock.settled ∷ decimal lock.sections ∷ []
+
+abbrev pub lock_header : List (List ℕ)
+lock_header = codes "LOCK" ∷ codes "OWNER" ∷ codes "STATE" ∷ codes "CELLS" ∷ codes "SECTIONS" ∷ []
+
+-- a row for each lock, below a header
+abbrev pub lock_rows : ServerStatus → List (List (List ℕ))
+lock_rows status = lock_header ∷ map (lock_row status.workers.items) status.locks.items
+
+abbrev pub session_word : Bool → List ℕ
+session_word attached = if attached then codes "yes" else codes "none"
+
+abbrev pub lock_or_nothing : Option (String Global) → List ℕ
+lock_or_nothing None = codes "-"
+lock_or_nothing (Some lock) = string_bytes lock
+
+abbrev pub worker_row : ℕ → WorkerStatus → List (List ℕ)
+worker_row number worker =
+    decimal number ∷ session_word worker.attached ∷ stance_word worker.stance ∷ lock_or_nothing worker.lock ∷
+    decimal worker.number ∷ []
+
+-- the rows of workers, the first of which has this number
+abbrev pub worker_rows_from : ℕ → List WorkerStatus → List (List (List ℕ))
+worker_rows_from number [] = []
+worker_rows_from number (worker ∷ workers) = worker_row number worker ∷ worker_rows_from (number + 1) workers
+
+abbrev pub worker_header : List (List ℕ)
+worker_header = codes "WORKER" ∷ codes "SESSION" ∷ codes "STANCE" ∷ codes "LOCK" ∷ codes "JOB" ∷ []
+
+-- a row for each worker, below a header
+abbrev pub worker_rows : List WorkerStatus → List (List (List ℕ))
+worker_rows workers = worker_header ∷ worker_rows_from 0 workers
+
+-- the tables of the locks and of the workers, with an empty line between
+abbrev pub status_tables_text : ServerStatus → List ℕ
+status_tables_text status =
+    table_text (lock_rows status) ++ (codes "\n" ++ table_text (worker_rows status.workers.items))
+
+abbrev pub owner_rows : List ℕ → Option ℕ → List (List (List ℕ))
+owner_rows lock owner = (codes "LOCK" ∷ codes "OWNER" ∷ []) ∷ (lock ∷ owner_text owner ∷ []) ∷ []
+
+abbrev pub cells_rows : List ℕ → CellsAnswer → List (List (List ℕ))
+cells_rows lock answer =
+    (codes "LOCK" ∷ codes "CELLS" ∷ []) ∷ (lock ∷ cells_text answer.cells.items answer.settled ∷ []) ∷ []
+
+-- ---- the rows of `top`
+
+abbrev pub top_header : List (List ℕ)
+top_header = codes "LOCK" ∷ codes "OWNER" ∷ codes "STATE" ∷ codes "WAITING" ∷ codes "JOBS/S" ∷ []
+
+abbrev pub rate_text : Option ℕ → List ℕ
+rate_text None = codes "-"
+rate_text (Some rate) = decimal rate
+
+abbrev pub top_row : List WorkerStatus → Option ℕ → LockStatus → List (List ℕ)
+top_row workers rate lock =
+    string_bytes lock.name ∷ owner_text lock.owner ∷ owner_state workers lock.owner ∷
+    decimal (count_by (waits_for (string_bytes lock.name)) workers) ∷ rate_text rate ∷ []
+
+-- the first cells of rows, and those that the table of `top` has: its header's, and the name of each lock
+abbrev pub first_cell : List (List ℕ) → List ℕ
+first_cell [] = []
+first_cell (cell ∷ cells) = cell
+
+abbrev pub names_of_rows : List (List (List ℕ)) → List (List ℕ)
+names_of_rows rows = map first_cell rows
+
+abbrev pub names_of_top : ServerStatus → List (List ℕ)
+names_of_top status = codes "LOCK" ∷ map (λ lock. string_bytes lock.name) status.locks.items

@@ -1,0 +1,90 @@
+//! The text of a refusal: its name, its explanation, and what to do here.
+
+use crate::ask_end::AskFault;
+use crate::console::Console;
+use rme_ask_client::{Answer, Conversation, RefusedAnswer, Request};
+use rme_cli_messages::{escape_controls, refusal_advice, refusal_of, refusal_when};
+use rme_line_io::{Sink, Source};
+use serde_json::Value;
+use std::alloc::{AllocError, Global};
+
+/// The number of `BadLine`.
+const BAD_LINE: u64 = 1;
+
+/// The number of `Taken`.
+const TAKEN: u64 = 18;
+
+/// Sends a request, and answers what was accepted; `None` if it was refused, which is explained on the standard error.
+pub(crate) fn accepted<R: Source + Drop, W: Sink + Drop, O: Sink + Drop, E: Sink + Drop>(
+    alloc: Global,
+    talk: &mut Conversation<R, W>,
+    console: &mut Console<O, E>,
+    request: Request<'_>,
+) -> Result<Option<Value>, AskFault> {
+    match talk.ask(request)? {
+        Answer::Accepted(value) => Ok(Some(value)),
+        Answer::Refused(refused) => {
+            if console.is_json() {
+                console.print_line(talk.answer_line())?;
+            }
+            let text = refusal_text(alloc, request, &refused)?;
+            console.tell(text.as_str());
+            Ok(None)
+        }
+    }
+}
+
+/// The text of a refusal of this request.
+fn refusal_text(
+    alloc: Global,
+    request: Request<'_>,
+    refused: &RefusedAnswer,
+) -> Result<String, AllocError> {
+    let mut text = String::new(alloc);
+    push_explanation(&mut text, alloc, refused)?;
+    if let Some(hint) = hint(request, refused.code) {
+        write!(text, "  {hint}\n")?;
+    }
+    Ok(text)
+}
+
+/// Appends the name and the explanation of a refusal; of a server with further refusals the name alone.
+fn push_explanation(
+    out: &mut String,
+    alloc: Global,
+    refused: &RefusedAnswer,
+) -> Result<(), AllocError> {
+    let code = refused.code;
+    let known = match u32::try_from(code) {
+        Ok(code) => refusal_of(code),
+        Err(_) => None,
+    };
+    match known {
+        Some(refusal) => {
+            let name = refusal.name();
+            let when = refusal_when(&refusal);
+            let advice = refusal_advice(&refusal);
+            write!(out, "rme: refused: {code} {name}: {when}\n  {advice}\n")
+        }
+        None => {
+            let name = escape_controls(alloc, refused.name.as_str())?;
+            write!(out, "rme: refused: {code} {name}\n")
+        }
+    }
+}
+
+/// What the explanation of a refusal does not say of this request.
+fn hint(request: Request<'_>, code: u64) -> Option<&'static str> {
+    match request {
+        Request::Status | Request::Owner(_) | Request::Cells(_) if code == BAD_LINE => Some(
+            "A server without a state has no look-ups: only `rme serve --state FILE` has them.",
+        ),
+        Request::Pending if code == BAD_LINE => Some(
+            "The server is of an earlier version, which has no order `pending`.",
+        ),
+        Request::Attach(_) if code == TAKEN => Some(
+            "Where that session's client will not come back, --take ends the session and takes the worker.",
+        ),
+        _ => None,
+    }
+}

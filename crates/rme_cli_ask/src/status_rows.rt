@@ -1,0 +1,254 @@
+//! The rows of the tables of locks and workers.
+
+ghost use Rattle.std.specs.Prelude.{◌≡◌, ◌++◌, IfOk, OnOk, count_by, string_bytes};
+ghost use Rattle.std.specs.List.{flat_map};
+ghost use Rattle.rme_ask_client.specs.JobAnswers.{stance_word};
+ghost use Rattle.rme_cli_ask.specs.StatusRows as spec;
+
+use crate::table::push_table;
+use rme_ask_client::{
+    CellsAnswer, ClientError, LockStatus, ServerStatus, WorkerStance, WorkerStatus,
+};
+use std::alloc::{AllocError, Global};
+
+/// The cell of what there is not.
+pub(crate) const NOTHING: &str = "-";
+
+/// The tables of locks and of workers.
+pub(crate) fn status_text(alloc: Global, status: &ServerStatus) -> Result<String, ClientError>
+    ensures { IfOk result (λ text. string_bytes text ≡ spec.status_tables_text status.now) }
+{
+    let mut text = String::new(alloc);
+    let locks = lock_rows(alloc, status)?;
+    push_table(&mut text, locks.as_slice())?;
+    text.push_str("\n")?;
+    let workers = worker_rows(alloc, status.workers.as_slice())?;
+    push_table(&mut text, workers.as_slice())?;
+    Ok(text)
+}
+
+/// The rows of an answer to `owner`.
+pub(crate) fn owner_rows(
+    alloc: Global,
+    lock: &str,
+    owner: Option<u64>,
+) -> Result<Vec<Vec<String>>, AllocError>
+    ensures { IfOk result (λ rows. spec.rows_view rows.items ≡ spec.owner_rows lock.now owner) }
+{
+    let row = vec![in alloc; String::from_str(alloc, lock)?, owner_text(alloc, owner)?]?;
+    let header = vec![in alloc;
+        String::from_str(alloc, "LOCK")?,
+        String::from_str(alloc, "OWNER")?,
+    ]?;
+    Ok(vec![in alloc; header, row]?)
+}
+
+/// The rows of an answer to `cells`.
+pub(crate) fn cells_rows(
+    alloc: Global,
+    lock: &str,
+    answer: &CellsAnswer,
+) -> Result<Vec<Vec<String>>, AllocError>
+    ensures { IfOk result (λ rows. spec.rows_view rows.items ≡ spec.cells_rows lock.now answer.now) }
+{
+    let cells = cells_text(alloc, answer.cells.as_slice(), answer.settled)?;
+    let row = vec![in alloc; String::from_str(alloc, lock)?, cells]?;
+    let header = vec![in alloc;
+        String::from_str(alloc, "LOCK")?,
+        String::from_str(alloc, "CELLS")?,
+    ]?;
+    Ok(vec![in alloc; header, row]?)
+}
+
+/// The rows of locks: a header, and a row for each lock.
+fn lock_rows(alloc: Global, status: &ServerStatus) -> Result<Vec<Vec<String>>, AllocError>
+    ensures { IfOk result (λ rows. spec.rows_view rows.items ≡ spec.lock_rows status.now) }
+{
+    let mut rows = vec![in alloc; lock_header(alloc)?]?;
+    let locks = status.locks.as_slice();
+    for lock in locks {
+        rows.push(lock_row(alloc, lock, status.workers.as_slice())?)?;
+    }
+    Ok(rows)
+}
+
+/// The rows of workers: a header, and a row for each worker.
+fn worker_rows(alloc: Global, workers: &[WorkerStatus]) -> Result<Vec<Vec<String>>, AllocError>
+    ensures { IfOk result (λ rows. spec.rows_view rows.items ≡ spec.worker_rows workers.now) }
+{
+    let mut rows = vec![in alloc; worker_header(alloc)?]?;
+    for (number, worker) in workers.iter().enumerate() {
+        rows.push(worker_row(alloc, number, worker)?)?;
+    }
+    Ok(rows)
+}
+
+/// The header of the rows of locks.
+fn lock_header(alloc: Global) -> Result<Vec<String>, AllocError>
+    ensures { IfOk result (λ row. spec.row_view row ≡ spec.lock_header) }
+{
+    Ok(vec![in alloc;
+        String::from_str(alloc, "LOCK")?,
+        String::from_str(alloc, "OWNER")?,
+        String::from_str(alloc, "STATE")?,
+        String::from_str(alloc, "CELLS")?,
+        String::from_str(alloc, "SECTIONS")?,
+    ]?)
+}
+
+/// The header of the rows of workers.
+fn worker_header(alloc: Global) -> Result<Vec<String>, AllocError>
+    ensures { IfOk result (λ row. spec.row_view row ≡ spec.worker_header) }
+{
+    Ok(vec![in alloc;
+        String::from_str(alloc, "WORKER")?,
+        String::from_str(alloc, "SESSION")?,
+        String::from_str(alloc, "STANCE")?,
+        String::from_str(alloc, "LOCK")?,
+        String::from_str(alloc, "JOB")?,
+    ]?)
+}
+
+/// The row of a lock.
+fn lock_row(
+    alloc: Global,
+    lock: &LockStatus,
+    workers: &[WorkerStatus],
+) -> Result<Vec<String>, AllocError>
+    ensures { IfOk result (λ row. spec.row_view row ≡ spec.lock_row workers.now lock.now) }
+{
+    let sections = lock.sections;
+    Ok(vec![in alloc;
+        String::from_str(alloc, lock.name.as_str())?,
+        owner_text(alloc, lock.owner)?,
+        String::from_str(alloc, owner_state(lock.owner, workers))?,
+        cells_text(alloc, lock.cells.as_slice(), lock.settled)?,
+        format!(in alloc; "{sections}")?,
+    ]?)
+}
+
+/// The row of the worker of this number.
+fn worker_row(
+    alloc: Global,
+    number: usize,
+    worker: &WorkerStatus,
+) -> Result<Vec<String>, AllocError>
+    ensures { IfOk result (λ row. spec.row_view row ≡ spec.worker_row number worker.now) }
+{
+    let job = worker.number;
+    let session = if worker.attached { "yes" } else { "none" };
+    let lock = match &worker.lock {
+        Some(lock) => lock.as_str(),
+        None => NOTHING,
+    };
+    Ok(vec![in alloc;
+        format!(in alloc; "{number}")?,
+        String::from_str(alloc, session)?,
+        String::from_str(alloc, stance_word(worker.stance))?,
+        String::from_str(alloc, lock)?,
+        format!(in alloc; "{job}")?,
+    ]?)
+}
+
+/// The number of an owner, or `nobody`.
+pub(crate) fn owner_text(alloc: Global, owner: Option<u64>) -> Result<String, AllocError>
+    ensures { IfOk result (λ text. string_bytes text ≡ spec.owner_text owner) }
+{
+    match owner {
+        Some(worker) => format!(in alloc; "{worker}"),
+        None => String::from_str(alloc, "nobody"),
+    }
+}
+
+/// Whether a session has the owner of a lock.
+pub(crate) fn owner_state(owner: Option<u64>, workers: &[WorkerStatus]) -> &'static str
+    ensures { result.now ≡ spec.owner_state workers.now owner }
+{
+    let Some(worker) = owner else {
+        return NOTHING;
+    };
+    if has_session(workers, worker) {
+        "held"
+    } else {
+        "DEAD"
+    }
+}
+
+/// Whether a session has the worker of this number.
+fn has_session(workers: &[WorkerStatus], number: u64) -> bool
+    ensures { result ≡ spec.has_session workers.now number }
+{
+    match workers.get(number as usize) {
+        Some(worker) => worker.attached,
+        None => false,
+    }
+}
+
+/// The number of workers that wait for a lock.
+pub(crate) fn waiting_for(workers: &[WorkerStatus], lock: &str) -> usize
+    ensures { result ≡ count_by (spec.waits_for lock.now) workers.now }
+{
+    workers
+        .iter()
+        .filter(|worker| waits_for(worker, lock))
+        .count()
+}
+
+/// Whether a worker waits for a lock.
+fn waits_for(worker: &WorkerStatus, lock: &str) -> bool
+    ensures { result ≡ spec.waits_for lock.now worker.now }
+{
+    let Some(name) = &worker.lock else {
+        return false;
+    };
+    if worker.stance != WorkerStance::Climb {
+        return false;
+    }
+    name.as_str() == lock
+}
+
+/// The values of cells, and whether a section is half done.
+fn cells_text(alloc: Global, cells: &[u64], settled: bool) -> Result<String, AllocError>
+    ensures { IfOk result (λ text. string_bytes text ≡ spec.cells_text cells.now settled) }
+{
+    let mut text = String::new(alloc);
+    push_cells(&mut text, cells)?;
+    if !settled {
+        text.push_str(" unsettled")?;
+    }
+    Ok(text)
+}
+
+/// Appends numbers, separated by commas.
+fn push_cells(out: &mut String, cells: &[u64]) -> Result<(), AllocError>
+    ensures { OnOk result (string_bytes out.new ≡ string_bytes out.old ++ spec.numbers_text cells.now) }
+{
+    match cells.split_first() {
+        Some((first, others)) => {
+            write!(out, "{first}")?;
+            push_others(out, others)
+        }
+        None => Ok(()),
+    }
+}
+
+/// Appends numbers, with a comma before each.
+fn push_others(out: &mut String, cells: &[u64]) -> Result<(), AllocError>
+    ensures { OnOk result (string_bytes out.new ≡ string_bytes out.old ++ flat_map spec.next_number_text cells.now) }
+{
+    for cell in cells {
+        write!(out, ",{cell}")?;
+    }
+    Ok(())
+}
+
+/// The word of a worker's stance.
+fn stance_word(stance: WorkerStance) -> &'static str
+    ensures { result.now ≡ stance_word stance }
+{
+    match stance {
+        WorkerStance::Ready => "ready",
+        WorkerStance::Climb => "climb",
+        WorkerStance::Held => "held",
+    }
+}
