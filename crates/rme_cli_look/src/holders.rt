@@ -13,29 +13,33 @@ const PROCESSES: &str = "/proc";
 /// The text before a lock in the kernel's description of an open file.
 const LOCK: &str = "lock:";
 
-/// Appends a line for each process that has a worker of this file, as far as the system shows them to this user.
-pub(crate) fn push_holders(
-    out: &mut String,
-    rt: &HostRuntime,
-    file: FileNumber,
-) -> Result<(), AllocError> {
+/// A process that has a worker. A process and its children may have the same one.
+#[derive(Clone, Copy, PartialEq, Eq)]
+pub(crate) struct Holder {
+    pub(crate) worker: u64,
+    pub(crate) process: u32,
+}
+
+/// The processes that have workers of this file, as far as the system shows them to this user.
+pub(crate) fn holders_of(rt: &HostRuntime, file: FileNumber) -> Result<Vec<Holder>, AllocError> {
+    let mut holders = Vec::new(rt.alloc());
     let Ok(processes) = fs::read_dir(rt, PROCESSES) else {
-        return Ok(());
+        return Ok(holders);
     };
     for process in processes {
         let Ok(process) = process else {
             continue;
         };
         if let Ok(number) = process.file_name().parse::<u32>() {
-            push_claims_of(out, rt, number, file)?;
+            add_holders(&mut holders, rt, number, file)?;
         }
     }
-    Ok(())
+    Ok(holders)
 }
 
-/// Appends a line for each worker of the file that this process has.
-fn push_claims_of(
-    out: &mut String,
+/// Adds the workers of the file that this process has.
+fn add_holders(
+    holders: &mut Vec<Holder>,
     rt: &HostRuntime,
     process: u32,
     file: FileNumber,
@@ -49,16 +53,15 @@ fn push_claims_of(
             continue;
         };
         if let Ok(text) = fs::read_to_string(rt, entry.path()) {
-            push_claims_in(out, text.as_str(), process, file)?;
+            add_claims(holders, text.as_str(), process, file)?;
         }
     }
     Ok(())
 }
 
-/// Appends a line for each worker of the file that an open file of this process has locked, from the kernel's
-/// description of it.
-fn push_claims_in(
-    out: &mut String,
+/// Adds the workers of the file that an open file of this process has locked, from the kernel's description of it.
+fn add_claims(
+    holders: &mut Vec<Holder>,
     text: &str,
     process: u32,
     file: FileNumber,
@@ -67,10 +70,15 @@ fn push_claims_in(
         let Some(claim) = line.strip_prefix(LOCK).and_then(|lock| claim_in(lock)) else {
             continue;
         };
+        let holder = Holder {
+            worker: claim.first,
+            process,
+        };
         // A renewal claims all workers by one lock.
-        if claim.first == claim.last && (claim.file == file || claim.file.may_be(file)) {
-            let worker = claim.first;
-            write!(out, "process {process} has worker {worker}\n")?;
+        let is_worker = claim.first == claim.last
+            && (claim.file == file || claim.file.may_be(file));
+        if is_worker && !holders.contains(&holder) {
+            holders.push(holder)?;
         }
     }
     Ok(())

@@ -2,7 +2,7 @@
 //!
 //! The file of a state is read as by the start of a server, and a file of words as its bytes are; nothing is changed.
 //! The crate stands on rme_durable_format, which recovers a state, on rme_durable_checkpoint and rme_durable_server,
-//! which make its status, on rme_process_file, which reads words and writes their texts, on rme_cli_options for the
+//! which make its status, on rme_process_file and rme_waiting, which read words, on rme_cli_options for the
 //! request, and on rme_cli_messages for faults. Its one call is `run_look`. Begin with `look.rt`, then `state_file.rt`
 //! and `words_file.rt`.
 #![tactic(auto)]
@@ -10,7 +10,9 @@
 mod claims;
 mod holders;
 mod look;
+mod rows;
 mod state_file;
+mod table;
 mod words_file;
 
 pub use look::run_look;

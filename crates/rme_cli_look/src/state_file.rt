@@ -1,20 +1,25 @@
 //! The contents of a state's file, whether or not a server uses it.
 
-ghost use Rattle.std.specs.Prelude.{◌≡◌, ◌++◌, ◌∷◌, [], OnOk, string_bytes};
+ghost use Rattle.std.specs.Prelude.{◌≡◌, ◌<◌, ◌++◌, ◌∷◌, [], OnOk, string_bytes};
 ghost use Rattle.rme_durable_server.specs.StatusTexts.{source_state, status_state, status_text};
 
+use crate::rows::{
+    Finisher, HeldLevels, Presence, WorkerRow, WorkerView, push_lock_table, push_workers,
+};
+use crate::table::text_of;
 use rme_cli_messages::CliFault;
 use rme_cli_options::OutputFormat;
 use rme_durable_checkpoint::Sections;
 use rme_durable_file::bad_log_fault;
 use rme_durable_format::{BadLog, RecoveryProgress, whole_lines};
 use rme_durable_server::{
-    RecoveredState, StatusSource, clients_of, lock_status, push_cell_values, push_status, recover,
-    worker_status,
+    LockStatus, RecoveredState, StatusSource, WorkerStatus, clients_of, lock_status, push_status,
+    recover, worker_status,
 };
-use rme_line_text::lock_name;
-use rme_wire::Names;
-use rme_words::NoMemory;
+use rme_tree::held;
+use rme_waiting::world_words;
+use rme_words::{Bank, NoMemory};
+use std::alloc::{AllocError, Global};
 
 /// No observer of the progress of recovery.
 struct NoRecoveryObserver;
@@ -39,10 +44,11 @@ pub(crate) fn push_state(
         Ok(recovered) => recovered,
         Err(why) => return Err(bad_log_fault(rt, path, bytes, why)?),
     };
-    match form {
-        OutputFormat::Json => Ok(push_json(out, &recovered)?),
-        _ => Ok(push_text(out, &recovered)?),
+    if form == OutputFormat::Json {
+        return Ok(push_json(out, &recovered)?);
     }
+    let all = form == OutputFormat::AllTables;
+    Ok(push_tables(out, rt.alloc(), &recovered, all)?)
 }
 
 /// Appends whether a start accepts the file, or the line that it refuses, and answers the status.
@@ -88,56 +94,95 @@ fn push_json(out: &mut String, recovered: &RecoveredState) -> Result<u8, NoMemor
     Ok(0)
 }
 
-/// Appends a line for the epoch, for each lock and for each worker, and answers the status of the process.
-fn push_text(out: &mut String, recovered: &RecoveredState) -> Result<u8, NoMemory> {
+/// Appends the epoch, the tables of the locks and of the workers, and what is left to finish; answers the status of the
+/// process.
+fn push_tables(
+    out: &mut String,
+    alloc: Global,
+    recovered: &RecoveredState,
+    all: bool,
+) -> Result<u8, NoMemory> {
     let names = &recovered.log.names;
     let source = status_view_of(recovered);
     let epoch = source.epoch;
-    write!(out, "epoch {epoch}\n")?;
-    push_locks(out, names, &source)?;
-    push_workers(out, names, &source)?;
+    write!(out, "epoch {epoch}\n\n")?;
+    let locks = lock_rows(alloc, &source)?;
+    push_lock_table(out, alloc, names, locks.as_slice())?;
+    out.push_str("\n")?;
+    let rows = worker_rows(alloc, &source)?;
+    let view = WorkerView {
+        names,
+        height: source.world.shape().height(),
+        finisher: Finisher::Client,
+        goes_on: true,
+        all,
+    };
+    push_workers(out, alloc, &view, rows.as_slice())?;
     Ok(0)
 }
 
-fn push_locks(out: &mut String, names: &Names, source: &StatusSource<'_>) -> Result<(), NoMemory> {
+/// The status of each lock.
+fn lock_rows(alloc: Global, source: &StatusSource<'_>) -> Result<Vec<LockStatus>, NoMemory> {
     let sections = Sections::of(source.world);
+    let mut rows = Vec::new(alloc);
     for lock in 0..source.world.shape().locks() {
         let Some(status) = lock_status(source, lock, &sections) else {
             return Err(NoMemory);
         };
-        let name = lock_name(names, lock);
-        write!(out, "lock {name} owner ")?;
-        match status.owner {
-            Some(owner) => write!(out, "{owner}")?,
-            None => out.push_str("nobody")?,
+        match rows.push(status) {
+            Ok(()) => {}
+            Err(_) => return Err(NoMemory),
         }
-        out.push_str(" cells ")?;
-        push_cell_values(out, &status.cells)?;
-        let count = status.sections;
-        let unsettled = if status.settled { "" } else { " unsettled" };
-        write!(out, "{unsettled} sections {count}\n")?;
     }
-    Ok(())
+    Ok(rows)
 }
 
-fn push_workers(
-    out: &mut String,
-    names: &Names,
-    source: &StatusSource<'_>,
-) -> Result<(), NoMemory> {
+/// Each worker that clients may attach.
+fn worker_rows(alloc: Global, source: &StatusSource<'_>) -> Result<Vec<WorkerRow>, NoMemory> {
+    let words = world_words(source.world)?;
+    let mut rows = Vec::new(alloc);
     for worker in 0..clients_of(source.world) {
-        let Some(status) = worker_status(source, worker) else {
+        let Some(status) = worker_status(source, &words, worker) else {
             return Err(NoMemory);
         };
-        let had = if status.attached { "attached" } else { "down" };
-        let stance = status.stance.word();
-        write!(out, "worker {worker} {had} {stance} ")?;
-        if let Some(lock) = status.stance.lock() {
-            let name = lock_name(names, lock);
-            write!(out, "{name} ")?;
+        match rows.push(worker_row(alloc, status, held_levels(&words, worker))?) {
+            Ok(()) => {}
+            Err(_) => return Err(NoMemory),
         }
-        let number = status.number;
-        write!(out, "{number}\n")?;
     }
-    Ok(())
+    Ok(rows)
+}
+
+/// The levels that a worker holds in the lock that it is at, if it holds any.
+fn held_levels(words: &Bank, worker: u32) -> Option<HeldLevels>
+    requires { worker < words.now.shape.workers }
+{
+    for lock in 0..words.shape().locks() {
+        let levels = held(words, lock, worker);
+        if levels > 0 {
+            return Some(HeldLevels { lock, levels });
+        }
+    }
+    None
+}
+
+/// The row of a worker.
+fn worker_row(
+    alloc: Global,
+    status: WorkerStatus,
+    held: Option<HeldLevels>,
+) -> Result<WorkerRow, AllocError> {
+    let (user, presence) = if status.attached {
+        ("attached", Presence::Here)
+    } else {
+        ("down", Presence::Gone)
+    };
+    Ok(WorkerRow {
+        user: text_of(alloc, user)?,
+        presence,
+        stance: status.stance,
+        number: status.number,
+        blocked_by: status.blocked_by,
+        held,
+    })
 }

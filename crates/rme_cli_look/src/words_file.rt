@@ -1,11 +1,18 @@
 //! The contents of a file of words that processes map.
 
+ghost use Rattle.std.specs.Prelude.{◌<◌};
+
 use crate::claims::{file_at, living_workers};
-use crate::holders::push_holders;
+use crate::holders::{Holder, holders_of};
+use crate::rows::{
+    Finisher, HeldLevels, Presence, WorkerRow, WorkerView, push_lock_table, push_workers,
+};
+use crate::table::text_of;
 use rme_cli_messages::{CliFault, escape_controls};
 use rme_cli_options::OutputFormat;
-use rme_process_file::{FileDefect, ProcessFile, push_damage, push_json, push_text};
-use std::alloc::AllocError;
+use rme_durable_server::{LockStatus, WorkerStance};
+use rme_process_file::{FileDefect, FileStance, ProcessFile, push_damage, push_json};
+use std::alloc::{AllocError, Global};
 use std::fs;
 
 /// The kernel's file with the id of the current boot.
@@ -35,12 +42,145 @@ pub(crate) fn push_words(
     if form == OutputFormat::Json {
         push_json(out, &mapped, living.as_slice())?;
         out.push_str("\n")?;
-    } else {
-        push_state(out, rt, &mapped)?;
-        push_text(out, &mapped, living.as_slice())?;
-        push_holders(out, rt, file)?;
+        return Ok(0);
     }
+    let goes_on = push_state(out, rt, &mapped)?;
+    let users = Users {
+        living,
+        holders: holders_of(rt, file)?,
+    };
+    let rows = worker_rows(rt.alloc(), &mapped, &users)?;
+    let view = WorkerView {
+        names: mapped.names(),
+        height: mapped.shape().height(),
+        finisher: Finisher::Process(path),
+        goes_on,
+        all: form == OutputFormat::AllTables,
+    };
+    push_tables(out, rt.alloc(), &mapped, &view, rows.as_slice())?;
     Ok(0)
+}
+
+/// Appends the tables of the locks and of the workers, and what is left to finish.
+fn push_tables(
+    out: &mut String,
+    alloc: Global,
+    mapped: &ProcessFile,
+    view: &WorkerView<'_>,
+    rows: &[WorkerRow],
+) -> Result<(), AllocError> {
+    let locks = lock_rows(alloc, mapped)?;
+    push_lock_table(out, alloc, view.names, locks.as_slice())?;
+    out.push_str("\n")?;
+    push_workers(out, alloc, view, rows)
+}
+
+/// The processes of a file.
+#[derive(Drop)]
+struct Users {
+    /// Whether each worker has a living process; empty if the system does not say.
+    living: Vec<bool>,
+    /// The processes that have workers, as far as the system shows them.
+    holders: Vec<Holder>,
+}
+
+/// The status of each lock.
+fn lock_rows(alloc: Global, mapped: &ProcessFile) -> Result<Vec<LockStatus>, AllocError> {
+    let shape = mapped.shape();
+    let mut rows = Vec::new(alloc);
+    for lock in 0..shape.locks {
+        let (cells, settled) = mapped.cells(lock);
+        rows.push(LockStatus {
+            cells,
+            settled,
+            owner: mapped.owner(lock),
+            sections: mapped.sections(lock),
+        })?;
+    }
+    Ok(rows)
+}
+
+/// Each worker.
+fn worker_rows(
+    alloc: Global,
+    mapped: &ProcessFile,
+    users: &Users,
+) -> Result<Vec<WorkerRow>, AllocError> {
+    let shape = mapped.shape();
+    let mut rows = Vec::new(alloc);
+    for worker in 0..shape.workers {
+        let stance = stance_of(mapped.stance(worker));
+        let (user, presence) = user_of(alloc, users, worker, stance)?;
+        rows.push(WorkerRow {
+            user,
+            presence,
+            stance,
+            number: mapped.number(worker),
+            blocked_by: mapped.blocked_by(worker),
+            held: held_levels(mapped, worker),
+        })?;
+    }
+    Ok(rows)
+}
+
+/// The stance of a worker, as that of a worker of a state.
+fn stance_of(stance: FileStance) -> WorkerStance {
+    match stance {
+        FileStance::Ready => WorkerStance::Ready,
+        FileStance::Climb(lock) => WorkerStance::Climb(lock),
+        FileStance::Held(lock) => WorkerStance::Held(lock),
+    }
+}
+
+/// The levels that a worker holds in the lock that it is at, if it holds any.
+fn held_levels(mapped: &ProcessFile, worker: u32) -> Option<HeldLevels>
+    requires { worker < mapped.now.shape.workers }
+{
+    let shape = mapped.shape();
+    for lock in 0..shape.locks {
+        let levels = mapped.levels(lock, worker);
+        if levels > 0 {
+            return Some(HeldLevels { lock, levels });
+        }
+    }
+    None
+}
+
+/// The processes that have a worker, as far as the system shows them, and whether there is one.
+fn user_of(
+    alloc: Global,
+    users: &Users,
+    worker: u32,
+    stance: WorkerStance,
+) -> Result<(String, Presence), AllocError> {
+    let processes = processes_of(alloc, users.holders.as_slice(), worker)?;
+    let lives = match users.living.get(worker as usize) {
+        Some(lives) => Some(*lives),
+        None => None,
+    };
+    if !processes.is_empty() {
+        return Ok((processes, Presence::Here));
+    }
+    let (word, presence) = match lives {
+        None => ("-", Presence::Unknown),
+        Some(true) => ("living", Presence::Here),
+        Some(false) if stance == WorkerStance::Ready => ("free", Presence::Gone),
+        Some(false) => ("dead", Presence::Gone),
+    };
+    Ok((text_of(alloc, word)?, presence))
+}
+
+/// The numbers of the processes that have a worker, separated by commas.
+fn processes_of(alloc: Global, holders: &[Holder], worker: u32) -> Result<String, AllocError> {
+    let mut text = String::new(alloc);
+    for holder in holders {
+        if holder.worker == u64::from(worker) {
+            let comma = if text.is_empty() { "" } else { "," };
+            let process = holder.process;
+            write!(text, "{comma}{process}")?;
+        }
+    }
+    Ok(text)
 }
 
 /// Appends whether the words are sound, or why not, and answers the status.
@@ -77,15 +217,21 @@ fn unread(rt: &HostRuntime, path: &str, why: FileDefect) -> Result<CliFault, All
     Ok(CliFault::BadWords(escape_controls(rt.alloc(), path)?, text))
 }
 
-/// Appends a line if no process may continue with the file.
-fn push_state(out: &mut String, rt: &HostRuntime, mapped: &ProcessFile) -> Result<(), AllocError> {
+/// Appends a line if no process may continue with the file, and answers whether one may.
+fn push_state(
+    out: &mut String,
+    rt: &HostRuntime,
+    mapped: &ProcessFile,
+) -> Result<bool, AllocError> {
     if mapped.moved() {
-        return out.push_str("moved: another file has the cells since\n");
+        out.push_str("moved: another file has the cells since\n")?;
+        return Ok(false);
     }
     if is_old(rt, mapped) {
-        return out.push_str("old boot: the machine was started again since\n");
+        out.push_str("old boot: the machine was started again since\n")?;
+        return Ok(false);
     }
-    Ok(())
+    Ok(true)
 }
 
 /// Whether the file was made before the machine's last boot, as far as the system says.
