@@ -1,9 +1,10 @@
 //! The program `rme`: a recoverable mutual exclusion lock service over lines, and over threads.
 //!
-//! rme_cli_options reads the words of the command line; rme_cli_lines, rme_cli_commands, rme_cli_durable and
-//! rme_cli_look execute the commands. This crate is small, since its code is checked against all crates of the program.
+//! rme_cli_options reads the words of the command line; rme_cli_lines, rme_cli_commands, rme_cli_durable, rme_cli_look
+//! and rme_cli_ask execute the commands. This crate is small, since its code is checked against all crates of the program.
 #![tactic(auto)]
 
+use rme_cli_ask::run_ask;
 use rme_cli_commands::{run_draw, run_serve, run_threads};
 use rme_cli_durable::run_serve_durable;
 use rme_cli_lines::perform_lines;
@@ -45,5 +46,6 @@ fn perform<R: Threads + Wait + Clock + Sync>(
         CliTask::Serve(task) => run_serve(rt, threads, task),
         CliTask::ServeDurable(task) => run_serve_durable(rt, threads, task),
         CliTask::Look(task) => run_look(rt, task),
+        CliTask::Ask(task) => run_ask(rt, threads, task),
     }
 }

@@ -3,7 +3,7 @@ use Rattle.std.specs.Prelude.{ℕ, List, ◌++◌, codes, decimal, string_bytes,
 use Rattle.rme_cli_messages.specs.declared.argument.BadArgument.{BadArgument}
 use Rattle.rme_cli_messages.specs.declared.argument.BadArgument.TheVariants.{NoText, NoFile, NoName, Twice, ManyLocks, OutOfRange, FallsBack, NoSocket, ServedAlready, NoState, StateServed, OtherSize, OtherNames, NoNames, RenewalTaken, RenewalUnnamed}
 use Rattle.rme_cli_messages.specs.declared.fault.CliFault.{CliFault}
-use Rattle.rme_cli_messages.specs.declared.fault.CliFault.TheVariants.{BadArguments, ReadFailed, WriteFailed, NoMemory, BadNames, ImageUnread, BadImage, OtherLocks, Unsavable, ImageUnwritten, FolderUnsynced, ListenFailed, AcceptFailed, NoThread, BadState, StateOfVersion, StateOfProcesses, BadWords, StateUnread, StateUnwritten, Unexplained, NothingAsked}
+use Rattle.rme_cli_messages.specs.declared.fault.CliFault.TheVariants.{BadArguments, ReadFailed, WriteFailed, NoMemory, BadNames, ImageUnread, BadImage, OtherLocks, Unsavable, ImageUnwritten, FolderUnsynced, ListenFailed, ConnectFailed, AcceptFailed, NoThread, BadState, StateOfVersion, StateOfProcesses, BadWords, StateUnread, StateUnwritten, Unexplained, NothingAsked}
 use Rattle.rme_cli_messages.specs.declared.fault.SaveError.{SaveError}
 use Rattle.rme_cli_messages.specs.declared.fault.SaveError.TheVariants.{Irregular, Unwritable}
 
@@ -61,6 +61,7 @@ fault_text (ImageUnwritten file why) = None
 fault_text (Unsavable file why) = None
 fault_text (FolderUnsynced file why) = None
 fault_text (ListenFailed place why) = None
+fault_text (ConnectFailed place why) = None
 fault_text (AcceptFailed place) =
     Some (codes "socket failed\n  " ++ (string_bytes place ++ codes ": a connection could not be accepted"))
 fault_text NoThread = Some (codes "no thread")

@@ -62,14 +62,15 @@ impl ExitStatus {
         match self {
             ExitStatus::Done => "what was asked for was done",
             ExitStatus::AnswerIsNo => {
-                "rme check and rme draw: the verdict is no or bad; rme threads: a worker was not done; rme serve: a worker was not given back"
+                "rme check and rme draw: the verdict is no or bad; rme threads: a worker was not done; rme serve: a worker was not given back; rme ask: the server refused, or gave no answer"
             }
             ExitStatus::BadArguments =>
                 "words of the command line, or a file that they name, are refused",
             ExitStatus::ReadFailed => "reading failed",
             ExitStatus::WriteFailed => "writing failed",
             ExitStatus::NoMemory => "memory ran out",
-            ExitStatus::SocketFailed => "rme serve can't listen or accept a connection",
+            ExitStatus::SocketFailed =>
+                "rme serve can't listen or accept a connection; rme ask can't connect",
             ExitStatus::NoThread => "a connection can't have a thread",
         }
     }
@@ -83,7 +84,7 @@ impl ExitStatus {
                 "All input was read and all output written. A line that was refused changes nothing in it: its answer alone says so."
             }
             ExitStatus::AnswerIsNo => {
-                "Nothing went wrong with the program: this is its answer. After rme check and rme draw the verdict names the first line that the abstract machine does not have, or that is no event line; mend what wrote the transcript, or find out what it did there."
+                "Nothing went wrong with the program: this is its answer. After rme check and rme draw the verdict names the first line that the abstract machine does not have, or that is no event line; mend what wrote the transcript, or find out what it did there. After rme ask the standard error names the refusal, or says what the server did."
             }
             ExitStatus::BadArguments => {
                 "Nothing was read and nothing done. The standard error says what is wrong; `rme --help` and the --help of each command say what is right."
@@ -98,7 +99,7 @@ impl ExitStatus {
                 "There was no room for a line, an answer or the world itself. All answers to the lines before were written whole. Give the program more memory, or give it less to hold."
             }
             ExitStatus::SocketFailed => {
-                "Another program may have the port: choose another --port, or 0 for a free one, and start again. Or the system allowed no more open sockets for a while: serve fewer --at-once, or raise the limit of open files."
+                "Another program may have the port: choose another --port, or 0 for a free one, and start again. Or the system allowed no more open sockets for a while: serve fewer --at-once, or raise the limit of open files. After rme ask no server listens there: start one, or name its --port or its --socket."
             }
             ExitStatus::NoThread => {
                 "The system allowed no more threads, and the connection was closed. The other sessions went on to their ends. Serve fewer --at-once, or raise the limit of threads."

@@ -58,6 +58,8 @@ pub enum CliFault {
     FolderUnsynced(String, io::Error),
     /// The server cannot listen here: `port 4000`, or the path of a socket.
     ListenFailed(String, io::Error),
+    /// The client cannot connect to the server here: `port 4000`, or the path of a socket.
+    ConnectFailed(String, io::Error),
     /// The server could not accept a connection here.
     AcceptFailed(String),
     /// No thread could be started for a connection.
@@ -113,6 +115,10 @@ impl fmt::Display for CliFault {
                 "the image {file} is in its place, but its folder can't be synced: {why}"
             ),
             CliFault::ListenFailed(place, why) => write!(f, "socket failed\n  {place}: {why}"),
+            CliFault::ConnectFailed(place, why) => write!(
+                f,
+                "no server at {place}: {why}\n  start one by `rme serve --state FILE LOCK`, or name its --port or its --socket"
+            ),
             CliFault::AcceptFailed(place) => write!(
                 f,
                 "socket failed\n  {place}: a connection could not be accepted"
@@ -166,6 +172,7 @@ impl CliFault {
             CliFault::ImageUnwritten(_, _) => 4,
             CliFault::FolderUnsynced(_, _) => 4,
             CliFault::ListenFailed(_, _) => 6,
+            CliFault::ConnectFailed(_, _) => 6,
             CliFault::AcceptFailed(_) => 6,
             CliFault::NoThread => 7,
             CliFault::BadState(_, _) => 2,

@@ -55,6 +55,8 @@ enum ArgumentValue {
     Count,
     /// `always` or `never`.
     Sync,
+    /// What a server is asked.
+    AskWord,
 }
 
 /// A command of the program.
@@ -67,13 +69,17 @@ enum CommandName {
     Threads,
     Serve,
     Look,
+    Ask,
 }
 
 /// The values of the sync policy.
 const SYNCS: &[&str] = &["always", "never"];
 
+/// What a server is asked.
+const ASK_WORDS: &[&str] = &["status", "owner", "cells", "ping", "finish", "top"];
+
 /// The commands, in the order of help.
-const COMMANDS: [CommandName; 7] = [
+const COMMANDS: [CommandName; 8] = [
     CommandName::Run,
     CommandName::Check,
     CommandName::Draw,
@@ -81,6 +87,7 @@ const COMMANDS: [CommandName; 7] = [
     CommandName::Threads,
     CommandName::Serve,
     CommandName::Look,
+    CommandName::Ask,
 ];
 
 /// The command line of the program.
@@ -116,6 +123,7 @@ fn command_named<'a>(alloc: Global, named: CommandName) -> Result<Command<'a>, A
         CommandName::Threads => threads_command(alloc),
         CommandName::Serve => serve_command(alloc),
         CommandName::Look => look_command(alloc),
+        CommandName::Ask => ask_command(alloc),
     }
 }
 
@@ -327,6 +335,14 @@ fn serve_command<'a>(alloc: Global) -> Result<Command<'a>, AllocError> {
 fn look_command<'a>(alloc: Global) -> Result<Command<'a>, AllocError> {
     let words = [
         ArgumentSpec {
+            conflicts: &["check", "json"],
+            ..optional(
+                "all",
+                ArgumentKind::Flag('a'),
+                "Shows all workers, also those that are down and ready",
+            )
+        },
+        ArgumentSpec {
             conflicts: &["check"],
             ..optional(
                 "json",
@@ -351,6 +367,69 @@ fn look_command<'a>(alloc: Global) -> Result<Command<'a>, AllocError> {
         "look",
         help_texts::look_about(),
         help_texts::look_lines(),
+        &words,
+    )
+}
+
+fn ask_command<'a>(alloc: Global) -> Result<Command<'a>, AllocError> {
+    let words = [
+        ArgumentSpec {
+            value: ArgumentValue::Port,
+            conflicts: &["socket"],
+            ..optional(
+                "port",
+                ArgumentKind::Option("N"),
+                "The port of the server, on 127.0.0.1; 7000 without it",
+            )
+        },
+        optional(
+            "socket",
+            ArgumentKind::Option("PATH"),
+            "The Unix socket of the server, in place of the port",
+        ),
+        optional(
+            "json",
+            ArgumentKind::Flag('j'),
+            "Prints the server's lines, for programs",
+        ),
+        optional(
+            "take",
+            ArgumentKind::Flag('t'),
+            "finish: takes the worker also from a session that has it, which is ended",
+        ),
+        ArgumentSpec {
+            value: ArgumentValue::Number,
+            ..optional(
+                "wait",
+                ArgumentKind::Option("SECONDS"),
+                "finish: how long to wait for the lock; as long as it takes without it",
+            )
+        },
+        optional(
+            "withdraw",
+            ArgumentKind::Flag('w'),
+            "finish: gives the job up where it waits for its lock",
+        ),
+        counted("count", "N", "top: ends after so many tables, 1 to 1000000"),
+        ArgumentSpec {
+            value: ArgumentValue::AskWord,
+            ..optional(
+                "WORD",
+                ArgumentKind::Argument,
+                "What is asked; without it each line of the standard input is sent",
+            )
+        },
+        optional(
+            "NAME",
+            ArgumentKind::Argument,
+            "The lock of owner and cells, the worker of finish",
+        ),
+    ];
+    command_of(
+        alloc,
+        "ask",
+        help_texts::ask_about(),
+        help_texts::ask_lines(),
         &words,
     )
 }
@@ -460,5 +539,6 @@ fn valued(arg: Arg<'_>, value: ArgumentValue) -> Arg<'_> {
         ArgumentValue::Port => arg.value_parser(value_parser!(u16)),
         ArgumentValue::Count => arg.value_parser(value_parser!(u32).range(1..=1_000_000)),
         ArgumentValue::Sync => arg.value_parser(SYNCS),
+        ArgumentValue::AskWord => arg.value_parser(ASK_WORDS),
     }
 }

@@ -305,24 +305,90 @@ pub fn look_about<'a>() -> &'a str {
 
 pub fn look_lines<'a>() -> &'a str {
     "\
-It reads the file as a server would that starts from it, and changes nothing. It prints a line for each lock
-and each worker, as
+It reads the file as a server would that starts from it, and changes nothing. It prints tables, as
 
   epoch 0
-  lock bank owner 0 cells 5,7 unsettled sections 2
-  worker 0 attached held bank 3
-  worker 1 down ready 2
 
-with the owner, or nobody; what the cells hold, with `unsettled` behind while the lock is owned; whether a
-session has the worker; and what the worker is at, with its last number. --json prints it as the answer to the
-order `status`. --check prints yes, or `no LINE` for the first line that a server would not accept. A last
-piece without its newline, which a server cuts off, is left out.
+  LOCK  OWNER  CELLS  SETTLED  SECTIONS
+  bank  0      5,7    no       2
 
-Of a file that `rme_create` made for processes it prints the same lines, with `living` or `dead` for whether a
-process has the worker, and first `moved` or `old boot` where nobody may go on with it. --check prints yes, or
-`no: ` and why the words are those of no world: of words alone, since the file has no history. Where processes
-step meanwhile, they are of no one moment.
+  WORKER  SESSION   STANCE  LOCK  NUMBER  BLOCKED BY
+  0       down      held    bank  3       -
+  1       attached  climb   bank  1       0
+
+  worker 0 is down inside lock bank, and keeps 1 waiting: rme ask finish 0
+
+with the owner, or nobody; what the cells hold, which is not settled while the lock is owned; whether a session
+has the worker; what the worker is at, with its last number; and the worker that it waits for. A worker that is
+down, is ready and holds nothing is left out without --all. A line at the end for each worker that is down and
+holds something says whom it keeps waiting, and how to go on. --json prints it all as the answer to the order
+`status`. --check prints yes, or `no LINE` for the first line that a server would not accept. A last piece
+without its newline, which a server cuts off, is left out.
+
+Of a file that `rme_create` made for processes it prints the same tables, with the process of each worker in
+place of the session (`living` where another user has it, `dead` for a worker with a job and no process), and
+first `moved` or `old boot` where nobody may go on with it. --check prints yes, or `no: ` and why the words are
+those of no world: of words alone, since the file has no history. Where processes step meanwhile, they are of no
+one moment.
 
 Status: 0, 1 after no, 2 for words that are refused and for a file that nobody would accept, 3 where
 reading failed, 4 where writing failed, 5 where memory ran out."
+}
+
+pub fn ask_about<'a>() -> &'a str {
+    "Asks a server: a look at it, a worker's job finished by hand, or lines as they are"
+}
+
+pub fn ask_words_wanted<'a>() -> &'a str {
+    "status, ping and top take no NAME, owner and cells a lock's, and finish a worker's number"
+}
+
+pub fn worker_wanted<'a>() -> &'a str {
+    "finish takes the number of a worker, from 0"
+}
+
+pub fn finish_options_alone<'a>() -> &'a str {
+    "--take, --wait and --withdraw are options of finish"
+}
+
+pub fn count_option_alone<'a>() -> &'a str {
+    "--count is an option of top"
+}
+
+pub fn ask_lines<'a>() -> &'a str {
+    "\
+  rme ask status                 each lock and each worker, of a server with a state, as
+  rme ask owner LOCK             who owns the lock, or nobody
+  rme ask cells LOCK             what its cells hold, with `unsettled` behind while it is owned
+  rme ask ping                   whether the server answers
+  rme ask top                    the locks, once a second, until it is interrupted
+  rme ask finish WORKER          finishes the job of a worker whose client will not come back
+  rme ask <LINES                 sends each line, and prints each answer
+
+The table of `status`, in which worker 0 died inside its lock:
+
+  LOCK  OWNER  STATE  CELLS  SECTIONS
+  bank  0      DEAD   5      1
+
+  WORKER  SESSION  STANCE  LOCK  JOB
+  0       none     held    bank  2
+  1       yes      climb   bank  1
+
+`held` in the place of DEAD says that a session has the owner. --json prints the server's line as it came. Who
+waits for a lock whose owner is dead waits until somebody finishes the owner's job:
+
+  rme ask finish 0
+
+It attaches the worker, prints its pending job, waits for its lock if it has to, and prints the receipt: the
+job counts once, whoever finishes it. See first that the worker's client is gone; one that is connected keeps its
+worker (18 Taken) unless --take ends its session. --withdraw gives up a job that waits, so that its worker holds
+nothing any more; one that is inside its lock is finished all the same. After --wait it lets the worker go, and
+the job is still pending. Without a pending job it says so, with the last receipt.
+
+A server without a state has no look-ups: it refuses status, owner, cells and top.
+
+Status: 0; 1 where the server refused, which is explained on the standard error, ended the session or answered
+what is no answer, and where a job still waits after --wait; 2 for words that are refused; 3 where the
+standard input can't be read, 4 where writing failed, 5 where memory ran out, 6 where no server listens. Of
+lines the answers say what was refused, and the status is 0 at the end of the input."
 }

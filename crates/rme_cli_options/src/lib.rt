@@ -6,6 +6,7 @@
 //! `help_texts.rt` the texts of help.
 #![tactic(auto)]
 
+mod ask_words;
 mod command_line;
 mod commands;
 mod help_texts;
@@ -15,6 +16,7 @@ mod tasks;
 pub use command_line::{ParsedCommandLine, finish_process, read_words};
 pub use parsing::task_of;
 pub use tasks::{
-    CliTask, Diagnostics, DurableServeTask, LineTask, ListenAddresses, LookTask, OutputFormat,
-    RunImages, ServeTask, SyncPolicy, ThreadsTask,
+    AnswerForm, AskRequest, AskTask, CliTask, Diagnostics, DurableServeTask, FinishTask, LineTask,
+    ListenAddresses, LookTask, OutputFormat, RunImages, ServeTask, ServerAddress, SyncPolicy,
+    ThreadsTask,
 };

@@ -1,5 +1,6 @@
 //! Parsing the words of the command line into a task.
 
+use crate::ask_words::ask_task;
 use crate::commands::command;
 use crate::help_texts;
 use crate::tasks::{
@@ -10,8 +11,8 @@ use clap::error::ErrorKind;
 use clap::{ArgMatches, Error};
 use std::alloc::{AllocError, Global};
 
-/// The default port of a durable server.
-const USUAL_PORT: u16 = 7000;
+/// The default port of a durable server, and of a client.
+pub(crate) const USUAL_PORT: u16 = 7000;
 
 /// The default number of sessions that a server runs at a time.
 const AT_ONCE: u32 = 1000;
@@ -29,6 +30,9 @@ pub fn task_of(alloc: Global, words: &[String]) -> Result<CliTask, Error> {
     };
     if let Some(task) = service_task(alloc, &found)? {
         return Ok(task);
+    }
+    if let Some(ask) = found.subcommand_matches("ask") {
+        return Ok(CliTask::Ask(ask_task(alloc, ask)?));
     }
     if found.subcommand_matches("draw").is_some() {
         return Ok(CliTask::Draw);
@@ -71,8 +75,10 @@ fn look_task(alloc: Global, found: &ArgMatches<'_>) -> Result<LookTask, AllocErr
         OutputFormat::Check
     } else if found.get_flag("json") {
         OutputFormat::Json
+    } else if found.get_flag("all") {
+        OutputFormat::AllTables
     } else {
-        OutputFormat::Text
+        OutputFormat::Tables
     };
     let state = text_of(alloc, found, "FILE")?.unwrap_or(String::new(alloc));
     Ok(LookTask { state, form })
@@ -126,7 +132,7 @@ fn texts_of(
 }
 
 /// The text of an option, if it was given.
-fn text_of(
+pub(crate) fn text_of(
     alloc: Global,
     found: &ArgMatches<'_>,
     option: &str,

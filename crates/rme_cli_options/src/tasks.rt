@@ -15,6 +15,8 @@ pub enum CliTask {
     ServeDurable(DurableServeTask),
     /// Look at a file of a durable world.
     Look(LookTask),
+    /// Ask a server.
+    Ask(AskTask),
 }
 
 /// A command that only reads and writes lines, without threads and pictures.
@@ -129,10 +131,65 @@ pub struct LookTask {
 /// The output of `rme look`.
 #[derive(Clone, Copy, PartialEq, Eq)]
 pub enum OutputFormat {
-    /// Lines for people.
-    Text,
+    /// Tables for people, without workers that are down and ready and hold nothing.
+    Tables,
+    /// The same with all workers.
+    AllTables,
     /// The answer to the order `status`.
     Json,
     /// Whether all of it can be read.
     Check,
+}
+
+/// The request of `rme ask`.
+#[derive(Drop)]
+pub struct AskTask {
+    pub server: ServerAddress,
+    pub request: AskRequest,
+    pub form: AnswerForm,
+}
+
+/// The address of a server, on this machine.
+#[derive(Drop)]
+pub enum ServerAddress {
+    Port(u16),
+    /// The Unix socket of this path.
+    Socket(String),
+}
+
+/// The form of the answers that are printed.
+#[derive(Clone, Copy, PartialEq, Eq)]
+pub enum AnswerForm {
+    /// Tables and sentences for people.
+    Text,
+    /// The server's lines.
+    Json,
+}
+
+/// What a server is asked.
+#[derive(Drop)]
+pub enum AskRequest {
+    /// Each line of the standard input, in order.
+    Lines,
+    Status,
+    /// The owner of the lock of this name.
+    Owner(String),
+    /// The cells of the lock of this name.
+    Cells(String),
+    Ping,
+    Finish(FinishTask),
+    /// The locks, once a second: this number of times, or until it is interrupted.
+    Top(Option<u32>),
+}
+
+/// The request to finish the pending job of a worker.
+#[derive(Clone, Copy)]
+pub struct FinishTask {
+    pub worker: u32,
+    /// Whether the worker is also taken from a session that has it.
+    pub takes_over: bool,
+    /// The number of seconds to wait for the lock; as long as it takes if there is none.
+    pub seconds: Option<u32>,
+    /// Whether a job that waits for its lock is withdrawn.
+    pub withdraws: bool,
 }

@@ -1,7 +1,7 @@
 //! The diagnosis of a line.
 
 use crate::reasons::{Reason, escape_excerpt};
-use crate::words::{Key, KeyKind, Vocabulary, keys_of};
+use crate::words::{CHOICE_KEYS, Key, KeyKind, Vocabulary, keys_of};
 use rme_wire::{Value, do_member, lend, script_of_value, whole_u32};
 use serde_json::{Error, Map, Value as Owned};
 use std::alloc::{AllocError, Global};
@@ -43,6 +43,9 @@ fn reason_of_value(
     let Some(word) = do_member(&value) else {
         return Ok(Some(Reason::NoWord));
     };
+    if leaves_choice(vocabulary, word, &value) {
+        return reason_of_choice(alloc, members, &value);
+    }
     let Some(keys) = keys_of(vocabulary, word) else {
         return Ok(Some(Reason::UnknownWord(escape_excerpt(alloc, word)?)));
     };
@@ -60,6 +63,30 @@ fn reason_of_value(
     }
     if value.get("tries").is_some() && value.get("wait").is_some() {
         return Ok(Some(Reason::TriesAndWait));
+    }
+    Ok(None)
+}
+
+/// Whether an order leaves the choice of its worker to the server.
+fn leaves_choice(vocabulary: Vocabulary, word: &str, value: &Value<'_>) -> bool {
+    vocabulary == Vocabulary::Orders && word == "attach" && value.get("any").is_some()
+}
+
+/// What is wrong with such an order.
+fn reason_of_choice(
+    alloc: Global,
+    members: &Map<String, Owned>,
+    value: &Value<'_>,
+) -> Result<Option<Reason>, AllocError> {
+    if let Some(further) = further_key(members, CHOICE_KEYS) {
+        return Ok(Some(Reason::BesideChoice(escape_excerpt(alloc, further)?)));
+    }
+    for key in CHOICE_KEYS {
+        if let Some(given) = value.get(key.name)
+            && !is_of_key_kind(key.kind, given)
+        {
+            return Ok(Some(Reason::Wrong(*key)));
+        }
     }
     Ok(None)
 }
@@ -92,6 +119,7 @@ fn is_of_key_kind(kind: KeyKind, value: &Value<'_>) -> bool {
             None => false,
         },
         KeyKind::Script => script_of_value(value).is_some(),
+        KeyKind::Choice => matches!(value.as_str(), Some("pending" | "ready")),
     }
 }
 

@@ -27,6 +27,8 @@ pub enum Reason {
     Missing(String, Key),
     /// The value of this key is not valid.
     Wrong(Key),
+    /// This key stands beside `any`.
+    BesideChoice(String),
     /// It has both `tries` and `wait`.
     TriesAndWait,
 }
@@ -49,6 +51,9 @@ impl fmt::Display for Reason {
                 let name = key.name;
                 let kind = key.kind;
                 write!(f, "the key \"{name}\" must be {kind}")
+            }
+            Reason::BesideChoice(key) => {
+                write!(f, "the key \"{key}\" may not stand beside the key \"any\"")
             }
             Reason::TriesAndWait => f.write_str(
                 "only one of the keys \"tries\" and \"wait\" may stand",

@@ -24,6 +24,8 @@ pub enum KeyKind {
     Note,
     Texts,
     Script,
+    /// Which worker a session asks for, if it leaves the choice to the server.
+    Choice,
 }
 
 /// A key other than `do`.
@@ -121,11 +123,20 @@ const TAKE: Key = Key {
     is_optional: true,
 };
 
+const ANY: Key = Key {
+    name: "any",
+    kind: KeyKind::Choice,
+    is_optional: false,
+};
+
 const STEPS: Key = Key {
     name: "steps",
     kind: KeyKind::Number(0, 1_000_000),
     is_optional: false,
 };
+
+/// The keys of an attachment that leaves the choice of the worker to the server.
+pub const CHOICE_KEYS: &[Key] = &[ANY];
 
 /// The keys of a word, or `None` if it is no word of this vocabulary.
 pub fn keys_of(vocabulary: Vocabulary, word: &str) -> Option<&'static [Key]> {
@@ -155,7 +166,7 @@ fn order_keys(word: &str) -> Option<&'static [Key]> {
         "submit" | "enter" => Some(&[NUMBER_OF_JOB, LOCK, SCRIPT, TRIES, WAIT]),
         "resume" => Some(&[TRIES, WAIT]),
         "crash_after" => Some(&[STEPS]),
-        "commit" | "withdraw" | "last" | "detach" => Some(&[]),
+        "commit" | "withdraw" | "last" | "pending" | "detach" | "ping" => Some(&[]),
         _ => None,
     }
 }
@@ -170,6 +181,7 @@ impl fmt::Display for KeyKind {
                 "\"asked\", \"entered\", \"reentered\", \"finished\", \"left\", \"ready\" or \"withdrew\"",
             ),
             KeyKind::Texts => f.write_str("a list of texts"),
+            KeyKind::Choice => f.write_str("\"pending\" or \"ready\""),
             KeyKind::Script => f.write_str(
                 "a list of operations: [\"get\",c], [\"set\",c,v], [\"add\",c,v], [\"copy\",a,b] or [\"swap\",a,b]",
             ),

@@ -1,0 +1,82 @@
+//! Parsing the words after `ask`.
+
+use crate::commands::command;
+use crate::help_texts;
+use crate::parsing::{USUAL_PORT, text_of};
+use crate::tasks::{AnswerForm, AskRequest, AskTask, FinishTask, ServerAddress};
+use clap::error::ErrorKind;
+use clap::{ArgMatches, Error};
+use std::alloc::{AllocError, Global};
+
+/// The task of the words after `ask`.
+pub(crate) fn ask_task(alloc: Global, found: &ArgMatches<'_>) -> Result<AskTask, Error> {
+    let form = if found.get_flag("json") {
+        AnswerForm::Json
+    } else {
+        AnswerForm::Text
+    };
+    Ok(AskTask {
+        server: server_address(alloc, found)?,
+        request: ask_request(alloc, found)?,
+        form,
+    })
+}
+
+/// The address of the server that is asked.
+fn server_address(alloc: Global, found: &ArgMatches<'_>) -> Result<ServerAddress, AllocError> {
+    match text_of(alloc, found, "socket")? {
+        Some(path) => Ok(ServerAddress::Socket(path)),
+        None => {
+            let port = found.get_one::<u16>("port").unwrap_or(USUAL_PORT);
+            Ok(ServerAddress::Port(port))
+        }
+    }
+}
+
+/// What the server is asked.
+fn ask_request(alloc: Global, found: &ArgMatches<'_>) -> Result<AskRequest, Error> {
+    let word = found.get_str("WORD");
+    if word != Some("finish") && has_finish_option(found) {
+        return Err(wrong(alloc, help_texts::finish_options_alone())?);
+    }
+    if word != Some("top") && found.contains_id("count") {
+        return Err(wrong(alloc, help_texts::count_option_alone())?);
+    }
+    match (word, text_of(alloc, found, "NAME")?) {
+        (None, None) => Ok(AskRequest::Lines),
+        (Some("status"), None) => Ok(AskRequest::Status),
+        (Some("ping"), None) => Ok(AskRequest::Ping),
+        (Some("top"), None) => Ok(AskRequest::Top(found.get_one("count"))),
+        (Some("owner"), Some(lock)) => Ok(AskRequest::Owner(lock)),
+        (Some("cells"), Some(lock)) => Ok(AskRequest::Cells(lock)),
+        (Some("finish"), Some(worker)) => finish_request(alloc, found, worker.as_str()),
+        _ => Err(wrong(alloc, help_texts::ask_words_wanted())?),
+    }
+}
+
+/// The request to finish the job of the worker of this word.
+fn finish_request(
+    alloc: Global,
+    found: &ArgMatches<'_>,
+    worker: &str,
+) -> Result<AskRequest, Error> {
+    let Ok(worker) = worker.parse::<u32>() else {
+        return Err(wrong(alloc, help_texts::worker_wanted())?);
+    };
+    Ok(AskRequest::Finish(FinishTask {
+        worker,
+        takes_over: found.get_flag("take"),
+        seconds: found.get_one("wait"),
+        withdraws: found.get_flag("withdraw"),
+    }))
+}
+
+/// Whether an option was given that only `finish` has.
+fn has_finish_option(found: &ArgMatches<'_>) -> bool {
+    found.get_flag("take") || found.get_flag("withdraw") || found.contains_id("wait")
+}
+
+/// The error of words that do not go together.
+fn wrong(alloc: Global, text: &str) -> Result<Error, Error> {
+    Ok(command(alloc)?.error(ErrorKind::WrongNumberOfValues, text)?)
+}
