@@ -2,15 +2,18 @@
 
 ghost use Rattle.std.specs.Prelude.{◌≡◌, ◌<◌, ◌↔◌, IfOk, IsTrue};
 ghost use Rattle.rme_process_file.specs.ProcessFiles.{IsFile, file_memory};
-ghost use Rattle.rme_process_file.specs.FileContents.{file_stance_in, sections_in};
+ghost use Rattle.rme_process_file.specs.FileContents.{blocked_by_in, file_stance_in, sections_in};
 ghost use Rattle.rme_process_file.specs.Sound.{IsSound};
 
 use rme_process_file::{
-    FileDefect, FileStance, ProcessFile, is_process_file, push_damage, push_json, push_text,
+    FileDefect, FileStance, ProcessFile, is_process_file, push_damage, push_json,
 };
 use std::alloc::{AllocError, Global};
 use std::process::Abort;
 use std::test::Fail;
+
+/// The byte of the life of worker 0.
+const LIVES: usize = 2048;
 
 /// The bytes of a file of this version whose words begin with these; all others are 0.
 fn file_of(alloc: Global, version: u64, words: &[u64]) -> Result<Vec<u8>, AllocError> {
@@ -171,21 +174,36 @@ fn check_workers(rt: &impl Abort, mapped: &ProcessFile) {
     assert!(rt; mapped.pending(0).is_some());
 }
 
+/// Worker 1 waits for worker 0 in place of its withdrawn job.
 #[test]
-fn lines_are_written(rt: HostRuntime) -> Result<(), Fail> {
-    let mapped = mapped_of(rt.alloc())?;
-    check_text(&rt, rt.alloc(), &mapped)?;
+fn waiting_is_written(rt: HostRuntime) -> Result<(), Fail> {
+    let mut words = words_of_state();
+    words[32] = 0;
+    let mapped = mapped_with(rt.alloc(), &words)?;
+    check_waiting(&rt, rt.alloc(), &mapped)?;
     Ok(())
 }
 
-fn check_text(rt: &impl Abort, alloc: Global, mapped: &ProcessFile) -> Result<(), AllocError> {
+fn check_waiting(rt: &impl Abort, alloc: Global, mapped: &ProcessFile) -> Result<(), AllocError> {
     let mut text = String::new(alloc);
-    push_text(&mut text, mapped, &[true])?;
-    assert!(rt;
-        text.as_str()
-            == "lock bank owner 0 cells 0,7 unsettled sections 2\nworker 0 living held bank 1\nworker 1 ready 1\n"
-    );
+    push_json(&mut text, mapped, &[true])?;
+    assert!(rt; text.as_str().ends_with(WAITING));
+    assert!(rt; mapped.shape().workers() == 2 && mapped.shape().locks() == 1);
+    assert!(rt; waits_for(mapped, 0).is_none() && waits_for(mapped, 1) == Some(0));
+    assert!(rt; mapped.levels(0, 0) == 1 && mapped.levels(0, 1) == 0);
     Ok(())
+}
+
+/// The workers of that file.
+const WAITING: &str =
+    "\"workers\":[{\"living\":true,\"lock\":\"bank\",\"number\":1,\"stance\":\"held\"},{\"blocked_by\":0,\"lock\":\"bank\",\"number\":1,\"stance\":\"climb\"}]}";
+
+/// The worker that a worker waits for, by the words only.
+fn waits_for(mapped: &ProcessFile, worker: u32) -> Option<u32>
+    requires { worker < mapped.now.shape.workers }
+    ensures { result ≡ blocked_by_in mapped.now worker }
+{
+    mapped.blocked_by(worker)
 }
 
 #[test]
@@ -207,12 +225,33 @@ fn check_json(rt: &impl Abort, alloc: Global, mapped: &ProcessFile) -> Result<()
 
 #[test]
 fn other_bytes_are_unread(rt: HostRuntime) -> Result<(), Fail> {
-    let other = file_of(rt.alloc(), 2, &[])?;
+    let other = file_of(rt.alloc(), 3, &[])?;
     assert!(rt; is_process_file(&other));
-    assert!(rt; is_unread(rt.alloc(), &other, "its version is not 1")?);
+    assert!(rt; is_unread(rt.alloc(), &other, "its version is neither 1 nor 2")?);
     assert!(rt; is_unread(rt.alloc(), b"rmewords", "it is shorter than its first page")?);
     assert!(rt; is_unread(rt.alloc(), b"{}", "it does not begin as a file of words")?);
     Ok(())
+}
+
+/// A file with a life of worker 1, and then with one of a worker that is not there.
+#[test]
+fn lives_are_of_workers(rt: HostRuntime) -> Result<(), Fail> {
+    for version in [1, 2] {
+        let mut bytes = file_of(rt.alloc(), version, &words_of_state())?;
+        assert!(rt; read(rt.alloc(), &bytes).is_ok());
+        put(&mut bytes, LIVES + 8, 7);
+        assert!(rt; read(rt.alloc(), &bytes).is_ok() == (version == 2));
+        put(&mut bytes, LIVES + 16, 7);
+        let reason = "its first page has more than there is to say";
+        assert!(rt; is_unread(rt.alloc(), &bytes, reason)?);
+    }
+    Ok(())
+}
+
+fn put(bytes: &mut [u8], at: usize, value: u8) {
+    if let Some(byte) = bytes.get_mut(at) {
+        *byte = value;
+    }
 }
 
 #[test]

@@ -8,7 +8,8 @@ ghost use Rattle.rme_session_world.specs.Executors.{is_worker_taken, owned_worke
 use rme_program::Receipt;
 use rme_script::{Job, Op, Script};
 use rme_session_protocol::{
-    Attachment, FencingToken, JobOutcome, Order, Patience, SessionReply, SessionStance, Submission,
+    Attachment, FencingToken, JobOutcome, Order, Patience, PendingJob, SessionReply, SessionStance,
+    Submission, WorkerChoice,
 };
 use rme_session_world::{ExecutedOrder, Executor, SessionState};
 use rme_words::{NoMemory, Refusal, Shape};
@@ -218,5 +219,51 @@ fn tokens(rt: HostRuntime) -> Result<(), Fail> {
     play(&rt, &mut executor, &mut new_sessions(), &two_sections())?;
     assert!(rt; executor.world().finished(0) == Ok(1));
     assert!(rt; executor.world().finished(1) == Err(Refusal::NoLock));
+    Ok(())
+}
+
+/// The pending first job of a worker, which adds this amount.
+fn pending(amount: u64, stance: SessionStance) -> SessionReply {
+    SessionReply::Pending(PendingJob {
+        number: 1,
+        job: adding(amount).job,
+        stance,
+    })
+}
+
+/// One worker is inside and the other waits; each is told its job.
+fn two_pending_jobs() -> [Exchange; 8] {
+    let waits = SessionReply::Entered(JobOutcome::Waiting);
+    [
+        (
+            0,
+            Order::Pending,
+            SessionReply::Refused(Refusal::NotAttached),
+        ),
+        (0, attach(0), READY),
+        (0, Order::Pending, SessionReply::Refused(Refusal::Idle)),
+        (0, Order::Enter(adding(5)), inside_in(0)),
+        (0, Order::Pending, pending(5, SessionStance::Held)),
+        (1, attach(1), READY),
+        (1, Order::Enter(adding(1)), waits),
+        (1, Order::Pending, pending(1, SessionStance::Climb)),
+    ]
+}
+
+/// A worker that no session has is chosen by whether it has a pending job.
+#[test]
+fn pending_jobs(rt: HostRuntime) -> Result<(), Fail> {
+    let mut executor = new_world_executor(rt.alloc())?;
+    let mut sessions = new_sessions();
+    assert!(rt; executor.choose_worker(WorkerChoice::Ready, 2) == Some(0));
+    assert!(rt; executor.choose_worker(WorkerChoice::Pending, 2).is_none());
+    play(&rt, &mut executor, &mut sessions, &two_pending_jobs())?;
+    assert!(rt; executor.choose_worker(WorkerChoice::Ready, 2).is_none());
+    assert!(rt; executor.choose_worker(WorkerChoice::Pending, 2).is_none());
+    assert!(rt; executor.detach_session(&mut sessions[1]).is_some());
+    assert!(rt; executor.choose_worker(WorkerChoice::Pending, 2) == Some(1));
+    assert!(rt; executor.choose_worker(WorkerChoice::Pending, 1).is_none());
+    assert!(rt; executor.detach_session(&mut sessions[0]).is_some());
+    assert!(rt; executor.choose_worker(WorkerChoice::Pending, 2) == Some(0));
     Ok(())
 }

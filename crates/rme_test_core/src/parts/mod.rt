@@ -3,4 +3,5 @@
 mod program;
 mod script;
 mod tree;
+mod waiting;
 mod words;

@@ -3,7 +3,8 @@
 use crate::texts::lock_names;
 use rme_script::{Job, Op, Script};
 use rme_session_protocol::{
-    Attachment, Order, Patience, SERVICE_NUMBERS, Submission, WORLD_NUMBERS, parse_order,
+    Attachment, Order, Patience, SERVICE_NUMBERS, Submission, WORLD_NUMBERS, WorkerChoice,
+    parse_order, parse_worker_choice,
 };
 use rme_wire::{Names, ValueReader};
 use rme_words::NoMemory;
@@ -60,7 +61,7 @@ fn check_order(
 type OrderLine = (&'static str, Order);
 
 /// The orders without a script and with no number of tries or time to wait.
-fn plain_lines() -> [OrderLine; 10] {
+fn plain_lines() -> [OrderLine; 11] {
     [
         (r#"{"do":"attach","worker":0}"#, attach(0, false)),
         (r#"{"worker":9,"do":"attach"}"#, attach(9, false)),
@@ -75,6 +76,7 @@ fn plain_lines() -> [OrderLine; 10] {
         (r#"{"do":"crash_after","steps":0}"#, Order::CrashAfter(0)),
         (r#"{"do":"detach"}"#, Order::Detach),
         (r#"{"do":"ping"}"#, Order::Ping),
+        (r#"{"do":"pending"}"#, Order::Pending),
     ]
 }
 
@@ -229,5 +231,40 @@ fn check_large_numbers(rt: &impl Abort, alloc: Global, names: &Names) -> Result<
     assert!(rt; number == Some(9_007_199_254_740_992));
     let larger = r#"{"do":"submit","lock":"a","number":9007199254740993,"script":[]}"#;
     assert!(rt; submitted_number(alloc, names, larger)? == None);
+    Ok(())
+}
+
+/// Lines that leave the choice of a worker to the server, and lines that do not.
+const CHOICES: &[(&str, Option<WorkerChoice>)] = &[
+    (
+        r#"{"any":"pending","do":"attach"}"#,
+        Some(WorkerChoice::Pending),
+    ),
+    (
+        r#"{"do":"attach","any":"ready"}"#,
+        Some(WorkerChoice::Ready),
+    ),
+    (r#"{"any":"idle","do":"attach"}"#, None),
+    (r#"{"any":0,"do":"attach"}"#, None),
+    (r#"{"any":"ready","do":"attach","take":true}"#, None),
+    (r#"{"any":"ready","do":"attach","worker":0}"#, None),
+    (r#"{"any":"ready","do":"detach"}"#, None),
+    (r#"{"do":"attach"}"#, None),
+    ("ready", None),
+];
+
+/// A choice is no order, and an order is no choice.
+#[test]
+fn choices(rt: HostRuntime) -> Result<(), Fail> {
+    let names = lock_names(&rt, rt.alloc());
+    let mut values = ValueReader::new(rt.alloc());
+    for (line, wanted) in CHOICES {
+        let order = parse_order(&mut values, &names, WORLD_NUMBERS, line.as_bytes())?;
+        assert!(rt; order.is_none());
+        let choice = parse_worker_choice(&mut values, line.as_bytes())?;
+        assert!(rt; choice == *wanted);
+    }
+    let plain = br#"{"do":"attach","worker":0}"#;
+    assert!(rt; parse_worker_choice(&mut values, plain)?.is_none());
     Ok(())
 }
