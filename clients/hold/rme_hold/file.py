@@ -103,7 +103,7 @@ class FileWorker:
                 raise Ended(LATER, f"lock {self._words.lock} is not free") from None
             if was != "ready":
                 raise
-        return Held(worker.worker, number, worker.section(), was == "inside", worker.fileno())
+        return Held(worker.worker, number, worker.section(), was == "inside", worker.fileno(), worker.life)
 
     def _wait(self, deadline: Deadline) -> None:
         assert self._worker is not None

@@ -9,19 +9,22 @@ from typing import Dict, Optional
 
 @dataclass(frozen=True)
 class Held:
-    """A job whose worker is inside the lock. `again` says that it was inside before this attachment; `section` is `None` where
-    it was not told. A child that inherits `descriptor` keeps the worker."""
+    """A job whose worker is inside the lock. `again` says that it was inside before this attachment; `section` and `life` are
+    `None` where they were not told. A child that inherits `descriptor` keeps the worker."""
 
     worker: int
     number: int
     section: Optional[int]
     again: bool
     descriptor: int
+    life: Optional[int] = None
 
     def environment(self, lock: str) -> Dict[str, str]:
         told = {"RME_LOCK": lock, "RME_WORKER": str(self.worker), "RME_NUMBER": str(self.number)}
         if self.section is not None:
             told["RME_SECTION"] = str(self.section)
+        if self.life is not None:
+            told["RME_LIFE"] = str(self.life)
         if self.again:
             told["RME_AGAIN"] = "1"
         return told

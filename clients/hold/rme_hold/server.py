@@ -130,30 +130,35 @@ class ServerWorker:
 
     def _attach_any(self, told: List[Answer]) -> bool:
         """Whether one of these workers was attached: first those with a pending job of this lock, then those that are ready."""
-        free = [worker for worker, it in enumerate(told) if not it.get("attached")]
-        mine = [worker for worker in free if told[worker].get("lock") == self._words.lock]
-        for worker in mine + [worker for worker in free if told[worker].get("stance") == "ready"]:
-            if self._attach_one(worker, False) is None:
+        for worker, it in enumerate(told):
+            if not it.get("attached") and it.get("lock") == self._words.lock and self._attach_one(worker, False) is None:
                 if self._stance == "ready" or self._lock_of_job() == self._words.lock:
                     return True
                 self._asked(do="detach")
-        return False
+        return self._attach_ready()
 
     def _attach_unseen(self) -> bool:
-        """The same where the server does not say how its workers are: each is attached, and a pending job is of this lock
-        where it is entered by the words of this one."""
-        ready = None
+        """The same where the server does not say how its workers are: each is attached, and asked for its pending job."""
         for worker in range(MOST_WORKERS):
             code = self._attach_one(worker, False)
             if code == NO_WORKER:
                 break
             if code is None:
-                if self._stance == "ready":
-                    ready = worker if ready is None else ready
-                elif refused(self._asked_enter(0)) != DIFFERS:
+                if self._stance != "ready" and self._lock_of_job() == self._words.lock:
                     return True
                 self._asked(do="detach")
-        return ready is not None and self._attach_one(ready, False) is None and self._stance == "ready"
+        return self._attach_ready()
+
+    def _attach_ready(self) -> bool:
+        """Whether a ready worker was attached: the lowest one that no session has."""
+        answer = self._asked(do="attach", any="ready")
+        code = refused(answer)
+        if code in (TAKEN, BUSY):
+            return False
+        if code is not None:
+            raise wrong(answer)
+        self._worker, self._number, self._stance = answer["worker"], answer["number"], answer["stance"]
+        return True
 
     def _attach_one(self, worker: Optional[int], take: bool) -> Optional[int]:
         """Why the worker was not attached, where waiting may help; `None` where it was."""
@@ -171,9 +176,8 @@ class ServerWorker:
         return None
 
     def _lock_of_job(self) -> Optional[str]:
-        """The lock of the pending job; `None` where the server keeps no state, and does not say."""
-        told = self._workers()
-        return None if told is None else told[self._worker].get("lock")
+        """The lock of the pending job; `None` where a server of version 0.2 does not say."""
+        return self._asked(do="pending").get("lock")
 
     def _workers(self) -> Optional[List[Answer]]:
         """What the server says of all workers; `None` where it keeps no state."""
@@ -215,9 +219,11 @@ class ServerWorker:
 
     def _other_job(self) -> Held:
         """A pending job with another lock or another script: its command is run again where it is inside this lock."""
-        lock = self._lock_of_job()
+        told = self._asked(do="pending")
+        lock = told.get("lock")
         if self._stance == "held" and lock == self._words.lock:
-            return self._held(True, None)
+            answer = self._asked(do="enter", lock=lock, number=self._number, script=told["script"])
+            return self._held(True, answer.get("section"))
         of = "another lock or script" if lock is None else f"lock {lock}"
         raise Ended(LATER, f"worker {self._worker} has a pending job of {of}, number {self._number}")
 

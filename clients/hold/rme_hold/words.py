@@ -18,8 +18,8 @@ rme-hold of that worker runs the command again: so it must bear that.
 """
 ENDINGS = """\
 The environment of COMMAND has RME_LOCK, RME_WORKER, RME_NUMBER, which is the number of the job, and RME_SECTION, a fencing
-token: how many sections of the lock were finished before. RME_AGAIN=1 says that the worker was inside with this job before,
-so that COMMAND may be half done.
+token: how many sections of the lock were finished before. With --file it has RME_LIFE, how often the worker was restarted.
+RME_AGAIN=1 says that the worker was inside with this job before, so that COMMAND may be half done.
 
 COMMAND and its children keep the worker for as long as they live, also where rme-hold itself is killed. Where the
 connection to the server ends meanwhile, rme-hold ends COMMAND: others may then go on with the worker.

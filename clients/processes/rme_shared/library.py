@@ -29,7 +29,7 @@ class ReceiptOf(ctypes.Structure):
 
 
 class StanceOf(ctypes.Structure):
-    _fields_ = [("where", U32), ("lock", U32), ("number", U64)]
+    _fields_ = [("where", U32), ("lock", U32), ("number", U64), ("life", U64)]
 
 
 class ShapeOf(ctypes.Structure):

@@ -48,15 +48,16 @@ class Job:
 
 class Held:
     """A job whose worker is inside its lock, as it was written down. `again` says that it was pending before the call, so
-    that the block may have been begun for it already, by this process or an earlier one. `section` is the fencing token: how
-    many sections of the lock were finished before, which is the place of the job's receipt; `None` where the job is finished
-    already, and damage ended its way out."""
+    that the block may have been begun for it already, by this process or an earlier one. `section` and `life` are the fencing
+    token: how many sections of the lock were finished before, which is the place of the job's receipt, `None` where the job is
+    finished already, and damage ended its way out; and how often the worker was restarted, 0 in a file without lives."""
 
-    def __init__(self, job: Job, again: bool = False, section: Optional[int] = None):
+    def __init__(self, job: Job, again: bool = False, section: Optional[int] = None, life: int = 0):
         self.number = job.number
         self.script = job.script
         self.again = again
         self.section = section
+        self.life = life
         self.receipt: Optional[Receipt] = None  # there once the block has ended, and the job has counted
 
 
@@ -83,6 +84,7 @@ class Worker:
             self._call("rme_recover", ctypes.byref(stance))
             # The number of a job that an earlier process left, and that no call of this object took for its own.
             self._left: Optional[int] = stance.number if stance.where != 0 else None
+            self._life = stance.life
             shape = ShapeOf()
             self._call("rme_shape", ctypes.byref(shape))
             self._cells = shape.cells
@@ -106,6 +108,12 @@ class Worker:
     def stance(self) -> str:
         """`ready`, `waiting` or `inside`."""
         return STANCES[self._stands().where]
+
+    @property
+    def life(self) -> int:
+        """How often the worker was restarted, by this object the last time. It rises by one with each `Worker` of its number,
+        whatever becomes of their processes, and `renew` keeps it. 0 in a file of version 1, which has no lives."""
+        return self._life
 
     def next_number(self) -> int:
         """The number of the job that is pending, or of the next one where none is."""
@@ -330,7 +338,7 @@ class Worker:
         """The job that the worker is inside with: its own, or one that was pending before, with its own script."""
         # One that is finished, and whose way out damage ended, is not there to read any more.
         found = self.pending() if again else None
-        return Held(found or Job(number, lock, [tuple(words) for words in script]), again, self.section())
+        return Held(found or Job(number, lock, [tuple(words) for words in script]), again, self.section(), self.life)
 
     def _submit(self, lock: str, script: Script) -> int:
         operations, count, number = operations_of(script), len(script), U64()

@@ -18,7 +18,7 @@ A server that keeps its state in a file can also be looked at:
 All exceptions are `RmeError`. The logger `rme_client` tells of connections that break and of servers that are waited for.
 """
 
-from .answers import Receipt
+from .answers import PendingJob, Receipt
 from .errors import (
     Blocked, Done, Forked, InUse, Overtaken, Pending, ProtocolError, Refused, RmeError, Unreachable,
 )  # fmt: skip
@@ -27,5 +27,6 @@ from .worker import Held, Script, Worker
 
 __all__ = [
     "Blocked", "Cells", "Done", "Forked", "Held", "InUse", "LockStatus", "Observer", "Overtaken", "Pending",
-    "ProtocolError", "Receipt", "Refused", "RmeError", "Script", "Status", "Unreachable", "Worker", "WorkerStatus",
+    "PendingJob", "ProtocolError", "Receipt", "Refused", "RmeError", "Script", "Status", "Unreachable", "Worker",
+    "WorkerStatus",
 ]  # fmt: skip

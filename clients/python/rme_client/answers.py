@@ -3,7 +3,7 @@
 from __future__ import annotations
 
 import json
-from typing import Any, Dict, Optional, TypedDict
+from typing import Any, Dict, List, Optional, TypedDict
 
 from .errors import ProtocolError, Refused
 
@@ -19,6 +19,15 @@ class Receipt(TypedDict):
     place: int
     reply: int
     worker: int
+
+
+class PendingJob(TypedDict):
+    """A job that is not over, as it was handed over; `stance` is `"climb"` (it waits) or `"held"` (it is inside its lock)."""
+
+    lock: str
+    number: int
+    script: List[List[Any]]
+    stance: str
 
 
 class Answer:

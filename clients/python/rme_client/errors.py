@@ -45,7 +45,7 @@ class Pending(RmeError):
     """The worker has a job that this object did not hand over, and this call did not go on with. Nothing was done.
 
     `number` is the job's number, `stance` is `"climb"` (it waits) or `"held"` (it is inside its lock), and `lock` is its
-    lock, or `None` where that is not known: a server without a state has no look-up for it.
+    lock, or `None` where that is not known: a server of version 0.2 does not say.
     """
 
     def __init__(self, lock: Optional[str], number: int, stance: str):

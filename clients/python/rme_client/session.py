@@ -5,7 +5,7 @@ from __future__ import annotations
 import time
 from typing import Any, Optional
 
-from .answers import Answer, Receipt
+from .answers import Answer, PendingJob, Receipt
 from .connection import Connection, Lost
 from .errors import Overtaken, Refused
 
@@ -15,7 +15,7 @@ STANCES = READY, CLIMB, HELD
 FRESH = 0.2
 """For how many seconds after an order a session cannot have ended for silence: a server's `--idle` is 1 at least."""
 
-BUSY, TAKEN = 9, 18
+BUSY, IDLE, TAKEN = 9, 10, 18
 OUTCOMES = {
     "submit": ("receipt", "waiting", "withdrawn", "fell"),
     "resume": ("receipt", "waiting", "withdrawn", "fell"),
@@ -107,19 +107,30 @@ class Session:
         """The last job's receipt; `None` where it was given up, or there was none. `Refused`, 9, with a job pending."""
         return self._ask({"do": "last"}, self.timeout).receipt("last", self.worker, self.number)
 
+    def pending(self) -> Optional[PendingJob]:
+        """The pending job; `None` where none is. `Refused`, 1, by a server of version 0.2, which cannot say."""
+        try:
+            answer = self._ask({"do": "pending"}, self.timeout)
+        except Refused as refused:
+            if refused.code != IDLE:
+                raise
+            return None
+        lock, script = answer.members.get("lock"), answer.members.get("script")
+        if not isinstance(lock, str) or not isinstance(script, list):
+            raise answer.broken("it has no lock or no script")
+        if answer.number("number") != self.number:
+            raise answer.broken(f"it is not about job {self.number}")
+        return {"lock": lock, "number": self.number, "script": script, "stance": answer.one_of("stance", CLIMB, HELD)}
+
     def pending_lock(self) -> Optional[str]:
-        """The lock of the pending job; `None` where the server cannot say, since it keeps no state."""
+        """The lock of the pending job; `None` where a server of version 0.2 cannot say."""
         if self.lock is not None:
             return self.lock
         try:
-            answer = self._ask({"do": "status"}, self.timeout)
+            told = self.pending()
         except Refused:
             return None
-        workers = answer.members.get("workers")
-        if not isinstance(workers, list) or len(workers) <= self.worker or not isinstance(workers[self.worker], dict):
-            raise answer.broken(f"it says nothing of worker {self.worker}")
-        lock = workers[self.worker].get("lock")
-        return lock if isinstance(lock, str) else None
+        return None if told is None else told["lock"]
 
     def _ask(self, order: dict[str, Any], timeout: float) -> Answer:
         asked = time.monotonic()

@@ -13,7 +13,7 @@ from contextlib import contextmanager
 from types import TracebackType
 from typing import Any, Callable, Iterator, Optional, Sequence, Type, TypeVar, Union
 
-from .answers import Receipt
+from .answers import PendingJob, Receipt
 from .calls import Calls, Job
 from .connection import Address, Connection, Hopeless, Lost
 from .errors import Blocked, Done, InUse, Overtaken, Pending, Refused, Unreachable
@@ -191,6 +191,11 @@ class Worker:
         with self._calls.alone():
             return self._insist(Job(), lambda session: session.last())
 
+    def pending(self) -> Optional[PendingJob]:
+        """The worker's pending job: its lock, number, script and stance; `None` where none is pending."""
+        with self._calls.alone():
+            return self._insist(Job(), lambda session: session.pending())
+
     def fileno(self) -> int:
         """The descriptor of the session's connection: inside a block, that of the session that is inside.
 
@@ -336,11 +341,15 @@ class Worker:
         raise Done(receipt)
 
     def _must_be_inside(self, session: Session, job: Job) -> None:
-        """Returns where the pending job, which has another script or lock than this one, is inside this lock."""
+        """Returns where the pending job, which has another script or lock than this one, is inside this lock. It is entered
+        again by its own script, which tells the section."""
         lock = session.pending_lock()
         if session.stance != HELD or lock != job.lock:
             raise Pending(lock, session.number, session.stance)
         job.is_begun = True
+        told = session.pending()
+        assert told is not None
+        session.hand({"do": "enter", "lock": lock, "number": told["number"], "script": told["script"]})
 
     def _commit(self, session: Session, job: Job) -> Receipt:
         """The receipt of the job that the worker is inside with, or was when the commit's answer was lost."""
