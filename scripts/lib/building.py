@@ -30,8 +30,9 @@ LEAST_NICE, MOST_NICE, SECONDS_A_NICE = 5, 19, 15
 SECONDS = {
     "rme_words": 38, "rme_tree": 16, "rme_script": 38, "rme_line_io": 75, "rme_cli_options": 90, "rme_program": 85,
     "rme_machine": 18, "rme_history": 45, "rme_core_image": 65, "rme_core_image_check": 40, "rme_core_checker": 60,
-    "rme_world": 95, "rme_line_json": 35, "rme_line_text": 100, "rme_wire": 100, "rme_session_protocol": 130,
+    "rme_world": 95, "rme_waiting": 30, "rme_line_json": 35, "rme_line_text": 100, "rme_wire": 100, "rme_session_protocol": 130,
     "rme_line_diagnose": 60, "rme_line_check": 110, "rme_cli_messages": 120, "rme_draw_picture": 145,
+    "rme_ask_client": 110, "rme_cli_ask": 150,
     "rme_service_steps": 60, "rme_service_phases": 100, "rme_table": 135, "rme_supervisor": 140,
     "rme_session_threads": 140, "rme_session_server": 150, "rme_server": 65, "rme_line_engine": 88,
     "rme_draw_history": 70, "rme_cli_lines": 80, "rme_cli_run": 49, "rme_session_world": 95, "rme_durable_log": 65,

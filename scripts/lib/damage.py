@@ -47,15 +47,16 @@ def header_fits(line, opening):
     except ValueError:
         return None
     keys = {"epoch", "last", "numbers", "places", "rme", "version"}
-    if not isinstance(header, dict) or set(header) != keys or (header["rme"], header["version"]) != ("kept", 1):
+    if not isinstance(header, dict) or set(header) - {"lives"} != keys or (header["rme"], header["version"]) != ("kept", 1):
         return None
     workers, locks = opened_by(opening)
     last, numbers, places = lists = [header[name] for name in ("last", "numbers", "places")]
-    if not all(isinstance(it, list) for it in lists):
+    lives = header.get("lives", [0] * (workers - 1))
+    if not all(isinstance(it, list) for it in (*lists, lives)):
         return False
-    if [len(it) for it in lists] != [workers - 1, workers - 1, len(locks)]:
+    if [len(it) for it in (*lists, lives)] != [workers - 1, workers - 1, len(locks), workers - 1]:
         return False
-    if not is_whole(header["epoch"], most=2**64 - 1) or not all(map(is_whole, numbers)):
+    if not is_whole(header["epoch"], most=2**64 - 1) or not all(map(is_whole, numbers + lives)):
         return False
     if not all(is_whole(place, -MOST) for place in places):
         return False

@@ -99,13 +99,46 @@ class Told:
             elif kind in ("finished", "withdrew"):
                 self.is_pending = False
 
-    def status(self, number, owners):
-        """The worker of this number, where the locks have these owners."""
+    def status(self, number, owners, others):
+        """The worker of this number, where the locks have these owners, and these workers wait for those."""
         status = {"attached": self.is_up, "number": self.number, "stance": "ready"}
+        if number in others:
+            status["blocked_by"] = others[number]
         if self.is_pending:
             status["lock"] = self.handed
             status["stance"] = "held" if owners[self.handed] == number else "climb"
         return status
+
+
+def blocked_in(image):
+    """Who waits for whom in a world, by the words of its image: for each worker with a pending job, the worker whose path has the
+    node above the levels that the first one holds, and that holds its own path up to there."""
+    workers, locks, cells = int.from_bytes(image[5:7], "big"), image[7], image[8]
+    leaves = max(2, 1 << (workers - 1).bit_length())
+    size = leaves + 2 + 2 * cells
+    count = 31 * workers + locks * size
+    words = [int.from_bytes(image[at : at + 8], "big") for at in range(13, 13 + 8 * count, 8)]
+    waits = {}
+    for worker in range(workers):
+        begun, done, *_, lock = words[31 * worker : 31 * worker + 6]
+        if done < begun:
+            nodes = words[31 * workers + lock * size :][: leaves - 1]
+            paths = [held_path(leaves + other, nodes) for other in range(workers)]
+            levels = paths[worker].count(True)
+            above = (leaves + worker) >> (levels + 1)
+            there = [other for other in range(workers) if above and (leaves + other) >> (levels + 1) == above]
+            waits.update({worker: other for other in there if all(paths[other][: levels + 1])})
+    return waits
+
+
+def held_path(leaf, nodes):
+    """Whether the path from this leaf is held up to each of its nodes, from the leaf upward."""
+    path, is_held = [], True
+    while leaf > 1:
+        is_held = is_held and nodes[leaf // 2 - 1] == 1 + leaf % 2
+        path.append(is_held)
+        leaf //= 2
+    return path
 
 
 def status_of(lines, header=None):
@@ -115,8 +148,9 @@ def status_of(lines, header=None):
     header = header or first_header(opening)
     locks = opening["locks"]
     looks = [line_of(do=look, lock=lock) for look in ("owner", "cells") for lock in locks]
-    answers = answers_to([*lines, *looks, line_of(do="history")])
-    *looked, history = answers[len(lines) :]
+    answers = answers_to([*lines, *looks, line_of(do="history"), line_of(do="save")])
+    *looked, history, saved = answers[len(lines) :]
+    others = blocked_in(bytes.fromhex(saved["image"]))
     owners = {lock: answer["owner"] for lock, answer in zip(locks, looked)}
     sections = collections.Counter(entry["lock"] for entry in history["entries"])
     workers = [Told() for _ in range(opening["workers"])]
@@ -131,7 +165,7 @@ def status_of(lines, header=None):
             for lock, row, before in zip(locks, rows, header["places"])
         ],
         "ok": "status",
-        "workers": [worker.status(number, owners) for number, worker in enumerate(workers[:-1])],  # but the keeper
+        "workers": [worker.status(number, owners, others) for number, worker in enumerate(workers[:-1])],  # but the keeper
     }
     for worker, before in zip(status["workers"], header["numbers"]):
         worker["number"] += before
@@ -147,12 +181,23 @@ def status_in(held):
 def first_header(opening):
     """What the header says of a new file whose first line behind it is this one."""
     clients = opening["workers"] - 1
-    return {"epoch": 0, "last": [None] * clients, "numbers": [0] * clients, "places": [0] * len(opening["locks"])}
+    lists = {"last": [None] * clients, "lives": [0] * clients, "numbers": [0] * clients}
+    return {"epoch": 0, **lists, "places": [0] * len(opening["locks"])}
 
 
 def epoch_of(held):
     """How often a file was renewed."""
     return json.loads(held[: held.index(b"\n")])["epoch"]
+
+
+def lives_of(held):
+    """How often each worker was restarted, by the header and the lines behind it."""
+    header, *lines = map(json.loads, whole_lines(held))
+    lives = header.get("lives", [0] * len(header["numbers"]))
+    for line in lines:
+        if line["do"] == "restart":
+            lives[line["worker"]] += 1
+    return lives
 
 
 def look(path, *words):

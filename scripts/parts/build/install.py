@@ -135,7 +135,7 @@ def try_completions(folder):
     write(path, script("completions").stdout)
     for name in ("one.state", "other.text"):
         write(os.path.join(folder, "files", name), "")
-    commands = "run check draw explain threads serve look help".split()
+    commands = "run check draw explain threads serve look ask help".split()
     cases = {
         ("",): [*commands, "-h", "--help", "-V", "--version"],
         ("s",): ["serve"],

@@ -99,19 +99,19 @@ def try_pending():
     leave(server, 7)
     with Worker(HOST, server.port, 0) as worker:
         found = raised(lambda: worker.submit("bank", [["add", 0, 1]]), "lock", "number", "stance")
-        same("a job that was pending", found, ("Pending", None, 1, "held"))
+        same("a job that was pending", found, ("Pending", "bank", 1, "held"))
         same("it is pending still", (worker.next_number(), raised(worker.last, "code")), (1, ("Refused", 9)))
         same("its own number", worker.submit("bank", [["add", 0, 5]], 1), receipt(0, 1, 0, 5))
         same("the next", worker.submit("bank", [["add", 0, 1]]), receipt(0, 2, 1, 6))
     leave(server, 7, number=3)
     with Worker(HOST, server.port, 0) as worker:
         found = raised(lambda: worker.submit("bank", [["add", 0, 5]]), "lock", "number", "stance")
-        same("the same job was pending", found, ("Pending", None, 3, "held"))
+        same("the same job was pending", found, ("Pending", "bank", 3, "held"))
         same("it is finished, when that is said", worker.finish(), receipt(0, 3, 2, 11))
     leave(server, 6, number=4)
     with Worker(HOST, server.port, 0) as worker:
         found = raised(lambda: worker.submit("bank", []), "lock", "number", "stance")
-        same("a job that waited", found, ("Pending", None, 4, "climb"))
+        same("a job that waited", found, ("Pending", "bank", 4, "climb"))
         same("it is given up, when that is said", (worker.withdraw(), worker.last(), worker.next_number()), (None, None, 5))
         same("there is nothing to finish", worker.finish(), None)
     server.kill()
@@ -203,7 +203,7 @@ def try_inside_and_cut():
 
 def try_inside_and_raised():
     """A block that raises leaves its worker inside; so does one that asks for more."""
-    server, kept = serve(), []
+    server, kept = serve(locks=["bank", "shop"]), []
     with Worker(HOST, server.port, 0) as worker:
         for number in (1, 2):
             try:
@@ -211,8 +211,8 @@ def try_inside_and_raised():
             except ZeroDivisionError:
                 kept.append(keeps_out(server, number))
         same("the lock was kept", (kept, worker.next_number()), ([True, True], 1))
-        other = raised(lambda: inside(worker, 6), "lock", "number", "stance")
-        same("another job in its place", other, ("Pending", None, 1, "held"))
+        other = raised(lambda: inside(worker, 6, lock="shop"), "lock", "number", "stance")
+        same("another job in its place", other, ("Pending", "bank", 1, "held"))
         named = refusal_of(lambda: inside(worker, 6, 1))
         same("the same under its number", named, {"code": 17, "error": "Differs"})
         same("the next attempt has its number", entered(worker, 5), (1, True, receipt(0, 1, 0, 5)))
@@ -259,12 +259,11 @@ def try_inside_and_another_is_pending():
     with tempfile.TemporaryDirectory() as folder:
         for name, options in (("no state", {}), ("a state", {"state": os.path.join(folder, "state")})):
             server = serve(locks=["bank", "shop"], **options)
-            lock = "bank" if options else None
-            try_another(f"{name}, inside", server, ("Pending", lock, 1, "held"), 1 if options else None)
+            try_another(f"{name}, inside", server, ("Pending", "bank", 1, "held"), 1)
             other = server.session()
             other.attach(1)
             other.told(do="enter", lock="bank", number=1, script=[])
-            try_another(f"{name}, waiting", server, ("Pending", lock, 2, "climb"), None, lambda: other.told(do="commit"))
+            try_another(f"{name}, waiting", server, ("Pending", "bank", 2, "climb"), None, lambda: other.told(do="commit"))
             server.kill()
 
 

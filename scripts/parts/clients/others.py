@@ -441,7 +441,7 @@ def try_blocked():
         worker.close()
         with Worker(HOST, server.port, 0) as another:
             told = raised(lambda: another.submit("bank", script, wait=0), "lock", "number", "stance")
-            same("to another object the job is pending", told, ("Pending", None, 1, "climb"))
+            same("to another object the job is pending", told, ("Pending", "bank", 1, "climb"))
         lasts("a wait", timed(lambda: worker.submit("bank", script, 1, 0.5), "number"), ("Blocked", 1), 0.5, 2)
         lasts("to finish", timed(lambda: worker.finish(0.3), "lock", "number"), ("Blocked", "bank", 1), 0.3, 2)
         ran = []

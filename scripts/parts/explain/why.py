@@ -42,7 +42,7 @@ COMMANDS = {
 ORDERS = {
     "attach": ("worker", "take"), "submit": ("number lock script", "tries wait"), "resume": ("", "tries wait"),
     "enter": ("number lock script", "tries wait"), "commit": ("", ""), "withdraw": ("", ""), "last": ("", ""),
-    "crash_after": ("steps", ""), "detach": ("", ""),
+    "crash_after": ("steps", ""), "detach": ("", ""), "ping": ("", ""), "pending": ("", ""),
 }  # fmt: skip
 
 # Lines that are no commands, and what is said of them.
@@ -67,6 +67,9 @@ TOLD = {
 OF_ORDERS = {
     b'{"do":"step","worker":0}': 'there is no word "step" of "do" here',
     b'{"do":"attach","worker":0,"take":1}': 'the key "take" must be true or false',
+    b'{"any":"idle","do":"attach"}': 'the key "any" must be "pending" or "ready"',
+    b'{"any":"ready","do":"attach","worker":0}': 'the key "worker" may not stand beside the key "any"',
+    b'{"do":"ping","worker":0}': '"ping" takes no key "worker"',
     b'{"do":"resume","tries":1,"wait":1}': 'only one of the keys "tries" and "wait" may stand',
     b'{"do":"resume","wait":3600001}': 'the key "wait" must be a whole number from 0 to 3600000',
     b'{"do":"enter","number":1,"lock":"bank"}': '"enter" needs the key "script"',

@@ -34,6 +34,16 @@ def try_runs(folder):
     each_way(folder, checks)
 
 
+def try_lives(folder):
+    """Of a file each run is a life more of its worker, also where its command is run again in the same section."""
+    if "file" not in ways():
+        return
+    way, tells = Way("file", folder), ["bank", "--", "sh", "-c", 'echo "$RME_SECTION $RME_LIFE"; exit $0']
+    for status, told in (0, "0 1\n"), (3, "1 2\n"), (4, "1 3\n"), (0, "1 4\n"):
+        same(f"file: section and life, with status {status}", way.hold(*tells, str(status))[:2], (status, told))
+    same("file: of another worker", way.hold(*tells, "0", worker=2)[:2], (0, "2 1\n"))
+
+
 def try_failures(folder):
     """A command that fails keeps the lock for its next run, unless it is to be counted."""
 
@@ -133,6 +143,7 @@ def try_any(folder):
         told = sorted(way.hold(lock, *TELLS[1:], worker=None)[1] for lock in ("bank", "shop"))
         wanted = ["bank 0 1 0 again\n", "shop 1 1 0 again\n"], ["bank 1 1 0 again\n", "shop 0 1 0 again\n"]
         check(f"{name}: each goes on with its own job", told in wanted, told)
+        time.sleep(1)  # the sessions of both have ended, also on a machine with much else to do
         same(f"{name}: then the first that is ready", way.hold(*TELLS, worker=None)[1].split()[1], "0")
 
     each_way(folder, checks)
@@ -195,4 +206,4 @@ def try_wrong(folder):
 
 
 def part():
-    main_in_folders(try_runs, try_failures, try_waits, try_kills, try_any, try_broken, try_wrong, minutes=5)
+    main_in_folders(try_runs, try_lives, try_failures, try_waits, try_kills, try_any, try_broken, try_wrong, minutes=5)

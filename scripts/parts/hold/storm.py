@@ -1,7 +1,7 @@
 """storm [SECONDS] [SEED]: wrappers for few workers, started again and again, and killed, they or their commands.
 
 At no moment are two commands of one lock at work: each takes a lock of the kernel on a file, which ends with it. Each section
-that counted is one whose command came to its end.
+that counted is one whose command came to its end. Of a file the pairs of section and life rise, from one end to the next.
 """
 
 import os
@@ -28,7 +28,7 @@ try:
 except OSError:
     os.write(os.open(sys.argv[1] + ".wrong", os.O_WRONLY | os.O_CREAT | os.O_APPEND), b"two\\n")
 time.sleep(float(sys.argv[2]))
-line = " ".join(os.environ[name] for name in ("RME_SECTION", "RME_WORKER", "RME_NUMBER")) + "\\n"
+line = " ".join(os.environ.get(name, "-") for name in ("RME_SECTION", "RME_WORKER", "RME_NUMBER", "RME_LIFE")) + "\\n"
 os.write(os.open(sys.argv[1] + ".over", os.O_WRONLY | os.O_CREAT | os.O_APPEND), line.encode())
 """
 
@@ -81,12 +81,18 @@ class Storm:
                     self.kill(place)
             time.sleep(0.02)
 
+    def ends(self, worker):
+        """Lets a worker end its job, and make one more; answers how its wrapper ends."""
+        return self.way.hold("--wait", "5", "bank", "--", sys.executable, "-Sc", COMMAND, self.notes, "0", worker=worker)[0]
+
     def finish(self):
         """Lets all that runs come to its end, and each worker its job; answers how many sections the lock has then."""
         for program in self.running.values():
             program.wait(60)
-        for worker in range(WORKERS + 1):
-            self.way.hold("--wait", "30", "bank", "--", sys.executable, "-Sc", COMMAND, self.notes, "0", worker=worker)
+        # The worker of a wrapper that was killed while it waited holds a part of the lock's tree: one behind it ends later.
+        for _ in range(WORKERS + 1):
+            if not any([self.ends(worker) for worker in range(WORKERS + 1)]):
+                break
         told = self.way.hold("bank", "--", "sh", "-c", "echo $RME_SECTION")[1]
         return int(told)
 
@@ -110,10 +116,20 @@ def try_storm(name, seconds, seed):
         told = f"{sections} sections, killed {storm.kills}, ended {storm.ended}"
         wrong = lines_of(storm.notes + ".wrong")
         check(f"{name}, seed {seed}: no two commands were at work: {told}", not wrong, len(wrong))
+        if name == "file":
+            rise([(int(line.split()[0]), int(line.split()[3])) for line in lines_of(storm.notes + ".over")])
         missing = [it for it in range(sections) if it not in over]
         check(f"{name}: each section that counted was worked to its end", not missing, missing[:9])
         if seconds >= 5:
             check(f"{name}: there was enough of it", sections > 10 and storm.is_enough(), told)
+
+
+def rise(pairs):
+    """Each is greater than the one before: a resource that keeps the greatest refuses none of them."""
+    both = list(zip(pairs, pairs[1:]))
+    again = sum(one[0] == other[0] for one, other in both)
+    wrong = [it for it in both if it[0] >= it[1]]
+    check(f"file: {len(pairs)} pairs of section and life rise, {again} in the section of the one before", not wrong, wrong[:9])
 
 
 def part():

@@ -2,10 +2,12 @@
 
 The library is built without a warning by each compiler that is there, and again with sanitizers. Each call with each of
 its refusals and its answers; files whose first page, size or words are damaged; a kill before each own step of a job and
-of its recovery, and before each call by which a renewal hands a file over; storms, in which processes are killed at random
-moments, and each job counts once. `soak` makes storms for so many minutes, and says how many kills there were.
+of its recovery, and before each call by which a renewal hands a file over; the lives of workers, also of killed ones, and
+a program that is older than lives; storms, in which processes are killed at random moments, and each job counts once.
+`soak` makes storms for so many minutes, and says how many kills there were.
 """
 
+import ctypes
 import os
 import random
 import re
@@ -40,7 +42,7 @@ def try_names(folder):
     same("rme.map has the calls of rme.h", mapped, declared)
     words = ["nm", "-D", "--defined-only", os.path.join(libraries(), "librme.so")]
     lines = subprocess.run(words, check=True, stdout=subprocess.PIPE, text=True).stdout.splitlines()
-    same("librme.so has them", {line.split()[2].split("@")[0] for line in lines} - {"RME_1", "RME_2"}, declared)
+    same("librme.so has them", {line.split()[2].split("@")[0] for line in lines} - {"RME_1", "RME_2", "RME_3"}, declared)
     words[1:] = ["-g", "--defined-only", os.path.join(libraries(), "librme.a")]
     lines = subprocess.run(words, check=True, stdout=subprocess.PIPE, text=True).stdout.splitlines()
     same("librme.a has them", {line.split()[2] for line in lines if len(line.split()) == 3}, declared)
@@ -72,6 +74,29 @@ def try_calls(folder):
     run("each call", program("calls", libraries()), folder)
 
 
+def try_older(folder):
+    """A program that was linked before a stance had a life: what it calls writes the 16 bytes that it has room for."""
+    library, path = ctypes.CDLL(os.path.join(libraries(), "librme.so")), os.path.join(folder, "older").encode()
+    find = ctypes.CDLL(None).dlvsym
+    find.restype, find.argtypes = ctypes.c_void_p, [ctypes.c_void_p, ctypes.c_char_p, ctypes.c_char_p]
+    handle = ctypes.c_void_p()
+    same("a file", library.rme_create(path, 1, 1, 1, 10, (ctypes.c_char_p * 1)(b"a")), 0)
+    same("a worker", library.rme_attach(path, 0, ctypes.byref(handle)), 0)
+    for name in ("rme_recover", "rme_standing"):
+        found = {version: find(library._handle, name.encode(), version) for version in (b"RME_1", b"RME_3")}
+        check(f"{name} has both versions", all(found.values()) and len(set(found.values())) == 2, found)
+        stance = (ctypes.c_uint64 * 3)(9, 9, 9)
+        call = ctypes.CFUNCTYPE(ctypes.c_int, ctypes.c_void_p, ctypes.c_void_p)(found[b"RME_1"])
+        same(f"the first version of {name}", (call(handle, stance), list(stance)), (0, [0, 0, 9]))
+    stance = (ctypes.c_uint64 * 3)(9, 9, 9)
+    same("the one of today", (library.rme_standing(handle, stance), list(stance)), (0, [0, 0, 1]))
+    same("its end", library.rme_detach(handle), 0)
+
+
+def try_lives(folder):
+    run("lives", program("lives", libraries()), folder)
+
+
 def try_points(folder):
     made = program("points", libraries())
     for workers, stride in ((2, 1), (200, 5)):
@@ -96,6 +121,7 @@ def try_sanitized(folder):
     run("each call, sanitized", program("calls", at, *flags), folder)
     run("what is damaged, sanitized", program("damage", at, *flags), folder)
     run("renewals that are killed, sanitized", program("handover", at, *flags), folder)
+    run("lives, sanitized", program("lives", at, *flags), folder)
     storm(program("storm", at, *flags), folder, 8, 400, 40, SEED)
 
 
@@ -121,5 +147,5 @@ def part():
     elif SOAK:
         soak(float(WORDS[1]))
     else:
-        groups = try_names, try_example, try_calls, try_points, try_handover, try_storms, try_sanitized
+        groups = try_names, try_example, try_calls, try_older, try_lives, try_points, try_handover, try_storms, try_sanitized
         main_in_folders(*groups, minutes=4)

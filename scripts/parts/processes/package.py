@@ -9,6 +9,7 @@ import pickle
 import random
 import re
 import signal
+import struct
 import subprocess
 import sys
 import tempfile
@@ -259,6 +260,47 @@ def try_pending(folder):
             same("a job of its own", (held.again, held.number, held.script), (False, 3, [("add", 0, 1)]))
     try_pending_blocks(rme, path)
     try_pending_waits(rme, path)
+
+
+def first_version(path):
+    """Writes a file of version 1, which has no lives, of two workers and a lock `bank` of one cell: 31 words a worker, and 6."""
+    with open("/proc/sys/kernel/random/boot_id", "rb") as file:
+        boot = file.read(36) + bytes(4)
+    page = b"rmewords" + struct.pack("=2Q", 1, 0x0102030405060708) + boot + struct.pack("=6Q", 2, 1, 1, 10, 68, 0) + b"bank"
+    with open(path, "wb") as file:
+        file.write(page + bytes(4096 + 8 * 68 - len(page)))
+
+
+def try_lives(folder):
+    """With the section the life is a pair that only rises: each `Worker` of a number has one more than the one before."""
+    rme, path, old = shared(), os.path.join(folder, "lives"), os.path.join(folder, "old")
+    rme.create(path, ["bank", "shop"], workers=4)
+    with rme.Worker(path, 1) as worker:
+        with worker.inside("bank", FIVE) as held:
+            same("the first life", (held.section, held.life, worker.life), (0, 1, 1))
+    killed_inside(path)
+    for life in (3, 4):
+        with rme.Worker(path, 1) as worker:
+            try:
+                with worker.inside("bank", []) as held:
+                    same("once more, in the same section", (held.again, held.section, held.life), (True, 1, life))
+                    raise KeyError
+            except KeyError:
+                pass
+    with rme.Worker(path, 1) as worker, rme.Worker(path, 0) as other:
+        worker.finish()
+        same("of each worker its own", (worker.life, other.life), (5, 1))
+    rme.renew(path, path + "-next")
+    with rme.Worker(path + "-next", 1) as worker, rme.Worker(path + "-next", 0) as other:
+        same("the next file has them", (worker.life, other.life), (6, 2))
+    first_version(old)
+    for section in (0, 1):
+        with rme.Worker(old, 1) as worker, worker.inside("bank", FIVE) as held:
+            same("a file of version 1 has none", (held.section, held.life, worker.life), (section, 0, 0))
+        same("its receipt", held.receipt, rme.Receipt("bank", section + 1, section, 5 * section + 5, 1))
+    rme.renew(old, old + "-next")
+    with rme.Worker(old + "-next", 1) as worker:
+        same("the next one has", (worker.life, worker.cells("bank")), (1, ([10], True)))
 
 
 def killed_inside(path):
@@ -640,7 +682,7 @@ def storm_of_pythons(rme, folder, workers=4, jobs=400, kills=20):
     same(f"after {made} kills each job counted once", rme.look(path).locks[0].cells, [workers * jobs])
 
 
-CALLS = (try_package, try_pending, try_waits, try_dropped, try_files, try_stopped, try_signals)
+CALLS = (try_package, try_lives, try_pending, try_waits, try_dropped, try_files, try_stopped, try_signals)
 
 
 def part():

@@ -66,7 +66,7 @@ def try_file(folder):
     """What a new file has, and what is added to it."""
     path = os.path.join(folder, "usual")
     server = serve(path, "bank")
-    header = text(epoch=0, last=[None] * 8, numbers=[0] * 8, places=[0], rme="kept", version=1)
+    header = text(epoch=0, last=[None] * 8, lives=[0] * 8, numbers=[0] * 8, places=[0], rme="kept", version=1)
     opening = text(cells=1, do="open", jobs=10_000, locks=["bank"], workers=9)
     crashes = [text(do="crash", worker=worker) for worker in range(9)]
     wanted = b"".join(line + b"\n" for line in (header, opening, *crashes))

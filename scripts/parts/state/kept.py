@@ -25,6 +25,19 @@ SEED = int(sys.argv[1]) if len(sys.argv) > 1 else random.randrange(10**6)
 KILLS = 20
 SIZES = {"workers": 2, "cells": 2, "jobs": 10}
 BAD_LINE = b'{"code":1,"error":"BadLine"}'
+# What `rme look` prints where worker 0 is inside `shop` and worker 1 waits for it.
+TABLES = """\
+epoch 0
+
+LOCK  OWNER   CELLS  SETTLED  SECTIONS
+bank  nobody  5,9    yes      1
+shop  0       0,0    no       0
+
+WORKER  {session}  STANCE  LOCK  NUMBER  BLOCKED BY
+0       {up}  held    shop  2       -
+1       {up}  climb   shop  1       0
+"""
+LEFT = "\nworker 0 is down inside lock shop, and keeps 1 waiting: rme ask finish 0\n"
 
 
 def status(locks, workers):
@@ -49,14 +62,14 @@ def try_first(folder):
     wanted = [text(number=2, ok="enter", section=0, stance="held"), stands("ready", 0), text(ok="enter", waiting=True)]
     same("one is inside and one waits", told, wanted)
     locks = [lock_status("bank", [5, 9], sections=1), lock_status("shop", [0, 0], owner=0, settled=False)]
-    stances = [(2, "held"), (1, "climb")]
-    begun = [status(locks, [worker_status(up, it, n, lock="shop") for n, it in stances]) for up in (True, False)]
+    begun = []
+    for up in (True, False):
+        owner, waiter = worker_status(up, "held", 2, lock="shop"), worker_status(up, "climb", 1, blocked_by=0, lock="shop")
+        begun.append(status(locks, [owner, waiter]))
     same("what all are at", two.ask(STATUS), begun[0])
     same("it is in the file, which a server has", ends_with(look(path, "--json")), (0, begun[0] + b"\n", b""))
     same("it is killed", kill(server)[:2], (-signal.SIGKILL, b""))
-    lines = ["epoch 0", "lock bank owner nobody cells 5,9 sections 1", "lock shop owner 0 cells 0,0 unsettled sections 0"]
-    lines += ["worker 0 attached held shop 2", "worker 1 attached climb shop 1", ""]
-    same("look, by lines", ends_with(look(path)), (0, "\n".join(lines).encode(), b""))
+    same("look, by tables", ends_with(look(path)), (0, TABLES.format(session="SESSION ", up="attached").encode(), b""))
     same("look, whether all can be read", ends_with(look(path, "--check")), (0, b"yes\n", b""))
     go_on(path, server.port, begun[1])
 
@@ -67,6 +80,8 @@ def go_on(path, port, begun):
     one, two, three = (server.session() for _ in range(3))
     same("the same words again", server.port, port)
     same("all workers are down", three.ask(STATUS), begun)
+    told = TABLES.format(session="SESSION", up="down   ") + LEFT
+    same("look says what is left to finish", ends_with(look(path)), (0, told.encode(), b""))
     same("and so it is in the file", ends_with(look(path, "--json")), (0, begun + b"\n", b""))
     same("who waited waits", two.ask(attach(1)), stands("climb", 1))
     told = two.ask({**RESUME, "tries": 3}), *one.ask_all(attach(0), COMMIT), two.ask(RESUME)
@@ -217,7 +232,8 @@ def try_waiting(folder):
     two.ask(attach(1))
     two.send(line_of(**job("enter", "bank", 1, *ONE, wait=60_000)))
     told = until_waiting(three, 1)["workers"]
-    same("who waits is seen", told, [worker_status(True, it, 1, lock="bank") for it in ("held", "climb")])
+    wanted = [worker_status(True, "held", 1, lock="bank"), worker_status(True, "climb", 1, blocked_by=0, lock="bank")]
+    same("who waits is seen, and for whom", told, wanted)
     time.sleep(0.3)  # its pauses grow
     began = time.monotonic()
     one.ask(COMMIT)

@@ -1,7 +1,7 @@
 """renewal [SEED]: servers that renew the file of their state, by `--jobs` and by `--sections`.
 
 Rows by hand: one worker whose numbers, places and receipts go on, a number that was given up, workers in each stance,
-all cells of a lock. What the file says: its size, its header with each byte changed, its mode and owner, and what a server
+all cells of a lock, and how often each worker was restarted. What the file says: its size, its header with each byte changed, its mode and owner, and what a server
 does that can't renew it. When it is replaced, and by whom: two servers on one file. At last storms: clients with numbered
 jobs whose server renews its file all the time and is killed again and again.
 """
@@ -19,7 +19,7 @@ import time
 
 from lib.checks import check, main_in_folders, note, same, skip
 from lib.damage import changes_of, verdicts_on
-from lib.kept import epoch_of, faults_of, kill, look, looked, read, serve, state_words, status_in, whole_lines, written
+from lib.kept import epoch_of, faults_of, kill, lives_of, look, looked, read, serve, state_words, status_in, whole_lines, written
 from lib.orders import COMMIT, DETACH, LAST, ONE, RESUME, STATUS, WITHDRAW
 from lib.orders import attach, job, lock_status, receipt, stands, text, worker_status
 from lib.programs import built, ends_with, has_strace, lines_traced, run
@@ -68,7 +68,7 @@ def is_run(name, path):
     """The lines of the file are a run of the machine, and what they lead to is what look says."""
     held = read(path)
     same(f"{name}: the file is a run that the machine has", faults_of(held), [])
-    same(f"{name}: look, beside `rme run`", looked(path), status_in(held))
+    same(f"{name}: look, beside `rme run`", looked(written(f"{path}.then", held)), status_in(held))
     same(f"{name}: all can be read", ends_with(look(path, "--check")), (0, b"yes\n", b""))
 
 
@@ -222,7 +222,26 @@ class Stances:
             if not any(told["workers"][worker]["attached"] for worker in (3, 5)):
                 break
             time.sleep(0.03)
-        return told["locks"][:3], told["workers"][1:]
+        return without_waits(told)
+
+    def waits(self):
+        """Who waits for whom, once worker 2 has climbed or after some seconds."""
+        for _ in range(200):
+            told = waits_in(self.busy.session.told(**STATUS))
+            if 2 in told:
+                break
+            time.sleep(0.03)
+        return told
+
+
+def waits_in(told):
+    return {number: worker["blocked_by"] for number, worker in enumerate(told["workers"]) if "blocked_by" in worker}
+
+
+def without_waits(told):
+    """What is shown of all but the busy one. Who waits for whom is another matter: a worker that waits has climbed to nothing
+    where its epoch begins."""
+    return told["locks"][:3], [{key: it for key, it in worker.items() if key != "blocked_by"} for worker in told["workers"][1:]]
 
 
 def try_stances(folder):
@@ -232,13 +251,16 @@ def try_stances(folder):
         path, busy = all_of_them.path, all_of_them.busy
         shown = all_of_them.shown()
         check(f"{name}: what all are at", shown in (all_of_them.wanted(4), all_of_them.wanted()), shown)
+        waits = all_of_them.waits()
+        check(f"{name}: the owner keeps at most one waiting that is up and one that is down", waits.items() <= {2: 1, 5: 1}.items(), waits)
         wrong = []
         for _ in range(10):
             wrong += busy.renew(path)
             told = busy.session.told(**STATUS)
-            shown = told["locks"][:3], told["workers"][1:]
+            shown = without_waits(told)
             wrong += [(told["epoch"], shown)] * (shown != all_of_them.wanted())
-            wrong += [(told, looked(path))] * (looked(path) != told)
+            found = looked(path)
+            wrong += [(told, found)] * (without_waits(found) != shown)
             wrong += faults_of(read(path))
         check(f"{name}: it is the same after each of ten renewals", not wrong, wrong[:2])
         is_run(name, path)
@@ -395,6 +417,7 @@ def try_large(folder):
     epoch = other.told(**STATUS)["epoch"]
     same("the status", other.ask(STATUS), text(epoch=epoch, locks=locks, ok="status", workers=workers))
     check("it was renewed", epoch > 9, epoch)
+    same("the lives of a file that had none, from 0 on", lives_of(read(path)), [1, 1])
     is_run("large numbers", path)
     kill(server)
     server = serve(path)
@@ -418,6 +441,30 @@ def try_few_jobs(folder):
     told = session.ask_all(attach(0), *(job("submit", "abc"[it % 3], it, ["add", 8, it]) for it in numbers))
     wrong = [answer for answer in told[1:] if "receipt" not in json.loads(answer)]
     same("its worker makes twelve", wrong, [])
+    kill(server)
+
+
+def try_lives(folder):
+    """How often each worker was restarted is in the header after each epoch, and goes on over starts of the server."""
+    path = os.path.join(folder, "state")
+    server = serve(path, "a", workers=3, jobs=4, sections=100)
+    for _ in range(3):
+        server.session().ask_all(attach(0), DETACH)
+    other, busy = server.session(), Busy(server, 2, "a")
+    other.ask(attach(1))
+    told = lives_of(whole_lines(read(path))[0]), lives_of(read(path))
+    same("each attachment is one life", told, ([0, 0, 0], [3, 1, 1]))
+    same("it is renewed", busy.renew(path, 2), [])
+    told = lives_of(whole_lines(read(path))[0]), lives_of(read(path))
+    same("lives are not changed by it", told, ([3, 1, 1], [3, 1, 1]))
+    kill(server)
+    server = serve(path)
+    same("nor by a start", lives_of(read(path)), [3, 1, 1])
+    server.session().ask_all(attach(0), DETACH)
+    busy = Busy(server, 2, "a", made=busy.made)
+    same("it is renewed again", busy.renew(path), [])
+    same("they go on", lives_of(whole_lines(read(path))[0]), [4, 1, 2])
+    is_run("lives", path)
     kill(server)
 
 
@@ -455,6 +502,10 @@ def try_header(folder):
         "the first epoch, with numbers": {"epoch": 0},
         "the first epoch, with places": {"epoch": 0, "last": [None] * 3, "numbers": [0] * 3},
         "too large a place": {"places": [2**53 + 1, 0]},
+        "too large a life": {"lives": [2**53 + 1, 0, 0]},
+        "lives of one worker less": {"lives": [0, 0]},
+        "lives that are no list": {"lives": 1},
+        "a life below 0": {"lives": [0, -1, 0]},
         "a number that is none": {"numbers": [1.0, *header["numbers"][1:]]},
     }.items():
         line = json.dumps({**header, **changes}, sort_keys=True, separators=(",", ":")).encode() + b"\n"
@@ -643,7 +694,7 @@ def try_storm(folder):
         same(f"{name}: nothing is beside it", beside, [])
 
 
-HANDMADE = (try_one_worker, try_withdrawn, try_stances, try_freed, try_all_cells, try_large, try_few_jobs)
+HANDMADE = (try_one_worker, try_withdrawn, try_stances, try_freed, try_all_cells, try_large, try_lives, try_few_jobs)
 FILES = (try_small, try_header, try_owner, try_hindered, try_words)
 
 

@@ -1,0 +1,75 @@
+"""`rme ask`, and the two servers that it is tried with; a stand-in for a server, which answers what it is told to."""
+
+import os
+import socket
+import threading
+
+from lib import programs
+from lib.clients import serve as serve_without_state
+from lib.servers import HOST, Server
+
+LOCKS = ("bank", "shop")
+WORKERS = 3
+
+
+def with_state(folder, *words, port=0):
+    """A server with a state of this folder, for three workers and two locks; further words after `rme serve`."""
+    path = os.path.join(folder, "bank.state")
+    names = () if os.path.exists(path) else ("--workers", str(WORKERS), "--cells", "2", *LOCKS)
+    return Server(words=["serve", "--state", path, "--port", str(port), *words, *names])
+
+
+def without_state():
+    return serve_without_state(workers=WORKERS, locks=LOCKS, jobs=1000)
+
+
+def ask(server, *words, **how):
+    """Runs `rme ask` to its end: its status, and what it wrote to the standard output and to the standard error."""
+    place = ["--port", server if isinstance(server, int) else server.port]
+    ran = programs.run(["ask", *place, *words], **how)
+    return ran.returncode, ran.stdout.decode(), ran.stderr.decode()
+
+
+def enter(server, worker, lock="bank", number=1, **more):
+    """A session whose worker has entered a lock, or waits for it; and the answer."""
+    session = server.session()
+    session.attach(worker)
+    return session, session.told(do="enter", lock=lock, number=number, script=[["add", 0, 5]], **more)
+
+
+def leave_inside(server, worker, lock="bank", number=1):
+    """Leaves a worker inside a lock, with no session that has it."""
+    session, told = enter(server, worker, lock, number)
+    session.told(do="detach")
+    session.close()
+    return told
+
+
+class StandIn:
+    """A server of one connection, which answers each line by the next of these answers, and then ends."""
+
+    def __init__(self, *answers):
+        self.listening = socket.create_server((HOST, 0))
+        self.port = self.listening.getsockname()[1]
+        self.heard = []
+        self.thread = threading.Thread(target=self.serve, args=(answers,), daemon=True)
+        self.thread.start()
+
+    def serve(self, answers):
+        connection, _ = self.listening.accept()
+        with connection, connection.makefile("rb") as lines:
+            for answer in answers:
+                self.heard.append(lines.readline())
+                connection.sendall(answer)
+
+    def end(self):
+        """The lines that were heard."""
+        self.thread.join(20)
+        self.listening.close()
+        return self.heard
+
+
+def free_port():
+    """A port on which nobody listens."""
+    with socket.create_server((HOST, 0)) as listening:
+        return listening.getsockname()[1]

@@ -1,0 +1,105 @@
+"""`rme ask top`: tables one after another, in place on a terminal, until it is interrupted or the server is gone."""
+
+import os
+import pty
+import re
+import select
+import signal
+import subprocess
+import time
+
+from lib.asks import ask, enter, leave_inside, with_state
+from lib.checks import check, main_in_folders, same
+from lib.programs import built
+
+CLEAR = "\x1b[H\x1b[J"
+FIRST = """\
+LOCK  OWNER   STATE  WAITING  JOBS/S
+bank  0       DEAD   1        -
+shop  nobody  -      0        -
+"""
+
+
+def try_count(folder):
+    server = with_state(folder)
+    leave_inside(server, 0)
+    waits, _ = enter(server, 1, tries=3)
+    same("one table", ask(server, "top", "--count", "1"), (0, FIRST, ""))
+    began = time.monotonic()
+    status, told, why = ask(server, "top", "--count", "3")
+    wanted = "\n".join([FIRST, *[FIRST.replace("1        -", "1        0").replace("0        -", "0        0")] * 2])
+    same("three tables", (status, told, why), (0, wanted, ""))
+    check("a second between two", 1.8 < time.monotonic() - began < 10)
+    status, told, _ = ask(server, "--json", "top", "--count", "2")
+    same("as lines", (status, told.count('"ok":"status"'), len(told.splitlines())), (0, 2, 2))
+    waits.close()
+    server.kill()
+
+
+def try_rate(folder):
+    """The jobs a second are those that were finished meanwhile."""
+    server = with_state(folder)
+    top = begin(server)
+    session = server.session()
+    session.attach(0)
+    for _ in range(5):
+        top.stdout.readline()
+    for number in range(1, 301):
+        session.told(do="submit", lock="shop", number=number, script=[])
+    rates = []
+    while len(rates) < 8:
+        found = re.fullmatch(r"shop +nobody +- +0 +(\d+)\n", top.stdout.readline())
+        rates += [int(found[1])] if found else []
+    top.send_signal(signal.SIGINT)
+    same("it is interrupted", top.wait(20), -signal.SIGINT)
+    check("about 300 jobs were counted", 200 < sum(rates) <= 330, rates)
+    session.close()
+    server.kill()
+
+
+def try_terminal(folder):
+    """On a terminal each table takes the place of the one before."""
+    server = with_state(folder)
+    ours, theirs = pty.openpty()
+    words = [built(), "ask", "--port", str(server.port), "top", "--count", "2"]
+    with subprocess.Popen(words, stdin=subprocess.DEVNULL, stdout=theirs, stderr=theirs) as top:
+        os.close(theirs)
+        told = all_of(ours)
+        top.wait(20)
+    tables = told.replace("\r\n", "\n").split(CLEAR)
+    check("two tables in place", [len(table.splitlines()) for table in tables] == [0, 3, 3], told)
+    same("status", top.returncode, 0)
+    server.kill()
+
+
+def all_of(terminal):
+    """What a terminal shows until its other side is closed."""
+    told = b""
+    while select.select([terminal], [], [], 20)[0]:
+        try:
+            more = os.read(terminal, 4096)
+        except OSError:
+            break
+        if not more:
+            break
+        told += more
+    os.close(terminal)
+    return told.decode()
+
+
+def try_gone(folder):
+    server = with_state(folder)
+    top = begin(server)
+    top.stdout.readline()
+    server.program.kill()
+    _, why = top.communicate(timeout=20)
+    check("the server is gone", top.returncode == 1 and why.startswith("rme: the "), (top.returncode, why))
+
+
+def begin(server):
+    words = [built(), "ask", "--port", str(server.port), "top"]
+    return subprocess.Popen(words, stdin=subprocess.DEVNULL, stdout=subprocess.PIPE, stderr=subprocess.PIPE, text=True)
+
+
+def part():
+    main_in_folders(try_count, try_rate, try_terminal, try_gone, minutes=3)
