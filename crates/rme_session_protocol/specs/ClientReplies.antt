@@ -15,7 +15,12 @@ use Rattle.rme_session_protocol.specs.declared.client_reply.ClientReply.TheVaria
 use Rattle.rme_line_text.specs.ClientReceipts.{as_receipt}
 
 abbrev pub token_of_client : ClientToken → FencingToken
-token_of_client token = record { lock = token.lock; number = token.number; section = token.section }
+token_of_client token = record {
+  lock = token.lock;
+  number = token.number;
+  section = token.section;
+  life = token.life;
+}
 
 abbrev pub pending_job_of_client : ClientPendingJob → PendingJob
 pending_job_of_client told = record { number = told.number; job = told.job; stance = told.stance }

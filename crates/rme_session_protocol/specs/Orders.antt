@@ -25,12 +25,27 @@ abbrev pub take_or_not : Option Data → Option Bool
 take_or_not None = Some false
 take_or_not (Some d) = as_bool d
 
--- `{"do":"attach","take":..,"worker":..}`; `take` may be absent
+unfoldable pub take_of : Data → Option Bool
+take_of d = take_or_not (get (codes "take") d)
+
+-- the member `after`, a life; no life if absent
+abbrev pub after_or_not : Option Data → Option (Option ℕ)
+after_or_not None = Some None
+after_or_not (Some d) = option_map Some (whole_up_to service_numbers d)
+
+unfoldable pub after_of : Data → Option (Option ℕ)
+after_of d = after_or_not (get (codes "after") d)
+
+-- the number of them that are present
+unfoldable pub attach_keys : Data → ℕ
+attach_keys d = member_count (get (codes "after") d) + member_count (get (codes "take") d)
+
+-- `{"after":..,"do":"attach","take":..,"worker":..}`; `after` and `take` may be absent
 unfoldable pub attach_of : ℕ → Data → Option Order
 attach_of count d =
-    option_and_then (λ worker. option_and_then (λ take.
-    if count == 2 + member_count (get (codes "take") d) then Some (Attach record { worker = worker; take = take }) else
-    None) (take_or_not (get (codes "take") d))) (worker_member d)
+    option_and_then (λ worker. option_and_then (λ take. option_and_then (λ after.
+    if count == 2 + attach_keys d then Some (Attach record { worker = worker; take = take; after = after }) else
+    None) (after_of d)) (take_of d)) (worker_member d)
 
 -- 1 to 1,000,000
 unfoldable pub tries_of : Data → Option ℕ

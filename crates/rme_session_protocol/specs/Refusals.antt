@@ -1,8 +1,8 @@
 -- The refusals of a session's orders.
-use Rattle.std.specs.Prelude.{◌≡◌, ◌≢◌, ℕ, ◌+◌, ◌<◌, ◌==◌, nat_lt, if◌then◌else◌, Option, Some, None}
+use Rattle.std.specs.Prelude.{◌≡◌, ◌≢◌, ℕ, ◌+◌, ◌<◌, ◌==◌, nat_lt, if◌then◌else◌, Option, Some, None, IsSome}
 use Rattle.rme_words.specs.declared.shape.Shape.{Shape}
 use Rattle.rme_words.specs.declared.refusal.Refusal.{Refusal}
-use Rattle.rme_words.specs.declared.refusal.Refusal.TheVariants.{NoWorker, Busy, Idle, WrongNumber, Differs, NotAttached, NotWaiting, NotInside, Taken}
+use Rattle.rme_words.specs.declared.refusal.Refusal.TheVariants.{NoWorker, Busy, Idle, WrongNumber, Differs, NotAttached, NotWaiting, NotInside, Overtaken, Taken}
 use Rattle.rme_script.specs.declared.job.Job.{Job}
 use Rattle.rme_script.specs.JobRefusals.{job_refusal_within}
 use Rattle.rme_session_protocol.specs.declared.order.Order.{Order}
@@ -122,10 +122,13 @@ OrderRefusalWithin sizes session Pending why = why ≡ resume_refusal session
 abbrev pub OrderRefusal : Shape → Session → Order → Option Refusal → Type 0
 OrderRefusal shape = OrderRefusalWithin (service_sizes shape)
 
--- A worker that a session may attach is unavailable: another session has it, or the server has none with that number.
+-- A worker that a session may attach is unavailable: another session has it, or the server has none with that number,
+-- or it was restarted since the life that the order has.
 abbrev pub IsWorkerUnavailableWithin : ServiceSizes → Session → Order → Refusal → Type 0
 IsWorkerUnavailableWithin sizes session (Attach its) Taken = attach_refusal_within sizes its.worker session ≡ None
 IsWorkerUnavailableWithin sizes session (Attach its) NoWorker = attach_refusal_within sizes its.worker session ≡ None
+IsWorkerUnavailableWithin sizes session (Attach its) Overtaken =
+    (attach_refusal_within sizes its.worker session ≡ None) × IsSome its.after
 IsWorkerUnavailableWithin sizes session its why = ⊥
 
 abbrev pub IsWorkerUnavailable : Shape → Session → Order → Refusal → Type 0

@@ -23,11 +23,17 @@ stance_text number word standing =
     codes "{\"number\":" ++ (decimal number ++
     (codes ",\"ok\":\"" ++ (word ++ (codes "\",\"stance\":\"" ++ (standing ++ codes "\"}")))))
 
--- `{"number":..,"ok":WORD,"section":..,"stance":"held"}`
+-- `{"life":..,"number":..,"ok":WORD,"section":..,"stance":"held"}`, before the word and from it on, and whole
+abbrev pub inside_front : ℕ → ℕ → List ℕ
+inside_front life number =
+    codes "{\"life\":" ++ (decimal life ++ (codes ",\"number\":" ++ (decimal number ++ codes ",\"ok\":\"")))
+
+abbrev pub inside_end : List ℕ → ℕ → List ℕ
+inside_end word section =
+    word ++ (codes "\",\"section\":" ++ (decimal section ++ codes ",\"stance\":\"held\"}"))
+
 abbrev pub inside_text : List ℕ → FencingToken → List ℕ
-inside_text word token =
-    codes "{\"number\":" ++ (decimal token.number ++ (codes ",\"ok\":\"" ++ (word ++
-    (codes "\",\"section\":" ++ (decimal token.section ++ codes ",\"stance\":\"held\"}")))))
+inside_text word token = inside_front token.life token.number ++ inside_end word token.section
 
 -- `{"fell":true,"ok":WORD}`
 abbrev pub fell_text : List ℕ → List ℕ

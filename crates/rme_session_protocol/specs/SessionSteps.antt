@@ -103,6 +103,11 @@ TellsSection HasFinished (Held pending) (reply.Entered (outcome.Inside token)) =
     TokenSection HasFinished pending token
 TellsSection HasFinished session answer = Unit {0}
 
+-- The token also tells the number of the worker's restarts, which the server counts.
+abbrev pub TellsLife : (ℕ → ℕ → Type 0) → Session → SessionReply → Type 0
+TellsLife HasLife (Held pending) (reply.Entered (outcome.Inside token)) = HasLife pending.worker token.life
+TellsLife HasLife session answer = Unit {0}
+
 -- The receipt of a commit has the place that was told: the number of the lock's finished sections before it.
 abbrev pub TellsPlace : (ℕ → ℕ → Type 0) → SessionReply → Type 0
 TellsPlace HasFinished (reply.Committed (outcome.Receipt receipt)) = HasFinished receipt.lock receipt.place

@@ -15,6 +15,7 @@ pub struct ClientToken {
     pub lock: u32,
     pub number: u64,
     pub section: u64,
+    pub life: u64,
 }
 
 /// A pending job over all worlds of a service: as `PendingJob`, but its number may exceed those of one world.
@@ -62,6 +63,7 @@ impl From<FencingToken> for ClientToken {
             lock: token.lock,
             number: u64::from(token.number),
             section: u64::from(token.section),
+            life: token.life,
         }
     }
 }

@@ -71,6 +71,8 @@ pub struct Attachment {
     pub worker: u32,
     /// Whether to end a session that has the worker.
     pub take: bool,
+    /// The life after which the worker may not have been restarted: at most `SERVICE_NUMBERS`.
+    pub after: Option<u64>,
 }
 
 /// An order of a session's line.
@@ -173,16 +175,47 @@ fn attach_of(count: usize, value: &Value<'_>) -> Option<Order>
     ensures { result ≡ spec.attach_of count (value_view value.now) }
 {
     let worker = worker_member(value)?;
-    let mut expected = 2;
-    let mut take = false;
-    if let Some(given) = value.get("take") {
-        take = given.as_bool()?;
-        expected += 1;
-    }
-    if count != expected {
+    let take = take_of(value)?;
+    let after = after_of(value)?;
+    if count != 2 + attach_keys(value) {
         return None;
     }
-    Some(Order::Attach(Attachment { worker, take }))
+    Some(Order::Attach(Attachment {
+        worker,
+        take,
+        after,
+    }))
+}
+
+/// Whether to end a session that has the worker: not if the member is absent.
+#[tactic(auto, unfolding(crate::specs::Orders::take_of))]
+fn take_of(value: &Value<'_>) -> Option<bool>
+    ensures { result ≡ spec.take_of (value_view value.now) }
+{
+    match value.get("take") {
+        None => Some(false),
+        Some(given) => given.as_bool(),
+    }
+}
+
+/// The life after which the worker may not have been restarted, if the member is present: at most `SERVICE_NUMBERS`.
+#[tactic(auto, unfolding(crate::specs::Orders::after_of))]
+fn after_of(value: &Value<'_>) -> Option<Option<u64>>
+    ensures { result ≡ spec.after_of (value_view value.now) }
+{
+    match value.get("after") {
+        None => Some(None),
+        Some(given) => Some(Some(whole_up_to(SERVICE_NUMBERS, given)?)),
+    }
+}
+
+/// The number of a value's members that an attachment may have or not.
+#[tactic(auto, unfolding(crate::specs::Orders::attach_keys))]
+fn attach_keys(value: &Value<'_>) -> usize
+    ensures keys { result ≡ spec.attach_keys (value_view value.now) }
+    ensures few { result ≤ 2 }
+{
+    usize::from(value.get("after").is_some()) + usize::from(value.get("take").is_some())
 }
 
 /// The number of tries: 1 to 1,000,000.

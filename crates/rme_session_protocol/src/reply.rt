@@ -39,7 +39,8 @@ impl SessionStance {
 
 /// The fencing token of a worker that is inside its lock.
 ///
-/// A resource outside keeps the greatest section of a lock that it has seen, and refuses a lower one.
+/// A resource outside keeps the greatest section of a lock that it has seen, with the greatest life of that section, and
+/// refuses a lower one.
 #[derive(Clone, Copy, PartialEq, Eq)]
 pub struct FencingToken {
     /// The lock that the worker owns.
@@ -48,6 +49,8 @@ pub struct FencingToken {
     pub number: u32,
     /// The number of the lock's finished sections: the place that the receipt of the job will have.
     pub section: u32,
+    /// The number of the worker's restarts. A world counts none; its server does.
+    pub life: u64,
 }
 
 /// The outcome of a job that a session submitted or continued.
@@ -195,15 +198,22 @@ fn push_inside(out: &mut String, word: &str, token: ClientToken) -> Result<(), A
     ensures { OnOk result (string_bytes out.new ≡ string_bytes out.old
         ++ spec.inside_text word.now (token_of_client token)) }
 {
-    let ClientToken {
-        number,
-        section,
-        ..
-    } = token;
-    write!(
-        out,
-        "{{\"number\":{number},\"ok\":\"{word}\",\"section\":{section},\"stance\":\"held\"}}"
-    )
+    push_inside_front(out, token.life, token.number)?;
+    push_inside_end(out, word, token.section)
+}
+
+/// Appends the text of a worker that is inside, before the word of the line that asked.
+fn push_inside_front(out: &mut String, life: u64, number: u64) -> Result<(), AllocError>
+    ensures { OnOk result (string_bytes out.new ≡ string_bytes out.old ++ spec.inside_front life number) }
+{
+    write!(out, "{{\"life\":{life},\"number\":{number},\"ok\":\"")
+}
+
+/// Appends the text of a worker that is inside, from the word of the line that asked on.
+fn push_inside_end(out: &mut String, word: &str, section: u64) -> Result<(), AllocError>
+    ensures { OnOk result (string_bytes out.new ≡ string_bytes out.old ++ spec.inside_end word.now section) }
+{
+    write!(out, "{word}\",\"section\":{section},\"stance\":\"held\"}}")
 }
 
 fn push_fell(out: &mut String, word: &str) -> Result<(), AllocError>

@@ -15,10 +15,12 @@ abbrev pub lock_of_draft : Option Job → ℕ
 lock_of_draft None = 0
 lock_of_draft (Some job) = job.lock
 
--- The token: the lock of the worker's job, the number of the job, and the number of the lock's finished sections.
+-- The token: the lock of the worker's job, the number of the job, and the number of the lock's finished sections. A world
+-- counts no lives.
 abbrev pub fencing_token : WorldView → PendingWorker → FencingToken
 fencing_token seen pending = record {
   lock = lock_of_draft pending.draft;
   number = pending.number;
   section = length (history_of_lock seen.history (lock_of_draft pending.draft));
+  life = 0;
 }

@@ -71,7 +71,7 @@ pub(crate) fn session_outcome(world: &World, worker: u32) -> JobOutcome
     }
 }
 
-/// The fencing token of a worker that is inside.
+/// The fencing token of a worker that is inside. A world counts no lives.
 pub(crate) fn fencing_token(world: &World, worker: u32, pending: &PendingWorker) -> FencingToken
     requires rests { IsAtRest world.now worker }
     requires inside { at.Held pending.now ≡ worker_session world.now worker }
@@ -84,6 +84,7 @@ pub(crate) fn fencing_token(world: &World, worker: u32, pending: &PendingWorker)
         lock,
         number: pending.number,
         section: count_finished(world, lock),
+        life: 0,
     }
 }
 
