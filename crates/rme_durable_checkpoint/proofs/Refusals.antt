@@ -5,7 +5,7 @@ use Rattle.std.specs.List.{list_all}
 use Rattle.std.proofs.lemmas.Bool.{cases_Bool, cases_eq, eq-eqb, ne_eqb, lt-ltb, ltb-true, ltb-false, le-ltb}
 use Rattle.rme_words.specs.declared.shape.Shape.{Shape}
 use Rattle.rme_words.specs.declared.refusal.Refusal.{Refusal}
-use Rattle.rme_words.specs.declared.refusal.Refusal.TheVariants.{Differs, WrongNumber, TooManyJobs, NoWorker, Taken}
+use Rattle.rme_words.specs.declared.refusal.Refusal.TheVariants.{Differs, WrongNumber, TooManyJobs, NoWorker, Overtaken, Taken}
 use Rattle.rme_script.specs.declared.job.Job.{Job}
 use Rattle.rme_script.specs.Programs.{Program}
 use Rattle.rme_script.specs.Scripts.{script_check, op_is_within}
@@ -205,4 +205,5 @@ module _ (base : Base) (shape : Shape) where
       → IsWorkerUnavailableWithin (client_sizes (numbers_for base session its) shape) (client_session base session) (with_tries 1 its) (client_refusal (numbers_for base session its) why)
   misses_over session (Attach its) Taken misses = none_over (numbers_for base session (Attach its)) its.worker session misses
   misses_over session (Attach its) NoWorker misses = none_over (numbers_for base session (Attach its)) its.worker session misses
+  misses_over session (Attach its) Overtaken misses = (none_over (numbers_for base session (Attach its)) its.worker session misses.0, misses.1)
   misses_over session its why misses = absurd misses

@@ -115,6 +115,7 @@ client_token base numbers token = record {
   lock = token.lock;
   number = numbers + token.number;
   section = client_place base token.lock token.section;
+  life = token.life;
 }
 
 abbrev pub client_outcome : Base → ℕ → JobOutcome → JobOutcome

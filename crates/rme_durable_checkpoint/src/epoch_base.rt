@@ -156,6 +156,7 @@ impl Base {
             lock: token.lock,
             number: numbers.checked_add(u64::from(token.number))?,
             section: self.client_place(token.lock, token.section)?,
+            life: token.life,
         })
     }
 

@@ -2,6 +2,7 @@
 
 ghost use Rattle.std.specs.Prelude.{◌≡◌, IfErr, IfOk, OnOk, string_bytes};
 ghost use Rattle.rme_session_world.specs.declared.event_batch.EventBatch.{EventBatch};
+ghost use Rattle.rme_durable_checkpoint.specs.ClientLives.{without_after};
 ghost use Rattle.rme_durable_checkpoint.specs.declared.apply_error.ApplyError.TheVariants as error;
 ghost use Rattle.rme_durable_format.specs.BatchCommands.{batch_commands_if};
 ghost use Rattle.rme_durable_format.specs.CommandLines.{AppendsCommands};
@@ -9,10 +10,14 @@ ghost use Rattle.rme_durable_format.specs.CommandLines.{AppendsCommands};
 use crate::apply_error::ApplyError;
 use crate::epoch_base::{Base, epoch_order};
 use crate::immediate::immediate_reply;
-use rme_durable_format::{CommandWriter, append_batch, count_batch};
-use rme_session_protocol::{ClientReply, Order, Session, SessionReply, is_still_waiting};
+use rme_durable_format::{CommandWriter, append_batch, count_batch, life_of};
+use rme_session_protocol::{
+    Attachment, ClientOutcome, ClientReply, ClientToken, Order, Session, SessionReply,
+    is_still_waiting,
+};
 use rme_session_world::{EventBatch, Executor, SessionState};
 use rme_wire::Names;
+use rme_words::Refusal;
 use std::alloc::Global;
 use std::marker::Model;
 use std::mem::replace;
@@ -86,7 +91,7 @@ impl Model for EpochExecutor {
 
 impl EpochExecutor {
     ghost use Rattle.std.specs.Prelude.{◌≡◌, ◌+◌, ◌-◌, ◌^◌, min, [], false, true, length};
-    ghost use Rattle.std.specs.Prelude.{IfOk, IfErr, IfSome, None, OnOk, OnSome, Some, option_map, slice_get, string_bytes};
+    ghost use Rattle.std.specs.Prelude.{IfOk, IfErr, IfSome, IsFalse, IsTrue, None, OnOk, OnSome, Some, option_map, slice_get, string_bytes};
     ghost use Rattle.rme_session_world.specs.Downs.{IsWorkerDown};
     ghost use Rattle.rme_session_world.specs.Executors.{executor_session_view, owned_worker};
     ghost use Rattle.rme_session_protocol.specs.Attempts.{with_tries};
@@ -94,6 +99,7 @@ impl EpochExecutor {
     ghost use Rattle.rme_session_protocol.specs.SessionSteps.{SessionStep, TellsPlace, TellsSection};
     ghost use Rattle.rme_session_world.specs.FencingTokens.{HasFinished};
     ghost use Rattle.rme_durable_checkpoint.specs.EpochStates.{SessionStepAcrossCheckpoints, TellsClientPlace, TellsClientSection, executor_session};
+    ghost use Rattle.rme_durable_checkpoint.specs.ClientLives.{IsOvertaken, TellsClientLife, TellsOvertaken, with_life, without_after};
     ghost use Rattle.rme_durable_checkpoint.specs.ClientValues.{client_session};
     ghost use Rattle.rme_durable_checkpoint.specs.LoggedStates.{LoggedStep, logged_state};
     ghost use Rattle.rme_durable_checkpoint.specs.ImmediateReplies.{immediate_reply};
@@ -178,9 +184,93 @@ impl EpochExecutor {
     }
 
     /// Executes an order of a session with one try, with the numbers that its client sees, and logs its event batch.
+    /// `Overtaken` for an attachment of a worker that was restarted after the life that the order has; it is refused so
+    /// before `Taken`, and changes nothing.
     ///
     /// After `NoMemory` nothing is changed. After `NotLogged` no order is executed any more.
     pub fn execute(
+        &mut self,
+        names: &Names,
+        session: &mut SessionState,
+        order: &Order,
+    ) -> Result<ClientAnswer, ApplyError>
+        ensures obeys { IfOk result (λ answered. SessionStepAcrossCheckpoints self.old.base
+            (executor_session self.old.executor session.old) order.now
+            (executor_session self.new.executor session.new) (reply_of_client answered.reply)) }
+        ensures section { IfOk result (λ answered. TellsClientSection self.old.base
+            (executor_session self.new.executor session.new) (reply_of_client answered.reply)) }
+        ensures place { IfOk result (λ answered. TellsClientPlace self.old.base self.old.executor.world
+            (reply_of_client answered.reply)) }
+        ensures life { IfOk result (λ answered. TellsClientLife self.new.lives
+            (executor_session self.new.executor session.new) (reply_of_client answered.reply)) }
+        ensures overtaken { IfOk result (λ answered. TellsOvertaken self.old.lives self.old.executor.world.shape.workers
+            (executor_session_view self.old.executor session.old).session order.now
+            (reply_of_client answered.reply)) }
+        ensures written { OnOk result (LoggedStep names.now session.old.session
+            (logged_state self.old.executor self.old.lives self.old.lines)
+            (logged_state self.new.executor self.new.lives self.new.lines)) }
+        ensures session { session.new.session ≡ session.old.session }
+        ensures base { self.new.base ≡ self.old.base }
+        ensures epoch { self.new.epoch ≡ self.old.epoch }
+        ensures taken { self.new.taken ≡ self.old.taken }
+        ensures unchanged { IfErr result (λ why. why ≡ error.NoMemory
+            → (self.new ≡ self.old) × (session.new ≡ session.old)) }
+        ensures failed { IfErr result (λ why. why ≡ error.NotLogged → self.new.failed ≡ true) }
+        ensures works { OnOk result (self.new.failed ≡ self.old.failed) }
+        ensures stopped { self.old.failed ≡ true → (self.new ≡ self.old) × (session.new ≡ session.old) }
+    {
+        if self.is_overtaken(session, order) {
+            return Ok(ClientAnswer {
+                reply: ClientReply::Refused(Refusal::Overtaken),
+                waits_for: None,
+            });
+        }
+        let answered = self.execute_at_any_life(names, session, &without_after(order))?;
+        Ok(ClientAnswer {
+            reply: self.with_life(session, answered.reply),
+            ..answered
+        })
+    }
+
+    /// Whether an order of a session would attach a worker that was restarted after the life that the order has.
+    fn is_overtaken(&self, session: &SessionState, order: &Order) -> bool
+        ensures is { IsTrue result → IsOvertaken self.now.lives self.now.executor.world.shape.workers
+            (executor_session_view self.now.executor session.now).session order.now }
+        ensures not { IsFalse result → IsOvertaken self.now.lives self.now.executor.world.shape.workers
+            (executor_session_view self.now.executor session.now).session order.now → ⊥ }
+    {
+        let Order::Attach(asked) = order else {
+            return false;
+        };
+        let Some(life) = asked.after else {
+            return false;
+        };
+        let Session::Nobody = self.executor.session(session) else {
+            return false;
+        };
+        asked.worker < self.executor.world().shape().workers()
+            && life < life_of(self.lives(), asked.worker)
+    }
+
+    /// The reply to a session, with the life of its worker if it is inside.
+    fn with_life(&self, session: &SessionState, reply: ClientReply) -> ClientReply
+        ensures { reply_of_client result ≡ with_life self.now.lives
+            (executor_session_view self.now.executor session.now).session (reply_of_client reply) }
+    {
+        let ClientReply::Entered(ClientOutcome::Inside(token)) = reply else {
+            return reply;
+        };
+        let Session::Held(pending) = self.executor.session(session) else {
+            return reply;
+        };
+        let life = life_of(self.lives(), pending.worker);
+        ClientReply::Entered(ClientOutcome::Inside(ClientToken { life, ..token }))
+    }
+
+    /// Executes an order as `execute` does, but counts no lives: its answer tells none, and no worker is overtaken.
+    ///
+    /// After `NoMemory` nothing is changed. After `NotLogged` no order is executed any more.
+    fn execute_at_any_life(
         &mut self,
         names: &Names,
         session: &mut SessionState,
@@ -363,6 +453,19 @@ impl EpochExecutor {
             return None;
         }
         Some(world.pending(worker)?.lock)
+    }
+}
+
+/// The order without the life that an attachment may have.
+fn without_after(order: &Order) -> Order
+    ensures { result ≡ without_after order.now }
+{
+    match order {
+        Order::Attach(asked) => Order::Attach(Attachment {
+            after: None,
+            ..*asked
+        }),
+        order => *order,
     }
 }
 
