@@ -1,5 +1,5 @@
 -- A session attaches the worker that the server chose at the same moment.
-use Rattle.std.proofs.Common.{ℕ, List, false, inl, refl, subst, sym}
+use Rattle.std.proofs.Common.{ℕ, List, None, false, inl, refl, subst, sym}
 use Rattle.rme_words.specs.declared.refusal.Refusal.{Refusal}
 use Rattle.rme_durable_log.specs.Logs.{GrowsByOthers}
 use Rattle.rme_durable_log.specs.declared.log_entry.LogEntry.{LogEntry}
@@ -11,7 +11,7 @@ use Rattle.rme_durable_server.specs.DurableAnswers.{AttachesChosen, AttemptFrom,
 use Rattle.rme_durable_server.specs.ServerHistories.{LogLeads, ServerOpening, ServerState, SessionMoment, session_moment}
 
 pub attaches_chosen : (state : ServerState) (opening : ServerOpening) (clients : ℕ) (old : SessionMoment) (choice : WorkerChoice) (worker : ℕ) (now : SessionMoment) (answer : SessionReply)
-    → AttemptFrom state opening old (Attach record { worker = worker; take = false }) now answer → IsChosenWorker state.executor choice clients worker → AttachesChosen opening clients old choice worker now answer
+    → AttemptFrom state opening old (Attach record { worker = worker; take = false; after = None }) now answer → IsChosenWorker state.executor choice clients worker → AttachesChosen opening clients old choice worker now answer
 attaches_chosen state opening clients old choice worker now answer (attempt, is) chosen = record {
   attempt = attempt;
   chosen = subst (λ (s : ServerState). IsChosenWorker s.executor choice clients worker) (sym is) chosen;

@@ -1,6 +1,7 @@
 -- How the lines of a session of the durable server are answered.
 use Rattle.std.specs.Prelude.{◌≡◌, ◌≢◌, ◌⊎◌, ℕ, zero, suc, nat_le, Bool, true, false, List, [], ◌∷◌, ◌++◌, Option, Some, None, Result, Ok, Err}
 use Rattle.rme_line_io.specs.Pieces.{InputLine}
+use Rattle.rme_durable_checkpoint.specs.ClientLives.{TellsClientLife, TellsOvertaken}
 use Rattle.rme_durable_checkpoint.specs.EpochStates.{SessionStepAcrossCheckpoints, TellsClientPlace, TellsClientSection, executor_session}
 use Rattle.rme_durable_log.specs.StoreCalls.{StoreState}
 use Rattle.rme_durable_log.specs.Logs.{AreNotByAuthor, IsLogDurable}
@@ -38,7 +39,8 @@ use Rattle.rme_durable_server.specs.ServerHistories.{LogLeads, ServerOpening, Se
 
 -- One try: at one moment of the log, with no other session between, the session executed the order, as its client sees
 -- it over all epochs. A client whose worker is inside is told the number of the lock's finished sections, and the receipt
--- of its commit has that place.
+-- of its commit has that place; it is also told the life of the worker, and is overtaken exactly if the worker was
+-- restarted after the life that it had.
 pub record DurableAttempt (opening : ServerOpening) (old : SessionMoment) (its : Order) (now : SessionMoment)
     (answer : SessionReply) : Type 0 where
   pub before : ServerState
@@ -48,6 +50,9 @@ pub record DurableAttempt (opening : ServerOpening) (old : SessionMoment) (its :
       (executor_session after.executor now.session) answer
   pub section : TellsClientSection before.base (executor_session after.executor now.session) answer
   pub place : TellsClientPlace before.base before.executor.world answer
+  pub life : TellsClientLife after.lives (executor_session after.executor now.session) answer
+  pub overtaken : TellsOvertaken before.lives before.executor.world.shape.workers
+      (executor_session_view before.executor old.session).session its answer
 
 -- One try, from this state.
 abbrev pub AttemptFrom : ServerState → ServerOpening → SessionMoment → Order → SessionMoment → SessionReply → Type 0
@@ -160,7 +165,7 @@ pub record ChoiceIsRefused (terms : ClientTerms) (old : SessionMoment) (choice :
 -- At one moment of the log the session attaches the lowest worker that the choice takes then.
 pub record AttachesChosen (opening : ServerOpening) (clients : ℕ) (old : SessionMoment) (choice : WorkerChoice)
     (worker : ℕ) (now : SessionMoment) (answer : SessionReply) : Type 0 where
-  pub attempt : DurableAttempt opening old (Attach record { worker = worker; take = false }) now answer
+  pub attempt : DurableAttempt opening old (Attach record { worker = worker; take = false; after = None }) now answer
   pub chosen : IsChosenWorker attempt.before.executor choice clients worker
 
 -- What a session gets that leaves the choice to the server, and its answer, once everything before its moment is

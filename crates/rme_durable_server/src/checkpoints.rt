@@ -208,6 +208,7 @@ impl<L: LogStore, H: CloseHandle, J: ServerTag> DurableServer<L, H, J> {
         let order = Order::Attach(Attachment {
             worker,
             take: false,
+            after: None,
         });
         let is_done = match executor.execute(&self.names, &session, &order) {
             Ok(done) => {

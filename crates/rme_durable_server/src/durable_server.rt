@@ -8,6 +8,7 @@ use crate::lookup::SessionLookup;
 use crate::lookup_answer::write_lookup;
 use crate::session::{DurableSession, ServerTag};
 use crate::status::clients_of;
+use crate::waiting_jobs::WaitingJobs;
 use rme_durable_checkpoint::{ApplyError, ClientAnswer, EpochExecutor};
 use rme_durable_log::{
     GroupCommit, LogPosition, LogStore, LogTag, NotDurable, OpenLog, lock_with_spin,
@@ -21,6 +22,15 @@ use std::alloc::Global;
 use std::sync::{Mutex, Wait};
 use std::time::Clock;
 
+/// What a server is asked for, beside its state.
+#[derive(Clone, Copy, Debug)]
+pub struct ServerSetting {
+    /// A checkpoint is made after this number of finished sections in one epoch.
+    pub sections: u32,
+    /// What becomes of a job that waits and whose session is gone.
+    pub waiting: WaitingJobs,
+}
+
 /// A world that sessions share, and the log of its events.
 #[derive(Drop)]
 pub struct DurableServer<L: LogStore, H: CloseHandle, J: ServerTag> {
@@ -30,6 +40,7 @@ pub struct DurableServer<L: LogStore, H: CloseHandle, J: ServerTag> {
     pub(crate) clients: u32,
     pub(crate) registry: SessionRegistry<H>,
     pub(crate) due: CheckpointPolicy,
+    pub(crate) waiting: WaitingJobs,
     pub(crate) executor: Mutex<DurableExecutor<L, J>>,
     pub(crate) commits: GroupCommit<L, J>,
     ghost named: { names ≡ J.opening.names },
@@ -42,13 +53,13 @@ impl<L: LogStore, H: CloseHandle, J: ServerTag> DurableServer<L, H, J> {
     ghost use Rattle.rme_durable_log.specs.Logs.{GrowsByOthers, IsLogDurable};
     ghost use Rattle.rme_session_protocol.specs.ClientReplies.{reply_of_client};
 
-    /// A server of an executor whose state is in the opened log, with the names of its locks. A checkpoint is made
-    /// after this number of finished sections in one epoch, and once a worker has used all job numbers of one.
+    /// A server of an executor whose state is in the opened log, with the names of its locks. A checkpoint is made also
+    /// once a worker has used all job numbers of an epoch.
     pub fn new(
         alloc: Global,
         names: Names,
         executor: EpochExecutor,
-        sections: u32,
+        setting: ServerSetting,
         opened: OpenLog<L>,
     ) -> Result<DurableServer<L, H, J>, NoMemory>
         requires log { opened ≡ J.book }
@@ -63,7 +74,8 @@ impl<L: LogStore, H: CloseHandle, J: ServerTag> DurableServer<L, H, J> {
             names,
             clients: clients_of(executor.executor().world()),
             registry,
-            due: CheckpointPolicy::after_sections(sections),
+            due: CheckpointPolicy::after_sections(setting.sections),
+            waiting: setting.waiting,
             executor: Mutex::new(DurableExecutor::new(executor, appender)),
             commits,
         })
@@ -178,7 +190,8 @@ impl<L: LogStore, H: CloseHandle, J: ServerTag> DurableServer<L, H, J> {
         }
     }
 
-    /// Detaches the worker of a session that ends, and waits until that is durable.
+    /// Detaches the worker of a session that ends, and waits until that is durable. If its job waits, and waiting jobs are
+    /// withdrawn, that is durable too.
     pub(crate) fn detach_session<R: Wait>(
         &self,
         rt: &R,
@@ -186,15 +199,20 @@ impl<L: LogStore, H: CloseHandle, J: ServerTag> DurableServer<L, H, J> {
     ) -> Result<(), NotDurable>
         ensures { OnOk result (IsSessionEndDurable L.holds J.opening session) }
     {
-        let claim = self.registry.claim_worker(rt, session.state.worker);
+        let worker = session.state.worker;
+        let claim = self.registry.claim_worker(rt, worker);
         let mut executor = lock_with_spin(rt, &self.executor);
         let gone = executor.detach_session(&self.names, session);
+        let withdrawn = self.withdraw_if_waiting(&mut executor, worker);
         self.observe(&executor);
         drop(executor);
         if let Some(mut claim) = claim {
             *claim = None;
         }
         self.registry.notify_worker_free(rt);
+        if let Some(last) = withdrawn {
+            self.commit(rt, &last)?;
+        }
         match gone {
             Ok(end) => self.commit(rt, &end),
             Err(_) => {

@@ -20,9 +20,10 @@ mod order_attempts;
 mod recovery;
 mod session;
 mod status;
+mod waiting_jobs;
 mod worker_choice;
 
-pub use durable_server::DurableServer;
+pub use durable_server::{DurableServer, ServerSetting};
 pub use lookup::{SessionLookup, parse_lookup};
 pub use recovery::{RecoveredState, VERSION, other_version, recover};
 pub use rme_durable_log::{LogStore, NotDurable};
@@ -31,3 +32,4 @@ pub use status::{
     LockStatus, StatusSource, WorkerStance, WorkerStatus, clients_of, lock_status,
     push_cell_values, push_status, worker_status,
 };
+pub use waiting_jobs::WaitingJobs;

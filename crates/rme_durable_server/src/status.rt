@@ -136,7 +136,8 @@ pub fn worker_status(told: &StatusSource<'_>, words: &Bank, worker: u32) -> Opti
     })
 }
 
-fn worker_stance(world: &World, worker: u32) -> WorkerStance
+/// The stance of a worker.
+pub(crate) fn worker_stance(world: &World, worker: u32) -> WorkerStance
     requires { worker < world.now.shape.workers }
     ensures { result ≡ spec.worker_stance world.now worker }
 {

@@ -140,6 +140,7 @@ impl<L: LogStore, H: CloseHandle, J: ServerTag> DurableServer<L, H, J> {
         let order = Order::Attach(Attachment {
             worker,
             take: false,
+            after: None,
         });
         let acted = durable.execute(&self.names, session, &order);
         self.observe(&durable);

@@ -36,6 +36,8 @@ returns g c =
         obeys = c.in-Ok.ensures.obeys;
         section = c.in-Ok.ensures.section;
         place = c.in-Ok.ensures.place;
+        life = c.in-Ok.ensures.life;
+        overtaken = c.in-Ok.ensures.overtaken;
       },
       refl,
     ))
