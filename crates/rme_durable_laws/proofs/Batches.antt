@@ -1,13 +1,10 @@
 -- The lines of an event batch determine the batch.
-use Rattle.std.proofs.Common.{◌≡◌, ◌≢◌, ℕ, zero, suc, true, false, List, [], ◌∷◌, ◌++◌, length, refl, sym, ap, subst, ◌∙◌, arith, append_assoc, length-append}
+use Rattle.std.proofs.Common.{◌≡◌, ℕ, zero, suc, true, false, List, [], ◌∷◌, ◌++◌, length, refl, sym, ap, subst, ◌∙◌, arith, append_assoc, length-append}
 use Rattle.std.specs.Prelude.{Bool, nat_lt, ◌||◌, ◌==◌, Option, Some, None}
-use Rattle.std.proofs.lemmas.Option.{none-some, same_Some}
-use Rattle.std.proofs.lemmas.Bool.{lt-ltb}
+use Rattle.std.proofs.lemmas.Option.{same_Some}
 use Rattle.rme_line_io.specs.Pieces.{IsPiece}
-use Rattle.rme_script.specs.declared.job.Job.{Job}
 use Rattle.rme_wire.specs.declared.command.Command.{Command}
 use Rattle.rme_wire.specs.declared.command.Command.TheVariants as command
-use Rattle.rme_wire.specs.declared.request.Request.{Request}
 use Rattle.rme_wire.specs.declared.request.Request.TheVariants.{World}
 use Rattle.rme_wire.specs.Requests.{request_of_line}
 use Rattle.rme_session_world.specs.SessionBatches.{has_events, has_start}
@@ -15,7 +12,7 @@ use Rattle.rme_session_world.specs.declared.event_batch.BatchStart.{BatchStart}
 use Rattle.rme_session_world.specs.declared.event_batch.BatchStart.TheVariants.{Restart, Submit, Withdraw, GoOn}
 use Rattle.rme_session_world.specs.declared.event_batch.EventBatch.{EventBatch}
 use Rattle.rme_durable_format.specs.BatchCommands.{batch_commands, crash_commands, start_commands, step_commands}
-use Rattle.rme_durable_format.specs.CommandLines.{AppendsCommands, IsCommandLine}
+use Rattle.rme_durable_format.specs.CommandLines.{AppendsCommands}
 
 -- ---- one line after the other
 

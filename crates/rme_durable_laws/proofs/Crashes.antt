@@ -24,13 +24,13 @@ use Rattle.rme_world.specs.WorldViews.{WorldView, world_memory}
 use Rattle.rme_session_world.specs.EventBatches.{AppliesEvents}
 use Rattle.rme_session_world.specs.Executors.{AreCrashes, HasCrashedAll}
 use Rattle.rme_session_world.proofs.Events.{happens_then}
-use Rattle.rme_durable_format.specs.BatchCommands.{all_asked_events, asked_events, crash_commands_from}
+use Rattle.rme_durable_format.specs.BatchCommands.{all_asked_events, crash_commands_from}
 use Rattle.rme_durable_format.specs.CommandLines.{AppendsCommands}
 use Rattle.rme_durable_format.specs.Recovery.{AcceptsLine, AcceptsLines, RecoversWorld}
 use Rattle.rme_durable_format.proofs.Running.{command_runs}
 use Rattle.rme_durable_format.specs.WholeLines.{AreWholeLines}
 use Rattle.rme_durable_laws.specs.AlikeWorlds.{AreWorldsAlike}
-use Rattle.rme_durable_laws.specs.LoggedLines.{AreCommandLines, HasAlikeWorldOpen}
+use Rattle.rme_durable_laws.specs.LoggedLines.{AreCommandLines}
 use Rattle.rme_durable_laws.proofs.Events.{alike_itself}
 use Rattle.rme_durable_laws.proofs.Lines.{accept_all}
 use Rattle.rme_durable_laws.proofs.Prefixes.{AreOrders, command_lines, final_alike, lines_whole, open_by, rest_front, rest_is, rest_of, split_accepts}

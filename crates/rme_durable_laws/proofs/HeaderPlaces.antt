@@ -1,17 +1,15 @@
 -- The bytes of an epoch determine the places in its base.
 use Rattle.std.proofs.Common.{◌≡◌, ℕ, ◌<◌, List, [], ◌∷◌, length, get_or, refl, sym, ap, ap₂, subst, ◌∙◌, arith}
-use Rattle.std.specs.Prelude.{Option, Some, ℤ, pos, codes}
+use Rattle.std.specs.Prelude.{ℤ, pos}
 use Rattle.std.proofs.lemmas.List.{same_lists}
 use Rattle.std.proofs.lemmas.Option.{same_Some}
 use Rattle.serde_json.specs.Data.{Data, Items, array, no_items, item}
-use Rattle.serde_json.specs.Find.{get}
 use Rattle.rme_line_json.specs.Values.{json_value_of}
 use Rattle.rme_words.specs.declared.shape.Shape.{Shape}
 use Rattle.rme_durable_format.specs.Headers.{AreItemsOf, HasHeaderMembers, HeaderValues, IsPlaceCount}
 use Rattle.rme_durable_format.specs.Recovery.{BeginsWithHeader}
 use Rattle.rme_durable_checkpoint.specs.HeaderBases.{IsHeaderBase, header_offset}
 use Rattle.rme_durable_checkpoint.specs.declared.epoch_base.Base.{Base}
-use Rattle.rme_durable_checkpoint.specs.declared.epoch_base.PlaceOffset.{PlaceOffset}
 
 items_same : (items : Items) (one other : List ℤ) → AreItemsOf IsPlaceCount items one → AreItemsOf IsPlaceCount items other → one ≡ other
 items_same no_items [] [] all more = refl

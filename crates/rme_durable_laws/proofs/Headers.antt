@@ -1,6 +1,6 @@
 -- The number of the epoch counts the checkpoints, and the bytes of a log begin with the header of the state to which the
 -- log leads.
-use Rattle.std.proofs.Common.{◌≡◌, ◌+◌, ℕ, List, [], ◌∷◌, ◌++◌, refl, sym, ap, subst, ◌∙◌, inl, inr, arith}
+use Rattle.std.proofs.Common.{◌≡◌, ◌+◌, ℕ, List, [], ◌∷◌, ◌++◌, sym, ap, subst, ◌∙◌, inl, inr, arith}
 use Rattle.rme_words.specs.declared.shape.Shape.{Shape}
 use Rattle.rme_line_io.specs.Pieces.{InputLine, lines_of}
 use Rattle.rme_program.specs.declared.event.Answer.{Answer}

@@ -1,5 +1,5 @@
 -- The same entries lead from alike states to alike states.
-use Rattle.std.proofs.Common.{◌≡◌, ◌+◌, ℕ, List, [], ◌∷◌, refl, sym, ap, ap₂, subst, ◌∙◌}
+use Rattle.std.proofs.Common.{◌≡◌, ◌+◌, ℕ, List, [], ◌∷◌, sym, ap, ap₂, subst, ◌∙◌}
 use Rattle.std.specs.Prelude.{Option, slice_set}
 use Rattle.rme_session_world.specs.EventBatches.{batch_events}
 use Rattle.rme_session_world.specs.SessionBatches.{AppliesSessionBatch, holder_by}
@@ -8,8 +8,7 @@ use Rattle.rme_durable_log.specs.declared.log_entry.LogEntry.{LogEntry}
 use Rattle.rme_durable_log.specs.declared.log_entry.LogEntry.TheVariants.{Lines, Whole}
 use Rattle.rme_durable_checkpoint.specs.declared.epoch_base.Base.{Base}
 use Rattle.rme_durable_format.specs.Lives.{lives_after_batch}
-use Rattle.rme_durable_server.specs.ServerHistories.{AppendsSessionBatch, BeginsEpoch, EntriesLead, EntryLeads, ServerState}
-use Rattle.rme_durable_laws.specs.AlikeWorlds.{AreWorldsAlike}
+use Rattle.rme_durable_server.specs.ServerHistories.{EntriesLead, EntryLeads, ServerState}
 use Rattle.rme_durable_laws.specs.Histories.{AreStatesAlike}
 use Rattle.rme_durable_laws.proofs.Batches.{same_batch}
 use Rattle.rme_durable_laws.proofs.Events.{all_happen}

@@ -11,6 +11,7 @@ pub mod Others
 pub mod Batches
 pub mod HeaderPlaces
 pub mod Histories
+pub mod Lives
 pub mod Prefixes
 pub mod Headers
 pub mod Crashes

@@ -1,10 +1,8 @@
 -- Events of one worker leave the others as they are.
-use Rattle.std.proofs.Common.{◌≡◌, ◌≢◌, ℕ, zero, suc, ◌+◌, ◌<◌, true, false, List, [], ◌∷◌, ◌++◌, length, refl, sym, subst, ap, ap₂, ◌∙◌, inl, inr, arith}
-use Rattle.std.specs.Prelude.{Bool, Option, Some, None, Ok, Err, replicate, slice_get, slice_set}
-use Rattle.std.proofs.lemmas.Bool.{cases_eq}
+use Rattle.std.proofs.Common.{◌≡◌, ◌≢◌, ℕ, zero, suc, ◌+◌, ◌<◌, true, false, List, [], ◌∷◌, ◌++◌, refl, sym, subst, ap, ◌∙◌, inl, inr, arith}
+use Rattle.std.specs.Prelude.{Bool, Option, Some, None, slice_get}
 use Rattle.std.proofs.lemmas.Option.{none-some, same_Some}
 use Rattle.rme_words.specs.declared.shape.Shape.{Shape}
-use Rattle.rme_script.specs.declared.job.Job.{Job}
 use Rattle.rme_program.specs.declared.event.Answer.{Answer}
 use Rattle.rme_program.specs.declared.event.Answer.TheVariants as answer
 use Rattle.rme_program.specs.declared.event.Event.{Event}
@@ -25,14 +23,13 @@ use Rattle.rme_machine.proofs.Lists.{get_set_other, made_get}
 use Rattle.rme_world.specs.EventLists.{EventContract, EventListContract}
 use Rattle.rme_world.specs.Refinement.{EventsHaveLabels, IsRefinement}
 use Rattle.rme_world.specs.WorldViews.{WorldView, world_abstract_state, world_memory, world_privates}
-use Rattle.rme_session_world.specs.EventBatches.{AppliesEvents, batch_events, crash_events, start_events, step_events}
+use Rattle.rme_session_world.specs.EventBatches.{batch_events, crash_events, start_events, step_events}
 use Rattle.rme_session_world.specs.Executors.{held_session, held_session_if}
-use Rattle.rme_session_world.specs.SessionBatches.{AppliesSessionBatch, holder_by}
-use Rattle.rme_session_world.specs.WorkerSessions.{last_receipt_under, receipt_of_number, worker_session, worker_session_by, worker_state_in}
+use Rattle.rme_session_world.specs.SessionBatches.{holder_by}
+use Rattle.rme_session_world.specs.WorkerSessions.{receipt_of_number, worker_session, worker_session_by, worker_state_in}
 use Rattle.rme_session_world.specs.declared.event_batch.BatchStart.{BatchStart}
 use Rattle.rme_session_world.specs.declared.event_batch.BatchStart.TheVariants as start
 use Rattle.rme_session_world.specs.declared.event_batch.EventBatch.{EventBatch}
-use Rattle.rme_session_protocol.specs.declared.view.Session.{Session}
 use Rattle.rme_session_protocol.specs.declared.view.Session.TheVariants.{Ready}
 use Rattle.rme_program.specs.declared.note.Receipt.{Receipt}
 use Rattle.rme_durable_log.specs.Logs.{AreNotByAuthor, IsNotByAuthor}

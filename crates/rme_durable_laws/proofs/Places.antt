@@ -9,7 +9,7 @@ use Rattle.rme_program.specs.declared.note.Receipt.{Receipt}
 use Rattle.rme_machine.specs.declared.stance.JobStance.{JobStance}
 use Rattle.rme_machine.specs.declared.stance.JobStance.TheVariants.{Idle, Handed, Waiting, Inside, Finished}
 use Rattle.rme_session_protocol.specs.Attempts.{with_tries}
-use Rattle.rme_session_protocol.specs.SessionSteps.{CommitOrderEffect, EnterOrderEffect, EnterPendingEffect, OrderEffect, ReadyEnterEffect, SessionStepWithin, TokenSection, TellsSection, last_outcome}
+use Rattle.rme_session_protocol.specs.SessionSteps.{CommitOrderEffect, EnterOrderEffect, EnterPendingEffect, ReadyEnterEffect, SessionStepWithin, TokenSection, TellsSection, last_outcome}
 use Rattle.rme_session_protocol.specs.SessionViews.{next_worker_job, waiting_worker}
 use Rattle.rme_session_protocol.specs.Refusals.{ServiceSizes}
 use Rattle.rme_session_protocol.specs.declared.order.Order.{Order}
@@ -17,7 +17,6 @@ use Rattle.rme_session_protocol.specs.declared.order.Order.TheVariants as order
 use Rattle.rme_session_protocol.specs.declared.order.Submission.{Submission}
 use Rattle.rme_session_protocol.specs.declared.reply.FencingToken.{FencingToken}
 use Rattle.rme_session_protocol.specs.declared.reply.JobOutcome.TheVariants as outcome
-use Rattle.rme_session_protocol.specs.declared.reply.SessionReply.{SessionReply}
 use Rattle.rme_session_protocol.specs.declared.reply.SessionReply.TheVariants as reply
 use Rattle.rme_session_protocol.specs.declared.view.PendingWorker.{PendingWorker}
 use Rattle.rme_session_protocol.specs.declared.view.ReadyWorker.{ReadyWorker}
@@ -29,7 +28,6 @@ use Rattle.rme_session_world.specs.Executors.{executor_session_view, held_sessio
 use Rattle.rme_session_world.specs.ExecutorStates.{ExecutorState, is_held_by}
 use Rattle.rme_session_world.specs.WorkerSessions.{worker_session, worker_session_by, worker_state_in}
 use Rattle.rme_session_world.specs.declared.executor.SessionState.{SessionState}
-use Rattle.rme_world.specs.WorldViews.{WorldView}
 use Rattle.rme_durable_checkpoint.specs.ClientValues.{client_pending, client_session, next_client_place}
 use Rattle.rme_durable_checkpoint.specs.declared.epoch_base.Base.{Base}
 use Rattle.rme_durable_server.specs.DurableAnswers.{DurableAttempt}

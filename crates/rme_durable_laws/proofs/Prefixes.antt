@@ -1,12 +1,11 @@
 -- Recovery of the bytes of a log leads to the state to which the log leads.
-use Rattle.std.proofs.Common.{◌≡◌, ◌⊎◌, ℕ, zero, suc, ◌≤◌, ◌==◌, true, false, List, [], ◌∷◌, ◌++◌, length, map, replicate, refl, sym, ap, subst, ◌∙◌, inl, inr, arith, append_assoc}
-use Rattle.std.specs.Prelude.{Bool, Option, Some, None, nat_le}
+use Rattle.std.proofs.Common.{◌≡◌, ◌⊎◌, ℕ, zero, suc, ◌≤◌, ◌==◌, true, false, List, [], ◌∷◌, ◌++◌, length, map, refl, sym, ap, subst, ◌∙◌, inl, inr, append_assoc}
+use Rattle.std.specs.Prelude.{Bool, Option, Some, None}
 use Rattle.std.proofs.lemmas.Bool.{cases_Bool, le-leb}
 use Rattle.std.proofs.lemmas.List.{append-nil, map-append}
-use Rattle.std.proofs.lemmas.Option.{none-some, same_Some}
-use Rattle.rme_line_io.specs.Pieces.{InputLine, IsPiece, line_of, lines_of, pieces, text}
+use Rattle.std.proofs.lemmas.Option.{same_Some}
+use Rattle.rme_line_io.specs.Pieces.{InputLine, line_of, lines_of, pieces, text}
 use Rattle.rme_line_io.proofs.PieceLemmas.{lines_ended, lines_none}
-use Rattle.rme_script.specs.declared.job.Job.{Job}
 use Rattle.rme_program.specs.declared.event.Event.{Event}
 use Rattle.rme_wire.specs.declared.command.Command.{Command}
 use Rattle.rme_world.specs.WorldViews.{WorldView}
@@ -16,7 +15,7 @@ use Rattle.rme_session_world.specs.EventBatches.{AppliesEvents, batch_events, cr
 use Rattle.rme_session_world.specs.declared.event_batch.BatchStart.{BatchStart}
 use Rattle.rme_session_world.specs.declared.event_batch.BatchStart.TheVariants.{Restart, Submit, Withdraw, GoOn}
 use Rattle.rme_session_world.specs.declared.event_batch.EventBatch.{EventBatch}
-use Rattle.rme_durable_log.specs.Logs.{AreAllLines, log_bytes, log_bytes_after}
+use Rattle.rme_durable_log.specs.Logs.{AreAllLines, log_bytes_after}
 use Rattle.rme_durable_log.specs.LogRules.{entry_lines}
 use Rattle.rme_durable_log.specs.declared.log_entry.LogEntry.{LogEntry}
 use Rattle.rme_durable_log.specs.declared.log_entry.LogEntry.TheVariants.{Lines, Whole}

@@ -1,6 +1,6 @@
 -- While a session's worker is inside a lock, the number of the lock's finished sections stays, whatever others order.
-use Rattle.std.proofs.Common.{◌≡◌, ◌≢◌, ℕ, ◌+◌, ◌<◌, List, [], ◌∷◌, ◌++◌, refl, sym, ap, ap₂, subst, ◌∙◌, inl, inr, arith}
-use Rattle.std.specs.Prelude.{Option, Some, slice_get}
+use Rattle.std.proofs.Common.{◌≡◌, ◌≢◌, ℕ, ◌<◌, List, [], ◌∷◌, ◌++◌, refl, sym, ap, ap₂, subst, ◌∙◌, inl, inr, arith}
+use Rattle.std.specs.Prelude.{Some, slice_get}
 use Rattle.std.proofs.lemmas.Option.{same_Some}
 use Rattle.rme_words.specs.declared.shape.Shape.{Shape}
 use Rattle.rme_script.specs.declared.job.Job.{Job}
@@ -36,7 +36,7 @@ use Rattle.rme_durable_laws.specs.HeldLocks.{BeginsWith, IsSessionInside, IsWorl
 use Rattle.rme_durable_laws.specs.Histories.{AreStatesAlike}
 use Rattle.rme_durable_laws.proofs.Inside.{acted_leads, inside_alike, inside_kept, inside_owns, on_the_way, stance_of_held}
 use Rattle.rme_durable_laws.proofs.Others.{AreEventsOf, IsEventOf, IsOf, batch_of, entry_keeps, event_leaves, held_is, holder_apart, label_of, nobody_apart, state_found}
-use Rattle.rme_durable_laws.proofs.Reaching.{entries_reach, entry_reach, event_reach, log_reach}
+use Rattle.rme_durable_laws.proofs.Reaching.{entry_reach, event_reach, log_reach}
 
 -- ---- events of another worker
 

@@ -1,9 +1,10 @@
--- Two histories of a server by the same log, recovery from its bytes, and the checkpoints in it.
-use Rattle.std.specs.Prelude.{◌≡◌, ℕ, ◌+◌, List, [], ◌∷◌}
+-- Two histories of a server by the same log, recovery from its bytes, the checkpoints in it, and the lives of workers.
+use Rattle.std.specs.Prelude.{◌≡◌, ℕ, ◌+◌, ◌<◌, ◌≤◌, ◌^◌, List, [], ◌∷◌}
 use Rattle.rme_durable_log.specs.declared.log_entry.LogEntry.{LogEntry}
 use Rattle.rme_durable_log.specs.declared.log_entry.LogEntry.TheVariants.{Lines, Whole}
 use Rattle.rme_durable_server.specs.ServerHistories.{ServerState}
 use Rattle.rme_world.specs.WorldViews.{WorldView}
+use Rattle.rme_durable_format.specs.Lives.{life_of}
 use Rattle.rme_durable_format.specs.Recovery.{RecoversWorld}
 use Rattle.rme_durable_laws.specs.AlikeWorlds.{AreWorldsAlike}
 
@@ -27,3 +28,10 @@ abbrev pub checkpoint_count : List LogEntry → ℕ
 checkpoint_count [] = 0
 checkpoint_count (Lines author lines ∷ log) = checkpoint_count log
 checkpoint_count (Whole bytes ∷ log) = checkpoint_count log + 1
+
+-- Each life is a number of 64 bits; and no worker's life is less than before.
+abbrev pub AreLivesWhole : List ℕ → Type 0
+AreLivesWhole lives = (worker : ℕ) → life_of lives worker < 2 ^ 64
+
+abbrev pub HaveLivesGrown : List ℕ → List ℕ → Type 0
+HaveLivesGrown old new = (worker : ℕ) → life_of old worker ≤ life_of new worker

@@ -1,6 +1,6 @@
 //! Laws of replay, and of a server's history.
 
-ghost use Rattle.std.specs.Prelude.{◌≡◌, ◌+◌, ◌++◌, ◌<◌, ℕ, List, [], Some, length, map, slice_get};
+ghost use Rattle.std.specs.Prelude.{◌≡◌, ◌≢◌, ◌+◌, ◌++◌, ◌<◌, ℕ, List, [], Some, length, map, slice_get};
 ghost use Rattle.rme_script.specs.declared.job.Job.{Job};
 ghost use Rattle.rme_program.specs.declared.event.Event.{Event};
 ghost use Rattle.rme_world.specs.WorldViews.{WorldView};
@@ -8,25 +8,31 @@ ghost use Rattle.rme_session_world.specs.EventBatches.{AppliesEvents};
 ghost use Rattle.rme_line_engine.specs.EngineStates.{EngineState};
 ghost use Rattle.rme_line_io.specs.Pieces.{text};
 ghost use Rattle.rme_wire.specs.declared.command.Command.{Command};
-ghost use Rattle.rme_session_world.specs.Executors.{HasCrashedAll};
+ghost use Rattle.rme_session_world.specs.Executors.{HasCrashedAll, executor_session_view};
 ghost use Rattle.rme_durable_format.specs.BatchCommands.{all_asked_events, crash_commands_from};
 ghost use Rattle.rme_durable_format.specs.CommandLines.{AppendsCommands};
+ghost use Rattle.rme_durable_format.specs.Lives.{life_of};
 ghost use Rattle.rme_durable_format.specs.Recovery.{AcceptsLines, RecoversWorld};
 ghost use Rattle.rme_durable_format.specs.WholeLines.{AreWholeLines};
 ghost use Rattle.rme_durable_log.specs.Logs.{AreNotByAuthor, log_bytes_after};
 ghost use Rattle.rme_durable_log.specs.declared.log_entry.LogEntry.{LogEntry};
 ghost use Rattle.rme_program.specs.declared.note.Receipt.{Receipt};
 ghost use Rattle.rme_session_protocol.specs.declared.order.Order.{Order};
-ghost use Rattle.rme_session_protocol.specs.declared.order.Order.TheVariants.{Commit};
+ghost use Rattle.rme_session_protocol.specs.declared.order.Attachment.{Attachment};
+ghost use Rattle.rme_session_protocol.specs.declared.order.Order.TheVariants.{Attach, Commit};
 ghost use Rattle.rme_session_protocol.specs.declared.reply.FencingToken.{FencingToken};
 ghost use Rattle.rme_session_protocol.specs.declared.reply.JobOutcome.TheVariants.{Inside, Receipt as Received};
-ghost use Rattle.rme_session_protocol.specs.declared.reply.SessionReply.TheVariants.{Committed, Entered};
+ghost use Rattle.rme_session_protocol.specs.declared.reply.SessionReply.{SessionReply};
+ghost use Rattle.rme_session_protocol.specs.declared.reply.SessionReply.TheVariants.{Committed, Entered, Refused};
+ghost use Rattle.rme_session_protocol.specs.declared.view.PendingWorker.{PendingWorker};
+ghost use Rattle.rme_session_protocol.specs.declared.view.Session.TheVariants.{Held, Nobody};
+ghost use Rattle.rme_words.specs.declared.refusal.Refusal.TheVariants.{Overtaken};
 ghost use Rattle.rme_durable_checkpoint.specs.ClientValues.{next_client_place};
 ghost use Rattle.rme_durable_server.specs.DurableAnswers.{DurableAttempt};
 ghost use Rattle.rme_durable_server.specs.ServerHistories.{EntriesLead, HasStateHeader, KeepsWorker, ServerState, SessionActs, SessionMoment};
 ghost use Rattle.rme_durable_laws.specs.AlikeWorlds.{AreWorldsAlike};
 ghost use Rattle.rme_durable_laws.specs.HeldLocks.{BeginsWith, IsSessionInside, IsWorldReachable, WorkerOwnsLock};
-ghost use Rattle.rme_durable_laws.specs.Histories.{AreStatesAlike, RecoversState, checkpoint_count};
+ghost use Rattle.rme_durable_laws.specs.Histories.{AreLivesWhole, AreStatesAlike, HaveLivesGrown, RecoversState, checkpoint_count};
 ghost use Rattle.rme_durable_laws.specs.LoggedLines.{AreCommandLines, HasAlikeWorldOpen};
 
 use rme_durable_server::ServerTag;
@@ -149,6 +155,27 @@ pub fn token_is_place<J: ServerTag>()
         → ((worker : ℕ) → held.session.worker ≡ Some worker
         → worker + 1 < enters.after.executor.world.shape.workers)
         → receipt.place ≡ token.section }
+{}
+
+/// LIVES RISE: along a server's log no worker's life becomes less.
+pub fn lives_never_fall()
+    ensures { (names : List (List ℕ)) (log : List LogEntry) (old new : ServerState) → AreLivesWhole old.lives
+        → EntriesLead names old log new → HaveLivesGrown old.lives new.lives }
+{}
+
+/// NOBODY WAS INSIDE MEANWHILE: where `enter` told a session the life of its worker, and a later attachment of that
+/// worker after that life is not refused `Overtaken`, the worker's life is still the same: it was not restarted between.
+pub fn attachment_finds_life<J: ServerTag>()
+    ensures { (old held begun now : SessionMoment) (its : Order) (token : FencingToken) (pending : PendingWorker)
+        (asked : Attachment) (answer : SessionReply) (log : List LogEntry)
+        (enters : DurableAttempt J.opening old its held (Entered (Inside token)))
+        (attaches : DurableAttempt J.opening begun (Attach asked) now answer)
+        → AreLivesWhole enters.after.lives → EntriesLead J.opening.names enters.after log attaches.before
+        → (executor_session_view enters.after.executor held.session).session ≡ Held pending
+        → (executor_session_view attaches.before.executor begun.session).session ≡ Nobody
+        → asked.worker ≡ pending.worker → asked.worker < attaches.before.executor.world.shape.workers
+        → asked.after ≡ Some token.life → answer ≢ Refused Overtaken
+        → life_of attaches.before.lives asked.worker ≡ token.life }
 {}
 
 /// The world with which a start begins, the recovered one after a crash of each worker that was up, is reachable.
