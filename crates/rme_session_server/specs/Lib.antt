@@ -1,3 +1,4 @@
--- How a line is answered, and how an order is executed try by try.
+-- How a line is answered, how an order is executed try by try, and the size of the registry that sessions share.
 pub mod SessionAnswers
 pub mod OrderRuns
+pub mod Registries

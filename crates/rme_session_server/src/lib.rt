@@ -20,6 +20,8 @@ mod order_run;
 mod server;
 mod session_loop;
 mod session_registry;
+#[cfg(test)]
+mod tests;
 mod wait_backoff;
 mod wait_queue;
 

@@ -1,18 +1,22 @@
 //! The registry that sessions share: the claims of the workers, and the wait queues.
 
+ghost use Rattle.std.specs.Prelude.{◌≡◌, IfOk, length};
+
 use crate::client::{Client, CloseHandle};
 use crate::wait_queue::{WaitQueue, Waiter};
 use crossbeam_utils::CachePadded;
 use rme_session_protocol::{ClientOutcome, ClientReply, SessionStance};
 use rme_words::{NoMemory, Shape};
 use std::alloc::Global;
+use std::marker::Model;
 use std::sync::{Mutex, MutexGuard, Wait};
 
 /// The locked claim of a worker: a handle of the client whose session has the worker. While it is locked, no other
 /// session attaches or detaches the worker.
 pub type WorkerClaim<'a, H> = MutexGuard<'a, Option<H>>;
 
-/// The workers' claims, the climb locks, and the wait queues.
+/// The workers' claims, the climb locks, and the wait queues. In contracts it is the numbers of workers and of locks
+/// that it is for.
 ///
 /// Each order locks its worker's claim and its lock's climb lock. Each of these has a cache line of its own, to avoid
 /// false sharing.
@@ -28,9 +32,28 @@ pub struct SessionRegistry<H: CloseHandle> {
     returned: WaitQueue,
 }
 
+impl<H: CloseHandle> Model for SessionRegistry<H> {
+    ghost use Rattle.std.specs.Prelude.{◌≡◌, length};
+    ghost use Rattle.rme_session_server.specs.Registries.{RegistrySize};
+
+    ghost Value = { RegistrySize };
+
+    ghost view = { λ registry. record {
+      workers = length registry.claims.items;
+      locks = length registry.climb_locks.items;
+    } };
+
+    ghost invariant = { λ registry. length registry.left.items ≡ length registry.climb_locks.items };
+}
+
 impl<H: CloseHandle> SessionRegistry<H> {
+    ghost use Rattle.std.specs.Prelude.{◌≡◌, ◌<◌, ◌↔◌, IfOk, IsSome, IsSomeAnd};
+
     /// A registry for the sessions of a service of this shape.
-    pub fn new(alloc: Global, shape: Shape) -> Result<SessionRegistry<H>, NoMemory> {
+    pub fn new(alloc: Global, shape: Shape) -> Result<SessionRegistry<H>, NoMemory>
+        ensures workers { IfOk result (λ registry. registry.workers ≡ shape.workers) }
+        ensures locks { IfOk result (λ registry. registry.locks ≡ shape.locks) }
+    {
         Ok(SessionRegistry {
             claims: new_claims(alloc, shape.workers())?,
             climb_locks: new_climb_locks(alloc, shape.locks())?,
@@ -40,14 +63,18 @@ impl<H: CloseHandle> SessionRegistry<H> {
     }
 
     /// Locks the claim of a worker; `None` if there is no such worker.
-    pub fn claim_worker<R: Wait>(&self, rt: &R, worker: Option<u32>) -> Option<WorkerClaim<'_, H>> {
+    pub fn claim_worker<R: Wait>(&self, rt: &R, worker: Option<u32>) -> Option<WorkerClaim<'_, H>>
+        ensures { IsSome result ↔ IsSomeAnd worker (λ worker. worker < self.now.workers) }
+    {
         let claim = self.claims.get(worker? as usize)?;
         Some(claim.lock(rt))
     }
 
     /// Locks the climb lock of a lock; `None` if there is no such lock. Correctness does not need it. Without it, a
     /// session that climbs while another sleeps halfway up would wait for that one although the lock is free.
-    pub fn climb_lock<R: Wait>(&self, rt: &R, lock: Option<u32>) -> Option<MutexGuard<'_, ()>> {
+    pub fn climb_lock<R: Wait>(&self, rt: &R, lock: Option<u32>) -> Option<MutexGuard<'_, ()>>
+        ensures { IsSome result ↔ IsSomeAnd lock (λ lock. lock < self.now.locks) }
+    {
         let turn = self.climb_locks.get(lock? as usize)?;
         Some(turn.lock(rt))
     }
@@ -64,7 +91,9 @@ impl<H: CloseHandle> SessionRegistry<H> {
     }
 
     /// Registers a waiter for the release of a lock; `None` if there is no such lock.
-    pub fn wait_at_lock<R: Wait>(&self, rt: &R, lock: u32) -> Option<Waiter<'_>> {
+    pub fn wait_at_lock<R: Wait>(&self, rt: &R, lock: u32) -> Option<Waiter<'_>>
+        ensures { IsSome result ↔ (lock < self.now.locks) }
+    {
         Some(self.left.get(lock as usize)?.register(rt))
     }
 
@@ -132,7 +161,9 @@ pub fn update_claim<C: Client>(
 fn new_claims<H: CloseHandle>(
     alloc: Global,
     count: u32,
-) -> Result<Vec<CachePadded<Mutex<Option<H>>>>, NoMemory> {
+) -> Result<Vec<CachePadded<Mutex<Option<H>>>>, NoMemory>
+    ensures { IfOk result (λ claims. length claims.items ≡ count) }
+{
     let Ok(mut claims) = Vec::with_capacity(alloc, count as usize) else {
         return Err(NoMemory);
     };
@@ -144,7 +175,9 @@ fn new_claims<H: CloseHandle>(
     Ok(claims)
 }
 
-fn new_climb_locks(alloc: Global, count: u32) -> Result<Vec<CachePadded<Mutex<()>>>, NoMemory> {
+fn new_climb_locks(alloc: Global, count: u32) -> Result<Vec<CachePadded<Mutex<()>>>, NoMemory>
+    ensures { IfOk result (λ climb_locks. length climb_locks.items ≡ count) }
+{
     let Ok(mut climb_locks) = Vec::with_capacity(alloc, count as usize) else {
         return Err(NoMemory);
     };
@@ -156,14 +189,16 @@ fn new_climb_locks(alloc: Global, count: u32) -> Result<Vec<CachePadded<Mutex<()
     Ok(climb_locks)
 }
 
-fn new_wait_queues(alloc: Global, count: u32) -> Result<Vec<WaitQueue>, NoMemory> {
-    let Ok(mut bells) = Vec::with_capacity(alloc, count as usize) else {
+fn new_wait_queues(alloc: Global, count: u32) -> Result<Vec<WaitQueue>, NoMemory>
+    ensures { IfOk result (λ queues. length queues.items ≡ count) }
+{
+    let Ok(mut queues) = Vec::with_capacity(alloc, count as usize) else {
         return Err(NoMemory);
     };
     for _ in 0..count {
-        if bells.push(WaitQueue::new()).is_err() {
+        if queues.push(WaitQueue::new()).is_err() {
             return Err(NoMemory);
         }
     }
-    Ok(bells)
+    Ok(queues)
 }

@@ -1,6 +1,6 @@
 //! Backoff: the pauses between the tries of an order whose job waits for its lock.
 
-ghost use Rattle.std.specs.Prelude.{◌≤◌, IsTrue};
+ghost use Rattle.std.specs.Prelude.{◌<◌, ◌≤◌, ◌↔◌, IsSome, IsSomeAnd, IsTrue};
 ghost use Rattle.rme_session_protocol.specs.Attempts as part;
 
 use crate::client::CloseHandle;
@@ -119,6 +119,8 @@ fn register_waiter<'a, R: Wait, H: CloseHandle>(
     rt: &R,
     lock: Option<u32>,
     registry: &'a SessionRegistry<H>,
-) -> Option<Waiter<'a>> {
+) -> Option<Waiter<'a>>
+    ensures { IsSome result ↔ IsSomeAnd lock (λ lock. lock < registry.now.locks) }
+{
     registry.wait_at_lock(rt, lock?)
 }
