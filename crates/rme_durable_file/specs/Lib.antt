@@ -1,5 +1,7 @@
--- In reading order: the effect of one call on the bytes of a file; how a server begins with a file; and the codes of
--- the causes that it reports.
+-- In reading order: the effect of one call on the bytes of a file; a file as the store of a log; how a server begins
+-- with a file; the faults of files that are no state; and the codes of the causes that a server reports.
 pub mod DiskFiles
+pub mod FileStores
 pub mod Starts
+pub mod BadLogs
 pub mod Causes

@@ -75,6 +75,11 @@ impl From<io::Error> for Cause {
 }
 
 impl From<AllocError> for Cause {
+    ghost use Rattle.std.specs.Prelude.{◌≡◌};
+    ghost use Rattle.rme_durable_file.specs.declared.cause.Cause.TheVariants.{NoMemory};
+
+    ghost from_gives = { λ _ cause. cause ≡ NoMemory };
+
     fn from(_refused: AllocError) -> Cause {
         Cause::NoMemory
     }

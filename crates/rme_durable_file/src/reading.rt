@@ -1,6 +1,8 @@
 //! Reading a state.
 
-ghost use Rattle.std.specs.Prelude.{IfOk};
+ghost use Rattle.std.specs.Prelude.{◌≡◌, IfErr, IfOk};
+ghost use Rattle.rme_cli_messages.specs.declared.fault.CliFault.TheVariants.{NoMemory};
+ghost use Rattle.rme_durable_file.specs.BadLogs.{IsBadLogFault};
 ghost use Rattle.rme_durable_file.specs.Starts.{ReadsState};
 
 use rme_cli_messages::{CliFault, escape_controls};
@@ -63,13 +65,17 @@ pub(crate) fn recover_reporting(
     Ok(ReadState { recovered, whole })
 }
 
-/// The fault of bytes that are no state for this reason. It says what they are instead, if that is known.
+/// The fault of bytes that are no state for this reason. It says what they are instead, if that is known. `Err` if
+/// memory for its text was refused.
 pub fn bad_log_fault(
     rt: &HostRuntime,
     path: &str,
     bytes: &[u8],
     why: BadLog,
-) -> Result<CliFault, CliFault> {
+) -> Result<CliFault, CliFault>
+    ensures fault { IfOk result (IsBadLogFault bytes.now why) }
+    ensures err { IfErr result (λ fault. fault ≡ NoMemory) }
+{
     let BadLog::Line(line) = why else {
         return Ok(CliFault::NoMemory);
     };

@@ -17,8 +17,7 @@ use rme_wire::Names;
 use std::alloc::Global;
 use std::marker::Model;
 
-/// A file that was recovered, and can be served; nothing was changed yet. In contracts it is the file's bytes, if they
-/// are known.
+/// A file that was recovered, and can be served; nothing was changed yet. In contracts it is the store of its file.
 #[derive(Drop)]
 pub struct RecoveredFile<'a, F: DiskFile> {
     file: StateFile<'a, F>,
@@ -28,12 +27,13 @@ pub struct RecoveredFile<'a, F: DiskFile> {
 }
 
 impl<'a, F: DiskFile> Model for RecoveredFile<'a, F> {
-    ghost use Rattle.std.specs.Prelude.{◌≡◌, ℕ, List, Option, true};
+    ghost use Rattle.std.specs.Prelude.{◌≡◌, true};
+    ghost use Rattle.rme_durable_file.specs.FileStores.{FileStore};
     ghost use Rattle.rme_durable_file.specs.Starts.{ReadsKnownState};
 
-    ghost Value = { Option (List ℕ) };
+    ghost Value = { FileStore };
 
-    ghost view = { λ found. found.file.bytes };
+    ghost view = { λ found. found.file };
 
     ghost invariant = { λ found. (found.file.works ≡ true)
         × ReadsKnownState found.file.bytes found.whole found.recovered };
@@ -55,7 +55,7 @@ impl<'a, F: DiskFile> RecoveredFile<'a, F> {
     /// on the standard error. The file is not changed.
     pub fn read(rt: &HostRuntime, file: StateFile<'a, F>) -> Result<RecoveredFile<'a, F>, CliFault>
         requires works { file.works ≡ true }
-        ensures { IfOk result (λ found. found ≡ file.entry.bytes) }
+        ensures { IfOk result (λ found. found ≡ file.entry) }
     {
         let mut file = file;
         let bytes = match file.read_all(rt.alloc()) {
@@ -72,7 +72,7 @@ impl<'a, F: DiskFile> RecoveredFile<'a, F> {
 
     /// The recovered log.
     pub fn log(&self) -> &RecoveredLog
-        ensures { ReadsKnownLog self.now result.now }
+        ensures { ReadsKnownLog self.now.bytes result.now }
     {
         &self.recovered.log
     }
@@ -81,8 +81,9 @@ impl<'a, F: DiskFile> RecoveredFile<'a, F> {
     /// part of these lines, and the next start reads it as it reads any other.
     pub fn open(self, rt: &HostRuntime) -> Result<OpenedState<'a, F>, CliFault>
         ensures works { IfOk result (λ state. state.file.works ≡ true) }
+        ensures syncs { IfOk result (λ state. state.file.syncs ≡ self.entry.syncs) }
         ensures lines { IfOk result (λ state. state.executor.lines ≡ []) }
-        ensures begins { IfOk result (λ state. BeginsKnownServer self.entry state.names state.executor
+        ensures begins { IfOk result (λ state. BeginsKnownServer self.entry.bytes state.names state.executor
             state.file.bytes) }
     {
         let RecoveredFile {

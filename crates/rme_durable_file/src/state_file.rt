@@ -8,8 +8,8 @@ use std::alloc::Global;
 use std::io;
 use std::marker::Model;
 
-/// The file of a state, as the store of its log. In contracts it is the file's bytes, if they are known, and whether
-/// it takes lines.
+/// The file of a state, as the store of its log. In contracts it is the file's bytes, if they are known, whether it takes
+/// lines, and whether each append waits for the disk.
 ///
 /// If an append fails, its `StateName` notes the cause, and nothing more is written: what is not durable must not be
 /// answered, and the next recovery continues from what was written.
@@ -27,11 +27,15 @@ pub struct StateFile<'a, F: DiskFile> {
 }
 
 impl<'a, F: DiskFile> Model for StateFile<'a, F> {
-    ghost use Rattle.rme_durable_log.specs.StoreCalls.{StoreState};
+    ghost use Rattle.rme_durable_file.specs.FileStores.{FileStore};
 
-    ghost Value = { StoreState };
+    ghost Value = { FileStore };
 
-    ghost view = { λ state. record { bytes = F.contents state.file; works = state.works } };
+    ghost view = { λ state. record {
+      bytes = F.contents state.file;
+      works = state.works;
+      syncs = state.syncs;
+    } };
 }
 
 impl<'a, F: DiskFile> StateFile<'a, F> {
@@ -42,6 +46,7 @@ impl<'a, F: DiskFile> StateFile<'a, F> {
     pub fn new(name: &'a StateName, file: F, syncs: bool) -> StateFile<'a, F>
         ensures bytes { result.bytes ≡ F.contents file }
         ensures works { result.works ≡ true }
+        ensures syncs { result.syncs ≡ syncs }
     {
         StateFile {
             name,
@@ -69,6 +74,7 @@ impl<'a, F: DiskFile> StateFile<'a, F> {
     pub(crate) fn begin(&mut self, length: usize) -> io::Result<()>
         ensures cut { OnOk result (CutsFile self.old.bytes length self.new.bytes) }
         ensures works { self.new.works ≡ self.old.works }
+        ensures syncs { self.new.syncs ≡ self.old.syncs }
     {
         self.file.begin(length, self.syncs)
     }
@@ -77,6 +83,7 @@ impl<'a, F: DiskFile> StateFile<'a, F> {
     pub(crate) fn write(&mut self, lines: &[u8]) -> io::Result<()>
         ensures kept { OnOk result (AppendsToFile self.old.bytes lines.now self.new.bytes) }
         ensures works { self.new.works ≡ self.old.works }
+        ensures syncs { self.new.syncs ≡ self.old.syncs }
     {
         self.file.append(lines, self.syncs)
     }
@@ -86,6 +93,7 @@ impl<'a, F: DiskFile> StateFile<'a, F> {
         ensures kept { OnOk result (AppendsToFile self.old.bytes lines.now self.new.bytes) }
         ensures part { OnErr result (AppendsPartToFile self.old.bytes lines.now self.new.bytes) }
         ensures works { self.new.works ≡ self.old.works }
+        ensures syncs { self.new.syncs ≡ self.old.syncs }
     {
         if self.name.is_lost() {
             return Err(Cause::NameLost);
@@ -107,6 +115,7 @@ impl<'a, F: DiskFile> StateFile<'a, F> {
         ensures replaced { OnOk result (ReplacesFile self.old.bytes bytes.now self.new.bytes) }
         ensures same { OnErr result (self.new.bytes ≡ self.old.bytes) }
         ensures works { self.new.works ≡ self.old.works }
+        ensures syncs { self.new.syncs ≡ self.old.syncs }
     {
         match self.file.replace(bytes) {
             Ok(unsure) => {
@@ -122,9 +131,18 @@ impl<'a, F: DiskFile> StateFile<'a, F> {
 }
 
 impl<F: DiskFile> LogStore for StateFile<'_, F> {
-    ghost holds = { λ state. state };
+    ghost use Rattle.std.specs.Prelude.{◌≡◌, OnErr, OnOk, not, true};
+    ghost use Rattle.rme_durable_log.specs.StoreCalls.{AppendsLines, FailsToAppend, ReplacesBytes, StopsStore};
+    ghost use Rattle.rme_durable_file.specs.FileStores.{store_state};
 
-    fn append(&mut self, lines: &[u8]) -> Result<(), NotDurable> {
+    ghost holds = { store_state };
+
+    fn append(&mut self, lines: &[u8]) -> Result<(), NotDurable>
+        requires works { self.old.works ≡ true }
+        ensures kept { OnOk result (AppendsLines (store_state self.old) lines.now (store_state self.new)) }
+        ensures part { OnErr result (FailsToAppend (store_state self.old) lines.now (store_state self.new)) }
+        ensures syncs { self.new.syncs ≡ self.old.syncs }
+    {
         match self.append_if_named(lines) {
             Ok(()) => Ok(()),
             Err(cause) => {
@@ -138,7 +156,12 @@ impl<F: DiskFile> LogStore for StateFile<'_, F> {
         }
     }
 
-    fn replace(&mut self, bytes: &[u8]) -> Result<(), NotDurable> {
+    fn replace(&mut self, bytes: &[u8]) -> Result<(), NotDurable>
+        requires works { self.old.works ≡ true }
+        ensures replaced { OnOk result (ReplacesBytes (store_state self.old) bytes.now (store_state self.new)) }
+        ensures same { OnErr result (store_state self.new ≡ store_state self.old) }
+        ensures syncs { self.new.syncs ≡ self.old.syncs }
+    {
         self.name.change();
         let replaced = self.replace_with_new(bytes);
         self.name.change();
@@ -156,11 +179,16 @@ impl<F: DiskFile> LogStore for StateFile<'_, F> {
     }
 
     /// Without waiting for the disk, an append takes about a microsecond.
-    fn is_quick(&self) -> bool {
+    fn is_quick(&self) -> bool
+        ensures { result ≡ not self.now.syncs }
+    {
         !self.syncs
     }
 
-    fn fail(&mut self) {
+    fn fail(&mut self)
+        ensures stops { StopsStore (store_state self.old) (store_state self.new) }
+        ensures syncs { self.new.syncs ≡ self.old.syncs }
+    {
         self.works = false;
         if !self.name.is_lost() {
             self.name.note_no_memory();

@@ -53,12 +53,15 @@ pub fn make_state(rt: &HostRuntime, path: &str, bytes: &[u8]) -> Result<(), CliF
 /// A server replaces its file by new ones, each locked before it has the name. So a program that opens a file just
 /// before it is replaced, and gets its lock once the server has dropped it, has a file without a name: it is closed,
 /// and the name is opened again.
+///
+/// Each append to it waits for the disk if `syncs`.
 pub fn open_state_file<'a>(
     rt: &'a HostRuntime,
     name: &'a StateName,
     syncs: bool,
 ) -> Result<Option<StateFile<'a, SystemFile<'a>>>, CliFault>
     ensures works { IfOk result (λ found. IfSome found (λ file. file.works ≡ true)) }
+    ensures syncs { IfOk result (λ found. IfSome found (λ file. file.syncs ≡ syncs)) }
 {
     for _ in 0..TURNS {
         match open_once(rt, name.path())? {

@@ -1,9 +1,9 @@
-use Rattle.std.proofs.Common.{ℕ, List, refl, subst}
-use Rattle.std.specs.Prelude.{Option}
+use Rattle.std.proofs.Common.{refl, subst}
+use Rattle.rme_durable_file.specs.FileStores.{FileStore}
 use Rattle.rme_durable_file.specs.Starts.{ReadsKnownState}
 use Rattle.rme_durable_file.proofs.start.RecoveredFile.log.Goals as goal
 
 pub returns : goal.returns
 returns g c =
-    let R = λ (bytes : Option (List ℕ)). ReadsKnownState bytes c.self.inside.whole c.self.inside.recovered in
+    let R = λ (file : FileStore). ReadsKnownState file.bytes c.self.inside.whole c.self.inside.recovered in
     (c.self.inside.whole, c.self.inside.recovered, subst R c.self.view_is c.self.invariant.1, refl)
