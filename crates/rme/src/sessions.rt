@@ -11,7 +11,7 @@ pub use rme_server::{
     AnswerError, AttemptError, Backend, Buffers, Client, CloseHandle, Closer, Connection,
     FirstReply, Holding, Listener, LocalClient, NoCloseHandle, OrderAttempts, OrderRun,
     PlannedCrash, ServeFault, ServerLimits, ServerObserver, ServiceBackend, SessionRegistry, Slots,
-    Stand, obey, serve, session,
+    Stand, TakenWorker, obey, serve, session,
 };
 pub use rme_session_protocol::{
     Attachment, ClientOutcome, ClientPendingJob, ClientReply, ClientToken, FencingToken,

@@ -1,6 +1,6 @@
 -- An order that is executed in parts is executed.
 use Rattle.std.proofs.Common.{◌≡◌, ℕ, ◌+◌, ◌<◌, ◌≤◌, List, [], arith, inl, inr, refl, sym, ap, ◌∙◌, subst}
-use Rattle.std.specs.Prelude.{◌==◌, ◌⊎◌, Bool, true, false, Option, Some}
+use Rattle.std.specs.Prelude.{◌==◌, ◌⊎◌, Bool, true, false, Option, Some, IsSome}
 use Rattle.rme_words.specs.declared.shape.Shape.{Shape}
 use Rattle.rme_words.specs.declared.refusal.Refusal.{Refusal}
 use Rattle.rme_script.specs.Programs.{Program}
@@ -26,7 +26,7 @@ use Rattle.rme_session_protocol.specs.declared.view.Session as shown
 use Rattle.rme_session_protocol.specs.declared.view.SessionView.{SessionView}
 use Rattle.rme_session_protocol.proofs.Trying as session_laws
 use Rattle.rme_session_protocol.proofs.Trying.{IsClimb, climb_not_refused, enter_not_refused, false_true}
-use Rattle.rme_session_threads.specs.ThreadSteps.{stand_change, ThreadOrderEffect, AppendsJobEntry, EnterEntries, ReadyEnterEntries, ReadySubmitEntries, EntersWithoutEntry, OrderOwnSteps, TellsKnownPlace, ThreadSessionStep, ResumeEntries, SubmitEntries}
+use Rattle.rme_session_threads.specs.ThreadSteps.{stand_change, ThreadOrderEffect, AppendsJobEntry, EnterEntries, ReadyEnterEntries, ReadySubmitEntries, EntersWithoutEntry, KeepsLife, OrderLife, OrderOwnSteps, TellsKnownPlace, ThreadSessionStep, ResumeEntries, SubmitEntries}
 use Rattle.rme_session_threads.specs.Stands.{held_draft, held_entries, held_worker, holding_session, stand_view}
 use Rattle.rme_session_threads.specs.JobOutcomes.{OwnStepsBetween, TellsWorkerSection, part_when_told, submit_lead}
 use Rattle.rme_session_threads.specs.declared.stand.Holding.{Holding}
@@ -65,6 +65,14 @@ module _ (ident : ServiceId) (count made tries : ℕ) (old now : Session) (let_g
   adds_tried (Enter its) reply adds = absurd adds
   adds_tried its reply adds = adds
 
+-- Nor does it change the life of the worker.
+life_tried : (tries : ℕ) (old now : Session) (its : Order) (reply : SessionReply) → OrderLife (with_tries tries its) old now reply → OrderLife its old now reply
+life_tried tries old now (Submit its) reply life = life
+life_tried tries old now (Resume patience) reply life = life
+life_tried tries old now (Enter its) (Entered (Inside token)) life = life
+life_tried tries old now (Enter its) reply life = life
+life_tried tries old now its reply life = life
+
 pub all_tries : (ident : ServiceId) (count tries : ℕ) (old now : Session) (its : Order) (reply : SessionReply) → HasMadeAllTries tries its reply → ThreadSessionStep ident count old (with_tries tries its) now reply
     → ThreadSessionStep ident count old its now reply
 all_tries ident count tries old now its reply all obeys = let acts = obeys.acts in record {
@@ -80,6 +88,7 @@ all_tries ident count tries old now its reply all obeys = let acts = obeys.acts 
     section = acts.section;
     place = acts.place;
   };
+  life = life_tried tries old now its reply obeys.life;
 }
 
 -- Two parts: the entries, and the own steps.
@@ -265,6 +274,37 @@ merged_place (Ready ready) reply last waits placed = outside_place (Ready ready)
 merged_place (Climb climb) reply last waits placed = outside_place (Climb climb) (merged_reply reply last) tt
 merged_place (Held held) reply last waits placed = inside_place held reply last waits placed
 
+-- Two parts keep the life of the worker, and the second tells it.
+climbs_held : (value : Holding) (last : Option program.Receipt) → IsClimb (holding_session last value) → IsSome (held_worker value)
+climbs_held Empty last climbs = absurd climbs
+climbs_held (Ready ready) last climbs = refl
+climbs_held (Climb climb) last climbs = refl
+climbs_held (Held held) last climbs = refl
+
+module _ (shape : Shape) (tries one : ℕ) (old mid now : Session) (before between : Option program.Receipt) (climbs : IsClimb (holding_session between mid.value)) where
+  keeps_both : KeepsLife old mid → KeepsLife mid now → KeepsLife old now
+  keeps_both first then some = then some ∙ first (climbs_held mid.value between climbs)
+
+  enter_life : (its : Submission) (last : SessionReply) → KeepsLife old mid → OrderLife (Enter (submission_with_tries 1 its)) mid now last → OrderLife (Enter (submission_with_tries (tries + 1) its)) old now last
+  enter_life its (Entered (Inside token)) first (then, told) = (keeps_both first then, told ∙ first (climbs_held mid.value between climbs))
+  enter_life its last first then = keeps_both first then
+
+  life_both : (its : Order) (reply last : SessionReply) → is_still_waiting reply ≡ true → SessionStepInSteps shape one (stand_view before old) (with_tries tries its) (stand_view between mid) reply
+      → OrderLife (with_tries tries its) old mid reply → OrderLife (retry_order its) mid now last → OrderLife (with_tries (tries + 1) its) old now (merged_reply reply last)
+  life_both (Submit its) (Submitted Waiting) last waits obeys first then = keeps_both first then
+  life_both (Resume patience) (Resumed Waiting) last waits obeys first then = keeps_both first then
+  life_both (Enter its) (Entered Waiting) last waits obeys first then = enter_life its last first then
+  life_both (Submit its) (Resumed Waiting) last waits obeys first then = absurd obeys.1
+  life_both (Submit its) (Entered Waiting) last waits obeys first then = absurd obeys.1
+  life_both (Resume patience) (Submitted Waiting) last waits obeys first then = absurd obeys.1
+  life_both (Resume patience) (Entered Waiting) last waits obeys first then = absurd obeys.1
+  life_both (Enter its) (Submitted Waiting) last waits obeys first then = absurd obeys.1
+  life_both (Enter its) (Resumed Waiting) last waits obeys first then = absurd obeys.1
+  life_both its (Submitted Waiting) last waits obeys first then = absurd obeys.1
+  life_both its (Resumed Waiting) last waits obeys first then = absurd obeys.1
+  life_both its (Entered Waiting) last waits obeys first then = absurd obeys.1
+  life_both its reply last waits obeys first then = absurd (false_true waits)
+
 -- Some tries, and one more if the job then waits, are the order with one more try.
 pub both_parts : (ident : ServiceId) (count tries : ℕ) (old mid now : Session) (its : Order) (reply last : SessionReply) → 0 < tries → is_still_waiting reply ≡ true
     → ThreadSessionStep ident count old (with_tries tries its) mid reply → ThreadSessionStep ident count mid (retry_order its) now last → ThreadSessionStep ident count old (with_tries (tries + 1) its) now (merged_reply reply last)
@@ -288,6 +328,7 @@ both_parts ident count tries old mid now its reply last some waits first then =
         section = merged_section ident.shape now.value reply last two.section;
         place = merged_place old.value reply last waits one.place;
       };
+      life = life_both ident.shape tries one.made old mid now one.before one.after still.0 its reply last waits one.obeys first.life then.life;
     }
 
 -- The same, for an order and an answer that are equal to these.

@@ -1,5 +1,5 @@
 -- A session of the running service that leaves it to the service which worker it attaches.
-use Rattle.std.specs.Prelude.{◌≡◌, ◌≢◌, ℕ, Bool, true, false, List, Option, Some, Result, Ok, Err}
+use Rattle.std.specs.Prelude.{◌≡◌, ◌≢◌, ℕ, Bool, true, false, List, Option, Some, None, Result, Ok, Err}
 use Rattle.rme_words.specs.declared.refusal.Refusal.{Refusal}
 use Rattle.rme_words.specs.declared.refusal.Refusal.TheVariants.{BadLine, Busy, Taken}
 use Rattle.rme_line_io.specs.Pieces.{InputLine}
@@ -35,7 +35,8 @@ IsChosenReply choice answer = ⊥
 -- A session without a worker attached this one, which the choice takes.
 pub record AttachesChosenWorker (ident : ServiceId) (count : ℕ) (choice : WorkerChoice) (worker : ℕ)
     (answer : SessionReply) (now : Stand) : Type 0 where
-  pub step : ThreadSessionStep ident count empty_stand (Attach record { worker = worker; take = false }) now answer
+  pub step : ThreadSessionStep ident count empty_stand (Attach record { worker = worker; take = false; after = None }) now
+      answer
   pub chosen : IsChosenReply choice answer
 
 -- What the session gets: a worker that the choice takes, if it had none; or none, and then it has what it had.

@@ -16,5 +16,5 @@ pub use rme_session_server::{
     FirstReply, Listener, LocalClient, NoCloseHandle, OrderAttempts, OrderRun, ServerLimits,
     ServerObserver, SessionRegistry, WorkerClaim, serve, session, update_claim,
 };
-pub use rme_session_threads::{CrashPlan, Holding, PlannedCrash, Slots, Stand, obey};
+pub use rme_session_threads::{CrashPlan, Holding, PlannedCrash, Slots, Stand, TakenWorker, obey};
 pub use service_backend::ServiceBackend;

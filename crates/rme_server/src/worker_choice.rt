@@ -29,7 +29,7 @@ impl<K: Tag, H: CloseHandle> ServiceBackend<'_, K, H> {
     /// none.
     ///
     /// Whether a worker has a pending job is known once it is recovered. So the workers are attached one after another,
-    /// and those that the choice does not take are released.
+    /// and those that the choice does not take are released. Each of these attachments counts as a restart.
     pub(crate) fn attach_any<R: Wait, C: Client<Handle = H>>(
         &self,
         rt: &R,
@@ -42,10 +42,21 @@ impl<K: Tag, H: CloseHandle> ServiceBackend<'_, K, H> {
         ensures ours { IsValidHolding K.ident self.now.slots.now result.0.value }
         ensures outcome { ChoiceOutcome K.ident self.now.slots.now stand choice result.1 result.0 }
     {
-        let Stand { value, planned } = stand;
+        let Stand {
+            value,
+            planned,
+            life,
+        } = stand;
         match value {
             Holding::Empty => self.attach_first(rt, choice, client),
-            value => (Stand { value, planned }, Err(Refusal::Busy)),
+            value => {
+                let stand = Stand {
+                    value,
+                    planned,
+                    life,
+                };
+                (stand, Err(Refusal::Busy))
+            }
         }
     }
 
@@ -85,6 +96,7 @@ impl<K: Tag, H: CloseHandle> ServiceBackend<'_, K, H> {
         let order = Order::Attach(Attachment {
             worker,
             take: false,
+            after: None,
         });
         let (stand, reply) = self.attempt(rt, Stand::empty(), &order, client);
         if is_chosen_reply(choice, &reply) {

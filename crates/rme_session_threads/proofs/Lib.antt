@@ -1,4 +1,5 @@
 pub mod Finishing
+pub mod Living
 pub mod Planning
 pub mod Rising
 pub mod Showing

@@ -68,10 +68,10 @@ shown_attached ident worker (Climb climb) number at.Climb (is, same) = (is.own, 
 shown_attached ident worker (Held held) number at.Held (is, same, pending) = (is.own, same)
 shown_attached ident worker value number standing answers = absurd answers
 
-pub attaches : (ident : ServiceId) (count : ℕ) (old : Session) (asked : Attachment) (down : SeatView) (value : Holding) (answer : SessionReply)
+pub attaches : (ident : ServiceId) (count : ℕ) (old : Session) (asked : Attachment) (down : SeatView) (value : Holding) (life : ℕ) (answer : SessionReply)
     → attach_refusal ident.shape asked.worker (holding_session None old.value) ≡ None → IsValueOfWorker ident asked.worker down → AttachAnswer ident asked.worker value answer → WorkerRecovery ident.shape down value
-    → ThreadOrderExecution ident count (stand_change old (record { value = value; planned = Nothing }) None) (Attach asked) answer
-attaches ident count old asked down value (Attached number standing) none is answers up = record {
+    → ThreadOrderExecution ident count (stand_change old (record { value = value; planned = Nothing; life = life }) None) (Attach asked) answer
+attaches ident count old asked down value life (Attached number standing) none is answers up = record {
   made = 0;
   before = None;
   after = None;
@@ -82,4 +82,4 @@ attaches ident count old asked down value (Attached number standing) none is ans
   section = tt;
   place = tt;
 }
-attaches ident count old asked down value answer none is answers up = absurd answers
+attaches ident count old asked down value life answer none is answers up = absurd answers

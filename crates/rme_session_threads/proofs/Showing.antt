@@ -172,9 +172,9 @@ module _ (ident : ServiceId) (count : ℕ) (old now : Session) (became : JobOutc
       }
 
 -- The work of a submission.
-module _ (ident : ServiceId) (count : ℕ) (its : Submission) (planned : PlannedCrash) (now : Session) (let_go : Option SeatView) where
+module _ (ident : ServiceId) (count : ℕ) (its : Submission) (planned : PlannedCrash) (life : ℕ) (now : Session) (let_go : Option SeatView) where
   abbrev begun_by : SessionWork → Session
-  begun_by work = record { value = work_holding work; planned = planned }
+  begun_by work = record { value = work_holding work; planned = planned; life = life }
 
   repeated_so : (ready : SeatView) (became : JobOutcome) → IsSubmitWork ident.shape its (Repeat ready) → ThreadRepeatEffect ident.shape ready now.value became
       → WorkWithinPlan ident.shape (submit_lead (Ready ready) its.job) (begun_by (Repeat ready)) now became let_go → ThreadOrderExecution ident count (stand_change (begun_by (Repeat ready)) now let_go) (order.Submit its) (reply.Submitted became)
@@ -194,29 +194,29 @@ module _ (ident : ServiceId) (count : ℕ) (its : Submission) (planned : Planned
 
   module _ (became : JobOutcome) where
     posted_so : (ready : SeatView) → its.number ≡ ready.part.private.begun + 1 → job_refusal ident.shape ready.part.private.begun its.job ≡ None
-        → ThreadJobEffect (stand_next_job ready its.job) ready.part.entries now.value became → WorkWithinPlan ident.shape (submit_lead (Ready ready) its.job) (record { value = Ready ready; planned = planned }) now became let_go
-        → ThreadWaitsAfterTries (least_tries its.patience) ready.part.steps now.value became → ThreadOrderExecution ident count (stand_change (record { value = Ready ready; planned = planned }) now let_go) (order.Submit its) (reply.Submitted became)
+        → ThreadJobEffect (stand_next_job ready its.job) ready.part.entries now.value became → WorkWithinPlan ident.shape (submit_lead (Ready ready) its.job) (record { value = Ready ready; planned = planned; life = life }) now became let_go
+        → ThreadWaitsAfterTries (least_tries its.patience) ready.part.steps now.value became → ThreadOrderExecution ident count (stand_change (record { value = Ready ready; planned = planned; life = life }) now let_go) (order.Submit its) (reply.Submitted became)
     posted_so ready next none works through tried =
         let so = works_shown (stand_next_job ready its.job) ready.part.entries now.value became works in
         let other : (its.number == ready.part.private.begun) ≡ false = ne_eqb its.number ready.part.private.begun (omega (arith, next)) in
-        submitted_so ident count (record { value = Ready ready; planned = planned }) now became let_go its None so.0
+        submitted_so ident count (record { value = Ready ready; planned = planned; life = life }) now became let_go its None so.0
         (sym (next_posted ident.shape ready.part.private.begun its next ∙ none)) (rw other so.1) tt so.2 (rw other so.3) through tried tt
 
     module _ (start : SeatView) (pending : PendingJobRefusal start.part.private.begun start.part.draft its None) (goes : ThreadPendingJobEffect start now.value became) where
       abbrev enters_pending : Option Job → Type 0
       enters_pending draft = AppendsJobEntry start.part.entries (draft_script draft) now.value became
 
-      waited_so : WorkWithinPlan ident.shape unchanged_part (record { value = Climb start; planned = planned }) now became let_go → ThreadWaitsAfterTries (least_tries its.patience) start.part.steps now.value became
-          → ThreadOrderExecution ident count (stand_change (record { value = Climb start; planned = planned }) now let_go) (order.Submit its) (reply.Submitted became)
+      waited_so : WorkWithinPlan ident.shape unchanged_part (record { value = Climb start; planned = planned; life = life }) now became let_go → ThreadWaitsAfterTries (least_tries its.patience) start.part.steps now.value became
+          → ThreadOrderExecution ident count (stand_change (record { value = Climb start; planned = planned; life = life }) now let_go) (order.Submit its) (reply.Submitted became)
       waited_so through tried =
           let so = goes_shown start now.value became goes in
-          submitted_so ident count (record { value = Climb start; planned = planned }) now became let_go its None so.0 pending so.1 tt so.2 (subst enters_pending pending.1 so.3) through tried tt
+          submitted_so ident count (record { value = Climb start; planned = planned; life = life }) now became let_go its None so.0 pending so.1 tt so.2 (subst enters_pending pending.1 so.3) through tried tt
 
-      inside_so : WorkWithinPlan ident.shape unchanged_part (record { value = Held start; planned = planned }) now became let_go → ThreadWaitsAfterTries (least_tries its.patience) start.part.steps now.value became
-          → HasKnownPlace (Held start) became → ThreadOrderExecution ident count (stand_change (record { value = Held start; planned = planned }) now let_go) (order.Submit its) (reply.Submitted became)
+      inside_so : WorkWithinPlan ident.shape unchanged_part (record { value = Held start; planned = planned; life = life }) now became let_go → ThreadWaitsAfterTries (least_tries its.patience) start.part.steps now.value became
+          → HasKnownPlace (Held start) became → ThreadOrderExecution ident count (stand_change (record { value = Held start; planned = planned; life = life }) now let_go) (order.Submit its) (reply.Submitted became)
       inside_so through tried placed =
           let so = goes_shown start now.value became goes in
-          submitted_so ident count (record { value = Held start; planned = planned }) now became let_go its None so.0 pending so.1 tt so.2 (subst enters_pending pending.1 so.3) through tried placed
+          submitted_so ident count (record { value = Held start; planned = planned; life = life }) now became let_go its None so.0 pending so.1 tt so.2 (subst enters_pending pending.1 so.3) through tried placed
 
     work_submitted : (work : SessionWork) → IsSubmitWork ident.shape its work → WorkEffect ident.shape work now.value became
         → WorkWithinPlan ident.shape (submit_lead (work_holding work) its.job) (begun_by work) now became let_go → ThreadWaitsAfterTries (least_tries its.patience) (holding_steps (work_holding work)) now.value became
@@ -280,9 +280,9 @@ module _ (ident : ServiceId) (count : ℕ) (its : Submission) (old now : Session
         place = placed;
       }
 
-module _ (ident : ServiceId) (count : ℕ) (its : Submission) (planned : PlannedCrash) (now : Session) (let_go : Option SeatView) where
+module _ (ident : ServiceId) (count : ℕ) (its : Submission) (planned : PlannedCrash) (life : ℕ) (now : Session) (let_go : Option SeatView) where
   abbrev starts_by : Holding → Session
-  starts_by value = record { value = value; planned = planned }
+  starts_by value = record { value = value; planned = planned; life = life }
 
   repeated_inside : (ready : SeatView) (became : JobOutcome) → IsSubmitWork ident.shape its (Repeat ready) → ThreadRepeatEffect ident.shape ready now.value became
       → WorkWithinPlan ident.shape (submit_lead (Ready ready) its.job) (starts_by (Ready ready)) now became let_go → TellsWorkerSection ident.shape now.value (reply.Entered became)
@@ -355,12 +355,12 @@ module _ (ident : ServiceId) (count : ℕ) (its : Submission) (planned : Planned
 
 pub entered : (ident : ServiceId) (count : ℕ) (work : SessionWork) (old now : Session) (became : JobOutcome) (let_go : Option SeatView) (its : Submission) → work_holding work ≡ old.value → IsSubmitWork ident.shape its work
     → WorkEffect ident.shape (work_until_inside work) now.value became
-    → WorkWithinPlan ident.shape (work_lead (work_until_inside work)) (record { value = work_holding (work_until_inside work); planned = old.planned }) now became let_go
+    → WorkWithinPlan ident.shape (work_lead (work_until_inside work)) (record { value = work_holding (work_until_inside work); planned = old.planned; life = old.life }) now became let_go
     → ThreadWaitsAfterTries (least_tries its.patience) (holding_steps (work_holding work)) now.value became → TellsWorkerSection ident.shape now.value (reply.Entered became)
     → ThreadOrderExecution ident count (stand_change old now let_go) (order.Enter its) (reply.Entered became)
 entered ident count work old now became let_go its same asked makes through tried told =
-    let P : Holding → Type 0 = λ value. ThreadOrderExecution ident count (stand_change (record { value = value; planned = old.planned }) now let_go) (order.Enter its) (reply.Entered became) in
-    subst P same (work_entered ident count its old.planned now let_go became work asked makes (led_inside ident.shape its work old.planned now became let_go asked makes through) tried told)
+    let P : Holding → Type 0 = λ value. ThreadOrderExecution ident count (stand_change (record { value = value; planned = old.planned; life = old.life }) now let_go) (order.Enter its) (reply.Entered became) in
+    subst P same (work_entered ident count its old.planned old.life now let_go became work asked makes (led_inside ident.shape its work old.planned old.life now became let_go asked makes through) tried told)
 
 -- COMMIT: a worker that owned its lock does not wait.
 commits_of : (start : PendingWorker) (session : shown.Session) (became : JobOutcome) → sight.PendingJobEffect start session became → (became ≡ outcome.Waiting → ⊥) → sight.CommitOrderEffect (at.Held start) session became
@@ -374,12 +374,12 @@ never_waits steps value became tried waits =
     let P : JobOutcome → Type 0 = λ o. ThreadWaitsAfterTries (holding_steps value + 1) steps value o in
     let some = subst P waits (tried (holding_steps value + 1)) in omega (arith, some)
 
-pub committed : (ident : ServiceId) (count : ℕ) (held : SeatView) (planned : PlannedCrash) (now : Session) (became : JobOutcome) (let_go : Option SeatView) → ThreadPendingJobEffect held now.value became
-    → WorkWithinPlan ident.shape unchanged_part (record { value = Held held; planned = planned }) now became let_go → ((most : ℕ) → ThreadWaitsAfterTries most held.part.steps now.value became)
-    → HasKnownPlace (Held held) became → ThreadOrderExecution ident count (stand_change (record { value = Held held; planned = planned }) now let_go) order.Commit (reply.Committed became)
-committed ident count held planned now became let_go goes through tried placed =
+pub committed : (ident : ServiceId) (count : ℕ) (held : SeatView) (planned : PlannedCrash) (life : ℕ) (now : Session) (became : JobOutcome) (let_go : Option SeatView) → ThreadPendingJobEffect held now.value became
+    → WorkWithinPlan ident.shape unchanged_part (record { value = Held held; planned = planned; life = life }) now became let_go → ((most : ℕ) → ThreadWaitsAfterTries most held.part.steps now.value became)
+    → HasKnownPlace (Held held) became → ThreadOrderExecution ident count (stand_change (record { value = Held held; planned = planned; life = life }) now let_go) order.Commit (reply.Committed became)
+committed ident count held planned life now became let_go goes through tried placed =
     let so = goes_shown held now.value became goes in
-    let walk = through_shown ident.shape unchanged_part (record { value = Held held; planned = planned }) now became let_go None so.0 through in record {
+    let walk = through_shown ident.shape unchanged_part (record { value = Held held; planned = planned; life = life }) now became let_go None so.0 through in record {
       made = walk.0;
       before = None;
       after = so.0;
@@ -392,9 +392,9 @@ committed ident count held planned now became let_go goes through tried placed =
     }
 
 -- The work of an order that continues a job.
-module _ (ident : ServiceId) (count : ℕ) (planned : PlannedCrash) (now : Session) (let_go : Option SeatView) (became : JobOutcome) where
+module _ (ident : ServiceId) (count : ℕ) (planned : PlannedCrash) (life : ℕ) (now : Session) (let_go : Option SeatView) (became : JobOutcome) where
   abbrev stands_with : SessionWork → Session
-  stands_with work = record { value = work_holding work; planned = planned }
+  stands_with work = record { value = work_holding work; planned = planned; life = life }
 
   work_resumed : (patience : Patience) (work : SessionWork) → IsResumeWork work → WorkEffect ident.shape work now.value became → WorkWithinPlan ident.shape unchanged_part (stands_with work) now became let_go
       → ThreadWaitsAfterTries (least_tries patience) (holding_steps (work_holding work)) now.value became → HasKnownPlace (work_holding work) became
@@ -411,24 +411,24 @@ module _ (ident : ServiceId) (count : ℕ) (planned : PlannedCrash) (now : Sessi
 
 -- An order with work, whatever the session held.
 module _ (ident : ServiceId) (count : ℕ) (work : SessionWork) (old now : Session) (became : JobOutcome) (let_go : Option SeatView) (same : work_holding work ≡ old.value)
-    (makes : WorkEffect ident.shape work now.value became) (placed : HasKnownPlace (work_holding work) became) (through : WorkWithinPlan ident.shape (work_lead work) (record { value = work_holding work; planned = old.planned }) now became let_go) where
+    (makes : WorkEffect ident.shape work now.value became) (placed : HasKnownPlace (work_holding work) became) (through : WorkWithinPlan ident.shape (work_lead work) (record { value = work_holding work; planned = old.planned; life = old.life }) now became let_go) where
   pub submitted : (its : Submission) → IsSubmitWork ident.shape its work → ThreadWaitsAfterTries (least_tries its.patience) (holding_steps (work_holding work)) now.value became
       → ThreadOrderExecution ident count (stand_change old now let_go) (order.Submit its) (reply.Submitted became)
   submitted its asked tried =
-      let P : Holding → Type 0 = λ value. ThreadOrderExecution ident count (stand_change (record { value = value; planned = old.planned }) now let_go) (order.Submit its) (reply.Submitted became) in
-      subst P same (work_submitted ident count its old.planned now let_go became work asked makes (led_so ident.shape its work old.planned now became let_go asked makes through) tried placed)
+      let P : Holding → Type 0 = λ value. ThreadOrderExecution ident count (stand_change (record { value = value; planned = old.planned; life = old.life }) now let_go) (order.Submit its) (reply.Submitted became) in
+      subst P same (work_submitted ident count its old.planned old.life now let_go became work asked makes (led_so ident.shape its work old.planned old.life now became let_go asked makes through) tried placed)
 
   pub resumed : (patience : Patience) → IsResumeWork work → ThreadWaitsAfterTries (least_tries patience) (holding_steps (work_holding work)) now.value became → ThreadOrderExecution ident count (stand_change old now let_go) (order.Resume patience) (reply.Resumed became)
   resumed patience asked tried =
-      let P : Holding → Type 0 = λ value. ThreadOrderExecution ident count (stand_change (record { value = value; planned = old.planned }) now let_go) (order.Resume patience) (reply.Resumed became) in
-      subst P same (work_resumed ident count old.planned now let_go became patience work asked makes
-      (led_onward ident.shape work (record { value = work_holding work; planned = old.planned }) now became let_go asked through) tried placed)
+      let P : Holding → Type 0 = λ value. ThreadOrderExecution ident count (stand_change (record { value = value; planned = old.planned; life = old.life }) now let_go) (order.Resume patience) (reply.Resumed became) in
+      subst P same (work_resumed ident count old.planned old.life now let_go became patience work asked makes
+      (led_onward ident.shape work (record { value = work_holding work; planned = old.planned; life = old.life }) now became let_go asked through) tried placed)
 
-pub withdraw_fell : (ident : ServiceId) (count : ℕ) (climb : SeatView) (planned : PlannedCrash) (now : Session) (let_go : Option SeatView)
-    → WorkWithinPlan ident.shape withdrawing_part (record { value = Climb climb; planned = planned }) now outcome.Fell let_go
-    → ThreadOrderExecution ident count (stand_change (record { value = Climb climb; planned = planned }) now let_go) order.Withdraw reply.WithdrawFell
-withdraw_fell ident count climb planned now let_go through =
-    let so = through_shown ident.shape withdrawing_part (record { value = Climb climb; planned = planned }) now outcome.Fell let_go None None through in
+pub withdraw_fell : (ident : ServiceId) (count : ℕ) (climb : SeatView) (planned : PlannedCrash) (life : ℕ) (now : Session) (let_go : Option SeatView)
+    → WorkWithinPlan ident.shape withdrawing_part (record { value = Climb climb; planned = planned; life = life }) now outcome.Fell let_go
+    → ThreadOrderExecution ident count (stand_change (record { value = Climb climb; planned = planned; life = life }) now let_go) order.Withdraw reply.WithdrawFell
+withdraw_fell ident count climb planned life now let_go through =
+    let so = through_shown ident.shape withdrawing_part (record { value = Climb climb; planned = planned; life = life }) now outcome.Fell let_go None None through in
     record { made = so.0; before = None; after = None; obeys = (refl, so.1); told_before = tt; told_after = tt; adds = so.2; section = tt; place = tt }
 
 -- The section of a token, in the words of the protocol.

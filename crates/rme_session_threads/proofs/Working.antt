@@ -143,15 +143,15 @@ module _ (shape : Shape) (lead : Part → Part) where
   spared_by learns old start (Runs now) end spares = spares
   spared_by learns old start Fallen end spares = absurd spares
 
-  pub left_so : (old : Session) (Has : Holding → JobOutcome → Type 0) (countdown : Countdown) (worked : Result (Holding × JobOutcome) SeatView) (now : Session) (its : JobOutcome) (let_go : Option SeatView)
-      → WorkResultSatisfies worked Has → WorkSpendsCountdown shape lead (Runs old.planned) (held_worker old.value) countdown worked → WorkSettlement worked (planned_after countdown) now its let_go
+  pub left_so : (life : ℕ) (old : Session) (Has : Holding → JobOutcome → Type 0) (countdown : Countdown) (worked : Result (Holding × JobOutcome) SeatView) (now : Session) (its : JobOutcome) (let_go : Option SeatView)
+      → WorkResultSatisfies worked Has → WorkSpendsCountdown shape lead (Runs old.planned) (held_worker old.value) countdown worked → WorkSettlement worked (planned_after countdown) life now its let_go
       → Has now.value its × WorkWithinPlan shape lead old now its let_go
-  left_so old Has countdown (Ok (value, became)) now its let_go (has, up) spares (now_is, its_is, none) =
+  left_so life old Has countdown (Ok (value, became)) now its let_go (has, up) spares (now_is, its_is, none) =
       rw (now_is, its_is) (
         has,
-        left_up old (record { value = value; planned = planned_after countdown }) became let_go up none (spared_by (part_when_told became) old.planned (held_worker old.value) countdown (held_worker value) spares),
+        left_up old (record { value = value; planned = planned_after countdown; life = life }) became let_go up none (spared_by (part_when_told became) old.planned (held_worker old.value) countdown (held_worker value) spares),
       )
-  left_so old Has countdown (Err down) now its let_go has falls (now_is, its_is, go_is) = rw (now_is, its_is, go_is) (has, (falls, refl))
+  left_so life old Has countdown (Err down) now its let_go has falls (now_is, its_is, go_is) = rw (now_is, its_is, go_is) (has, (falls, refl))
 
 -- A worker that answers its last number again makes no step, and neither does one that is already inside.
 pub spares_none : (shape : Shape) (ready : SeatView) (plan : Countdown) → CountdownSpares shape unchanged_part unchanged_part plan (Some ready) plan (Some ready)
@@ -172,44 +172,44 @@ pub stays_spares : (shape : Shape) (held : SeatView) (plan : Countdown) (value :
 stays_spares shape held plan value became (lock, section, same, is) = rw (same, is) (spares_loaded shape unchanged_part held held section plan plan (spares_none shape held plan))
 
 -- The lead of the work is that of the order; answering the last number again makes no step.
-repeated : (shape : Shape) (ready : SeatView) (planned : PlannedCrash) (job : Job) (now : Session) (became : JobOutcome) (let_go : Option SeatView) → ThreadRepeatEffect shape ready now.value became
-    → WorkWithinPlan shape unchanged_part (record { value = Ready ready; planned = planned }) now became let_go → WorkWithinPlan shape (handed job) (record { value = Ready ready; planned = planned }) now became let_go
-repeated shape ready planned job now (outcome.Receipt receipt) let_go (same, last, is_last) ((made, went, left), none) =
+repeated : (shape : Shape) (ready : SeatView) (planned : PlannedCrash) (life : ℕ) (job : Job) (now : Session) (became : JobOutcome) (let_go : Option SeatView) → ThreadRepeatEffect shape ready now.value became
+    → WorkWithinPlan shape unchanged_part (record { value = Ready ready; planned = planned; life = life }) now became let_go → WorkWithinPlan shape (handed job) (record { value = Ready ready; planned = planned; life = life }) now became let_go
+repeated shape ready planned life job now (outcome.Receipt receipt) let_go (same, last, is_last) ((made, went, left), none) =
     let P : Holding → Type 0 = λ value. OwnStepsBetween shape unchanged_part (Some ready) (held_worker value) made in
     let Q : Holding → Type 0 = λ value. OwnStepsBetween shape (handed job) (Some ready) (held_worker value) made in
     ((made, subst Q (sym same) (stayed shape unchanged_part (handed job) ready made (subst P same went)), left), none)
-repeated shape ready planned job now outcome.Withdrawn let_go (same, last) ((made, went, left), none) =
+repeated shape ready planned life job now outcome.Withdrawn let_go (same, last) ((made, went, left), none) =
     let P : Holding → Type 0 = λ value. OwnStepsBetween shape unchanged_part (Some ready) (held_worker value) made in
     let Q : Holding → Type 0 = λ value. OwnStepsBetween shape (handed job) (Some ready) (held_worker value) made in
     ((made, subst Q (sym same) (stayed shape unchanged_part (handed job) ready made (subst P same went)), left), none)
-repeated shape ready planned job now outcome.Waiting let_go repeats left = absurd repeats
-repeated shape ready planned job now outcome.Fell let_go repeats left = absurd repeats
-repeated shape ready planned job now (outcome.Inside token) let_go repeats left = absurd repeats
+repeated shape ready planned life job now outcome.Waiting let_go repeats left = absurd repeats
+repeated shape ready planned life job now outcome.Fell let_go repeats left = absurd repeats
+repeated shape ready planned life job now (outcome.Inside token) let_go repeats left = absurd repeats
 
-pub led_so : (shape : Shape) (its : Submission) (work : SessionWork) (planned : PlannedCrash) (now : Session) (became : JobOutcome) (let_go : Option SeatView) → IsSubmitWork shape its work
-    → WorkEffect shape work now.value became → WorkWithinPlan shape (work_lead work) (record { value = work_holding work; planned = planned }) now became let_go
-    → WorkWithinPlan shape (submit_lead (work_holding work) its.job) (record { value = work_holding work; planned = planned }) now became let_go
-led_so shape its (Repeat ready) planned now became let_go asked makes left = repeated shape ready planned its.job now became let_go makes left
-led_so shape its (Post admitted tries until.Finished) planned now became let_go (next, same, none) makes left =
-    let P : Job → Type 0 = λ job. WorkWithinPlan shape (handed job) (record { value = Ready admitted.ready; planned = planned }) now became let_go in subst P same left
-led_so shape its (GoIn climb tries until.Finished) planned now became let_go asked makes left = left
-led_so shape its (GoOn held) planned now became let_go asked makes left = left
-led_so shape its (Post admitted tries until.Inside) planned now became let_go asked makes left = absurd asked
-led_so shape its (GoIn climb tries until.Inside) planned now became let_go asked makes left = absurd asked
-led_so shape its (Stay held) planned now became let_go asked makes left = absurd asked
+pub led_so : (shape : Shape) (its : Submission) (work : SessionWork) (planned : PlannedCrash) (life : ℕ) (now : Session) (became : JobOutcome) (let_go : Option SeatView) → IsSubmitWork shape its work
+    → WorkEffect shape work now.value became → WorkWithinPlan shape (work_lead work) (record { value = work_holding work; planned = planned; life = life }) now became let_go
+    → WorkWithinPlan shape (submit_lead (work_holding work) its.job) (record { value = work_holding work; planned = planned; life = life }) now became let_go
+led_so shape its (Repeat ready) planned life now became let_go asked makes left = repeated shape ready planned life its.job now became let_go makes left
+led_so shape its (Post admitted tries until.Finished) planned life now became let_go (next, same, none) makes left =
+    let P : Job → Type 0 = λ job. WorkWithinPlan shape (handed job) (record { value = Ready admitted.ready; planned = planned; life = life }) now became let_go in subst P same left
+led_so shape its (GoIn climb tries until.Finished) planned life now became let_go asked makes left = left
+led_so shape its (GoOn held) planned life now became let_go asked makes left = left
+led_so shape its (Post admitted tries until.Inside) planned life now became let_go asked makes left = absurd asked
+led_so shape its (GoIn climb tries until.Inside) planned life now became let_go asked makes left = absurd asked
+led_so shape its (Stay held) planned life now became let_go asked makes left = absurd asked
 
 -- The same for work until the worker is inside.
-pub led_inside : (shape : Shape) (its : Submission) (work : SessionWork) (planned : PlannedCrash) (now : Session) (became : JobOutcome) (let_go : Option SeatView) → IsSubmitWork shape its work
-    → WorkEffect shape (work_until_inside work) now.value became → WorkWithinPlan shape (work_lead (work_until_inside work)) (record { value = work_holding (work_until_inside work); planned = planned }) now became let_go
-    → WorkWithinPlan shape (submit_lead (work_holding work) its.job) (record { value = work_holding work; planned = planned }) now became let_go
-led_inside shape its (Repeat ready) planned now became let_go asked makes left = repeated shape ready planned its.job now became let_go makes left
-led_inside shape its (Post admitted tries until.Finished) planned now became let_go (next, same, none) makes left =
-    let P : Job → Type 0 = λ job. WorkWithinPlan shape (handed job) (record { value = Ready admitted.ready; planned = planned }) now became let_go in subst P same left
-led_inside shape its (GoIn climb tries until.Finished) planned now became let_go asked makes left = left
-led_inside shape its (GoOn held) planned now became let_go asked makes left = left
-led_inside shape its (Post admitted tries until.Inside) planned now became let_go asked makes left = absurd asked
-led_inside shape its (GoIn climb tries until.Inside) planned now became let_go asked makes left = absurd asked
-led_inside shape its (Stay held) planned now became let_go asked makes left = absurd asked
+pub led_inside : (shape : Shape) (its : Submission) (work : SessionWork) (planned : PlannedCrash) (life : ℕ) (now : Session) (became : JobOutcome) (let_go : Option SeatView) → IsSubmitWork shape its work
+    → WorkEffect shape (work_until_inside work) now.value became → WorkWithinPlan shape (work_lead (work_until_inside work)) (record { value = work_holding (work_until_inside work); planned = planned; life = life }) now became let_go
+    → WorkWithinPlan shape (submit_lead (work_holding work) its.job) (record { value = work_holding work; planned = planned; life = life }) now became let_go
+led_inside shape its (Repeat ready) planned life now became let_go asked makes left = repeated shape ready planned life its.job now became let_go makes left
+led_inside shape its (Post admitted tries until.Finished) planned life now became let_go (next, same, none) makes left =
+    let P : Job → Type 0 = λ job. WorkWithinPlan shape (handed job) (record { value = Ready admitted.ready; planned = planned; life = life }) now became let_go in subst P same left
+led_inside shape its (GoIn climb tries until.Finished) planned life now became let_go asked makes left = left
+led_inside shape its (GoOn held) planned life now became let_go asked makes left = left
+led_inside shape its (Post admitted tries until.Inside) planned life now became let_go asked makes left = absurd asked
+led_inside shape its (GoIn climb tries until.Inside) planned life now became let_go asked makes left = absurd asked
+led_inside shape its (Stay held) planned life now became let_go asked makes left = absurd asked
 
 -- It starts from the same worker, and has the same number of tries.
 pub same_start : (work : SessionWork) → work_holding (work_until_inside work) ≡ work_holding work
@@ -267,24 +267,24 @@ repeats_tried shape ready most steps value outcome.Waiting repeats = absurd repe
 repeats_tried shape ready most steps value outcome.Fell repeats = tt
 repeats_tried shape ready most steps value (outcome.Inside token) repeats = tt
 
-pub settled_tried : (most steps : ℕ) (planned : PlannedCrash) (worked : Result (Holding × JobOutcome) SeatView) (now : Session) (became : JobOutcome) (let_go : Option SeatView) → WorkSettlement worked planned now became let_go
+pub settled_tried : (most steps : ℕ) (planned : PlannedCrash) (life : ℕ) (worked : Result (Holding × JobOutcome) SeatView) (now : Session) (became : JobOutcome) (let_go : Option SeatView) → WorkSettlement worked planned life now became let_go
     → WorkWaitsAfterTries most steps worked → ThreadWaitsAfterTries most steps now.value became
-settled_tried most steps planned (Ok (value, its)) now became let_go (now_is, its_is, none) tried = rw (now_is, its_is) tried
-settled_tried most steps planned (Err down) now became let_go (now_is, its_is, go_is) tried = rw its_is tt
+settled_tried most steps planned life (Ok (value, its)) now became let_go (now_is, its_is, none) tried = rw (now_is, its_is) tried
+settled_tried most steps planned life (Err down) now became let_go (now_is, its_is, go_is) tried = rw its_is tt
 
 -- The token that is told, and the place of a worker that was inside.
-pub settled_told : (shape : Shape) (planned : PlannedCrash) (worked : Result (Holding × JobOutcome) SeatView) (now : Session) (became : JobOutcome) (let_go : Option SeatView) → WorkSettlement worked planned now became let_go
+pub settled_told : (shape : Shape) (planned : PlannedCrash) (life : ℕ) (worked : Result (Holding × JobOutcome) SeatView) (now : Session) (became : JobOutcome) (let_go : Option SeatView) → WorkSettlement worked planned life now became let_go
     → WorkTellsSection shape worked → TellsWorkerSection shape now.value (reply.Entered became)
-settled_told shape planned (Ok (value, its)) now became let_go (now_is, its_is, none) told = rw (now_is, its_is) told
-settled_told shape planned (Err down) now became let_go (now_is, its_is, go_is) told = rw now_is tt
+settled_told shape planned life (Ok (value, its)) now became let_go (now_is, its_is, none) told = rw (now_is, its_is) told
+settled_told shape planned life (Err down) now became let_go (now_is, its_is, go_is) told = rw now_is tt
 
-pub settled_place : (start : Holding) (planned : PlannedCrash) (worked : Result (Holding × JobOutcome) SeatView) (now : Session) (became : JobOutcome) (let_go : Option SeatView) → WorkSettlement worked planned now became let_go
+pub settled_place : (start : Holding) (planned : PlannedCrash) (life : ℕ) (worked : Result (Holding × JobOutcome) SeatView) (now : Session) (became : JobOutcome) (let_go : Option SeatView) → WorkSettlement worked planned life now became let_go
     → WorkHasKnownPlace start worked → HasKnownPlace start became
-settled_place Empty planned worked now became let_go settles placed = tt
-settled_place (Ready ready) planned worked now became let_go settles placed = tt
-settled_place (Climb climb) planned worked now became let_go settles placed = tt
-settled_place (Held held) planned (Ok (value, its)) now became let_go (now_is, its_is, none) placed = rw its_is placed
-settled_place (Held held) planned (Err down) now became let_go (now_is, its_is, go_is) placed = rw its_is tt
+settled_place Empty planned life worked now became let_go settles placed = tt
+settled_place (Ready ready) planned life worked now became let_go settles placed = tt
+settled_place (Climb climb) planned life worked now became let_go settles placed = tt
+settled_place (Held held) planned life (Ok (value, its)) now became let_go (now_is, its_is, none) placed = rw its_is placed
+settled_place (Held held) planned life (Err down) now became let_go (now_is, its_is, go_is) placed = rw its_is tt
 
 -- A job that was posted: the worker that waits then has the next number, and what becomes of its job becomes of the next
 -- job.

@@ -101,12 +101,22 @@ ThreadEnterPendingEffect start value its = ⊥
 -- THE FENCING TOKEN
 
 -- A worker that is inside, after it has read the number of its lock's finished sections: its part knows that number,
--- and is otherwise unchanged. Its client is told the lock, the number of the job, and that number.
+-- and is otherwise unchanged. Its client is told the lock, the number of the job, that number, and the worker's life,
+-- which its session has.
 abbrev pub seat_with_section : SeatView → ℕ → SeatView
 seat_with_section held section = record { ident = held.ident; part = part_with_section held.part section }
 
 abbrev pub worker_token : SeatView → ℕ → ℕ → FencingToken
-worker_token held lock section = record { lock = lock; number = held.part.private.begun; section = section }
+worker_token held lock section =
+    record { lock = lock; number = held.part.private.begun; section = section; life = 0 }
+
+abbrev pub token_in_life : ℕ → FencingToken → FencingToken
+token_in_life life token =
+    record { lock = token.lock; number = token.number; section = token.section; life = life }
+
+abbrev pub outcome_in_life : ℕ → JobOutcome → JobOutcome
+outcome_in_life life (outcome.Inside token) = outcome.Inside (token_in_life life token)
+outcome_in_life life its = its
 
 -- A worker that was already inside makes no step, and is told its token.
 abbrev pub StaysInside : SeatView → Holding → JobOutcome → Type 0

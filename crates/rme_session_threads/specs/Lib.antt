@@ -1,7 +1,8 @@
--- In reading order: the planned crash as a Chance; what a session holds, and its view; the outcome of a job; the
--- outcome of attaching a worker; the work of an order; and the effect of each order. Views, refusals and answers are
--- those of rme_session_protocol.
+-- In reading order: the planned crash as a Chance; the lives of a worker; what a session holds, and its view; the
+-- outcome of a job; the outcome of attaching a worker; the work of an order; and the effect of each order. Views,
+-- refusals and answers are those of rme_session_protocol.
 pub mod CrashPlans
+pub mod Lives
 pub mod Stands
 pub mod JobOutcomes
 pub mod Attaching

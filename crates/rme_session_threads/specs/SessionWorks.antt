@@ -126,11 +126,11 @@ WorkSpendsCountdown shape lead old start now worked =
     (λ (down : SeatView). CountdownCrashes shape lead old start (Some down))
 
 -- What the session holds after work, the outcome, and the worker that crashed.
-abbrev pub WorkSettlement : Result (Holding × JobOutcome) SeatView → PlannedCrash → Standing → JobOutcome
+abbrev pub WorkSettlement : Result (Holding × JobOutcome) SeatView → PlannedCrash → ℕ → Standing → JobOutcome
     → Option SeatView → Type 0
-WorkSettlement (Ok done) planned now became let_go =
-    (now ≡ record { value = done.0; planned = planned }) × (became ≡ done.1) × (let_go ≡ None)
-WorkSettlement (Err down) planned now became let_go =
+WorkSettlement (Ok done) planned life now became let_go =
+    (now ≡ record { value = done.0; planned = planned; life = life }) × (became ≡ done.1) × (let_go ≡ None)
+WorkSettlement (Err down) planned life now became let_go =
     (now ≡ empty_stand) × (became ≡ outcome.Fell) × (let_go ≡ Some down)
 
 -- A worker that crashes made exactly the planned number of own steps, and is released; the session then has no worker,

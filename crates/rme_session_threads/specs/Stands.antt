@@ -55,7 +55,7 @@ IsValidWorkResult ident count worked =
 
 -- No worker, and nothing planned: a new session, and a session after a crash or DETACH.
 abbrev pub empty_stand : Standing
-empty_stand = record { value = Empty; planned = Nothing }
+empty_stand = record { value = Empty; planned = Nothing; life = 0 }
 
 -- The session view: its worker, the worker's number and its pending job. The outcome of the last number also depends on
 -- the worker's word `place`, so it is a parameter.

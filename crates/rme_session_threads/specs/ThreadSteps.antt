@@ -1,8 +1,8 @@
 -- The effect of an order on a session, and its answer.
-use Rattle.std.specs.Prelude.{◌≡◌, ℕ, ◌<◌, ◌≤◌, ◌==◌, Bool, true, false, List, [], ◌∷◌, ◌++◌, Option, None}
+use Rattle.std.specs.Prelude.{◌≡◌, ℕ, ◌<◌, ◌≤◌, ◌==◌, Bool, true, false, List, [], ◌∷◌, ◌++◌, Option, None, IsSome}
 use Rattle.rme_words.specs.declared.shape.Shape.{Shape}
 use Rattle.rme_words.specs.declared.refusal.Refusal.{Refusal}
-use Rattle.rme_words.specs.declared.refusal.Refusal.TheVariants.{NoWorker, Taken}
+use Rattle.rme_words.specs.declared.refusal.Refusal.TheVariants.{NoWorker, Overtaken, Taken}
 use Rattle.rme_script.specs.Programs.{Program}
 use Rattle.rme_script.specs.declared.job.Job.{Job}
 use Rattle.rme_program.specs.declared.note.Entry.{Entry}
@@ -20,6 +20,7 @@ use Rattle.rme_session_protocol.specs.declared.order.Order.TheVariants as order
 use Rattle.rme_session_protocol.specs.declared.order.Submission.{Submission}
 use Rattle.rme_session_protocol.specs.SessionSteps.{SessionStepInSteps}
 use Rattle.rme_session_threads.specs.Attaching.{SlotAttach}
+use Rattle.rme_session_threads.specs.Lives.{BeginsLife, IsInTime, IsLate}
 use Rattle.rme_session_threads.specs.Stands.{IsShownReceipt, held_draft, held_entries, held_worker, stand_view}
 use Rattle.rme_session_threads.specs.JobOutcomes.{HasJustEntered, HasKnownPlace, OwnStepsBetween, OwnStepsThenLoad, TellsWorkerSection, ThreadRepeatEffect, part_when_told, seat_with_section, submit_lead}
 use Rattle.rme_session_threads.specs.declared.stand.Stand.{Stand}
@@ -29,9 +30,13 @@ use Rattle.rme_session_threads.specs.declared.stand.Holding.TheVariants.{Ready, 
 -- The part of the contract that only the running service can state: its slots, the entries of its workers, and their
 -- own steps in the worlds of the core.
 
--- Among `count` slots that of the worker to attach is empty, or does not exist.
+-- Among `count` slots that of the worker to attach does not exist; or it has counted a restart since the life that the
+-- order has; or it has not, and is empty.
 abbrev pub IsSlotRefusal : ℕ → Shape → Order → Refusal → Type 0
-IsSlotRefusal count shape (order.Attach asked) Taken = asked.worker < count
+IsSlotRefusal count shape (order.Attach asked) Overtaken =
+    (asked.worker < count) × ((counted : ℕ) × IsLate asked.after counted)
+IsSlotRefusal count shape (order.Attach asked) Taken =
+    (asked.worker < count) × ((counted : ℕ) × IsInTime asked.after counted)
 IsSlotRefusal count shape (order.Attach asked) NoWorker = asked.worker < shape.workers → count ≤ asked.worker
 IsSlotRefusal count shape its why = Unit {0}
 
@@ -84,6 +89,18 @@ ResumeEntries start value became =
 abbrev pub HasLastReceipt : Shape → Holding → Option Receipt → Type 0
 HasLastReceipt shape (Ready ready) receipt = LastReceiptContract shape ready.part receipt
 HasLastReceipt shape other receipt = ⊥
+
+-- THE LIFE OF A WORKER. A session keeps the life of its worker.
+abbrev pub KeepsLife : Stand → Stand → Type 0
+KeepsLife old now = IsSome (held_worker now.value) → now.life ≡ old.life
+
+-- ATTACH begins the worker's next life, by the count of its slot. ENTER tells the life of a worker that is inside.
+abbrev pub OrderLife : Order → Stand → Stand → SessionReply → Type 0
+OrderLife (order.Attach asked) old now (reply.Attached number stance) =
+    (counted : ℕ) × BeginsLife asked.after counted now.life
+OrderLife (order.Enter its) old now (reply.Entered (outcome.Inside token)) =
+    KeepsLife old now × (token.life ≡ old.life)
+OrderLife its old now answer = KeepsLife old now
 
 -- What an order does to a session: its value before and after, and the Down that it releases, if any.
 pub record StandChange : Type 0 where
@@ -161,8 +178,9 @@ pub record ThreadOrderExecution (ident : seat.ServiceId) (count : ℕ) (change :
   pub section : TellsWorkerSection ident.shape change.now.value answer
   pub place : TellsKnownPlace change.old.value answer
 
--- The same, for any released worker.
+-- The same, for any released worker, and the life of the session's worker.
 pub record ThreadSessionStep (ident : seat.ServiceId) (count : ℕ) (old : Stand) (its : Order) (now : Stand)
     (answer : SessionReply) : Type 0 where
   pub let_go : Option seat.SeatView
   pub acts : ThreadOrderExecution ident count (stand_change old now let_go) its answer
+  pub life : OrderLife its old now answer

@@ -1,6 +1,6 @@
 //! The effect of each order of a session, and its answer.
 
-ghost use Rattle.std.specs.Prelude.{◌≡◌, ℕ, Option, None, IfSome, true};
+ghost use Rattle.std.specs.Prelude.{◌≡◌, ℕ, Option, None, IfSome, IsSome, true};
 ghost use Rattle.rme_service_steps.specs.Parts.{unchanged_part};
 ghost use Rattle.rme_table.specs.Calls.{is_section_over};
 ghost use Rattle.rme_program.specs.declared.note.Receipt.{Receipt};
@@ -13,10 +13,10 @@ ghost use Rattle.rme_session_threads.specs.declared.stand.Holding.TheVariants as
 ghost use Rattle.rme_session_protocol.specs.declared.planned_crash.PlannedCrash.TheVariants as planned;
 ghost use Rattle.rme_session_threads.specs.SessionWorks.{HasWorkTries, WorkWithinPlan, WorkEffect, WorkSettlement, work_holding, work_lead};
 ghost use Rattle.rme_session_threads.specs.Attaching.{AttachAnswer, WorkerExit, WorkerRecovery, KeepsJobAndEntries};
-ghost use Rattle.rme_session_protocol.specs.SessionSteps.{TellsSection};
+ghost use Rattle.rme_session_protocol.specs.SessionSteps.{TellsLife, TellsSection};
 ghost use Rattle.rme_session_threads.specs.Stands.{held_worker, holding_session};
-ghost use Rattle.rme_session_threads.specs.JobOutcomes.{HasKnownPlace, TellsWorkerSection, ThreadWaitsAfterTries, WorkerHasSection, holding_steps};
-ghost use Rattle.rme_session_threads.specs.ThreadSteps.{stand_change, ThreadOrderExecution, ThreadSessionStep};
+ghost use Rattle.rme_session_threads.specs.JobOutcomes.{HasKnownPlace, TellsWorkerSection, ThreadWaitsAfterTries, WorkerHasSection, holding_steps, outcome_in_life};
+ghost use Rattle.rme_session_threads.specs.ThreadSteps.{KeepsLife, OrderLife, stand_change, ThreadOrderExecution, ThreadSessionStep};
 
 use crate::crash_plan::CountdownChance;
 use crate::refusal::{
@@ -26,9 +26,10 @@ use crate::refusal::{
 use crate::slots::Slots;
 use crate::stand::{Holding, Stand};
 use crate::work::{SessionWork, WorkResult, perform_work};
+use crate::worker_slot::TakenWorker;
 use rme_session_protocol::{
-    Attachment, Countdown, JobOutcome, Order, Patience, PlannedCrash, SessionReply, SessionStance,
-    Submission,
+    Attachment, Countdown, FencingToken, JobOutcome, Order, Patience, PlannedCrash, SessionReply,
+    SessionStance, Submission,
 };
 use rme_table::{Climb, Down, Held, Leave, Never, Ready, Service, Stance, Tag};
 use std::sync::Wait;
@@ -43,7 +44,9 @@ type OrderResult = (Stand, SessionReply, Option<Down>);
 /// session has the worker: the caller continues the order, or closes that session.
 ///
 /// The answer of a worker that is inside to `Order::Enter` is its fencing token: the number of its lock's finished
-/// sections is the place that the job's receipt will have. A ping is answered in any stance, and changes nothing.
+/// sections is the place that the job's receipt will have. The token also tells the worker's life: an attachment begins
+/// the next one, and is refused `Overtaken` if the worker was restarted since the life that the order has. A ping is
+/// answered in any stance, and changes nothing.
 pub fn obey<K: Tag, R: Wait>(
     rt: &R,
     stand: Stand,
@@ -57,6 +60,7 @@ pub fn obey<K: Tag, R: Wait>(
     ensures obeys { ThreadSessionStep K.ident slots.now stand order.now result.0 result.1 }
     ensures section { TellsSection (WorkerHasSection K.ident.shape (held_worker result.0.value))
         (holding_session None result.0.value) result.1 }
+    ensures life { TellsLife (λ worker life. life ≡ result.0.life) (holding_session None result.0.value) result.1 }
 {
     let (stand, reply, gone) = execute_order(rt, stand, order, service, slots);
     return_down(rt, gone, slots);
@@ -76,6 +80,7 @@ fn execute_order<K: Tag, R: Wait>(
     ensures ours { IsValidHolding K.ident slots.now result.0.value }
     ensures slot { IfSome result.2 (HasSlot K.ident slots.now) }
     ensures acts { ThreadOrderExecution K.ident slots.now (stand_change stand result.0 result.2) order.now result.1 }
+    ensures life { OrderLife order.now stand result.0 result.1 }
 {
     match order {
         Order::Attach(asked) => attach(rt, stand, *asked, service, slots),
@@ -109,12 +114,17 @@ fn return_down<K: Tag, R: Wait>(rt: &R, gone: Option<Down>, slots: &Slots<K>)
 }
 
 /// A refused order leaves the session unchanged.
-fn refuse_order(refused: RefusedOrder, planned: PlannedCrash) -> OrderResult
-    ensures { (result.0 ≡ record { value = refused.0; planned = planned }) × (result.1 ≡ reply.Refused refused.1)
-        × (result.2 ≡ None) }
+fn refuse_order(refused: RefusedOrder, planned: PlannedCrash, life: u64) -> OrderResult
+    ensures { (result.0 ≡ record { value = refused.0; planned = planned; life = life })
+        × (result.1 ≡ reply.Refused refused.1) × (result.2 ≡ None) }
 {
     let (value, why) = refused;
-    (Stand { value, planned }, SessionReply::Refused(why), None)
+    let stand = Stand {
+        value,
+        planned,
+        life,
+    };
+    (stand, SessionReply::Refused(why), None)
 }
 
 /// Submits a job to the worker, or continues the one that it has.
@@ -130,13 +140,18 @@ fn submit<K: Tag>(
     ensures slot { IfSome result.2 (HasSlot K.ident slots.now) }
     ensures acts { ThreadOrderExecution K.ident slots.now
         (stand_change stand result.0 result.2) (order.Submit submission.now) result.1 }
+    ensures life { KeepsLife stand result.0 }
 {
-    let Stand { value, planned } = stand;
+    let Stand {
+        value,
+        planned,
+        life,
+    } = stand;
     let work = match find_submit_work(value, submission, service) {
         Ok(work) => work,
-        Err(refused) => return refuse_order(refused, planned),
+        Err(refused) => return refuse_order(refused, planned, life),
     };
-    let (stand, outcome, gone) = run_work(work, planned, service, slots);
+    let (stand, outcome, gone) = run_work(work, planned, life, service, slots);
     (stand, SessionReply::Submitted(outcome), gone)
 }
 
@@ -153,13 +168,18 @@ fn resume<K: Tag>(
     ensures slot { IfSome result.2 (HasSlot K.ident slots.now) }
     ensures acts { ThreadOrderExecution K.ident slots.now
         (stand_change stand result.0 result.2) (order.Resume patience) result.1 }
+    ensures life { KeepsLife stand result.0 }
 {
-    let Stand { value, planned } = stand;
+    let Stand {
+        value,
+        planned,
+        life,
+    } = stand;
     let work = match find_resume_work(value, patience) {
         Ok(work) => work,
-        Err(refused) => return refuse_order(refused, planned),
+        Err(refused) => return refuse_order(refused, planned, life),
     };
-    let (stand, outcome, gone) = run_work(work, planned, service, slots);
+    let (stand, outcome, gone) = run_work(work, planned, life, service, slots);
     (stand, SessionReply::Resumed(outcome), gone)
 }
 
@@ -176,14 +196,29 @@ fn enter<K: Tag>(
     ensures slot { IfSome result.2 (HasSlot K.ident slots.now) }
     ensures acts { ThreadOrderExecution K.ident slots.now
         (stand_change stand result.0 result.2) (order.Enter submission.now) result.1 }
+    ensures life { OrderLife (order.Enter submission.now) stand result.0 result.1 }
 {
-    let Stand { value, planned } = stand;
+    let Stand {
+        value,
+        planned,
+        life,
+    } = stand;
     let work = match find_submit_work(value, submission, service) {
         Ok(work) => work.until_inside(),
-        Err(refused) => return refuse_order(refused, planned),
+        Err(refused) => return refuse_order(refused, planned, life),
     };
-    let (stand, outcome, gone) = run_work(work, planned, service, slots);
-    (stand, SessionReply::Entered(outcome), gone)
+    let (stand, outcome, gone) = run_work(work, planned, life, service, slots);
+    (stand, SessionReply::Entered(tell_life(outcome, life)), gone)
+}
+
+/// The outcome of a job, with the life of its worker in a token.
+fn tell_life(outcome: JobOutcome, life: u64) -> JobOutcome
+    ensures { result ≡ outcome_in_life life outcome }
+{
+    match outcome {
+        JobOutcome::Inside(token) => JobOutcome::Inside(FencingToken { life, ..token }),
+        outcome => outcome,
+    }
 }
 
 /// Executes the section of the job that the worker is inside with, and the exit.
@@ -193,13 +228,18 @@ fn commit<K: Tag>(stand: Stand, service: &Service, slots: &Slots<K>) -> OrderRes
     ensures ours { IsValidHolding K.ident slots.now result.0.value }
     ensures slot { IfSome result.2 (HasSlot K.ident slots.now) }
     ensures acts { ThreadOrderExecution K.ident slots.now (stand_change stand result.0 result.2) order.Commit result.1 }
+    ensures life { KeepsLife stand result.0 }
 {
-    let Stand { value, planned } = stand;
+    let Stand {
+        value,
+        planned,
+        life,
+    } = stand;
     let held = match check_commit(value) {
         Ok(held) => held,
-        Err(refused) => return refuse_order(refused, planned),
+        Err(refused) => return refuse_order(refused, planned, life),
     };
-    let (stand, outcome, gone) = run_work(SessionWork::GoOn(held), planned, service, slots);
+    let (stand, outcome, gone) = run_work(SessionWork::GoOn(held), planned, life, service, slots);
     (stand, SessionReply::Committed(outcome), gone)
 }
 
@@ -208,6 +248,7 @@ fn commit<K: Tag>(stand: Stand, service: &Service, slots: &Slots<K>) -> OrderRes
 fn run_work<K: Tag>(
     work: SessionWork<'_>,
     planned: PlannedCrash,
+    life: u64,
     service: &Service,
     slots: &Slots<K>,
 ) -> (Stand, JobOutcome, Option<Down>)
@@ -217,7 +258,8 @@ fn run_work<K: Tag>(
     ensures slot { IfSome result.2 (HasSlot K.ident slots.now) }
     ensures did { WorkEffect service.now.shape work.entry result.0.value result.1
         × WorkWithinPlan service.now.shape (work_lead work.entry)
-        (record { value = work_holding work.entry; planned = planned }) result.0 result.1 result.2 }
+        (record { value = work_holding work.entry; planned = planned; life = life }) result.0 result.1 result.2 }
+    ensures life { IsSome (held_worker result.0.value) → result.0.life ≡ life }
     ensures tried { (most : ℕ) → HasWorkTries most work.entry
         → ThreadWaitsAfterTries most (holding_steps (work_holding work.entry)) result.0.value result.1 }
     ensures told { TellsWorkerSection service.now.shape result.0.value (reply.Entered result.1) }
@@ -227,7 +269,7 @@ fn run_work<K: Tag>(
         countdown: Countdown::Runs(planned),
     };
     let worked = perform_work(work, &mut counting, service);
-    finish_work(worked, counting.countdown.remaining(), slots)
+    finish_work(worked, counting.countdown.remaining(), life, slots)
 }
 
 /// The session after work: a worker that crashed is released, and its plan is used up.
@@ -235,18 +277,25 @@ fn run_work<K: Tag>(
 fn finish_work<K: Tag>(
     worked: Result<WorkResult, Down>,
     planned: PlannedCrash,
+    life: u64,
     slots: &Slots<K>,
 ) -> (Stand, JobOutcome, Option<Down>)
     requires ours { IsValidWorkResult K.ident slots.now worked }
     ensures ours { IsValidHolding K.ident slots.now result.0.value }
     ensures slot { IfSome result.2 (HasSlot K.ident slots.now) }
-    ensures settles { WorkSettlement worked planned result.0 result.1 result.2 }
+    ensures settles { WorkSettlement worked planned life result.0 result.1 result.2 }
+    ensures life { IsSome (held_worker result.0.value) → result.0.life ≡ life }
 {
     let (value, outcome) = match worked {
         Ok(worked) => worked,
         Err(down) => return (Stand::empty(), JobOutcome::Fell, Some(down)),
     };
-    (Stand { value, planned }, outcome, None)
+    let stand = Stand {
+        value,
+        planned,
+        life,
+    };
+    (stand, outcome, None)
 }
 
 /// Takes the worker out of its slot. Its recovery cannot be interrupted: no crash is planned yet.
@@ -263,19 +312,29 @@ fn attach<K: Tag, R: Wait>(
     ensures slot { IfSome result.2 (HasSlot K.ident slots.now) }
     ensures acts { ThreadOrderExecution K.ident slots.now
         (stand_change stand result.0 result.2) (order.Attach asked) result.1 }
+    ensures life { OrderLife (order.Attach asked) stand result.0 result.1 }
 {
-    let Stand { value, planned } = stand;
+    let Stand {
+        value,
+        planned,
+        life,
+    } = stand;
     match check_attach(value, asked.worker, service.shape()) {
         Ok(()) => {}
-        Err(refused) => return refuse_order(refused, planned),
+        Err(refused) => return refuse_order(refused, planned, life),
     }
-    let down = match slots.take(rt, asked.worker) {
-        Ok(down) => down,
-        Err(why) => return refuse_order((Holding::Empty, why), planned),
+    let taken = match slots.take(rt, asked.worker, asked.after) {
+        Ok(taken) => taken,
+        Err(why) => return refuse_order((Holding::Empty, why), planned, life),
     };
+    let TakenWorker { down, life } = taken;
     let (value, reply) = recover_worker(down, service);
-    let planned = PlannedCrash::Nothing;
-    (Stand { value, planned }, reply, None)
+    let stand = Stand {
+        value,
+        planned: PlannedCrash::Nothing,
+        life,
+    };
+    (stand, reply, None)
 }
 
 /// Recovers the worker, and makes it ready if its job was finished before its crash.
@@ -362,11 +421,16 @@ fn withdraw<K: Tag>(stand: Stand, service: &Service, slots: &Slots<K>) -> OrderR
     ensures slot { IfSome result.2 (HasSlot K.ident slots.now) }
     ensures acts { ThreadOrderExecution K.ident slots.now
         (stand_change stand result.0 result.2) order.Withdraw result.1 }
+    ensures life { KeepsLife stand result.0 }
 {
-    let Stand { value, planned } = stand;
+    let Stand {
+        value,
+        planned,
+        life,
+    } = stand;
     let climb = match check_withdraw(value) {
         Ok(climb) => climb,
-        Err(refused) => return refuse_order(refused, planned),
+        Err(refused) => return refuse_order(refused, planned, life),
     };
     let mut counting = CountdownChance {
         countdown: Countdown::Runs(planned),
@@ -374,9 +438,11 @@ fn withdraw<K: Tag>(stand: Stand, service: &Service, slots: &Slots<K>) -> OrderR
     match climb.withdraw(service, &mut counting) {
         Ok(ready) => {
             let number = ready.number();
-            let value = Holding::Ready(ready);
-            let planned = counting.countdown.remaining();
-            let stand = Stand { value, planned };
+            let stand = Stand {
+                value: Holding::Ready(ready),
+                planned: counting.countdown.remaining(),
+                life,
+            };
             (stand, SessionReply::Withdrew(number), None)
         }
         Err(down) => (Stand::empty(), SessionReply::WithdrawFell, Some(down)),
@@ -390,15 +456,24 @@ fn answer_last<K: Tag>(stand: Stand, service: &Service, slots: &Slots<K>) -> Ord
     ensures ours { IsValidHolding K.ident slots.now result.0.value }
     ensures slot { IfSome result.2 (HasSlot K.ident slots.now) }
     ensures acts { ThreadOrderExecution K.ident slots.now (stand_change stand result.0 result.2) order.Last result.1 }
+    ensures life { KeepsLife stand result.0 }
 {
-    let Stand { value, planned } = stand;
+    let Stand {
+        value,
+        planned,
+        life,
+    } = stand;
     let mut ready = match check_last(value) {
         Ok(ready) => ready,
-        Err(refused) => return refuse_order(refused, planned),
+        Err(refused) => return refuse_order(refused, planned, life),
     };
     let last = ready.last(service);
-    let value = Holding::Ready(ready);
-    (Stand { value, planned }, SessionReply::Last(last), None)
+    let stand = Stand {
+        value: Holding::Ready(ready),
+        planned,
+        life,
+    };
+    (stand, SessionReply::Last(last), None)
 }
 
 /// Answers the pending job.
@@ -409,13 +484,23 @@ fn answer_pending<K: Tag>(stand: Stand, service: &Service, slots: &Slots<K>) -> 
     ensures slot { IfSome result.2 (HasSlot K.ident slots.now) }
     ensures acts { ThreadOrderExecution K.ident slots.now
         (stand_change stand result.0 result.2) order.Pending result.1 }
+    ensures life { KeepsLife stand result.0 }
 {
-    let Stand { value, planned } = stand;
+    let Stand {
+        value,
+        planned,
+        life,
+    } = stand;
     let (value, told) = match read_pending(value, service) {
         Ok(found) => found,
-        Err(refused) => return refuse_order(refused, planned),
+        Err(refused) => return refuse_order(refused, planned, life),
     };
-    (Stand { value, planned }, SessionReply::Pending(told), None)
+    let stand = Stand {
+        value,
+        planned,
+        life,
+    };
+    (stand, SessionReply::Pending(told), None)
 }
 
 /// Plans the worker's crash.
@@ -425,14 +510,23 @@ fn plan_crash<K: Tag>(stand: Stand, steps: u32, slots: &Slots<K>) -> OrderResult
     ensures slot { IfSome result.2 (HasSlot K.ident slots.now) }
     ensures acts { ThreadOrderExecution K.ident slots.now
         (stand_change stand result.0 result.2) (order.CrashAfter steps) result.1 }
+    ensures life { KeepsLife stand result.0 }
 {
-    let Stand { value, planned } = stand;
+    let Stand {
+        value,
+        planned,
+        life,
+    } = stand;
     let value = match check_attached(value) {
         Ok(value) => value,
-        Err(refused) => return refuse_order(refused, planned),
+        Err(refused) => return refuse_order(refused, planned, life),
     };
-    let planned = PlannedCrash::After(steps);
-    (Stand { value, planned }, SessionReply::CrashPlanned, None)
+    let stand = Stand {
+        value,
+        planned: PlannedCrash::After(steps),
+        life,
+    };
+    (stand, SessionReply::CrashPlanned, None)
 }
 
 /// Releases the worker.
@@ -441,13 +535,23 @@ fn detach<K: Tag>(stand: Stand, slots: &Slots<K>) -> OrderResult
     ensures ours { IsValidHolding K.ident slots.now result.0.value }
     ensures slot { IfSome result.2 (HasSlot K.ident slots.now) }
     ensures acts { ThreadOrderExecution K.ident slots.now (stand_change stand result.0 result.2) order.Detach result.1 }
+    ensures life { KeepsLife stand result.0 }
 {
-    let Stand { value, planned } = stand;
+    let Stand {
+        value,
+        planned,
+        life,
+    } = stand;
     match check_attached(value) {
         Ok(value) => {
-            let gone = Stand { value, planned }.crash();
+            let stand = Stand {
+                value,
+                planned,
+                life,
+            };
+            let gone = stand.crash();
             (Stand::empty(), SessionReply::Detached, gone)
         }
-        Err(refused) => refuse_order(refused, planned),
+        Err(refused) => refuse_order(refused, planned, life),
     }
 }

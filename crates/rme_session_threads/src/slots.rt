@@ -1,16 +1,18 @@
-//! The slots of the workers that no session has.
+//! The slots of the workers.
 
-ghost use Rattle.std.specs.Prelude.{◌≡◌, ◌≤◌, [], length, vec_capacity, IfSome};
-ghost use Rattle.rme_session_threads.specs.WorkerSlots.{AreDownsInPlace, AreDownsInOrder, IsValueOfWorker};
+ghost use Rattle.std.specs.Prelude.{◌≡◌, ◌≤◌, [], length, vec_capacity};
+ghost use Rattle.rme_service_steps.specs.Closing.{SeatsAreOfService};
+ghost use Rattle.rme_session_threads.specs.WorkerSlots.{AreDownsInPlace, AreDownsInOrder};
 
-use rme_table::{Down, OwnedDown, Tag, fill_with_downs};
+use crate::worker_slot::{TakenWorker, WorkerSlot};
+use rme_table::{Down, OwnedDown, Tag};
 use rme_words::Refusal;
 use std::alloc::Global;
 use std::marker::{Model, PhantomData};
 use std::sync::{Mutex, Wait};
 
-/// A worker's slot: empty while a session has the worker.
-type DownSlot<K> = Mutex<Option<OwnedDown<K>>>;
+/// A worker's slot.
+type LockedSlot<K> = Mutex<WorkerSlot<K>>;
 
 /// A slot for each worker of the service that K names, in order of worker.
 ///
@@ -18,7 +20,7 @@ type DownSlot<K> = Mutex<Option<OwnedDown<K>>>;
 #[derive(Drop)]
 pub struct Slots<K: Tag> {
     alloc: Global,
-    slots: Vec<DownSlot<K>>,
+    slots: Vec<LockedSlot<K>>,
 }
 
 impl<K: Tag> Model for Slots<K> {
@@ -47,27 +49,24 @@ impl<K: Tag> Slots<K> {
         };
         Ok(Slots {
             alloc,
-            slots: fill_with_downs(downs, slots),
+            slots: fill_slots(downs, slots),
         })
     }
 
-    /// Takes the worker's Down out of its slot. `NoWorker` if there is no such slot, and `Taken` if it is empty.
-    pub fn take<R: Wait>(&self, rt: &R, worker: u32) -> Result<Down, Refusal>
-        ensures { SlotTake K.ident self.now worker result }
+    /// Takes the worker's Down out of its slot, and counts the restart. `NoWorker` if there is no such slot, `Overtaken`
+    /// if the worker was restarted since the life `after`, and `Taken` if the slot is empty.
+    pub fn take<R: Wait>(
+        &self,
+        rt: &R,
+        worker: u32,
+        after: Option<u64>,
+    ) -> Result<TakenWorker, Refusal>
+        ensures { SlotTake K.ident self.now worker after result }
     {
         let Some(slot) = self.slots.get(worker as usize) else {
             return Err(Refusal::NoWorker);
         };
-        let Some(kept) = slot.lock(rt).take() else {
-            return Err(Refusal::Taken);
-        };
-        // A slot's type cannot state its number; no other worker is ever put here.
-        if kept.down.worker() != worker {
-            *slot.lock(rt) = Some(kept);
-            return Err(Refusal::Taken);
-        }
-        let OwnedDown { down, of: _ } = kept;
-        Ok(down)
+        slot.lock(rt).take(worker, after)
     }
 
     /// Puts a Down into its worker's slot, which exists.
@@ -76,10 +75,7 @@ impl<K: Tag> Slots<K> {
         requires slot { down.part.worker < self.now }
     {
         let slot = &self.slots[down.worker() as usize];
-        *slot.lock(rt) = Some(OwnedDown {
-            down,
-            of: PhantomData,
-        });
+        slot.lock(rt).give(down);
     }
 
     /// The Downs in the slots, in order of worker.
@@ -106,33 +102,35 @@ impl<K: Tag> Slots<K> {
     }
 }
 
+/// Puts each Down into a slot of its own.
+fn fill_slots<K: Tag>(downs: Vec<Down>, mut slots: Vec<LockedSlot<K>>) -> Vec<LockedSlot<K>>
+    requires ours { SeatsAreOfService K.ident downs.items }
+    requires none { slots.items ≡ [] }
+    requires room { length downs.items ≤ vec_capacity slots }
+    ensures { length result.items ≡ length downs.items }
+{
+    for down in downs {
+        let kept = OwnedDown {
+            down,
+            of: PhantomData,
+        };
+        slots.push_reserved(Mutex::new(WorkerSlot::new(kept)));
+    }
+    slots
+}
+
 /// Takes the Downs out of the slots.
-fn gather_downs<K: Tag>(slots: Vec<DownSlot<K>>, mut downs: Vec<Down>) -> Vec<Down>
+fn gather_downs<K: Tag>(slots: Vec<LockedSlot<K>>, mut downs: Vec<Down>) -> Vec<Down>
     requires none { downs.items ≡ [] }
     requires room { length slots.items ≤ vec_capacity downs }
     ensures { AreDownsInOrder K.ident (length slots.items) result.items }
 {
     let mut worker = 0;
     for slot in slots {
-        // As in `take`, a Down in this slot is the slot's own.
-        if let Some(down) = slot_down(slot, worker) {
+        if let Some(down) = slot.into_inner().into_down(worker) {
             downs.push_reserved(down);
         }
         worker += 1;
     }
     downs
-}
-
-/// The Down in a slot, if it is this worker's.
-fn slot_down<K: Tag>(slot: DownSlot<K>, worker: usize) -> Option<Down>
-    ensures { IfSome result (λ down. IsValueOfWorker K.ident worker down) }
-{
-    let Some(kept) = slot.into_inner() else {
-        return None;
-    };
-    let OwnedDown { down, of: _ } = kept;
-    if down.worker() as usize != worker {
-        return None;
-    }
-    Some(down)
 }

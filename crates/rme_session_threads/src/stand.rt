@@ -15,10 +15,12 @@ pub enum Holding {
     Held(Held),
 }
 
-/// A session between two orders: what it holds, and the planned crash.
+/// A session between two orders: what it holds, the planned crash, and the life of its worker.
 pub struct Stand {
     pub value: Holding,
     pub planned: PlannedCrash,
+    /// The number of the worker's restarts; 0 without a worker.
+    pub life: u64,
 }
 
 impl Stand {
@@ -32,6 +34,7 @@ impl Stand {
         Stand {
             value: Holding::Empty,
             planned: PlannedCrash::Nothing,
+            life: 0,
         }
     }
 
@@ -51,7 +54,11 @@ impl Stand {
     pub fn crash(self) -> Option<Down>
         ensures { result ≡ held_worker self.value }
     {
-        let Stand { value, planned: _ } = self;
+        let Stand {
+            value,
+            planned: _,
+            life: _,
+        } = self;
         match value {
             Holding::Empty => None,
             Holding::Ready(ready) => Some(ready.crash()),

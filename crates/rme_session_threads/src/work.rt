@@ -201,6 +201,7 @@ fn climb_and_enter(
 }
 
 /// A worker that is inside makes no step. Its token is read: the job's lock, and the number of its finished sections.
+/// The session that has the worker tells its life.
 fn stay_inside(mut held: Held, service: &Service) -> WorkResult
     requires ours { held.ident ≡ service.now }
     requires pending { is_section_over held.part.private.stage ≡ false }
@@ -211,6 +212,7 @@ fn stay_inside(mut held: Held, service: &Service) -> WorkResult
         lock: held.job(service).lock,
         number: held.number(),
         section: held.section(service),
+        life: 0,
     };
     (Holding::Held(held), JobOutcome::Inside(token))
 }

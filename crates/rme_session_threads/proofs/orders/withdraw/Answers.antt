@@ -20,6 +20,6 @@ returns-in-Err-withdraw-clause-acts g c =
     let planned = c.args.stand.planned in
     let falls = c.in-Err-withdraw.ensures.made in
     let fell = fallen shape withdrawing_part climb down (Runs planned) c.withdraw.new.chance.countdown falls.walks falls.ident falls.own in
-    let P : Holding → Type 0 = λ value. ThreadOrderExecution c.args.service.now count (stand_change (record { value = value; planned = planned }) c.empty.result (Some down)) order.Withdraw reply.WithdrawFell in
+    let P : Holding → Type 0 = λ value. ThreadOrderExecution c.args.service.now count (stand_change (record { value = value; planned = planned; life = c.args.stand.life }) c.empty.result (Some down)) order.Withdraw reply.WithdrawFell in
     let Q : ServiceId → Type 0 = λ ident. ThreadOrderExecution ident count (stand_change c.args.stand c.empty.result (Some down)) order.Withdraw reply.WithdrawFell in
-    subst Q c.requires.service (subst P (sym c.in-Ok.ensures.waits) (withdraw_fell c.args.service.now count climb planned c.empty.result (Some down) (fell, c.empty.ensures)))
+    subst Q c.requires.service (subst P (sym c.in-Ok.ensures.waits) (withdraw_fell c.args.service.now count climb planned c.args.stand.life c.empty.result (Some down) (fell, c.empty.ensures)))
