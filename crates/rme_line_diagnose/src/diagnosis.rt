@@ -2,7 +2,7 @@
 
 use crate::reasons::{Reason, escape_excerpt};
 use crate::words::{CHOICE_KEYS, Key, KeyKind, Vocabulary, keys_of};
-use rme_wire::{Value, do_member, lend, script_of_value, whole_u32};
+use rme_wire::{Value, do_member, lend, script_of_value, whole_up_to};
 use serde_json::{Error, Map, Value as Owned};
 use std::alloc::{AllocError, Global};
 
@@ -109,8 +109,8 @@ fn is_of_key_kind(kind: KeyKind, value: &Value<'_>) -> bool {
     match kind {
         KeyKind::Text => value.as_str().is_some(),
         KeyKind::Flag => value.as_bool().is_some(),
-        KeyKind::Number(least, most) => match whole_u32(value) {
-            Some(number) => number >= least && number <= most,
+        KeyKind::Number(least, most) => match whole_up_to(most, value) {
+            Some(number) => number >= least,
             None => false,
         },
         KeyKind::Note => is_note(value),

@@ -19,7 +19,7 @@ pub enum KeyKind {
     Text,
     Flag,
     /// A whole number from the first to the second.
-    Number(u32, u32),
+    Number(u64, u64),
     /// The kind of note that ends a walk.
     Note,
     Texts,
@@ -123,6 +123,13 @@ const TAKE: Key = Key {
     is_optional: true,
 };
 
+/// A life: at most 2^53.
+const AFTER: Key = Key {
+    name: "after",
+    kind: KeyKind::Number(0, 9_007_199_254_740_992),
+    is_optional: true,
+};
+
 const ANY: Key = Key {
     name: "any",
     kind: KeyKind::Choice,
@@ -162,7 +169,7 @@ fn command_keys(word: &str) -> Option<&'static [Key]> {
 
 fn order_keys(word: &str) -> Option<&'static [Key]> {
     match word {
-        "attach" => Some(&[WORKER, TAKE]),
+        "attach" => Some(&[WORKER, TAKE, AFTER]),
         "submit" | "enter" => Some(&[NUMBER_OF_JOB, LOCK, SCRIPT, TRIES, WAIT]),
         "resume" => Some(&[TRIES, WAIT]),
         "crash_after" => Some(&[STEPS]),

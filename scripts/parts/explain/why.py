@@ -26,11 +26,12 @@ WRONG = {
     "lock": TEXTS, "image": TEXTS, "locks": [None, "bank", {}, ["bank", 1], [None]],
     "script": SCRIPTS, "until": [*TEXTS, "blocked", "quiet", "soon"], "max": [*NUMBERS, 0, 10_001],
     "tries": [*NUMBERS, 0, 1_000_001], "wait": [*NUMBERS, 3_600_001], "steps": [*NUMBERS, 1_000_001],
-    "take": [None, 0, "true", []],
+    "take": [None, 0, "true", []], "after": [None, "1", -1, 1.5, [1], 2**53 + 1, 2**64, True],
 }  # fmt: skip
 GOOD = {
     "worker": 0, "number": 1, "cells": 1, "jobs": 10, "workers": 2, "lock": "bank", "locks": ["bank"], "image": "00",
     "script": [["add", 0, 5]], "until": "entered", "max": 10_000, "tries": 1, "wait": 0, "steps": 1_000_000, "take": False,
+    "after": 2**53,
 }  # fmt: skip
 # Each word with the keys that it needs and those that it may have.
 COMMANDS = {
@@ -40,7 +41,7 @@ COMMANDS = {
     "save": ("", ""), "load": ("image locks", ""),
 }  # fmt: skip
 ORDERS = {
-    "attach": ("worker", "take"), "submit": ("number lock script", "tries wait"), "resume": ("", "tries wait"),
+    "attach": ("worker", "take after"), "submit": ("number lock script", "tries wait"), "resume": ("", "tries wait"),
     "enter": ("number lock script", "tries wait"), "commit": ("", ""), "withdraw": ("", ""), "last": ("", ""),
     "crash_after": ("steps", ""), "detach": ("", ""), "ping": ("", ""), "pending": ("", ""),
 }  # fmt: skip
@@ -67,6 +68,9 @@ TOLD = {
 OF_ORDERS = {
     b'{"do":"step","worker":0}': 'there is no word "step" of "do" here',
     b'{"do":"attach","worker":0,"take":1}': 'the key "take" must be true or false',
+    b'{"after":9007199254740993,"do":"attach","worker":0}':
+        'the key "after" must be a whole number from 0 to 9007199254740992',
+    b'{"after":0,"any":"ready","do":"attach"}': 'the key "after" may not stand beside the key "any"',
     b'{"any":"idle","do":"attach"}': 'the key "any" must be "pending" or "ready"',
     b'{"any":"ready","do":"attach","worker":0}': 'the key "worker" may not stand beside the key "any"',
     b'{"do":"ping","worker":0}': '"ping" takes no key "worker"',
