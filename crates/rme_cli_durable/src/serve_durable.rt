@@ -5,15 +5,15 @@ ghost use Rattle.rme_durable_server.specs.ServerHistories.{server_state};
 
 use rme_cli_listen::{BoundAddresses, StderrObserver, listen};
 use rme_cli_messages::{BadArgument, CliFault, escape_controls, why_not_locks, why_not_sizes};
-use rme_cli_options::{Diagnostics, DurableServeTask, ListenAddresses, SyncPolicy};
+use rme_cli_options::{Diagnostics, DurableServeTask, ListenAddresses, SyncPolicy, WaitingPolicy};
 use rme_durable_checkpoint::{EpochExecutor, MOST_SET};
 use rme_durable_file::{
     OpenedState, RecoveredFile, StateFile, StateName, SystemFile, check_replaceable, make_state,
     open_state_file,
 };
 use rme_durable_format::{LogHeader, RecoveredLog, push_header};
-use rme_durable_log::OpenLog;
-use rme_durable_server::{DurableServer, ServerTag, clients_of};
+use rme_durable_log::{NotDurable, OpenLog};
+use rme_durable_server::{DurableServer, ServerSetting, ServerTag, WaitingJobs, clients_of};
 use rme_line_diagnose::Reason;
 use rme_line_text::{lock_name, push_opening};
 use rme_session_server::{Backend, Closer, Listener, ServerLimits, ServerObserver, serve};
@@ -60,7 +60,7 @@ pub fn run_serve_durable<R: Threads + Wait + Clock + Sync>(
     task: DurableServeTask,
 ) -> Result<u8, CliFault> {
     let limits = limits_of(&task);
-    let sections = task.sections;
+    let setting = setting_of(&task);
     let (asked, places) = split_task(task);
     let name = StateName::new(String::from_str(rt.alloc(), asked.path.as_str())?);
     let planned = plan_start(rt, &asked, &name)?;
@@ -70,7 +70,7 @@ pub fn run_serve_durable<R: Threads + Wait + Clock + Sync>(
         addresses,
         limits,
         name: &name,
-        sections,
+        setting,
     };
     let served = match open_or_create(rt, &asked, &name, planned) {
         Ok(opened) => serve_logged::<Brand, R>(threads, &site, listeners, logged_state(opened)),
@@ -87,8 +87,7 @@ struct DurableServeContext<'a> {
     addresses: BoundAddresses,
     limits: ServerLimits,
     name: &'a StateName,
-    /// The number of sections after which the file is checkpointed.
-    sections: u32,
+    setting: ServerSetting,
 }
 
 /// The plan of a start: nothing was changed yet.
@@ -143,7 +142,7 @@ fn serve_logged<J: ServerTag + Send + Sync, R: Threads + Wait + Clock + Sync>(
         alloc,
         names,
         executor,
-        site.sections,
+        site.setting,
         log,
     )?;
     site.addresses.print(site.rt)?;
@@ -157,6 +156,17 @@ fn limits_of(task: &DurableServeTask) -> ServerLimits {
         at_once: task.at_once,
         idle: task.idle,
         tells_why: task.diagnostics == Diagnostics::Why,
+    }
+}
+
+/// What the server is asked for, beside its state.
+fn setting_of(task: &DurableServeTask) -> ServerSetting {
+    ServerSetting {
+        sections: task.sections,
+        waiting: match task.waiting {
+            WaitingPolicy::Keep => WaitingJobs::Keep,
+            WaitingPolicy::Withdraw => WaitingJobs::Withdraw,
+        },
     }
 }
 
@@ -183,7 +193,8 @@ fn split_task(task: DurableServeTask) -> (ServerConfig, ListenAddresses) {
     (asked, places)
 }
 
-/// Serves a durable state on these listeners. If an event cannot be logged, this is reported at the end.
+/// Serves a durable state on these listeners, once no job waits without a session if such jobs are withdrawn. If an
+/// event cannot be logged, this is reported at the end.
 fn serve_durable_state<'f, J: ServerTag + Send + Sync, R: Threads + Wait + Clock + Sync>(
     threads: &R,
     site: &DurableServeContext<'_>,
@@ -197,7 +208,10 @@ fn serve_durable_state<'f, J: ServerTag + Send + Sync, R: Threads + Wait + Clock
         name: site.name,
         kept,
     };
-    let served = serve(threads, listeners, site.limits, &observer, kept);
+    let served = match kept.withdraw_waiting_jobs(threads) {
+        Ok(()) => serve(threads, listeners, site.limits, &observer, kept),
+        Err(NotDurable) => Ok(()),
+    };
     site.name.tell(site.rt, complaints.stderr());
     if kept.is_over(threads) {
         return Ok(CliFault::WriteFailed.status());

@@ -55,6 +55,8 @@ enum ArgumentValue {
     Count,
     /// `always` or `never`.
     Sync,
+    /// `keep` or `withdraw`.
+    Waiting,
     /// What a server is asked.
     AskWord,
 }
@@ -74,6 +76,9 @@ enum CommandName {
 
 /// The values of the sync policy.
 const SYNCS: &[&str] = &["always", "never"];
+
+/// What becomes of waiting jobs.
+const WAITING: &[&str] = &["keep", "withdraw"];
 
 /// What a server is asked.
 const ASK_WORDS: &[&str] = &["status", "owner", "cells", "ping", "finish", "top"];
@@ -285,6 +290,15 @@ fn serve_command<'a>(alloc: Global) -> Result<Command<'a>, AllocError> {
                 "sync",
                 ArgumentKind::Option("WHEN"),
                 "always: the disk has it before each answer; never, without it: the system has",
+            )
+        },
+        ArgumentSpec {
+            value: ArgumentValue::Waiting,
+            needs: &["state"],
+            ..optional(
+                "waiting",
+                ArgumentKind::Option("WHAT"),
+                "A job that waits when its session ends: keep, without it, or withdraw",
             )
         },
         ArgumentSpec {
@@ -539,6 +553,7 @@ fn valued(arg: Arg<'_>, value: ArgumentValue) -> Arg<'_> {
         ArgumentValue::Port => arg.value_parser(value_parser!(u16)),
         ArgumentValue::Count => arg.value_parser(value_parser!(u32).range(1..=1_000_000)),
         ArgumentValue::Sync => arg.value_parser(SYNCS),
+        ArgumentValue::Waiting => arg.value_parser(WAITING),
         ArgumentValue::AskWord => arg.value_parser(ASK_WORDS),
     }
 }

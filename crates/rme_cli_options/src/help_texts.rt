@@ -222,7 +222,8 @@ Each line of a client is one JSON object, which is obeyed and answered by one li
   {\"do\":\"attach\",\"worker\":W}     takes a worker that no other session has, and recovers it:
                                  {\"number\":N,\"ok\":\"attach\",\"stance\":\"ready\"} with its last number, or the
                                  stance climb or held with that of the job that it is in. With \"take\":true
-                                 also from a session that has it, which is ended
+                                 also from a session that has it, which is ended. With \"after\":L only
+                                 where the worker was not restarted since life L, else refused, 26
   {\"do\":\"submit\",\"number\":N,\"lock\":NAME,\"script\":[OP,..]}
                                  makes the job of the number after the last: {\"ok\":\"submit\",\"receipt\":{..}};
                                  {\"ok\":\"submit\",\"waiting\":true} where the lock was not had in 1000 tries, or
@@ -232,8 +233,9 @@ Each line of a client is one JSON object, which is obeyed and answered by one li
                                  {\"ok\":\"submit\",\"withdrawn\":true}: a job counts once. The operations are
                                  those of `rme run --help`
   {\"do\":\"enter\",..}              as submit, and stops inside the lock, for work of one's own:
-                                 {\"number\":N,\"ok\":\"enter\",\"section\":K,\"stance\":\"held\"}; nobody else
-                                 enters before. K is the place that the receipt will have
+                                 {\"life\":L,\"number\":N,\"ok\":\"enter\",\"section\":K,\"stance\":\"held\"};
+                                 nobody else enters before. K is the place that the receipt will have, and L
+                                 how often the worker was restarted: each attach does it
   {\"do\":\"commit\"}                makes the section and leaves: {\"ok\":\"commit\",\"receipt\":{..}}
   {\"do\":\"resume\"}                goes on with the job that the worker is in, answered as submit is, with
                                  \"ok\":\"resume\"; it takes \"tries\" and \"wait\" too
@@ -282,6 +284,8 @@ again with the same words, however it ended. What is no longer so:
   - further lines, in any stance: {\"do\":\"owner\",\"lock\":NAME} and {\"do\":\"cells\",\"lock\":NAME}, as for
     `rme run`, and {\"do\":\"status\"}, all of it at once; `rme look FILE` prints the same of a file
   - --sync always: what is answered survives the machine too; without it it survives the process
+  - --waiting withdraw: a job that waits when its session ends is withdrawn, and so is each that waits at a
+    start; without it such a job keeps its place, and may keep others out until its worker is attached again
   - FILE is renewed when a worker has made its --jobs, and after --sections finished jobs of all: a new file
     with what they came to takes its place. Clients see no difference: numbers and places go on, up to
     9007199254740992 (2^53)
@@ -370,9 +374,9 @@ The table of `status`, in which worker 0 died inside its lock:
   LOCK  OWNER  STATE  CELLS  SECTIONS
   bank  0      DEAD   5      1
 
-  WORKER  SESSION  STANCE  LOCK  JOB
-  0       none     held    bank  2
-  1       yes      climb   bank  1
+  WORKER  SESSION  STANCE  LOCK  JOB  BLOCKED BY
+  0       none     held    bank  2    -
+  1       yes      climb   bank  1    0
 
 `held` in the place of DEAD says that a session has the owner. --json prints the server's line as it came. Who
 waits for a lock whose owner is dead waits until somebody finishes the owner's job:

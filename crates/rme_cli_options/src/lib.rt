@@ -18,5 +18,5 @@ pub use parsing::task_of;
 pub use tasks::{
     AnswerForm, AskRequest, AskTask, CliTask, Diagnostics, DurableServeTask, FinishTask, LineTask,
     ListenAddresses, LookTask, OutputFormat, RunImages, ServeTask, ServerAddress, SyncPolicy,
-    ThreadsTask,
+    ThreadsTask, WaitingPolicy,
 };

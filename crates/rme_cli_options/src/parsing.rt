@@ -5,7 +5,7 @@ use crate::commands::command;
 use crate::help_texts;
 use crate::tasks::{
     CliTask, Diagnostics, DurableServeTask, LineTask, ListenAddresses, LookTask, OutputFormat,
-    RunImages, ServeTask, SyncPolicy, ThreadsTask,
+    RunImages, ServeTask, SyncPolicy, ThreadsTask, WaitingPolicy,
 };
 use clap::error::ErrorKind;
 use clap::{ArgMatches, Error};
@@ -206,6 +206,7 @@ fn durable_serve_task(
         at_once: found.get_one("at-once").unwrap_or(AT_ONCE),
         idle: found.get_one("idle"),
         sync: sync_policy_of(found),
+        waiting: waiting_policy_of(found),
         diagnostics: diagnostics_of(found),
         locks: texts_of(alloc, found, "LOCK")?,
     })
@@ -216,5 +217,13 @@ fn sync_policy_of(found: &ArgMatches<'_>) -> SyncPolicy {
     match found.get_str("sync") {
         Some("always") => SyncPolicy::Always,
         _ => SyncPolicy::Never,
+    }
+}
+
+/// What is requested for waiting jobs.
+fn waiting_policy_of(found: &ArgMatches<'_>) -> WaitingPolicy {
+    match found.get_str("waiting") {
+        Some("withdraw") => WaitingPolicy::Withdraw,
+        _ => WaitingPolicy::Keep,
     }
 }

@@ -99,6 +99,15 @@ pub enum SyncPolicy {
     Never,
 }
 
+/// What becomes of a job that waits for its lock when its session ends.
+#[derive(Clone, Copy, PartialEq, Eq)]
+pub enum WaitingPolicy {
+    /// It keeps its place.
+    Keep,
+    /// It is withdrawn.
+    Withdraw,
+}
+
 /// The request of `rme serve --state`. A size that is not given is that of the state, or the default.
 #[derive(Drop)]
 pub struct DurableServeTask {
@@ -115,6 +124,7 @@ pub struct DurableServeTask {
     /// The number of seconds of silence that end a session, if any.
     pub idle: Option<u32>,
     pub sync: SyncPolicy,
+    pub waiting: WaitingPolicy,
     pub diagnostics: Diagnostics,
     /// The words for the names of its locks; if there are none, those of the state.
     pub locks: Vec<String>,

@@ -144,6 +144,7 @@ def try_completions(folder):
         ("serve", "--s"): ["--socket", "--state", "--sync", "--sections"],
         ("serve", "--sync", ""): ["always", "never"],
         ("serve", "--sync", "al"): ["always"],
+        ("serve", "--waiting", ""): ["keep", "withdraw"],
         ("serve", "--state", "o"): ["one.state", "other.text"],
         ("serve", "--port", ""): [],
         ("serve", "--port", "7000", "--wo"): ["--workers"],
