@@ -47,6 +47,11 @@ abbrev pub LockNameSays : Data → Option (String Global) → Type 0
 LockNameSays answer None = some_member (codes "lock") answer ≡ None
 LockNameSays answer (Some lock) = text_member (codes "lock") answer ≡ Some (string_bytes lock)
 
+-- the worker that a waiting one waits for, where no member is none
+abbrev pub BlockedBySays : Data → Option ℕ → Type 0
+BlockedBySays answer None = some_member (codes "blocked_by") answer ≡ None
+BlockedBySays answer (Some worker) = number_member (codes "blocked_by") answer ≡ Some worker
+
 -- the answer to `cells`
 pub record CellsSay (answer : Data) (told : CellsAnswer) : Type 0 where
   pub cells : CellValuesSay answer told.cells.items
@@ -64,6 +69,7 @@ pub record WorkerSays (said : Data) (worker : WorkerStatus) : Type 0 where
   pub stance : stance_member said ≡ Some (stance_word worker.stance)
   pub lock : LockNameSays said worker.lock
   pub number : number_member (codes "number") said ≡ Some worker.number
+  pub blocked_by : BlockedBySays said worker.blocked_by
 
 -- the answer to `status`: every lock and every worker, in order
 pub record StatusSays (answer : Data) (status : ServerStatus) : Type 0 where

@@ -42,6 +42,8 @@ pub struct WorkerStatus {
     pub lock: Option<String>,
     /// The number of its pending job or, if there is none, of its last.
     pub number: u64,
+    /// The worker that it waits for, if it waits for one.
+    pub blocked_by: Option<u64>,
 }
 
 /// The answer to `cells`.
@@ -136,6 +138,7 @@ fn worker_of(alloc: Global, value: &Value) -> Result<WorkerStatus, ClientError>
         stance: stance(value)?,
         lock: lock_of_worker(alloc, value)?,
         number: number(value, "number")?,
+        blocked_by: blocked_by(value)?,
     })
 }
 
@@ -147,6 +150,16 @@ fn lock_of_worker(alloc: Global, value: &Value) -> Result<Option<String>, Client
         return Ok(None);
     }
     Ok(Some(lock_name(alloc, value, "lock")?))
+}
+
+/// The worker that a waiting one waits for.
+fn blocked_by(value: &Value) -> Result<Option<u64>, ClientError>
+    ensures { IfOk result (spec.BlockedBySays (view value.now)) }
+{
+    if value.get("blocked_by").is_none() {
+        return Ok(None);
+    }
+    Ok(Some(number(value, "blocked_by")?))
 }
 
 /// The values of a lock's cells.

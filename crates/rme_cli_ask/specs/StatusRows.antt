@@ -77,10 +77,14 @@ abbrev pub lock_or_nothing : Option (String Global) → List ℕ
 lock_or_nothing None = codes "-"
 lock_or_nothing (Some lock) = string_bytes lock
 
+abbrev pub number_or_nothing : Option ℕ → List ℕ
+number_or_nothing None = codes "-"
+number_or_nothing (Some number) = decimal number
+
 abbrev pub worker_row : ℕ → WorkerStatus → List (List ℕ)
 worker_row number worker =
     decimal number ∷ session_word worker.attached ∷ stance_word worker.stance ∷ lock_or_nothing worker.lock ∷
-    decimal worker.number ∷ []
+    decimal worker.number ∷ number_or_nothing worker.blocked_by ∷ []
 
 -- the rows of workers, the first of which has this number
 abbrev pub worker_rows_from : ℕ → List WorkerStatus → List (List (List ℕ))
@@ -88,7 +92,8 @@ worker_rows_from number [] = []
 worker_rows_from number (worker ∷ workers) = worker_row number worker ∷ worker_rows_from (number + 1) workers
 
 abbrev pub worker_header : List (List ℕ)
-worker_header = codes "WORKER" ∷ codes "SESSION" ∷ codes "STANCE" ∷ codes "LOCK" ∷ codes "JOB" ∷ []
+worker_header =
+    codes "WORKER" ∷ codes "SESSION" ∷ codes "STANCE" ∷ codes "LOCK" ∷ codes "JOB" ∷ codes "BLOCKED BY" ∷ []
 
 -- a row for each worker, below a header
 abbrev pub worker_rows : List WorkerStatus → List (List (List ℕ))

@@ -106,6 +106,7 @@ fn worker_header(alloc: Global) -> Result<Vec<String>, AllocError>
         String::from_str(alloc, "STANCE")?,
         String::from_str(alloc, "LOCK")?,
         String::from_str(alloc, "JOB")?,
+        String::from_str(alloc, "BLOCKED BY")?,
     ]?)
 }
 
@@ -147,7 +148,18 @@ fn worker_row(
         String::from_str(alloc, stance_word(worker.stance))?,
         String::from_str(alloc, lock)?,
         format!(in alloc; "{job}")?,
+        number_or_nothing(alloc, worker.blocked_by)?,
     ]?)
+}
+
+/// A number, if there is one.
+fn number_or_nothing(alloc: Global, number: Option<u64>) -> Result<String, AllocError>
+    ensures { IfOk result (λ text. string_bytes text ≡ spec.number_or_nothing number) }
+{
+    match number {
+        Some(number) => format!(in alloc; "{number}"),
+        None => String::from_str(alloc, NOTHING),
+    }
 }
 
 /// The number of an owner, or `nobody`.

@@ -14,10 +14,10 @@ LOCK  OWNER   STATE  CELLS          SECTIONS
 bank  0       DEAD   0,0 unsettled  0
 shop  nobody  -      0,0            0
 
-WORKER  SESSION  STANCE  LOCK  JOB
-0       none     held    bank  1
-1       yes      climb   bank  1
-2       none     ready   -     0
+WORKER  SESSION  STANCE  LOCK  JOB  BLOCKED BY
+0       none     held    bank  1    -
+1       yes      climb   bank  1    0
+2       none     ready   -     0    -
 """
 
 
