@@ -42,6 +42,7 @@ fn attach(worker: u32) -> Order {
     Order::Attach(Attachment {
         worker,
         take: false,
+        after: None,
     })
 }
 
@@ -112,12 +113,13 @@ const READY: SessionReply = SessionReply::Attached(0, SessionStance::Ready);
 
 const HELD: SessionReply = SessionReply::Attached(1, SessionStance::Held);
 
-/// A worker is inside with its first job, in this section of the lock.
+/// A worker is inside with its first job, in this section of the lock. A world counts no lives.
 fn inside_in(section: u32) -> SessionReply {
     SessionReply::Entered(JobOutcome::Inside(FencingToken {
         lock: 0,
         number: 1,
         section,
+        life: 0,
     }))
 }
 

@@ -36,7 +36,19 @@ const SUBMISSIONS: &[(&str, u64, u32, u32)] = &[
 ];
 
 fn attach(worker: u32, take: bool) -> Order {
-    Order::Attach(Attachment { worker, take })
+    Order::Attach(Attachment {
+        worker,
+        take,
+        after: None,
+    })
+}
+
+fn attach_after(worker: u32, take: bool, after: u64) -> Order {
+    Order::Attach(Attachment {
+        worker,
+        take,
+        after: Some(after),
+    })
 }
 
 /// A line must give this order.
@@ -77,6 +89,28 @@ fn plain_lines() -> [OrderLine; 11] {
         (r#"{"do":"detach"}"#, Order::Detach),
         (r#"{"do":"ping"}"#, Order::Ping),
         (r#"{"do":"pending"}"#, Order::Pending),
+    ]
+}
+
+/// Attachments of a worker that was not restarted since a life.
+fn lines_after() -> [OrderLine; 4] {
+    [
+        (
+            r#"{"after":0,"do":"attach","worker":0}"#,
+            attach_after(0, false, 0),
+        ),
+        (
+            r#"{"do":"attach","worker":1,"after":9007199254740992}"#,
+            attach_after(1, false, 9_007_199_254_740_992),
+        ),
+        (
+            r#"{"after":3,"do":"attach","take":true,"worker":2}"#,
+            attach_after(2, true, 3),
+        ),
+        (
+            r#"{"after":3,"do":"attach","take":false,"worker":2}"#,
+            attach_after(2, false, 3),
+        ),
     ]
 }
 
@@ -124,6 +158,7 @@ fn check_orders(
 fn orders(rt: HostRuntime) -> Result<(), Fail> {
     let names = lock_names(&rt, rt.alloc());
     check_orders(&rt, rt.alloc(), &names, &plain_lines())?;
+    check_orders(&rt, rt.alloc(), &names, &lines_after())?;
     check_orders(&rt, rt.alloc(), &names, &numbered_lines())?;
     Ok(())
 }
@@ -149,7 +184,7 @@ fn check_entering(rt: &impl Abort, alloc: Global, names: &Names) -> Result<(), N
 }
 
 /// Lines that lack a key, have an extra one, or a value of another kind.
-const NO_ORDERS: [&str; 15] = [
+const NO_ORDERS: [&str; 22] = [
     r#"{"do":"commit","number":1}"#,
     r#"{"do":"commit","tries":1}"#,
     r#"{"do":"enter","lock":"a","number":1}"#,
@@ -164,6 +199,13 @@ const NO_ORDERS: [&str; 15] = [
     r#"{"do":"resume","wait":-1}"#,
     r#"{"do":"attach","take":1,"worker":0}"#,
     r#"{"do":"attach","take":true}"#,
+    r#"{"after":3,"do":"attach"}"#,
+    r#"{"after":-1,"do":"attach","worker":0}"#,
+    r#"{"after":1.5,"do":"attach","worker":0}"#,
+    r#"{"after":"3","do":"attach","worker":0}"#,
+    r#"{"after":null,"do":"attach","worker":0}"#,
+    r#"{"after":9007199254740993,"do":"attach","worker":0}"#,
+    r#"{"after":3,"do":"detach"}"#,
     r#"{"do":"submit","lock":"a","number":4294967296,"script":[]}"#,
 ];
 
@@ -247,6 +289,7 @@ const CHOICES: &[(&str, Option<WorkerChoice>)] = &[
     (r#"{"any":"idle","do":"attach"}"#, None),
     (r#"{"any":0,"do":"attach"}"#, None),
     (r#"{"any":"ready","do":"attach","take":true}"#, None),
+    (r#"{"after":3,"any":"ready","do":"attach"}"#, None),
     (r#"{"any":"ready","do":"attach","worker":0}"#, None),
     (r#"{"any":"ready","do":"detach"}"#, None),
     (r#"{"do":"attach"}"#, None),
