@@ -15,7 +15,7 @@ from lib.programs import TOP, built
 from lib.servers import HOST, Server, line_of
 
 sys.path.insert(0, os.path.join(TOP, "clients", "python"))
-from rme_client import Observer, Worker  # noqa: E402
+from rme_client import Done, Observer, Overtaken, Worker  # noqa: E402
 
 
 def free_port():
@@ -179,8 +179,17 @@ class Storm:
     def job(self, own, lock, script, is_entered):
         """The receipt of the client's next job."""
         number = len(self.receipts[own.worker]) + 1
-        if not is_entered:
-            return own.submit(lock, script, number)
+        while is_entered:
+            try:
+                return self.entered(own, lock, script, number)
+            except Done as done:
+                return done.receipt
+            except Overtaken as overtaken:  # the answer to its own coming back was lost
+                if overtaken.found is not None:
+                    raise
+        return own.submit(lock, script, number)
+
+    def entered(self, own, lock, script, number):
         with own.inside(lock, script, number) as held:
             if self.inside.setdefault(lock, own.worker) != own.worker:
                 self.wrong.append(f"worker {own.worker} is inside {lock} beside worker {self.inside[lock]}")

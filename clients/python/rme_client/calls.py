@@ -24,6 +24,7 @@ class Job:
         self.is_begun = False  # whether the server is known to have had it
         self.again = False  # whether it was pending before this call
         self.is_resent = False  # whether another session had come since it was sent first
+        self.after: Optional[int] = None  # inside a block: the worker's life, after which nobody else may have attached it
         self._ends = None if wait is None else time.monotonic() + wait
 
     def start(self, session: Session) -> int:
@@ -33,6 +34,12 @@ class Job:
             is_pending = session.stance != READY
             self.again = self.is_begun = is_pending and self.given in (None, session.number)
             self.sent = session.number + (not is_pending) if self.given is None else self.given
+        return self.sent
+
+    def start_anew(self, session: Session) -> int:
+        """The number under which it is sent once its own was given up, so that nothing was done of it: the next one."""
+        self.again = self.is_begun = False
+        self.sent = session.number + 1
         return self.sent
 
     def milliseconds(self, most: float) -> int:

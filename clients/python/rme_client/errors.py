@@ -83,15 +83,22 @@ class Blocked(RmeError):
 class Overtaken(RmeError):
     """Somebody else used the worker, or the server lost its state, while this call was at the job of `number`.
 
-    `found` is the number at which the worker stands; `receipt` is the receipt of another's job of the same number, where
-    that is how it was noticed. Whether this call's own job counted is not known, except from the server's records.
+    `found` is the number at which the worker stands, or `None` where another session was found to have attached it since
+    this call was inside; `receipt` is the receipt of another's job of the same number, where that is how it was noticed.
+    Whether this call's own job counted is not known, except from the server's records.
     """
 
-    def __init__(self, number: int, found: int, receipt: Optional[Receipt] = None):
+    def __init__(self, number: int, found: Optional[int], receipt: Optional[Receipt] = None):
         super().__init__(number, found, receipt)
         self.number, self.found, self.receipt = number, found, receipt
 
     def __str__(self) -> str:
+        if self.found is None:
+            return (
+                f"this call was inside with job {self.number}, its connection broke, and another session attached the worker"
+                " before it came back, so that another went on; or the answer to its own coming back was lost. Find out"
+                " which, and whether the job counted, before the next one"
+            )
         return (
             f"this call was at job {self.number}, and the worker stands at job {self.found}: another client uses the"
             " worker, or the server lost its state. Find out which, and whether the job counted, before the next one"

@@ -27,18 +27,25 @@ OUTCOMES = {
 
 class Session:
     """A session that has the worker. `number` and `stance` are the worker's by the last answer; `lock` is the pending
-    job's, where it was handed over in this session, and `section` that of the job, where it was entered in this session."""
+    job's, where it was handed over in this session, and `section` that of the job, where it was entered in this session;
+    `life` is the worker's, where a job was entered and the server told it."""
 
     def __init__(self, connection: Connection, worker: int, timeout: float):
         self.connection, self.worker, self.timeout = connection, worker, timeout
         self.number, self.stance = 0, READY
         self.lock: Optional[str] = None
         self.section: Optional[int] = None
+        self.life: Optional[int] = None
         self._asked = 0.0  # when the last order was sent that was answered
 
-    def attach(self, take: bool, timeout: float) -> bool:
-        """Takes the worker. False where another session has it; `Lost` where the server has no room for this one."""
-        order = {"do": "attach", "worker": self.worker, **({"take": True} if take else {})}
+    def attach(self, take: bool, after: Optional[int], timeout: float) -> bool:
+        """Takes the worker, where it was not restarted since the life `after`, if one is given. False where another session
+        has it; `Lost` where the server has no room for this one; `Refused`, 26, where it was restarted since."""
+        order: dict[str, Any] = {"do": "attach", "worker": self.worker}
+        if take:
+            order["take"] = True
+        if after is not None:
+            order["after"] = after
         try:
             answer = self._ask(order, timeout)
         except Refused as refused:
@@ -84,6 +91,7 @@ class Session:
                 raise answer.broken(f"it is not about job {number}")
             self._stands(HELD, number, order["lock"])
             self.section = answer.number("section")
+            self.life = answer.number("life") if answer.has("life") else None  # an older server tells none
             return None
         answer.says(outcome[0])
         if outcome == ["fell"]:

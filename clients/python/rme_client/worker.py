@@ -25,7 +25,7 @@ Answer = TypeVar("Answer")
 WAIT = 10.0
 """For how many seconds the server waits for a lock in one order."""
 
-DIFFERS, NOT_WAITING = 17, 21
+DIFFERS, NOT_WAITING, OVERTAKEN = 17, 21, 26
 KNOWN = Blocked, Done, Overtaken, Pending, Refused
 """Exceptions after which the session is as its last answer said."""
 
@@ -40,11 +40,13 @@ class Held:
     fencing token: how many sections of the lock were finished before, which is the place of the job's receipt. A resource
     outside that keeps the greatest section that it has seen, and refuses a lower one, refuses what a client writes that was
     cut off while others went on. It is `None` where the pending job has another script than the call: the server did not say
-    it. `receipt` is there once the block has ended and the job has counted.
+    it. `life` says how often the worker was restarted, its last attachment included; a resource that keeps the greatest
+    (section, life) also tells two runs of one job apart. It is `None` where the server tells none. `receipt` is there once
+    the block has ended and the job has counted.
     """
 
-    def __init__(self, number: int, again: bool, section: Optional[int]):
-        self.number, self.again, self.section = number, again, section
+    def __init__(self, number: int, again: bool, section: Optional[int], life: Optional[int] = None):
+        self.number, self.again, self.section, self.life = number, again, section, life
         self.receipt: Optional[Receipt] = None
 
 
@@ -134,12 +136,17 @@ class Worker:
         script. A program that gives the number gives the same one when it comes back; `Done`, with the receipt, where the
         job of that number counted already: the block is not run then.
 
+        Where the connection broke meanwhile, it comes back only if nobody else has attached the worker since, and else
+        raises `Overtaken`, with `found` `None`. It does so too where the answer to its own coming back was lost, which it
+        cannot tell from that. A server that told no `held.life` cannot say this: then the numbers alone tell.
+
         Where the block raises, nothing is committed: the session ends, and its worker stays inside for the next `inside`.
         `Blocked` where others have the lock for all of `wait` seconds: the block is not run, and the job stays pending.
         """
         job = Job(lock, number, wait)
         with self._calls.alone():
             held = self._insist(job, lambda session: self._enter(session, job, script))
+            job.after = held.life
             try:
                 yield held
             except BaseException:
@@ -253,10 +260,14 @@ class Worker:
         told = began - 9  # a trouble that lasts for a second is told, and then every ten
         while True:
             try:
-                self._session = self._new_session(ends)
+                self._session = self._new_session(job.after, ends)
                 break
             except Lost as lost:
                 why, now = lost, time.monotonic()
+            except Refused as refused:
+                if refused.code != OVERTAKEN or job.sent is None:
+                    raise
+                raise Overtaken(job.sent, None) from refused
             if isinstance(why, Hopeless) or (ends is not None and now >= ends):
                 raise Unreachable(f"{self._server}: {why}", job.sent) from why
             if now - told >= 10:
@@ -265,22 +276,24 @@ class Worker:
             time.sleep(pause if ends is None else min(pause, ends - now))
             pause = min(2 * pause, 1)
         session, self.take = self._session, False
+        if job.after is not None:
+            job.after += 1  # this attachment
         logger.info("worker %d at %s: attached, %s %d", self.worker, self._server, session.stance, session.number)
         job.must_fit(session)
 
-    def _new_session(self, ends: Optional[float]) -> Session:
+    def _new_session(self, after: Optional[int], ends: Optional[float]) -> Session:
         """A session that has the worker. `Lost` where none is to be had now, or until the time `ends`."""
         connection = self._server.connect(self._limit(ends))
         try:
-            return self._attached(connection, ends)
+            return self._attached(connection, after, ends)
         except BaseException:
             connection.close()
             raise
 
-    def _attached(self, connection: Connection, ends: Optional[float]) -> Session:
+    def _attached(self, connection: Connection, after: Optional[int], ends: Optional[float]) -> Session:
         session, began = Session(connection, self.worker, self.timeout), time.monotonic()
         # Another client has the worker, or the server has not seen the end of its last session yet.
-        while not session.attach(self.take, self._limit(ends)):
+        while not session.attach(self.take, after, self._limit(ends)):
             now = time.monotonic()
             if now - began >= 1 or (ends is not None and now >= ends):
                 raise Lost(f"another client has worker {self.worker}")
@@ -294,11 +307,16 @@ class Worker:
     # Jobs
 
     def _work(self, session: Session, job: Job, **order: Any) -> Optional[Receipt]:
-        """Has the order done until it does not wait any more: its receipt, or `None` where the worker is inside."""
+        """Has the order done until it does not wait any more: its receipt, or `None` where the worker is inside. Where the
+        number that was chosen for it was given up meanwhile, as a server does with `--waiting withdraw`, it is handed over
+        under the next one."""
         while True:
             try:
                 receipt = session.hand({**order, "wait": job.milliseconds(min(WAIT, self.timeout / 2))})
             except Refused as refused:
+                if refused.code is None and job.given is None and job.is_resent:
+                    order["number"] = job.start_anew(session)
+                    continue
                 if refused.code == DIFFERS and job.is_resent and not job.again:  # it was not refused before
                     raise Overtaken(session.number, session.number) from refused
                 raise
@@ -334,8 +352,9 @@ class Worker:
                 raise
             self._must_be_inside(session, job)
             receipt = None
+        number = job.start(session)  # the next one where that was given up meanwhile
         if receipt is None:
-            return Held(number, job.again, session.section)
+            return Held(number, job.again, session.section, session.life)
         if job.given is None:  # somebody else made it, and its block was not run here
             raise Overtaken(number, number, receipt)
         raise Done(receipt)

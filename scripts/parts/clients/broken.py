@@ -112,9 +112,10 @@ def try_other_orders():
     held = b'{"number":1,"ok":"attach","stance":"held"}\n'
     climb = held.replace(b"held", b"climb")
     rows = {
-        "enter": (READY, b'{"number":2,"ok":"enter","section":0,"stance":"held"}\n', lambda it: it.inside("bank", SCRIPT).__enter__()),
-        "enter, another stance": (READY, b'{"number":1,"ok":"enter","section":0,"stance":"climb"}\n', lambda it: block(it)),
-        "enter, without a section": (READY, b'{"number":1,"ok":"enter","stance":"held"}\n', lambda it: block(it)),
+        "enter": (READY, b'{"life":1,"number":2,"ok":"enter","section":0,"stance":"held"}\n', lambda it: it.inside("bank", SCRIPT).__enter__()),
+        "enter, another stance": (READY, b'{"life":1,"number":1,"ok":"enter","section":0,"stance":"climb"}\n', lambda it: block(it)),
+        "enter, without a section": (READY, b'{"life":1,"number":1,"ok":"enter","stance":"held"}\n', lambda it: block(it)),
+        "enter, no life": (READY, b'{"life":-1,"number":1,"ok":"enter","section":0,"stance":"held"}\n', lambda it: block(it)),
         "commit": (held, b'{"ok":"commit","waiting":true}\n', lambda it: block(it, held_first=True)),
         "resume": (held, b'{"ok":"resume","receipt":%s}\n' % text(**receipt(0, 2, 0, 5)), lambda it: it.finish()),
         "withdraw": (climb, b'{"number":2,"ok":"withdraw"}\n', lambda it: it.withdraw()),
@@ -122,7 +123,7 @@ def try_other_orders():
         "last, of another number": (READY, b'{"last":%s,"ok":"last"}\n' % text(**receipt(0, 7, 0, 5)), lambda it: it.last()),
     }
     for name, (first, answer, call) in rows.items():
-        answers = [first, b'{"number":1,"ok":"enter","section":0,"stance":"held"}\n', answer] if name == "commit" else [first, answer]
+        answers = [first, b'{"life":1,"number":1,"ok":"enter","section":0,"stance":"held"}\n', answer] if name == "commit" else [first, answer]
         told, _ = told_by(answers, call)
         check(name, is_error(told, answer), told)
 

@@ -19,12 +19,15 @@ import tempfile
 import threading
 import time
 
+from lib import kept
 from lib.checks import check, main, same
 from lib.clients import CLIENTS, JOBS, by_another, entered, inside, job, keeps_out, leave, raised, receipt, refusal_of, serve
+from lib.orders import text
+from lib.peers import READY, Peer, answering
 from lib.servers import HOST
 
 import guarded_file  # noqa: E402
-from rme_client import Worker  # noqa: E402
+from rme_client import Overtaken, Worker  # noqa: E402
 
 WRITERS, CHANGES, KILLS = 4, 25, 30
 
@@ -189,16 +192,75 @@ def try_inside_and_cut():
         same("a connection that broke in the block", gone, (1, receipt(0, 1, 0, 5)))
         same("one that was closed in the block", inside(worker, 5, block=lambda: cut(worker.close)), (2, receipt(0, 2, 1, 10)))
         same("the lock was kept", kept, [True, True])
-        session = server.session()
-
-        def by_another():
-            worker.close()
-            session.attach(0)
-            session.told(do="commit")
-            session.close()
-
-        same("a commit that came already", inside(worker, 5, block=by_another), (3, receipt(0, 3, 2, 15)))
     server.kill()
+
+
+def life_of(worker, block=lambda: None):
+    """The section and the life of a block."""
+    with worker.inside("bank", [["add", 0, 5]]) as held:
+        block()
+    return held.section, held.life
+
+
+def try_lives():
+    """Each attachment is a life more of the worker, also that of a call whose connection broke in its block."""
+    server = serve()
+    with Worker(HOST, server.port, 0) as worker, Worker(HOST, server.port, 1) as other:
+        same("the first", life_of(worker), (0, 1))
+        same("in the same session", life_of(worker), (1, 1))
+        same("of another worker", life_of(other), (2, 1))
+        same("cut in the block", life_of(worker, lambda: cut_off(worker)), (3, 1))
+        same("behind it", life_of(worker), (4, 2))
+        same("cut twice", life_of(worker, lambda: (cut_off(worker), worker.close())), (5, 2))
+        same("behind that", life_of(worker), (6, 3))
+        worker.close()
+        same("after a close", life_of(worker), (7, 4))
+    server.kill()
+
+
+def try_inside_and_overtaken():
+    """Who was inside and comes back after another had the worker is told so, and changes nothing."""
+    server, commit = serve(), {"do": "commit"}
+
+    def overtaken(worker, *orders):
+        def goes_on():
+            worker.close()
+            by_another(server, *orders)
+
+        return raised(lambda: inside(worker, 5, block=goes_on), "number", "found", "receipt")
+
+    with Worker(HOST, server.port, 0) as worker:
+        same("another left it inside", overtaken(worker), ("Overtaken", 1, None, None))
+        same("so it is, for the same job", entered(worker, 5), (1, True, receipt(0, 1, 0, 5)))
+        same("another committed", overtaken(worker, commit), ("Overtaken", 2, None, None))
+        same("its number tells what became of it", inside(worker, 5, 2), receipt(0, 2, 1, 10))
+        same("another made one more", overtaken(worker, commit, job(4, 1)), ("Overtaken", 3, None, None))
+        same("that one is the last", worker.last(), receipt(0, 4, 3, 16))
+    check("the text says so", "another went on" in str(Overtaken(1, None)))
+    server.kill()
+
+
+def try_inside_of_an_older_server():
+    """A server that tells no life, and one that does not know `after`, which is not asked a second time without it."""
+    held = b'{"number":1,"ok":"enter","section":0,"stance":"held"}\n'
+    done = b'{"ok":"commit","receipt":' + text(**receipt(0, 1, 0, 5)) + b"}\n"
+    peer = answering(READY, held, done)
+    with Worker(HOST, peer.port, 0) as worker:
+        same("no life", life_of(worker), (0, None))
+    peer.close()
+    bad = b'{"code":1,"error":"BadLine"}\n'
+
+    def serve_one(peer, connection, lines, number):
+        for answer in (READY, b'{"life":1,' + held[1:]) if number == 0 else (bad,):
+            peer.hear(lines)
+            connection.sendall(answer)
+        peer.hear(lines)
+
+    peer = Peer(serve_one)
+    with Worker(HOST, peer.port, 0) as worker:
+        told = raised(lambda: inside(worker, 5, block=lambda: cut_off(worker)), "code")
+    same("no `after`", (told, peer.connections), (("Refused", 1), 2))
+    peer.close()
 
 
 def try_inside_and_raised():
@@ -283,6 +345,46 @@ def try_another(name, server, wanted, number, way=lambda: None):
         way()
         made = worker.finish()
         same(f"{name}: it counts as it was handed over", (made["number"], made["reply"]), (wanted[2], 5 * wanted[2]))
+
+
+def withdrawn_meanwhile(work):
+    """What a call of worker 1 answers that waits for worker 0 while the server is killed, and started again so that it
+    withdraws the jobs that wait."""
+    with tempfile.TemporaryDirectory() as folder:
+        path = os.path.join(folder, "bank.state")
+        server = kept.serve(path, "bank", workers=2)
+        port = server.port
+        enter = {"do": "enter", "lock": "bank", "number": 1, "script": [["add", 0, 5]]}
+        server.session().ask_all({"do": "attach", "worker": 0}, enter)
+        told = []
+        with Worker(HOST, port, 1) as worker:
+            thread = threading.Thread(target=lambda: told.append(work(worker)))
+            thread.start()
+            kept.until_waiting(server.session(), 1)
+            kept.kill(server)
+            server = kept.serve(path, port=port, waiting="withdraw")
+            owner = server.session()
+            owner.ask_all({"do": "attach", "worker": 0}, {"do": "commit"})
+            thread.join(30)
+        kept.kill(server)
+        return told
+
+
+def try_withdrawn_meanwhile():
+    told = withdrawn_meanwhile(lambda worker: worker.submit("bank", [["add", 0, 1]]))
+    same("a job that the server gave up is made under the next number", told, [receipt(1, 2, 1, 6)])
+    told = withdrawn_meanwhile(lambda worker: refusal_of(lambda: worker.submit("bank", [["add", 0, 1]], 1)))
+    same("one whose number the program gave is not", told, [{"ok": "submit", "withdrawn": True}])
+
+
+def try_inside_and_withdrawn_meanwhile():
+    def work(worker):
+        with worker.inside("bank", [["add", 0, 1]]) as held:
+            pass
+        return held.number, held.again, held.section, held.receipt
+
+    told = withdrawn_meanwhile(work)
+    same("its block is run under the next number", told, [(2, False, 1, receipt(1, 2, 1, 6))])
 
 
 def try_inside_and_withdrawn():
@@ -404,10 +506,12 @@ def try_written():
     server.kill()
 
 
-INSIDE = (try_inside, try_inside_and_cut, try_inside_and_raised, try_inside_and_raised_and_finished)
+INSIDE = (try_inside, try_inside_and_cut, try_lives, try_inside_and_overtaken, try_inside_of_an_older_server)
+INSIDE += (try_inside_and_raised, try_inside_and_raised_and_finished)
 INSIDE += (try_inside_and_pending, try_inside_and_another_is_pending, try_inside_and_withdrawn)
+INSIDE += (try_inside_and_withdrawn_meanwhile,)
 KILLED = (try_killed, try_killed_at_each_line, try_written)
-PLAIN = try_python, try_ready, try_waiting, try_pending, try_second_lock, try_64_bits, try_late
+PLAIN = try_python, try_ready, try_waiting, try_withdrawn_meanwhile, try_pending, try_second_lock, try_64_bits, try_late
 
 
 def part():

@@ -139,8 +139,10 @@ def try_overtaken():
     made = ("Overtaken", 1, 1, receipt(0, 1, 0, 5))
     same("one of the same lock and script, and a block", overtaken(block, "enter", same_job), made)
     same("none, and a block", overtaken(block, "enter"), (1, False, receipt(0, 1, 0, 5)))
-    same("one that goes on, and a block", overtaken(block, "commit", {"do": "commit"}), (1, False, receipt(0, 1, 0, 5)))
-    same("one more, and a block", overtaken(block, "commit", {"do": "commit"}, job(2, 1)), ("Overtaken", 1, 2, None))
+    in_a_block = "Overtaken", 1, None, None  # by the life of the worker, whatever the other did
+    same("none, and the end of a block", overtaken(block, "commit"), in_a_block)
+    same("one that goes on, and a block", overtaken(block, "commit", {"do": "commit"}), in_a_block)
+    same("one more, and a block", overtaken(block, "commit", {"do": "commit"}, job(2, 1)), in_a_block)
     told = overtaken(lambda worker: worker.finish(), "resume", {"do": "resume"}, job(2, 1), done=[enter(1, 5)])
     same("one more, behind one that is finished", told, ("Overtaken", 1, 2, None))
     told = overtaken(lambda worker: worker.submit("bank", [["add", 0, 5]], 1), "submit", job(1, 1), job(2, 1))
