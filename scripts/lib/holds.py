@@ -1,14 +1,16 @@
 """rme-hold, and the ways in which it has a worker: a server without a state, one with a state, and a file."""
 
 import os
+import socket
 import subprocess
 import sys
+import threading
 import time
 
 from lib.clients import serve as serve_without_state
 from lib.processes import has, shared
 from lib.programs import TOP
-from lib.servers import Server
+from lib.servers import HOST, Server
 
 HOLD = os.path.join(TOP, "clients", "hold")
 SHARED = os.path.join(TOP, "clients", "processes")
@@ -18,7 +20,7 @@ class Way:
     """Where the words of a lock `bank` and a lock `shop` lie, for four workers; `words` are those of rme-hold."""
 
     def __init__(self, name, folder):
-        self.name, self.folder, self.server = name, folder, None
+        self.name, self.folder, self.server, self.door = name, folder, None, None
         self.path = os.path.join(folder, f"{name}.words")
         if name == "file":
             shared().create(self.path, ["bank", "shop"], workers=4)
@@ -34,7 +36,7 @@ class Way:
 
     @property
     def words(self):
-        return ["--file", self.path] if self.name == "file" else ["--port", str(self.server.port)]
+        return ["--file", self.path] if self.name == "file" else ["--port", str((self.door or self.server).port)]
 
     def command(self, *words, worker=0):
         who = ["--any"] if worker is None else ["--worker", str(worker)]
@@ -52,6 +54,53 @@ class Way:
     def end(self):
         if self.server is not None:
             self.server.kill()
+
+
+class Door:
+    """Stands between clients and a server, and passes on all that they say, but for what it is told to break."""
+
+    def __init__(self, port):
+        self.server_port, self.is_shut, self.open, self.refused = port, False, [], 0
+        self.listener = socket.create_server((HOST, 0), backlog=64)
+        self.port = self.listener.getsockname()[1]
+        threading.Thread(target=self.accept, daemon=True).start()
+
+    def accept(self):
+        while True:
+            try:
+                client, _ = self.listener.accept()
+                if self.is_shut:
+                    self.refused += 1
+                    client.close()
+                    continue
+                inner = socket.create_connection((HOST, self.server_port))
+            except OSError:
+                return
+            self.open += [client, inner]
+            for way in (client, inner), (inner, client):
+                threading.Thread(target=self.pass_on, args=way, daemon=True).start()
+
+    @staticmethod
+    def pass_on(giver, taker):
+        try:
+            while held := giver.recv(4096):
+                taker.sendall(held)
+            taker.shutdown(socket.SHUT_RDWR)
+        except OSError:
+            pass
+
+    def cut(self):
+        """Breaks all connections."""
+        for each in self.open:
+            try:
+                each.shutdown(socket.SHUT_RDWR)
+            except OSError:
+                pass
+        self.open = []
+
+    def close(self):
+        self.listener.close()
+        self.cut()
 
 
 def environment():

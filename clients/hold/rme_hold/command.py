@@ -5,6 +5,7 @@ from __future__ import annotations
 import os
 import select
 import signal
+import socket
 import subprocess
 import sys
 import time
@@ -13,7 +14,7 @@ from typing import Any, Callable, Dict, List, Optional
 FORWARDED = signal.SIGTERM, signal.SIGHUP, signal.SIGQUIT, signal.SIGUSR1, signal.SIGUSR2, signal.SIGINT
 LOOK = 0.05
 """How often, in seconds, it is looked whether the worker is still had."""
-OVER = "over"
+OVER, AGAIN = b"over", b"again"
 
 
 class Command:
@@ -56,17 +57,22 @@ class Command:
         if self._has_group or number not in (signal.SIGINT, signal.SIGQUIT):
             send(self.pid, self.group, number)
 
-    def wait(self, is_there: Callable[[], bool]) -> Optional[int]:
-        """The status of the command, as a shell says it; `None` where the worker was lost, and the command ended."""
+    def wait(self, keep: Callable[[], None]) -> int:
+        """The status of the command, as a shell says it. Where `keep`, which is called again and again, raises, the worker was
+        lost: the command is ended."""
         while True:
             try:
                 status = self._child.wait(LOOK)
+                return 128 - status if status < 0 else status
             except subprocess.TimeoutExpired:
-                if is_there():
-                    continue
-                self.end()
-                return None
-            return 128 - status if status < 0 else status
+                self._keep(keep)
+
+    def _keep(self, keep: Callable[[], None]) -> None:
+        try:
+            keep()
+        except BaseException:
+            self.end()
+            raise
 
     def end(self) -> None:
         """Ends the command and its children at once: others may be inside from now on."""
@@ -86,46 +92,64 @@ def send(pid: int, group: Optional[int], number: int) -> None:
 
 class Guard:
     """A process that outlives rme-hold where that is killed: it keeps the connection for as long as the command's group lives,
-    and ends the group where the connection ends."""
+    and ends the group where the connection ends. It makes no connection itself."""
 
     def __init__(self, descriptor: int):
-        told, self._tells = os.pipe()
+        told, self._tells = socket.socketpair(socket.AF_UNIX, socket.SOCK_SEQPACKET)
         self._process = os.fork()
         if self._process == 0:
-            os.close(self._tells)
+            self._tells.close()
             try:
                 guard(told, descriptor)
             finally:
                 os._exit(0)
-        os.close(told)
+        told.close()
 
     def begins(self, pid: int, group: Optional[int]) -> None:
-        self._tell(f"{pid} {group or 0}")
+        self._tell(f"{pid} {group or 0}".encode())
+
+    def goes_on(self, descriptor: int) -> None:
+        """The worker is had by this connection from now on."""
+        self._tell(AGAIN, descriptor)
 
     def ends(self) -> None:
         """The command has ended, and is waited for no more."""
         self._tell(OVER)
-        os.close(self._tells)
+        self._tells.close()
         os.waitpid(self._process, 0)
 
-    def _tell(self, line: str) -> None:
+    def _tell(self, word: bytes, *descriptors: int) -> None:
         try:
-            os.write(self._tells, line.encode() + b"\n")
-        except BrokenPipeError:
+            socket.send_fds(self._tells, [word], descriptors)
+        except (BrokenPipeError, ConnectionResetError):
             pass  # the guard was killed: rme-hold sees the end of the connection too
 
 
-def guard(told: int, descriptor: int) -> None:
+def guard(told: socket.socket, descriptor: int) -> None:
     for number in (*FORWARDED, signal.SIGPIPE):
         signal.signal(number, signal.SIG_IGN)
     nothing = os.open(os.devnull, os.O_RDWR)
     for stream in range(3):
         os.dup2(nothing, stream)
-    with open(told, "rb") as pipe:
-        lines = pipe.read().decode().splitlines()
-    if len(lines) != 1 or lines == [OVER]:
-        return
-    pid, group = map(int, lines[0].split())
+    begun = ""
+    while True:
+        word, descriptors, _, _ = socket.recv_fds(told, 64, 1)
+        if not word:
+            break  # rme-hold has ended
+        if word == OVER:
+            return
+        if word != AGAIN:
+            begun = word.decode()
+        elif descriptors:
+            os.close(descriptor)
+            descriptor = descriptors[0]
+    if begun:
+        outlive(begun, descriptor)
+
+
+def outlive(begun: str, descriptor: int) -> None:
+    """Keeps the connection until the command has ended, and ends the command where the connection does."""
+    pid, group = map(int, begun.split())
     broken = select.poll()
     broken.register(descriptor, select.POLLIN | select.POLLHUP | select.POLLERR | select.POLLRDHUP)
     while is_alive(pid, group or None):

@@ -6,6 +6,7 @@ import os
 import signal
 from typing import TYPE_CHECKING, List, Optional
 
+from .command import Guard
 from .endings import LATER, NO_SERVER, SOFTWARE, WRONG_WORDS, Ended
 from .held import Deadline, Held
 from .words import Words
@@ -125,9 +126,8 @@ class FileWorker:
 
     # Inside
 
-    def is_there(self) -> bool:
+    def keep(self, guard: Optional[Guard]) -> None:
         """The claim lasts: no other process has the number."""
-        return True
 
     def commit(self, number: int) -> None:
         """Has the job counted, and leaves the lock."""

@@ -8,7 +8,7 @@ import sys
 from typing import Any, List, Optional, Sequence, Union
 
 from .command import Command, Guard
-from .endings import LATER, NO_COMMAND, Ended
+from .endings import NO_COMMAND, Ended
 from .file import FileWorker
 from .held import Deadline, Held
 from .server import ServerWorker
@@ -51,8 +51,6 @@ def hold(words: Words) -> int:
     try:
         held = worker.enter(Deadline(words.wait))
         status = run(words, worker, held)
-        if status is None:
-            raise Ended(LATER, f"the connection ended, and so the command; worker {held.worker} stays inside {words.lock}")
         if status == 0 or words.commits_failure:
             worker.commit(held.number)
         else:
@@ -62,12 +60,12 @@ def hold(words: Words) -> int:
         worker.close()
 
 
-def run(words: Words, worker: Union[ServerWorker, FileWorker], held: Held) -> Optional[int]:
-    """The status of the command, or `None` where the worker was lost meanwhile."""
+def run(words: Words, worker: Union[ServerWorker, FileWorker], held: Held) -> int:
+    """The status of the command. `Ended` where the worker was lost meanwhile, and so the command ended."""
     guard = Guard(held.descriptor) if words.file is None else None
     command: List[str] = words.command
     try:
-        return Command(command, held.environment(words.lock), held.descriptor, guard).wait(worker.is_there)
+        return Command(command, held.environment(words.lock), held.descriptor, guard).wait(lambda: worker.keep(guard))
     finally:
         if guard is not None:
             guard.ends()

@@ -8,22 +8,24 @@ import socket
 import time
 from typing import Any, Dict, List, Optional
 
+from .command import Guard
 from .endings import LATER, NO_SERVER, NOT_ALLOWED, SOFTWARE, WRONG_WORDS, Ended
 from .held import Deadline, Held
 from .words import Words
 
 Answer = Dict[str, Any]
 
-NO_WORKER, BUSY, DIFFERS, TAKEN = 6, 9, 17, 18
+NO_WORKER, BUSY, DIFFERS, TAKEN, OVERTAKEN = 6, 9, 17, 18, 26
 REFUSES_KEY = 25
 FOR_A_SERVER = 10.0
-"""For how many seconds a server that is not there is waited for at most."""
+"""For how many seconds a server that is not there is waited for at most, and a connection that broke is tried again."""
 MOST_WORKERS = 256
 """The most workers that a server has."""
 AN_ORDER_WAITS = 5.0
 """For how many seconds the server tries in one order."""
 FOR_ITS_END = 1.0
-"""For how many seconds the command of a session that was taken over is waited for, which ends when it is seen there."""
+"""For how many seconds the end of another session is waited for, and that of the command of one that was taken over, which
+ends when it is seen there."""
 AN_ANSWER_TAKES = 60.0
 """After how many further seconds a server that does not answer is taken for gone."""
 
@@ -35,10 +37,10 @@ class Gone(Exception):
 class Session:
     """A connection to the server, and the lines on it."""
 
-    def __init__(self, words: Words):
+    def __init__(self, words: Words, limit: float = AN_ANSWER_TAKES):
         self.connection = socket.socket(socket.AF_UNIX if words.socket is not None else socket.AF_INET)
         try:
-            self.connection.settimeout(AN_ANSWER_TAKES)
+            self.connection.settimeout(limit)
             self.connection.connect(words.socket if words.socket is not None else ("127.0.0.1", words.port))
         except BaseException:
             self.connection.close()
@@ -71,6 +73,18 @@ class Session:
         told.register(self.connection, select.POLLIN | select.POLLHUP | select.POLLERR | select.POLLRDHUP)
         return not told.poll(0)
 
+    def lasts(self) -> None:
+        """From now on an answer is waited for as usual."""
+        self.connection.settimeout(AN_ANSWER_TAKES)
+
+    def end(self) -> None:
+        """Ends the connection, also where other processes have its descriptor."""
+        try:
+            self.connection.shutdown(socket.SHUT_RDWR)
+        except OSError:
+            pass
+        self.close()
+
     def close(self) -> None:
         self.connection.close()
 
@@ -95,6 +109,8 @@ class ServerWorker:
         self._session: Optional[Session] = None
         self._worker, self._number, self._stance = 0, 0, ""
         self._own: Optional[int] = None  # the number of the job that was begun here
+        self._life: Optional[int] = None  # that of the worker which is inside; an older server tells none
+        self._until: Optional[Deadline] = None  # while a connection that broke is tried again: for how long
 
     # A worker
 
@@ -205,7 +221,7 @@ class ServerWorker:
             answer = self._asked_enter(deadline.left(AN_ORDER_WAITS))
             code = refused(answer)
             if answer.get("stance") == "held":
-                return self._held(not is_own and self._stance == "held", answer.get("section"))
+                return self._held(not is_own and self._stance == "held", answer)
             if code == DIFFERS and not is_own:
                 return self._other_job()
             if code is not None:
@@ -223,14 +239,15 @@ class ServerWorker:
         lock = told.get("lock")
         if self._stance == "held" and lock == self._words.lock:
             answer = self._asked(do="enter", lock=lock, number=self._number, script=told["script"])
-            return self._held(True, answer.get("section"))
+            return self._held(True, answer)
         of = "another lock or script" if lock is None else f"lock {lock}"
         raise Ended(LATER, f"worker {self._worker} has a pending job of {of}, number {self._number}")
 
-    def _held(self, again: bool, section: Optional[int]) -> Held:
+    def _held(self, again: bool, told: Answer) -> Held:
         assert self._session is not None
-        self._stance, self._own = "held", None
-        return Held(self._worker, self._number, section, again, self._session.connection.fileno())
+        self._stance, self._own, self._life = "held", None, told.get("life")
+        descriptor = self._session.connection.fileno()
+        return Held(self._worker, self._number, told.get("section"), again, descriptor, self._life)
 
     def _give_up(self) -> None:
         """Gives up a job that was begun here and waits, so that it holds nothing. One that is inside meanwhile stays so, as
@@ -240,22 +257,78 @@ class ServerWorker:
             return
         try:
             self._close()
-            if self._attach_one(self._worker, False) is None and self._number == own:
+            its_end = Deadline(FOR_ITS_END)
+            while self._attach_one(self._worker, False) is not None and not its_end.is_over():
+                its_end.pause()  # the server has not seen the end of the session yet
+            if self._number == own:
                 self._asked(do="withdraw")
         except (Gone, OSError, Ended):
             pass
 
     # Inside
 
-    def is_there(self) -> bool:
-        """Whether the session has not ended: while it lasts no other client has the worker."""
-        return self._session is not None and self._session.is_alive()
+    def keep(self, guard: Optional[Guard]) -> None:
+        """Returns while no other client can have had the worker: while the session lasts, and where it has ended while it is
+        tried to be had again, once in a call. `Ended` where another client had the worker, or no server was there in time."""
+        if self._session is not None and self._session.is_alive():
+            return
+        lost = f"the connection ended, and so the command; worker {self._worker} stays inside {self._words.lock}"
+        if self._life is None:
+            raise Ended(LATER, lost)
+        if self._until is None:
+            self._until = Deadline(FOR_A_SERVER)
+        if self._comes_back(self._until.left(FOR_A_SERVER)):
+            self._until = None
+            self._goes_on(guard)
+        elif self._until.is_over():
+            raise Ended(LATER, f"{lost}: no server was there for {FOR_A_SERVER:g} seconds")
+
+    def _goes_on(self, guard: Optional[Guard]) -> None:
+        """The command goes on, and keeps the session that has come in the place of the one that broke."""
+        if self._stance != "held":
+            raise self._overtaken("the server lost its state")
+        if guard is not None:
+            assert self._session is not None
+            guard.goes_on(self._session.connection.fileno())
+
+    def _comes_back(self, seconds: float) -> bool:
+        """Whether the worker was attached again, within these seconds. Only where nobody else has attached it since it was
+        inside; else `Ended`."""
+        self._end_session()
+        try:
+            self._session = Session(self._words, max(0.1, seconds))
+            answer = self._session.ask(do="attach", worker=self._worker, after=self._life)
+        except (Gone, OSError):
+            self._end_session()
+            return False
+        if refused(answer) in (TAKEN, BUSY):  # the server has not seen the end of the session yet
+            self._end_session()
+            return False
+        self._found(answer)
+        self._session.lasts()
+        return True
+
+    def _found(self, answer: Answer) -> None:
+        """Takes the answer to an attachment after the life that is known; `Ended` where the worker is not at its job."""
+        code = refused(answer)
+        if code == OVERTAKEN:
+            raise self._overtaken("the answer to this one was lost")
+        if code is not None:
+            raise Ended(LATER, f"worker {self._worker} is lost; the server refuses: {answer.get('error')}, {code}")
+        if answer["number"] != self._number:
+            raise self._overtaken("the server lost its state")
+        self._stance = answer["stance"]
+        assert self._life is not None
+        self._life += 1
+
+    def _overtaken(self, otherwise: str) -> Ended:
+        return Ended(LATER, f"another client went on with worker {self._worker}, or {otherwise}: see what is pending")
 
     def commit(self, number: int) -> None:
         """Has the job counted and leaves the lock. Where the answer is lost the worker is attached again, and tells."""
         deadline = Deadline(FOR_A_SERVER)
         while not self._is_counted(number):
-            self._close()
+            self._end_session()
             if deadline.is_over():
                 raise Ended(LATER, f"no answer says whether job {number} of worker {self._worker} counted")
             deadline.pause()
@@ -263,10 +336,10 @@ class ServerWorker:
     def _is_counted(self, number: int) -> bool:
         """Whether the job is known to have counted: it is committed where it has not."""
         try:
-            if self._session is None and self._attach_one(self._worker, False) is not None:
+            if self._session is None and not self._attached_again():
                 return False
             if self._number != number:
-                raise Ended(LATER, f"another client went on with worker {self._worker}")
+                raise self._overtaken("the server lost its state")
             if self._stance == "ready":
                 return True
             answer = self._asked(do="commit")
@@ -276,8 +349,19 @@ class ServerWorker:
             return True
         raise Ended(SOFTWARE, f"the job did not count: {json.dumps(answer)}")
 
+    def _attached_again(self) -> bool:
+        """Whether the worker was attached again: where an older server told no life, whoever had it meanwhile."""
+        if self._life is None:
+            return self._attach_one(self._worker, False) is None
+        return self._comes_back(FOR_A_SERVER)
+
     def close(self) -> None:
         self._close()
+
+    def _end_session(self) -> None:
+        session, self._session = self._session, None
+        if session is not None:
+            session.end()
 
     def _close(self) -> None:
         session, self._session = self._session, None

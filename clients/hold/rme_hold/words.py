@@ -18,11 +18,12 @@ rme-hold of that worker runs the command again: so it must bear that.
 """
 ENDINGS = """\
 The environment of COMMAND has RME_LOCK, RME_WORKER, RME_NUMBER, which is the number of the job, and RME_SECTION, a fencing
-token: how many sections of the lock were finished before. With --file it has RME_LIFE, how often the worker was restarted.
-RME_AGAIN=1 says that the worker was inside with this job before, so that COMMAND may be half done.
+token: how many sections of the lock were finished before. RME_LIFE says how often the worker was restarted. RME_AGAIN=1 says that
+the worker was inside with this job before, so that COMMAND may be half done.
 
 COMMAND and its children keep the worker for as long as they live, also where rme-hold itself is killed. Where the
-connection to the server ends meanwhile, rme-hold ends COMMAND: others may then go on with the worker.
+connection to the server ends meanwhile, rme-hold makes it again, and COMMAND goes on. Where another client had the worker
+in between, or no server is there for 10 seconds, it ends COMMAND, and itself with 75.
 
 The status is that of COMMAND, or 128 and the number of the signal that ended it. Of rme-hold itself: 64 wrong words,
 69 no server, 75 try again later, 77 not allowed, 127 no such command.

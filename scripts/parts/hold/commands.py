@@ -3,10 +3,11 @@
 import os
 import signal
 import socket
+import subprocess
 import time
 
 from lib.checks import check, main_in_folders, note, same
-from lib.holds import Way, until, ways
+from lib.holds import Door, Way, until, ways
 
 TOLD = 'echo "$RME_LOCK $RME_WORKER $RME_NUMBER $RME_SECTION${RME_AGAIN:+ again}"'
 TELLS = ["bank", "--", "sh", "-c", TOLD]
@@ -35,13 +36,15 @@ def try_runs(folder):
 
 
 def try_lives(folder):
-    """Of a file each run is a life more of its worker, also where its command is run again in the same section."""
-    if "file" not in ways():
-        return
-    way, tells = Way("file", folder), ["bank", "--", "sh", "-c", 'echo "$RME_SECTION $RME_LIFE"; exit $0']
-    for status, told in (0, "0 1\n"), (3, "1 2\n"), (4, "1 3\n"), (0, "1 4\n"):
-        same(f"file: section and life, with status {status}", way.hold(*tells, str(status))[:2], (status, told))
-    same("file: of another worker", way.hold(*tells, "0", worker=2)[:2], (0, "2 1\n"))
+    """Each run is a life more of its worker, also where its command is run again in the same section."""
+    tells = ["bank", "--", "sh", "-c", 'echo "$RME_SECTION $RME_LIFE"; exit $0']
+
+    def checks(name, way):
+        for status, told in (0, "0 1\n"), (3, "1 2\n"), (4, "1 3\n"), (0, "1 4\n"):
+            same(f"{name}: section and life, with status {status}", way.hold(*tells, str(status))[:2], (status, told))
+        same(f"{name}: of another worker", way.hold(*tells, "0", worker=2)[:2], (0, "2 1\n"))
+
+    each_way(folder, checks)
 
 
 def try_failures(folder):
@@ -149,16 +152,115 @@ def try_any(folder):
     each_way(folder, checks)
 
 
+def behind_door(name, folder):
+    """A way whose server's connections can be broken, and a command that runs until there is a file of this name."""
+    way = Way(name, folder)
+    way.door = Door(way.server.port)
+    path = os.path.join(folder, f"{name}.over")
+    first = way.begin("bank", "--", "sh", "-c", f"echo $$; until [ -e {path} ]; do sleep 0.02; done; echo over", stderr=subprocess.PIPE)
+    return way, first, int(first.stdout.readline()), path
+
+
+def is_cut(way):
+    """Whether the broken connection was made again."""
+    before = len(way.door.open)
+    way.door.cut()
+    return before > 0 and until(lambda: len(way.door.open) >= 2)
+
+
+def try_cut(folder):
+    """The connection breaks while a command runs, and comes back: the command goes on, and keeps its worker."""
+    for name in ("plain", "state"):
+        way, first, child, path = behind_door(name, folder)
+        for turn in range(3):
+            check(f"{name}: cut {turn + 1} times", is_cut(way))
+            time.sleep(0.3)  # it is attached again
+            same(f"{name}: nobody else comes in", way.hold("-n", *TELLS, worker=1)[0], 75)
+            same(f"{name}: nor its own worker", way.hold("-n", *TELLS)[0], 75)
+        check(f"{name}: the command goes on", is_alive(child))
+        end(path)
+        same(f"{name}: it ends well", (first.wait(20), first.stdout.read(), first.stderr.read()), (0, "over\n", ""))
+        same(f"{name}: it counted once", way.hold(*TELLS, worker=1)[:2], (0, "bank 1 4 1\n"))  # three were given up
+        way.end()
+
+
+def end(path):
+    """Has the command of `behind_door` end."""
+    with open(path, "x", encoding="utf-8"):
+        pass
+
+
+def try_cut_and_killed(folder):
+    """The connection that came in the place of one that broke lasts as long as the command too."""
+    for name in ("plain", "state"):
+        way, first, child, path = behind_door(name, folder)
+        check(f"{name}: cut", is_cut(way))
+        time.sleep(0.3)
+        first.kill()
+        first.wait()
+        same(f"{name}: rme-hold is killed, and its command has the worker", way.hold("-n", *TELLS)[0], 75)
+        check(f"{name}: it goes on", is_alive(child))
+        end(path)
+        same(f"{name}: the next one", way.hold(*TELLS)[:2], (0, "bank 0 1 0 again\n"))
+        os.remove(path)
+        first = way.begin("bank", "--", "sh", "-c", "echo $$; sleep 60")
+        child = int(first.stdout.readline())
+        check(f"{name}: cut once more", is_cut(way))
+        time.sleep(0.3)
+        first.kill()
+        first.wait()
+        way.door.cut()
+        check(f"{name}: with nobody to make it again its end is that of the command", until(lambda: not is_alive(child)))
+        way.end()
+
+
+def try_overtaken(folder):
+    """Another client has the worker before the connection is made again: the command is ended, and what is pending stays."""
+    for name in ("plain", "state"):
+        way, first, child, _ = behind_door(name, folder)
+        way.door.is_shut = True
+        way.door.cut()
+        check(f"{name}: it tries", until(lambda: way.door.refused > 1))
+        session = way.server.session()
+        check(f"{name}: another attaches it", until(lambda: "code" not in session.told(do="attach", worker=0)))
+        session.hang_up()
+        way.door.is_shut = False
+        same(f"{name}: it is ended", (first.wait(20), until(lambda: not is_alive(child))), (75, True))
+        told = first.stderr.read()
+        check(f"{name}: it is said", "another client went on with worker 0" in told, told)
+        same(f"{name}: its job is pending", way.hold(*TELLS)[:2], (0, "bank 0 1 0 again\n"))
+        way.end()
+
+
+def try_started_again(folder):
+    """The server is killed while a command runs, and started again: the command goes on where there is a state."""
+    for name in ("plain", "state"):
+        way = Way(name, folder)
+        first = way.begin("bank", "--", "sh", "-c", "echo $$; sleep 3; echo over")
+        child = int(first.stdout.readline())
+        port = way.server.port
+        way.server.program.kill()
+        way.server.program.wait()
+        way.start(port)
+        told = first.wait(20), first.stdout.read()
+        same(f"{name}: a server that is started again", told, (0, "over\n") if name == "state" else (75, ""))
+        check(f"{name}: the command is over", until(lambda: not is_alive(child)))
+        same(f"{name}: it counted, or was lost", way.hold(*TELLS)[:2], (0, f"bank 0 {(2, 1)[name == 'plain']} {(1, 0)[name == 'plain']}\n"))
+        way.end()
+
+
 def try_broken(folder):
-    """The server ends while a command runs: the command is ended too. The next one goes on with its job, where there is a
-    state."""
+    """The server ends while a command runs, and does not come back: the command is ended too. The next one goes on with its
+    job, where there is a state."""
     for name in ("plain", "state"):
         way = Way(name, folder)
         first = way.begin("bank", "--", "sh", "-c", "echo $$; sleep 60")
         child = int(first.stdout.readline())
         port = way.server.port
         way.server.program.kill()
-        same(f"{name}: the server ends", (first.wait(20), until(lambda: not is_alive(child))), (75, True))
+        began = time.monotonic()
+        same(f"{name}: the server ends", (first.wait(30), until(lambda: not is_alive(child))), (75, True))
+        check(f"{name}: it was waited for", time.monotonic() - began > 9)
         same(f"{name}: no server", way.hold("-n", *TELLS)[0], 69)
         way.start(port)
         wanted = "bank 0 1 0 again\n" if name == "state" else "bank 0 1 0\n"
@@ -205,5 +307,9 @@ def try_wrong(folder):
         note("no C compiler: files are left out")
 
 
+WHOLE = try_runs, try_lives, try_failures, try_waits, try_kills, try_any, try_wrong
+BROKEN = try_cut, try_cut_and_killed, try_overtaken, try_started_again, try_broken
+
+
 def part():
-    main_in_folders(try_runs, try_lives, try_failures, try_waits, try_kills, try_any, try_broken, try_wrong, minutes=5)
+    main_in_folders(*WHOLE, *BROKEN, minutes=8)

@@ -1,7 +1,7 @@
 """storm [SECONDS] [SEED]: wrappers for few workers, started again and again, and killed, they or their commands.
 
 At no moment are two commands of one lock at work: each takes a lock of the kernel on a file, which ends with it. Each section
-that counted is one whose command came to its end. Of a file the pairs of section and life rise, from one end to the next.
+that counted is one whose command came to its end. The pairs of section and life rise, from one end to the next.
 """
 
 import os
@@ -116,20 +116,19 @@ def try_storm(name, seconds, seed):
         told = f"{sections} sections, killed {storm.kills}, ended {storm.ended}"
         wrong = lines_of(storm.notes + ".wrong")
         check(f"{name}, seed {seed}: no two commands were at work: {told}", not wrong, len(wrong))
-        if name == "file":
-            rise([(int(line.split()[0]), int(line.split()[3])) for line in lines_of(storm.notes + ".over")])
+        rise(name, [(int(line.split()[0]), int(line.split()[3])) for line in lines_of(storm.notes + ".over")])
         missing = [it for it in range(sections) if it not in over]
         check(f"{name}: each section that counted was worked to its end", not missing, missing[:9])
         if seconds >= 5:
             check(f"{name}: there was enough of it", sections > 10 and storm.is_enough(), told)
 
 
-def rise(pairs):
+def rise(name, pairs):
     """Each is greater than the one before: a resource that keeps the greatest refuses none of them."""
     both = list(zip(pairs, pairs[1:]))
     again = sum(one[0] == other[0] for one, other in both)
     wrong = [it for it in both if it[0] >= it[1]]
-    check(f"file: {len(pairs)} pairs of section and life rise, {again} in the section of the one before", not wrong, wrong[:9])
+    check(f"{name}: {len(pairs)} pairs of section and life rise, {again} in the section of the one before", not wrong, wrong[:9])
 
 
 def part():
