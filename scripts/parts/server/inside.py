@@ -58,7 +58,7 @@ class Rival:
             wanted = {"code": 22, "error": "NotInside"}, {"number": self.number, "ok": "withdraw"}
             return False if gone == wanted else gone
         section = told.pop("section", None)
-        is_held = told == {"number": self.number, "ok": "enter", "stance": "held"}
+        is_held = told == {"life": 1, "number": self.number, "ok": "enter", "stance": "held"}
         return True if is_held and self.commits(section) else (section, told)
 
 
@@ -217,7 +217,7 @@ def try_hostile():
         "none": {"code": 19, "error": "NotAttached"},
         "ready": {"last": None, "ok": "last"},
         "climb": ({"code": 9, "error": "Busy"}, {"ok": "enter", "waiting": True}),
-        "held": ({"code": 9, "error": "Busy"}, {"number": 1, "ok": "enter", "section": 0, "stance": "held"}),
+        "held": ({"code": 9, "error": "Busy"}, {"life": 1, "number": 1, "ok": "enter", "section": 0, "stance": "held"}),
     }
     orders = list(hostile())
     for stance, standing_there in wanted.items():

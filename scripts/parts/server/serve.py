@@ -561,7 +561,7 @@ def enter(amount, **more):
     return {"do": "enter", "lock": "bank", "number": 1, "script": [["add", 0, amount]], **more}
 
 
-HELD = b'{"number":1,"ok":"enter","section":0,"stance":"held"}'
+HELD = b'{"life":1,"number":1,"ok":"enter","section":0,"stance":"held"}'
 STILL_HELD = {"number": 1, "ok": "attach", "stance": "held"}
 WAITS = b'{"ok":"enter","waiting":true}'
 NOT_INSIDE = b'{"code":22,"error":"NotInside"}'

@@ -23,7 +23,7 @@ from lib.servers import HOST, RESET, line_of, reset
 
 CLIENTS = os.path.join(TOP, "clients", "python")
 sys.path.insert(0, CLIENTS)
-from rme_client import Worker  # noqa: E402
+from rme_client import Done, Overtaken, Worker  # noqa: E402
 
 MOST_CONNECTIONS = 1000
 SEED = int(sys.argv[1]) if len(sys.argv) > 1 else random.randrange(10**6)
@@ -138,7 +138,20 @@ class Proxy:
 
 def enter(worker, lock, script, inside):
     """The receipt of a job in whose lock nobody else may be: `inside` has who is, by lock."""
-    with worker.inside(lock, script) as held:
+    number = None
+    while True:
+        try:
+            return entered(worker, lock, script, number, inside)
+        except Done as done:
+            return done.receipt
+        except Overtaken as overtaken:  # the answer to its own coming back was lost
+            if overtaken.found is not None:
+                raise
+            number = overtaken.number
+
+
+def entered(worker, lock, script, number, inside):
+    with worker.inside(lock, script, number) as held:
         others = inside.setdefault(lock, worker.worker)
         if others != worker.worker:
             fail("alone inside", f"{worker.worker} beside {others}")

@@ -90,7 +90,8 @@ class Talk:
         numbers = self.numbers
         do = numbers.choices(*zip(*{**self.OFTEN, "last": 1, "detach": 1, "none": 1}.items()))[0]
         if do == "attach" or (client not in self.next and numbers.random() < 0.8):
-            return attach(numbers.randrange(4))  # there are three
+            asked = attach(numbers.randrange(4))  # there are three
+            return {**asked, "after": numbers.randrange(60)} if numbers.random() < 0.2 else asked
         if do in ("submit", "enter"):
             return {**self.job(client), "do": do, "tries": numbers.randrange(1, 4)}
         if do == "resume":

@@ -59,7 +59,7 @@ def try_first(folder):
     same("a job", told, [stands("ready", 0), text(ok="submit", receipt=made), text(last=made, ok="last")])
     told = [one.ask(job("enter", "shop", 2, ["add", 1, 7]))]
     told += two.ask_all(attach(1), job("enter", "shop", 1, *ONE, tries=3))
-    wanted = [text(number=2, ok="enter", section=0, stance="held"), stands("ready", 0), text(ok="enter", waiting=True)]
+    wanted = [text(life=1, number=2, ok="enter", section=0, stance="held"), stands("ready", 0), text(ok="enter", waiting=True)]
     same("one is inside and one waits", told, wanted)
     locks = [lock_status("bank", [5, 9], sections=1), lock_status("shop", [0, 0], owner=0, settled=False)]
     begun = []
@@ -237,7 +237,7 @@ def try_waiting(folder):
     time.sleep(0.3)  # its pauses grow
     began = time.monotonic()
     one.ask(COMMIT)
-    same("it has the lock once that is left", two.hear(), b'{"number":1,"ok":"enter","section":1,"stance":"held"}\n')
+    same("it has the lock once that is left", two.hear(), b'{"life":1,"number":1,"ok":"enter","section":1,"stance":"held"}\n')
     took = time.monotonic() - began
     check("and at once", took < 1, took)
     one.send(line_of(**job("enter", "bank", 2, *ONE, wait=60_000)))

@@ -270,6 +270,7 @@ def try_stances(folder):
 def after_stances(name, all_of_them):
     """Each worker goes on from where it was."""
     server, sessions = all_of_them.server, all_of_them.sessions
+    life = 1 if name == "served on" else 2  # a renewal is none of those who are attached
     if name == "killed":
         kill(server)
         server = serve(all_of_them.path, sections=7)
@@ -279,7 +280,7 @@ def after_stances(name, all_of_them):
         sessions[2].send(line_of(**job("enter", "bank", 1, *ONE, wait=3_600_000)))
     told = sessions[1].ask_all(*(job("enter", "bank", 2, *script) for script in (ONE, [["add", 1, 1]])), WITHDRAW)
     refusals = text(code=17, error="Differs"), text(code=21, error="NotWaiting")
-    same(f"{name}: the job of who is inside", told, [text(number=2, ok="enter", section=1, stance="held"), *refusals])
+    same(f"{name}: the job of who is inside", told, [text(life=life, number=2, ok="enter", section=1, stance="held"), *refusals])
     made = receipt(1, 2, "bank", 1, 5)
     same(f"{name}: it commits", sessions[1].ask(COMMIT), text(ok="commit", receipt=made))
     five = server.session()
@@ -287,7 +288,7 @@ def after_stances(name, all_of_them):
     five.send(line_of(**RESUME, wait=60_000))
     held = json.loads(sessions[2].hear())
     section = held.pop("section")
-    same(f"{name}: who waits has the lock", held, {"number": 1, "ok": "enter", "stance": "held"})
+    same(f"{name}: who waits has the lock", held, {"life": life, "number": 1, "ok": "enter", "stance": "held"})
     told = [sessions[2].told(**COMMIT)["receipt"], json.loads(five.hear())["receipt"]]
     same(f"{name}: the section is the place of its receipt", told[0]["place"], section)
     places = sorted(((it["place"], it["reply"]) for it in told))
@@ -409,7 +410,7 @@ def try_large(folder):
         wrong += [(number, told)] * (told != [*[text(ok="submit", receipt=last)] * 2, *refused])
     check("numbers and places go on over 2^32", not wrong and number > 2**32, wrong[:2])
     told = other.ask_all(attach(1), job("enter", "bank", 2**52 + 1, *ONE), COMMIT, DETACH)
-    inside = text(number=2**52 + 1, ok="enter", section=place, stance="held")
+    inside = text(life=1, number=2**52 + 1, ok="enter", section=place, stance="held")
     ended = text(ok="commit", receipt=receipt(1, 2**52 + 1, "bank", place, reply + 1))
     same("and over 2^52", told, [stands("ready", 2**52), inside, ended, text(ok="detach")])
     locks = [lock_status("bank", [reply + 1], sections=place + 1)]
@@ -464,6 +465,9 @@ def try_lives(folder):
     busy = Busy(server, 2, "a", made=busy.made)
     same("it is renewed again", busy.renew(path), [])
     same("they go on", lives_of(whole_lines(read(path))[0]), [4, 1, 2])
+    told = server.session().ask_all(*({**attach(1), "after": life} for life in (0, 1)), job("enter", "a", 1, *ONE), COMMIT)
+    found = told[:2], json.loads(told[2]).get("life")
+    same("and sessions are told them", found, ([text(code=26, error="Overtaken"), stands("ready", 0)], 2))
     is_run("lives", path)
     kill(server)
 
