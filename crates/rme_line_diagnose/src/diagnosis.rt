@@ -108,6 +108,7 @@ fn is_known(keys: &[Key], name: &str) -> bool {
 fn is_of_key_kind(kind: KeyKind, value: &Value<'_>) -> bool {
     match kind {
         KeyKind::Text => value.as_str().is_some(),
+        KeyKind::ShortText(most) => value.as_str().is_some_and(|text| text.len() <= most),
         KeyKind::Flag => value.as_bool().is_some(),
         KeyKind::Number(least, most) => match whole_up_to(most, value) {
             Some(number) => number >= least,

@@ -17,6 +17,8 @@ pub enum Vocabulary {
 #[derive(Clone, Copy)]
 pub enum KeyKind {
     Text,
+    /// A text of at most this number of bytes.
+    ShortText(usize),
     Flag,
     /// A whole number from the first to the second.
     Number(u64, u64),
@@ -130,6 +132,13 @@ const AFTER: Key = Key {
     is_optional: true,
 };
 
+/// The label of a client.
+const AS: Key = Key {
+    name: "as",
+    kind: KeyKind::ShortText(64),
+    is_optional: true,
+};
+
 const ANY: Key = Key {
     name: "any",
     kind: KeyKind::Choice,
@@ -143,7 +152,7 @@ const STEPS: Key = Key {
 };
 
 /// The keys of an attachment that leaves the choice of the worker to the server.
-pub const CHOICE_KEYS: &[Key] = &[ANY];
+pub const CHOICE_KEYS: &[Key] = &[ANY, AS];
 
 /// The keys of a word, or `None` if it is no word of this vocabulary.
 pub fn keys_of(vocabulary: Vocabulary, word: &str) -> Option<&'static [Key]> {
@@ -169,7 +178,7 @@ fn command_keys(word: &str) -> Option<&'static [Key]> {
 
 fn order_keys(word: &str) -> Option<&'static [Key]> {
     match word {
-        "attach" => Some(&[WORKER, TAKE, AFTER]),
+        "attach" => Some(&[WORKER, TAKE, AFTER, AS]),
         "submit" | "enter" => Some(&[NUMBER_OF_JOB, LOCK, SCRIPT, TRIES, WAIT]),
         "resume" => Some(&[TRIES, WAIT]),
         "crash_after" => Some(&[STEPS]),
@@ -182,6 +191,7 @@ impl fmt::Display for KeyKind {
     fn fmt<W: fmt::Write>(&self, f: &mut fmt::Formatter<W>) -> fmt::Result {
         match self {
             KeyKind::Text => f.write_str("a text"),
+            KeyKind::ShortText(most) => write!(f, "a text of at most {most} bytes"),
             KeyKind::Flag => f.write_str("true or false"),
             KeyKind::Number(least, most) => write!(f, "a whole number from {least} to {most}"),
             KeyKind::Note => f.write_str(

@@ -1,6 +1,7 @@
--- In reading order: the patience of an order, the order of a line, its reading token by token, the client's replies,
--- the texts of the answers, and a worker that the server chooses; then the effect of an order.
+-- In reading order: the patience of an order, the label of a client, the order of a line, its reading token by token,
+-- the client's replies, the texts of the answers, and a worker that the server chooses; then the effect of an order.
 pub mod Patience
+pub mod ClientLabels
 pub mod Orders
 pub mod Tokens
 pub mod ClientReplies

@@ -2,7 +2,8 @@
 use Rattle.std.specs.Prelude.{ℕ, Bool, false, ◌+◌, ◌==◌, ◌&&◌, nat_le, List, bytes_eq, codes, if◌then◌else◌, Option, Some, None, option_map, option_and_then}
 use Rattle.serde_json.specs.Data.{Data}
 use Rattle.serde_json.specs.Events.{members_len}
-use Rattle.serde_json.specs.Find.{as_bool, as_object, get}
+use Rattle.serde_json.specs.Find.{as_bool, as_object, as_str, get}
+use Rattle.rme_session_protocol.specs.ClientLabels.{client_label}
 use Rattle.rme_session_protocol.specs.declared.order.Order.{Order}
 use Rattle.rme_session_protocol.specs.declared.order.Order.TheVariants.{Attach, Submit, Resume, Enter, Commit, Withdraw, Last, CrashAfter, Detach, Ping, Pending}
 use Rattle.rme_session_protocol.specs.declared.order.Patience.{Patience}
@@ -36,16 +37,26 @@ after_or_not (Some d) = option_map Some (whole_up_to service_numbers d)
 unfoldable pub after_of : Data → Option (Option ℕ)
 after_of d = after_or_not (get (codes "after") d)
 
+-- the member `as`, a label of the client; no label if absent
+abbrev pub as_or_not : Option Data → Option (Option (List ℕ))
+as_or_not None = Some None
+as_or_not (Some d) = option_map Some (option_and_then client_label (as_str d))
+
+unfoldable pub as_of : Data → Option (Option (List ℕ))
+as_of d = as_or_not (get (codes "as") d)
+
 -- the number of them that are present
 unfoldable pub attach_keys : Data → ℕ
-attach_keys d = member_count (get (codes "after") d) + member_count (get (codes "take") d)
+attach_keys d =
+    member_count (get (codes "as") d) + (member_count (get (codes "after") d) + member_count (get (codes "take") d))
 
--- `{"after":..,"do":"attach","take":..,"worker":..}`; `after` and `take` may be absent
+-- `{"after":..,"as":..,"do":"attach","take":..,"worker":..}`; `after`, `as` and `take` may be absent
 unfoldable pub attach_of : ℕ → Data → Option Order
 attach_of count d =
-    option_and_then (λ worker. option_and_then (λ take. option_and_then (λ after.
-    if count == 2 + attach_keys d then Some (Attach record { worker = worker; take = take; after = after }) else
-    None) (after_of d)) (take_of d)) (worker_member d)
+    option_and_then (λ worker. option_and_then (λ take. option_and_then (λ after. option_and_then (λ label.
+    if count == 2 + attach_keys d
+    then Some (Attach record { worker = worker; take = take; after = after; label = label }) else None)
+    (as_of d)) (after_of d)) (take_of d)) (worker_member d)
 
 -- 1 to 1,000,000
 unfoldable pub tries_of : Data → Option ℕ

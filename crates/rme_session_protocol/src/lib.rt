@@ -13,6 +13,7 @@
 #![tactic(auto)]
 
 mod attempts;
+mod client_label;
 mod client_reply;
 mod fast_path;
 mod order;
@@ -27,6 +28,7 @@ pub use attempts::{
     is_client_waiting, is_still_waiting, merge_client_replies, merge_replies, order_patience,
     retry_order, with_tries,
 };
+pub use client_label::ClientLabel;
 pub use client_reply::{ClientOutcome, ClientPendingJob, ClientReply, ClientToken};
 pub use order::{
     Attachment, Order, Patience, SERVICE_NUMBERS, Submission, WORLD_NUMBERS, parse_order,
@@ -37,4 +39,4 @@ pub use reply::{
     FencingToken, JobOutcome, PendingJob, SessionReply, SessionStance, push_session_reply,
 };
 pub use view::{PendingWorker, ReadyWorker, Session, SessionView};
-pub use worker_choice::{WorkerChoice, parse_worker_choice, push_choice_reply};
+pub use worker_choice::{ChoiceRequest, WorkerChoice, parse_worker_choice, push_choice_reply};

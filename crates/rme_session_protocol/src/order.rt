@@ -4,6 +4,7 @@ ghost use Rattle.std.specs.Prelude.{◌≡◌, ◌≤◌, IfOk, option_map, opti
 ghost use Rattle.rme_line_json.specs.View.{value_view};
 ghost use Rattle.rme_session_protocol.specs.Orders as spec;
 
+use crate::client_label::ClientLabel;
 use crate::fast_path::parse_order_fast;
 use rme_script::Job;
 use rme_wire::{
@@ -73,6 +74,8 @@ pub struct Attachment {
     pub take: bool,
     /// The life after which the worker may not have been restarted: at most `SERVICE_NUMBERS`.
     pub after: Option<u64>,
+    /// The label of the client, by which `status` tells whose session has the worker. It changes nothing of the order.
+    pub label: Option<ClientLabel>,
 }
 
 /// An order of a session's line.
@@ -177,6 +180,7 @@ fn attach_of(count: usize, value: &Value<'_>) -> Option<Order>
     let worker = worker_member(value)?;
     let take = take_of(value)?;
     let after = after_of(value)?;
+    let label = as_of(value)?;
     if count != 2 + attach_keys(value) {
         return None;
     }
@@ -184,6 +188,7 @@ fn attach_of(count: usize, value: &Value<'_>) -> Option<Order>
         worker,
         take,
         after,
+        label,
     }))
 }
 
@@ -209,13 +214,26 @@ fn after_of(value: &Value<'_>) -> Option<Option<u64>>
     }
 }
 
+/// The label of the client, if the member is present: a text of at most 64 bytes.
+#[tactic(auto, unfolding(crate::specs::Orders::as_of))]
+pub(crate) fn as_of(value: &Value<'_>) -> Option<Option<ClientLabel>>
+    ensures { result ≡ spec.as_of (value_view value.now) }
+{
+    match value.get("as") {
+        None => Some(None),
+        Some(given) => Some(Some(ClientLabel::of(given.as_str()?)?)),
+    }
+}
+
 /// The number of a value's members that an attachment may have or not.
 #[tactic(auto, unfolding(crate::specs::Orders::attach_keys))]
 fn attach_keys(value: &Value<'_>) -> usize
     ensures keys { result ≡ spec.attach_keys (value_view value.now) }
-    ensures few { result ≤ 2 }
+    ensures few { result ≤ 3 }
 {
-    usize::from(value.get("after").is_some()) + usize::from(value.get("take").is_some())
+    let life_and_take = usize::from(value.get("after").is_some())
+        + usize::from(value.get("take").is_some());
+    usize::from(value.get("as").is_some()) + life_and_take
 }
 
 /// The number of tries: 1 to 1,000,000.

@@ -5,7 +5,9 @@ ghost use Rattle.rme_line_json.specs.View.{value_view};
 ghost use Rattle.rme_session_protocol.specs.ClientReplies.{reply_of_client};
 ghost use Rattle.rme_session_protocol.specs.WorkerChoices as spec;
 
+use crate::client_label::ClientLabel;
 use crate::client_reply::ClientReply;
+use crate::order::as_of;
 use crate::reply::{SessionStance, push_session_reply};
 use rme_wire::{Names, Value, ValueReader, ValueStorage, do_member};
 use rme_words::NoMemory;
@@ -35,13 +37,21 @@ impl WorkerChoice {
     }
 }
 
+/// A request for a worker of the server's choice.
+#[derive(Clone, Copy, PartialEq, Eq)]
+pub struct ChoiceRequest {
+    pub choice: WorkerChoice,
+    /// The label of the client, as an attachment may have it.
+    pub label: Option<ClientLabel>,
+}
+
 /// The choice that a line leaves to the server, or `None` if it is no such line. `NoMemory` if memory for the line's
 /// value was refused.
 #[tactic(auto, unfolding(crate::specs::WorkerChoices::choice_of_bytes))]
 pub fn parse_worker_choice(
     values: &mut ValueReader,
     line: &[u8],
-) -> Result<Option<WorkerChoice>, NoMemory>
+) -> Result<Option<ChoiceRequest>, NoMemory>
     ensures { IfOk result (λ choice. choice ≡ spec.choice_of_bytes line.now) }
 {
     let mut room = ValueStorage::new();
@@ -52,7 +62,7 @@ pub fn parse_worker_choice(
 }
 
 #[tactic(auto, unfolding(crate::specs::WorkerChoices::choice_of_value))]
-fn choice_of_value(value: &Value<'_>) -> Option<WorkerChoice>
+fn choice_of_value(value: &Value<'_>) -> Option<ChoiceRequest>
     ensures { result ≡ spec.choice_of_value (value_view value.now) }
 {
     let count = value.key_count()?;
@@ -62,13 +72,15 @@ fn choice_of_value(value: &Value<'_>) -> Option<WorkerChoice>
 
 /// The choice of a value whose member `do` is this word and that has this number of members.
 #[tactic(auto, unfolding(crate::specs::WorkerChoices::choice_named))]
-fn choice_named(word: &str, count: usize, value: &Value<'_>) -> Option<WorkerChoice>
+fn choice_named(word: &str, count: usize, value: &Value<'_>) -> Option<ChoiceRequest>
     ensures { result ≡ spec.choice_named word.now count (value_view value.now) }
 {
-    if word != "attach" || count != 2 {
+    let label = as_of(value)?;
+    if word != "attach" || count != 2 + usize::from(value.get("as").is_some()) {
         return None;
     }
-    choice_of_word(value.get("any")?.as_str()?)
+    let choice = choice_of_word(value.get("any")?.as_str()?)?;
+    Some(ChoiceRequest { choice, label })
 }
 
 fn choice_of_word(word: &str) -> Option<WorkerChoice>

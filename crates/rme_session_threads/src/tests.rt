@@ -24,6 +24,7 @@ fn attach(after: Option<u64>) -> Order {
         worker: 0,
         take: false,
         after,
+        label: None,
     })
 }
 

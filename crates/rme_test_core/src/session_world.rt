@@ -43,6 +43,7 @@ fn attach(worker: u32) -> Order {
         worker,
         take: false,
         after: None,
+        label: None,
     })
 }
 

@@ -3,8 +3,8 @@
 use crate::texts::lock_names;
 use rme_script::{Job, Op, Script};
 use rme_session_protocol::{
-    Attachment, Order, Patience, SERVICE_NUMBERS, Submission, WORLD_NUMBERS, WorkerChoice,
-    parse_order, parse_worker_choice,
+    Attachment, ChoiceRequest, ClientLabel, Order, Patience, SERVICE_NUMBERS, Submission,
+    WORLD_NUMBERS, WorkerChoice, parse_order, parse_worker_choice,
 };
 use rme_wire::{Names, ValueReader};
 use rme_words::NoMemory;
@@ -40,6 +40,7 @@ fn attach(worker: u32, take: bool) -> Order {
         worker,
         take,
         after: None,
+        label: None,
     })
 }
 
@@ -48,6 +49,16 @@ fn attach_after(worker: u32, take: bool, after: u64) -> Order {
         worker,
         take,
         after: Some(after),
+        label: None,
+    })
+}
+
+fn attach_as(worker: u32, take: bool, after: Option<u64>, label: &str) -> Order {
+    Order::Attach(Attachment {
+        worker,
+        take,
+        after,
+        label: ClientLabel::of(label),
     })
 }
 
@@ -114,6 +125,41 @@ fn lines_after() -> [OrderLine; 4] {
     ]
 }
 
+/// 64 bytes, of 64 characters and of 32.
+const LONGEST: &str = "0123456789abcdef0123456789abcdef0123456789abcdef0123456789abcdef";
+
+const LONGEST_OF_TWO_BYTES: &str = "äöüßäöüßäöüßäöüßäöüßäöüßäöüßäöüß";
+
+/// Attachments with the label of a client, which has at most 64 bytes and may be empty.
+fn lines_as() -> [OrderLine; 6] {
+    [
+        (
+            r#"{"as":"host7:cron","do":"attach","worker":0}"#,
+            attach_as(0, false, None, "host7:cron"),
+        ),
+        (
+            r#"{"after":3,"as":"host7:cron","do":"attach","take":true,"worker":2}"#,
+            attach_as(2, true, Some(3), "host7:cron"),
+        ),
+        (
+            r#"{"do":"attach","worker":0,"as":""}"#,
+            attach_as(0, false, None, ""),
+        ),
+        (
+            r#"{"as":"\u0022\n","do":"attach","worker":0}"#,
+            attach_as(0, false, None, "\"\n"),
+        ),
+        (
+            r#"{"as":"0123456789abcdef0123456789abcdef0123456789abcdef0123456789abcdef","do":"attach","worker":1}"#,
+            attach_as(1, false, None, LONGEST),
+        ),
+        (
+            r#"{"as":"äöüßäöüßäöüßäöüßäöüßäöüßäöüßäöüß","do":"attach","worker":1}"#,
+            attach_as(1, false, None, LONGEST_OF_TWO_BYTES),
+        ),
+    ]
+}
+
 /// Numbers at their limits. An order without a number of tries asks for 1,000.
 fn numbered_lines() -> [OrderLine; 6] {
     [
@@ -159,8 +205,31 @@ fn orders(rt: HostRuntime) -> Result<(), Fail> {
     let names = lock_names(&rt, rt.alloc());
     check_orders(&rt, rt.alloc(), &names, &plain_lines())?;
     check_orders(&rt, rt.alloc(), &names, &lines_after())?;
+    check_orders(&rt, rt.alloc(), &names, &lines_as())?;
     check_orders(&rt, rt.alloc(), &names, &numbered_lines())?;
     Ok(())
+}
+
+/// Texts of which labels are made.
+const LABELS: [&str; 4] = ["", "host7:cron", LONGEST, LONGEST_OF_TWO_BYTES];
+
+/// Whether a label is made of this text, and has it.
+fn has_label(text: &str) -> bool {
+    match ClientLabel::of(text) {
+        Some(label) => label.as_str() == text,
+        None => false,
+    }
+}
+
+/// A label has the text of which it was made, and a text of 65 bytes makes none.
+#[test]
+fn labels(rt: HostRuntime) {
+    for text in &LABELS {
+        assert!(rt; has_label(text));
+    }
+    let longer = "0123456789abcdef0123456789abcdef0123456789abcdef0123456789abcdefg";
+    assert!(rt; ClientLabel::of(longer).is_none());
+    assert!(rt; ClientLabel::of("a") != ClientLabel::of("a\0"));
 }
 
 /// The line of `enter` has the form of that of `submit`.
@@ -184,7 +253,7 @@ fn check_entering(rt: &impl Abort, alloc: Global, names: &Names) -> Result<(), N
 }
 
 /// Lines that lack a key, have an extra one, or a value of another kind.
-const NO_ORDERS: [&str; 22] = [
+const NO_ORDERS: [&str; 28] = [
     r#"{"do":"commit","number":1}"#,
     r#"{"do":"commit","tries":1}"#,
     r#"{"do":"enter","lock":"a","number":1}"#,
@@ -206,14 +275,23 @@ const NO_ORDERS: [&str; 22] = [
     r#"{"after":null,"do":"attach","worker":0}"#,
     r#"{"after":9007199254740993,"do":"attach","worker":0}"#,
     r#"{"after":3,"do":"detach"}"#,
+    r#"{"as":"host7:cron","do":"attach"}"#,
+    r#"{"as":7,"do":"attach","worker":0}"#,
+    r#"{"as":null,"do":"attach","worker":0}"#,
+    r#"{"as":"host7:cron","do":"detach"}"#,
+    r#"{"as":"0123456789abcdef0123456789abcdef0123456789abcdef0123456789abcdefg","do":"attach","worker":0}"#,
+    r#"{"as":"äöüßäöüßäöüßäöüßäöüßäöüßäöüßäöüßa","do":"attach","worker":0}"#,
     r#"{"do":"submit","lock":"a","number":4294967296,"script":[]}"#,
 ];
 
 /// Whether a line is no order.
 fn is_no_order(alloc: Global, names: &Names, line: &str) -> Result<bool, NoMemory> {
     let mut values = ValueReader::new(alloc);
-    let order = parse_order(&mut values, names, WORLD_NUMBERS, line.as_bytes())?;
-    Ok(order.is_none())
+    match parse_order(&mut values, names, WORLD_NUMBERS, line.as_bytes()) {
+        Ok(None) => Ok(true),
+        Ok(Some(_)) => Ok(false),
+        Err(why) => Err(why),
+    }
 }
 
 #[test]
@@ -276,38 +354,77 @@ fn check_large_numbers(rt: &impl Abort, alloc: Global, names: &Names) -> Result<
     Ok(())
 }
 
-/// Lines that leave the choice of a worker to the server, and lines that do not.
-const CHOICES: &[(&str, Option<WorkerChoice>)] = &[
+/// Lines that leave the choice of a worker to the server, with the label that they give, and lines that do not.
+const CHOICES: &[(&str, Option<(WorkerChoice, Option<&str>)>)] = &[
     (
         r#"{"any":"pending","do":"attach"}"#,
-        Some(WorkerChoice::Pending),
+        Some((WorkerChoice::Pending, None)),
     ),
     (
         r#"{"do":"attach","any":"ready"}"#,
-        Some(WorkerChoice::Ready),
+        Some((WorkerChoice::Ready, None)),
+    ),
+    (
+        r#"{"any":"ready","as":"host7:cron","do":"attach"}"#,
+        Some((WorkerChoice::Ready, Some("host7:cron"))),
+    ),
+    (
+        r#"{"any":"pending","as":"äöüßäöüßäöüßäöüßäöüßäöüßäöüßäöüß","do":"attach"}"#,
+        Some((WorkerChoice::Pending, Some(LONGEST_OF_TWO_BYTES))),
     ),
     (r#"{"any":"idle","do":"attach"}"#, None),
     (r#"{"any":0,"do":"attach"}"#, None),
+    (r#"{"any":"ready","as":0,"do":"attach"}"#, None),
+    (
+        r#"{"any":"ready","as":"äöüßäöüßäöüßäöüßäöüßäöüßäöüßäöüßa","do":"attach"}"#,
+        None,
+    ),
     (r#"{"any":"ready","do":"attach","take":true}"#, None),
     (r#"{"after":3,"any":"ready","do":"attach"}"#, None),
     (r#"{"any":"ready","do":"attach","worker":0}"#, None),
     (r#"{"any":"ready","do":"detach"}"#, None),
+    (r#"{"as":"host7:cron","do":"attach"}"#, None),
     (r#"{"do":"attach"}"#, None),
     ("ready", None),
 ];
+
+/// The request for a choice, with a label if one is given.
+fn request_for(choice: WorkerChoice, label: Option<&str>) -> ChoiceRequest {
+    let label = match label {
+        Some(text) => ClientLabel::of(text),
+        None => None,
+    };
+    ChoiceRequest { choice, label }
+}
+
+/// Whether a line is this request for a choice.
+fn is_choice(alloc: Global, line: &str, wanted: ChoiceRequest) -> Result<bool, NoMemory> {
+    let choice = parse_worker_choice(&mut ValueReader::new(alloc), line.as_bytes())?;
+    Ok(choice == Some(wanted))
+}
+
+/// Whether a line is no request for a choice.
+fn is_no_choice(alloc: Global, line: &str) -> Result<bool, NoMemory> {
+    match parse_worker_choice(&mut ValueReader::new(alloc), line.as_bytes()) {
+        Ok(None) => Ok(true),
+        Ok(Some(_)) => Ok(false),
+        Err(why) => Err(why),
+    }
+}
 
 /// A choice is no order, and an order is no choice.
 #[test]
 fn choices(rt: HostRuntime) -> Result<(), Fail> {
     let names = lock_names(&rt, rt.alloc());
-    let mut values = ValueReader::new(rt.alloc());
     for (line, wanted) in CHOICES {
-        let order = parse_order(&mut values, &names, WORLD_NUMBERS, line.as_bytes())?;
-        assert!(rt; order.is_none());
-        let choice = parse_worker_choice(&mut values, line.as_bytes())?;
-        assert!(rt; choice == *wanted);
+        assert!(rt; is_no_order(rt.alloc(), &names, line)?);
+        let is_read = match *wanted {
+            Some((choice, label)) => is_choice(rt.alloc(), line, request_for(choice, label))?,
+            None => is_no_choice(rt.alloc(), line)?,
+        };
+        assert!(rt; is_read);
     }
-    let plain = br#"{"do":"attach","worker":0}"#;
-    assert!(rt; parse_worker_choice(&mut values, plain)?.is_none());
+    let plain = r#"{"do":"attach","worker":0}"#;
+    assert!(rt; is_no_choice(rt.alloc(), plain)?);
     Ok(())
 }
