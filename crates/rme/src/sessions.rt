@@ -10,11 +10,12 @@ pub use rme_line_text::ClientReceipt;
 pub use rme_server::{
     AnswerError, AttemptError, Backend, Buffers, Client, CloseHandle, Closer, Connection,
     FirstReply, Holding, Listener, LocalClient, NoCloseHandle, OrderAttempts, OrderRun,
-    PlannedCrash, ServeFault, ServerLimits, ServerObserver, ServiceBackend, SessionRegistry, Slots,
-    Stand, TakenWorker, obey, serve, session,
+    PlannedCrash, ServeFault, ServerLimits, ServerObserver, ServiceBackend, SessionEvent,
+    SessionRegistry, Slots, Stand, TakenWorker, obey, serve, session,
 };
 pub use rme_session_protocol::{
-    Attachment, ClientOutcome, ClientPendingJob, ClientReply, ClientToken, FencingToken,
-    JobOutcome, Order, Patience, PendingJob, SERVICE_NUMBERS, SessionReply, SessionStance,
-    Submission, WORLD_NUMBERS, WorkerChoice, parse_order, push_session_reply,
+    Attachment, ChoiceRequest, ClientLabel, ClientOutcome, ClientPendingJob, ClientReply,
+    ClientToken, FencingToken, JobOutcome, Order, Patience, PendingJob, SERVICE_NUMBERS,
+    SessionReply, SessionStance, Submission, WORLD_NUMBERS, WorkerChoice, parse_order,
+    push_session_reply,
 };

@@ -13,6 +13,7 @@ use Rattle.rme_session_protocol.specs.declared.reply.SessionReply.{SessionReply}
 use Rattle.rme_session_protocol.specs.declared.reply.SessionReply.TheVariants.{Attached, Refused}
 use Rattle.rme_session_protocol.specs.declared.reply.SessionStance.{SessionStance}
 use Rattle.rme_session_protocol.specs.declared.reply.SessionStance.TheVariants.{Ready, Climb, Held}
+use Rattle.rme_session_protocol.specs.declared.worker_choice.ChoiceRequest.{ChoiceRequest}
 use Rattle.rme_session_protocol.specs.declared.worker_choice.WorkerChoice.{WorkerChoice}
 use Rattle.rme_session_server.specs.SessionAnswers.{parsed_order}
 use Rattle.rme_session_threads.specs.Stands.{empty_stand}
@@ -35,8 +36,8 @@ IsChosenReply choice answer = ⊥
 -- A session without a worker attached this one, which the choice takes.
 pub record AttachesChosenWorker (ident : ServiceId) (count : ℕ) (choice : WorkerChoice) (worker : ℕ)
     (answer : SessionReply) (now : Stand) : Type 0 where
-  pub step : ThreadSessionStep ident count empty_stand (Attach record { worker = worker; take = false; after = None }) now
-      answer
+  pub step : ThreadSessionStep ident count empty_stand (Attach record
+      { worker = worker; take = false; after = None; label = None }) now answer
   pub chosen : IsChosenReply choice answer
 
 -- What the session gets: a worker that the choice takes, if it had none; or none, and then it has what it had.
@@ -57,15 +58,15 @@ ServiceChoice ident count names old choice bytes now =
     × (bytes ≡ chosen_worker_line names found)
 
 -- A line that is no order is answered by why it is refused, or, if it is a bad line, by its choice of a worker.
-abbrev pub NonOrderAnswer : ServiceId → ℕ → List (List ℕ) → Stand → Refusal → Option WorkerChoice → List ℕ → Stand
+abbrev pub NonOrderAnswer : ServiceId → ℕ → List (List ℕ) → Stand → Refusal → Option ChoiceRequest → List ℕ → Stand
     → Type 0
-NonOrderAnswer ident count names old BadLine (Some choice) bytes now =
-    ServiceChoice ident count names old choice bytes now
+NonOrderAnswer ident count names old BadLine (Some asked) bytes now =
+    ServiceChoice ident count names old asked.choice bytes now
 NonOrderAnswer ident count names old why choice bytes now =
     (now ≡ old) × (bytes ≡ session_reply_line names (Refused why))
 
 -- HOW A LINE IS ANSWERED. An order is executed, and answered by its reply.
-abbrev pub AnswerByOrder : Type 0 → ServiceId → ℕ → List (List ℕ) → Result Order Refusal → Option WorkerChoice → Stand
+abbrev pub AnswerByOrder : Type 0 → ServiceId → ℕ → List (List ℕ) → Result Order Refusal → Option ChoiceRequest → Stand
     → List ℕ → Stand → Type 0
 AnswerByOrder gone ident count names (Ok its) choice old bytes now =
     (answer : SessionReply) × SessionStepUntilGone gone (ThreadSessionStep ident count) old its now answer

@@ -9,8 +9,8 @@ use rme_session_protocol::{
     merge_replies, order_patience, retry_order, with_tries,
 };
 use rme_session_server::{
-    AnswerError, AttemptError, Backend, Buffers, Client, CloseHandle, FirstReply, OrderAttempts,
-    OrderRequest, OrderRun, SessionRegistry, update_claim,
+    AnswerError, AttemptError, Backend, Buffers, Client, CloseHandle, Departure, FirstReply,
+    OrderAttempts, OrderRequest, OrderRun, SessionRegistry, is_take_over,
 };
 use rme_session_threads::{Holding, Slots, Stand, obey};
 use rme_table::{Service, Tag};
@@ -98,8 +98,13 @@ impl<K: Tag, H: CloseHandle> Backend for ServiceBackend<'_, K, H> {
         }
     }
 
-    fn end_session<R: Wait>(&self, rt: &R, stand: Stand) -> Result<(), AttemptError> {
-        self.release(rt, stand);
+    fn end_session<R: Wait + Clock, C: Client<Handle = H>>(
+        &self,
+        rt: &R,
+        stand: Stand,
+        client: &C,
+    ) -> Result<(), AttemptError> {
+        self.release(rt, stand, client, Departure::SessionEnd);
         Ok(())
     }
 }
@@ -201,7 +206,7 @@ impl<K: Tag, H: CloseHandle> ServiceBackend<'_, K, H> {
             return (stand, buffers.write_reply(self.names, refused));
         }
         match buffers.parse_worker_choice() {
-            Ok(Some(choice)) => self.answer_choice(rt, stand, choice, buffers, client),
+            Ok(Some(asked)) => self.answer_choice(rt, stand, asked.choice, buffers, client),
             Ok(None) => (stand, buffers.write_reply(self.names, refused)),
             Err(_) => (stand, Err(AnswerError::NoMemory)),
         }
@@ -234,7 +239,8 @@ impl<K: Tag, H: CloseHandle> ServiceBackend<'_, K, H> {
         (stand, told)
     }
 
-    /// Executes an order with its worker's claim locked, and updates the claim.
+    /// Executes an order with its worker's claim locked, and updates the claim. If the order takes a worker over that
+    /// another session has, the client of that session is closed.
     pub(crate) fn attempt<R: Wait, C: Client<Handle = H>>(
         &self,
         rt: &R,
@@ -252,7 +258,15 @@ impl<K: Tag, H: CloseHandle> ServiceBackend<'_, K, H> {
         let turn = self.registry.climb_lock(rt, climbed_lock(&stand, order));
         let (stand, reply) = obey(rt, stand, order, self.service, self.slots);
         drop(turn);
-        update_claim(claim, client, had, stand.worker().is_some());
+        let takes_over = is_take_over(order, client_reply(&reply));
+        let has = stand.worker().is_some();
+        if let Some(claim) = claim {
+            if takes_over {
+                claim.close_client(client);
+            } else {
+                claim.update(client, had, has);
+            }
+        }
         self.registry.notify_reply(rt, client_reply(&reply));
         (stand, reply)
     }

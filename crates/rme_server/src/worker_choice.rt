@@ -5,7 +5,7 @@ ghost use Rattle.rme_server.specs.ServiceChoices.{IsChosenReply};
 
 use crate::service_backend::ServiceBackend;
 use rme_session_protocol::{Attachment, Order, SessionReply, SessionStance, WorkerChoice};
-use rme_session_server::{Client, CloseHandle};
+use rme_session_server::{Client, CloseHandle, Departure};
 use rme_session_threads::{Holding, Stand, detach_session};
 use rme_table::Tag;
 use rme_words::Refusal;
@@ -97,23 +97,30 @@ impl<K: Tag, H: CloseHandle> ServiceBackend<'_, K, H> {
             worker,
             take: false,
             after: None,
+            label: None,
         });
         let (stand, reply) = self.attempt(rt, Stand::empty(), &order, client);
         if is_chosen_reply(choice, &reply) {
             return Some((stand, reply));
         }
-        self.release(rt, stand);
+        self.release(rt, stand, client, Departure::Detach);
         None
     }
 
-    /// Ends a session: its worker, if it has one, crashes, and its Down is back in its slot.
-    pub(crate) fn release<R: Wait>(&self, rt: &R, stand: Stand)
+    /// Takes back the worker of a session, if it has one: the worker crashes, and its Down is back in its slot.
+    pub(crate) fn release<R: Wait, C: Client<Handle = H>>(
+        &self,
+        rt: &R,
+        stand: Stand,
+        client: &C,
+        how: Departure,
+    )
         requires ours { IsValidHolding K.ident self.now.slots.now stand.value }
     {
         let claim = self.registry.claim_worker(rt, stand.worker());
         detach_session(rt, stand, self.slots);
-        if let Some(mut claim) = claim {
-            *claim = None;
+        if let Some(claim) = claim {
+            claim.release(client, how);
         }
         self.registry.notify_worker_free(rt);
     }

@@ -76,9 +76,14 @@ pub trait Backend {
         ensures broke { IfErr result.1 (λ why. why ≡ AnswerError.WriteFailed
             → LastWriteFailed (O.took writer.old) (O.took writer.new)) };
 
-    /// Ends a session, for whatever reason, and takes back what it has. An error if that could not be logged: then the
-    /// backend is over.
-    fn end_session<R: Wait>(&self, rt: &R, stand: Self::Stand) -> Result<(), AttemptError>
+    /// Ends a session, for whatever reason, and takes back what it has, of which its client is told. An error if that
+    /// could not be logged: then the backend is over.
+    fn end_session<R: Wait + Clock, C: Client<Handle = Self::Handle>>(
+        &self,
+        rt: &R,
+        stand: Self::Stand,
+        client: &C,
+    ) -> Result<(), AttemptError>
         requires fits { fits self.now }
         requires may_hold { may_hold self.now stand }
         ensures ends { OnOk result (ends self.now stand) };

@@ -6,7 +6,7 @@ ghost use Rattle.rme_session_protocol.specs.ClientReplies.{reply_of_client};
 
 use crate::attempt_error::AnswerError;
 use rme_session_protocol::{
-    ClientReply, Order, SessionReply, WorkerChoice, parse_order, parse_worker_choice,
+    ChoiceRequest, ClientReply, Order, SessionReply, parse_order, parse_worker_choice,
     push_choice_reply, push_session_reply,
 };
 use rme_wire::{Cut, Exchange, Names, ValueReader};
@@ -68,7 +68,7 @@ impl Buffers {
     }
 
     /// The choice of a worker that the last line leaves to the server; `None` if it leaves none.
-    pub fn parse_worker_choice(&mut self) -> Result<Option<WorkerChoice>, NoMemory>
+    pub fn parse_worker_choice(&mut self) -> Result<Option<ChoiceRequest>, NoMemory>
         ensures choice { IfOk result (λ choice. choice ≡ choice_of_bytes self.old.exchange.line.items) }
         ensures same { self.new.exchange ≡ self.old.exchange }
     {

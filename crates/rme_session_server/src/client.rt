@@ -1,4 +1,6 @@
-//! The client of a session, apart from its lines: whether it is gone, and the handle that closes it.
+//! The client of a session, apart from its lines: whether it is gone, the handle that closes it, and who watches it.
+
+use crate::session_event::SessionEvent;
 
 /// The client of a session.
 pub trait Client {
@@ -16,6 +18,10 @@ pub trait Client {
 
     /// A handle of the client, if one can be had.
     fn handle(&self) -> Option<Self::Handle>;
+
+    /// Tells whoever watches the client's session of an event in its course. The claim of the event's worker is locked
+    /// meanwhile, so the events of one worker are told in their order. By default nobody watches.
+    fn observe(&self, _event: SessionEvent) {}
 }
 
 /// A handle of a client that has a worker.

@@ -18,6 +18,7 @@ mod open_connections;
 mod order_attempts;
 mod order_run;
 mod server;
+mod session_event;
 mod session_loop;
 mod session_registry;
 #[cfg(test)]
@@ -33,5 +34,6 @@ pub use connection::{Closer, Connection, Listener};
 pub use order_attempts::{FirstReply, OrderAttempts, OrderRequest};
 pub use order_run::OrderRun;
 pub use server::{ServerLimits, ServerObserver, serve};
+pub use session_event::SessionEvent;
 pub use session_loop::session;
-pub use session_registry::{SessionRegistry, WorkerClaim, update_claim};
+pub use session_registry::{Departure, SessionRegistry, WorkerClaim, is_take_over};

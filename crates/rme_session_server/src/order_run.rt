@@ -120,8 +120,8 @@ impl<A: OrderAttempts, C: Client<Handle = A::Handle>> OrderRun<'_, A, C> {
         }
     }
 
-    /// Closes the client whose session has the worker, and attaches the worker once it is detached. Stops waiting if
-    /// this session's own client is gone.
+    /// Attaches the worker once the session that has it detaches it: each attempt that finds it taken closes the client
+    /// of that session. Stops waiting if this session's own client is gone.
     fn take_over<R: Wait + Clock>(
         &self,
         rt: &R,
@@ -148,7 +148,8 @@ impl<A: OrderAttempts, C: Client<Handle = A::Handle>> OrderRun<'_, A, C> {
         let mut session = session;
         let mut reply = reply;
         for _ in rt.forever() {
-            registry.close_client(rt, asked.worker);
+            // The session that was closed may be waiting for a lock.
+            registry.notify_all_locks(rt);
             returned.wait(rt, Duration::from_micros(LONGEST));
             let (next, retried) = self.backend.retry(rt, session, &self.request, reply);
             session = next;

@@ -2,8 +2,10 @@
 
 use crate::backend::Backend;
 use crate::buffers::push_reply_line;
+use crate::client::Client;
 use crate::connection::{Closer, Connection, Listener};
 use crate::open_connections::OpenConnections;
+use crate::session_event::SessionEvent;
 use crate::session_loop::session;
 use rme_line_diagnose::{DiagnosedReader, Reason, ReasonObserver, Vocabulary};
 use rme_line_io::ServeFault;
@@ -37,7 +39,8 @@ pub struct ServerLimits {
     pub tells_why: bool,
 }
 
-/// Observes a server: connections that could not be accepted or served, lines that are no orders, and each second.
+/// Observes a server: connections that could not be accepted or served, lines that are no orders, what happens to its
+/// workers, and each second.
 /// `not_accepted` and `no_thread` should let some time pass, in which other sessions may end.
 pub trait ServerObserver {
     /// No connection could be accepted, for this reason.
@@ -48,6 +51,10 @@ pub trait ServerObserver {
 
     /// This line of this connection, both counted from 1, is answered `BadLine`, for this reason.
     fn bad_line(&self, connection: u64, line: u64, why: &Reason);
+
+    /// This happened in the course of the session of this connection, or at the start of the server where there is none.
+    /// The events of one worker come in their order, and its next order waits meanwhile.
+    fn session_event(&self, connection: Option<u64>, event: SessionEvent);
 
     /// A second passed. The calling thread serves no connection and holds no lock.
     fn second_passed(&self);
@@ -439,6 +446,30 @@ impl<T: ServerObserver> ReasonObserver for ConnectionObserver<'_, T> {
     }
 }
 
+/// The client of a connection's session: the connection, its number, and the server's observer.
+#[derive(Drop)]
+struct ObservedClient<'a, T> {
+    connection: &'a Connection,
+    number: u64,
+    observer: &'a T,
+}
+
+impl<T: ServerObserver> Client for ObservedClient<'_, T> {
+    type Handle = Closer;
+
+    fn is_gone(&self) -> bool {
+        self.connection.is_gone()
+    }
+
+    fn handle(&self) -> Option<Closer> {
+        self.connection.handle()
+    }
+
+    fn observe(&self, event: SessionEvent) {
+        self.observer.session_event(Some(self.number), event);
+    }
+}
+
 /// A connection's session and its end, in a thread of its own. If the backend is over then, all other connections are
 /// closed too.
 fn handle_connection<B: Backend<Handle = Closer>, R: Wait + Clock, T: ServerObserver>(
@@ -455,13 +486,14 @@ fn handle_connection<B: Backend<Handle = Closer>, R: Wait + Clock, T: ServerObse
     let client = entrance
         .connections
         .add(rt, backend.alloc(), number, client);
-    if let Some(client) = &client {
-        run_session(
-            rt,
-            client,
-            entrance.line_observer(server.observer, number),
-            backend,
-        );
+    if let Some(connection) = &client {
+        let client = ObservedClient {
+            connection,
+            number,
+            observer: server.observer,
+        };
+        let lines = entrance.line_observer(server.observer, number);
+        run_session(rt, &client, lines, backend);
         entrance.connections.remove(rt, number);
     }
     entrance.running.fetch_sub(1, Ordering::SeqCst);
@@ -471,16 +503,17 @@ fn handle_connection<B: Backend<Handle = Closer>, R: Wait + Clock, T: ServerObse
 }
 
 /// A connection's session. Its fault is not reported: the client sees that the connection is closed.
-fn run_session<B: Backend<Handle = Closer>, R: Wait + Clock, T: ReasonObserver + Drop>(
+fn run_session<B: Backend<Handle = Closer>, R: Wait + Clock, T: ServerObserver>(
     rt: &R,
-    client: &Connection,
-    observer: Option<T>,
+    client: &ObservedClient<'_, T>,
+    observer: Option<ConnectionObserver<'_, T>>,
     backend: &B,
 )
     requires fits { B.fits backend.now }
 {
-    let mut writer = client;
-    let reader = DiagnosedReader::new(backend.alloc(), client, Vocabulary::Orders, observer);
+    let connection = client.connection;
+    let mut writer = connection;
+    let reader = DiagnosedReader::new(backend.alloc(), connection, Vocabulary::Orders, observer);
     let Ok(mut lines) = LineReader::new(backend.alloc(), reader) else {
         return;
     };

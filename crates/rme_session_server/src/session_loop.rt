@@ -49,7 +49,7 @@ pub fn session<
     let context = SessionContext { backend, client };
     let (stand, ended) = answer_all_lines(rt, &context, lines, &mut buffers, writer);
     // If the end could not be logged, the backend is over, which its server finds.
-    drop(backend.end_session(rt, stand));
+    drop(backend.end_session(rt, stand, client));
     match ended {
         Ok(()) => Ok(()),
         Err(fault) => Err(buffers.exchange.give_up(fault, writer)),

@@ -3,17 +3,68 @@
 ghost use Rattle.std.specs.Prelude.{◌≡◌, IfOk, length};
 
 use crate::client::{Client, CloseHandle};
+use crate::session_event::SessionEvent;
 use crate::wait_queue::{WaitQueue, Waiter};
 use crossbeam_utils::CachePadded;
-use rme_session_protocol::{ClientOutcome, ClientReply, SessionStance};
-use rme_words::{NoMemory, Shape};
+use rme_session_protocol::{ClientOutcome, ClientReply, Order, SessionStance};
+use rme_words::{NoMemory, Refusal, Shape};
 use std::alloc::Global;
 use std::marker::Model;
 use std::sync::{Mutex, MutexGuard, Wait};
 
 /// The locked claim of a worker: a handle of the client whose session has the worker. While it is locked, no other
 /// session attaches or detaches the worker.
-pub type WorkerClaim<'a, H> = MutexGuard<'a, Option<H>>;
+#[derive(Drop)]
+pub struct WorkerClaim<'a, H: CloseHandle> {
+    worker: u32,
+    /// `None` also once the client was closed.
+    handle: MutexGuard<'a, Option<H>>,
+}
+
+/// How a session lost its worker.
+#[derive(Clone, Copy, Debug, PartialEq, Eq)]
+pub enum Departure {
+    /// It let the worker go, and goes on.
+    Detach,
+    /// It ended.
+    SessionEnd,
+}
+
+impl<H: CloseHandle> WorkerClaim<'_, H> {
+    /// Updates the claim after an order of the client, if the order changed whether the client's session has the worker.
+    pub fn update<C: Client<Handle = H>>(self, client: &C, had: bool, has: bool) {
+        if had == has {
+            return;
+        }
+        if !has {
+            self.release(client, Departure::Detach);
+            return;
+        }
+        let mut claim = self;
+        *claim.handle = client.handle();
+        client.observe(SessionEvent::Attached(claim.worker));
+    }
+
+    /// Updates the claim when the client's session has lost the worker.
+    pub fn release<C: Client<Handle = H>>(self, client: &C, how: Departure) {
+        let mut claim = self;
+        *claim.handle = None;
+        client.observe(match how {
+            Departure::Detach => SessionEvent::Detached(claim.worker),
+            Departure::SessionEnd => SessionEvent::Ended(claim.worker),
+        });
+    }
+
+    /// Closes the client whose session has the worker, once, for a client that takes the worker over. Its session ends;
+    /// if it waits for a lock, it has to be woken.
+    pub fn close_client<C: Client<Handle = H>>(self, taker: &C) {
+        let mut claim = self;
+        if let Some(handle) = claim.handle.take() {
+            handle.close();
+            taker.observe(SessionEvent::TakesOver(claim.worker));
+        }
+    }
+}
 
 /// The workers' claims, the climb locks, and the wait queues. In contracts it is the numbers of workers and of locks
 /// that it is for.
@@ -66,8 +117,12 @@ impl<H: CloseHandle> SessionRegistry<H> {
     pub fn claim_worker<R: Wait>(&self, rt: &R, worker: Option<u32>) -> Option<WorkerClaim<'_, H>>
         ensures { IsSome result ↔ IsSomeAnd worker (λ worker. worker < self.now.workers) }
     {
-        let claim = self.claims.get(worker? as usize)?;
-        Some(claim.lock(rt))
+        let worker = worker?;
+        let claim = self.claims.get(worker as usize)?;
+        Some(WorkerClaim {
+            worker,
+            handle: claim.lock(rt),
+        })
     }
 
     /// Locks the climb lock of a lock; `None` if there is no such lock. Correctness does not need it. Without it, a
@@ -77,17 +132,6 @@ impl<H: CloseHandle> SessionRegistry<H> {
     {
         let turn = self.climb_locks.get(lock? as usize)?;
         Some(turn.lock(rt))
-    }
-
-    /// Closes the client whose session has the worker, if there is one, and wakes the waiters of all locks: its session
-    /// may be one of them.
-    pub fn close_client<R: Wait>(&self, rt: &R, worker: u32) {
-        if let Some(claim) = self.claim_worker(rt, Some(worker)) {
-            if let Some(handle) = &*claim {
-                handle.close();
-            }
-        }
-        self.notify_all_locks(rt);
     }
 
     /// Registers a waiter for the release of a lock; `None` if there is no such lock.
@@ -143,18 +187,11 @@ impl<H: CloseHandle> SessionRegistry<H> {
     }
 }
 
-/// Updates the claim of a worker, if it changed whether the client's session has the worker.
-pub fn update_claim<C: Client>(
-    claim: Option<WorkerClaim<'_, C::Handle>>,
-    client: &C,
-    had: bool,
-    has: bool,
-) {
-    if had == has {
-        return;
-    }
-    if let Some(mut claim) = claim {
-        *claim = if has { client.handle() } else { None };
+/// Whether the order with this reply takes a worker over that another session has.
+pub fn is_take_over(order: &Order, reply: ClientReply) -> bool {
+    match order {
+        Order::Attach(asked) => asked.take && reply == ClientReply::Refused(Refusal::Taken),
+        _ => false,
     }
 }
 
