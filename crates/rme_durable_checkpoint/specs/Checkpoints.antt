@@ -1,5 +1,5 @@
 -- What a checkpoint preserves: everything that clients can see.
-use Rattle.std.specs.Prelude.{◌≡◌, ℕ, ◌+◌, ◌<◌, Bool, true, false, List, get_or, ◌==◌, if◌then◌else◌, Option, Some, None, Ok}
+use Rattle.std.specs.Prelude.{◌≡◌, ℕ, ◌+◌, ◌<◌, Bool, true, false, List, [], length, get_or, ◌==◌, if◌then◌else◌, Option, Some, None, Ok}
 use Rattle.rme_tree.specs.Nodes.{owner_in}
 use Rattle.rme_script.specs.declared.job.Job.{Job}
 use Rattle.rme_program.specs.declared.note.Entry.{Entry}
@@ -15,7 +15,8 @@ use Rattle.rme_session_world.specs.ExecutorStates.{ExecutorState}
 use Rattle.rme_durable_checkpoint.specs.ClientValues.{client_last, next_client_place, worker_base, client_session}
 use Rattle.rme_durable_format.specs.Headers.{HeaderValues}
 use Rattle.rme_durable_format.specs.Lives.{RecoversLives}
-use Rattle.rme_durable_format.specs.Recovery.{BeginsWithHeader}
+use Rattle.rme_durable_format.specs.Recovery.{BeginsWithHeader, RecoversWorld}
+use Rattle.rme_durable_format.specs.WholeLines.{AreWholeLines}
 use Rattle.rme_durable_checkpoint.specs.EpochStates.{EpochState}
 use Rattle.rme_durable_checkpoint.specs.HeaderBases.{IsHeaderBase}
 use Rattle.rme_durable_checkpoint.specs.declared.epoch_base.Base.{Base}
@@ -63,22 +64,27 @@ sections_in receipt lock = if receipt.lock == lock then 1 else 0
 abbrev pub AreSectionCounts : List Entry → List ℕ → Type 0
 AreSectionCounts history counts = (lock : ℕ) → lock < 16 → get_or counts lock 0 ≡ place_of history lock
 
--- A world of the same sizes, in which the same sessions have the same workers, each worker but the last is alike, each
--- lock has the same owner, the finished scripts left the same cells, and the places go on.
+-- Each worker but the last is alike, each lock has the same owner, and its places go on: of all workers and locks that
+-- the earlier world has.
+pub record EachShowsSame (base : Base) (before : ExecutorState) (later : Base) (after : ExecutorState) : Type 0 where
+  pub alike : (worker : ℕ) → worker + 1 < before.world.shape.workers → IsWorkerAlike base before later after worker
+  pub owners : (lock : ℕ) → lock < before.world.shape.locks
+      → owner_in after.world.shape (world_memory after.world) lock ≡ owner_in before.world.shape
+      (world_memory before.world) lock
+  pub places : (lock : ℕ) → lock < before.world.shape.locks
+      → next_client_place later after.world lock ≡ next_client_place base before.world lock
+
+-- A world of the same sizes, in which the same sessions have the same workers, each worker and each lock shows the same,
+-- and the finished scripts left the same cells.
 pub record CheckpointShowsSame (base : Base) (before : ExecutorState) (later : Base) (after : ExecutorState) : Type 0
   where
     pub workers : after.world.shape.workers ≡ before.world.shape.workers
     pub locks : after.world.shape.locks ≡ before.world.shape.locks
     pub jobs : after.world.shape.jobs ≡ before.world.shape.jobs
     pub holders : after.holders ≡ before.holders
-    pub alike : (worker : ℕ) → worker + 1 < before.world.shape.workers → IsWorkerAlike base before later after worker
-    pub owners : (lock : ℕ) → lock < before.world.shape.locks
-        → owner_in after.world.shape (world_memory after.world) lock ≡ owner_in before.world.shape
-        (world_memory before.world) lock
+    pub each : EachShowsSame base before later after
     pub cells : rows_of_locks after.world.shape after.world.history ≡ rows_of_locks before.world.shape
         before.world.history
-    pub places : (lock : ℕ) → lock < before.world.shape.locks
-        → next_client_place later after.world lock ≡ next_client_place base before.world lock
 
 -- Bytes begin with the header of an executor's world: it has the number of the epoch, and the base; and from its lives
 -- the lines lead to those of the executor.
@@ -88,3 +94,15 @@ pub record BeginsEpochHeader (bytes : List ℕ) (names : List (List ℕ)) (epoch
   pub number : past.epoch ≡ epoch.epoch
   pub base : IsHeaderBase past epoch.base
   pub counts : RecoversLives bytes past.lives epoch.lives
+
+-- A new epoch begins after an old one, with these bytes: they are whole lines, recovery of them leads to its world, and
+-- they begin with its header, which has the next number. No line of it waits, and no event batch of it was lost.
+pub record BeginsNextEpoch (names : List (List ℕ)) (old : EpochState) (bytes : List ℕ) (new : EpochState) : Type 0
+  where
+    pub starts : RecoversWorld bytes names new.executor.world
+    pub whole : AreWholeLines bytes
+    pub number : new.epoch ≡ old.epoch + 1
+    pub header : BeginsEpochHeader bytes names new
+    pub lines : new.lines ≡ []
+    pub taken : new.taken ≡ length bytes
+    pub works : new.failed ≡ false

@@ -31,7 +31,7 @@ with_life lives session answer = answer
 
 -- The same order, of any life.
 abbrev pub without_after : Order → Order
-without_after (Attach its) = Attach record { worker = its.worker; take = its.take; after = None }
+without_after (Attach its) = Attach record { worker = its.worker; take = its.take; after = None; label = its.label }
 without_after its = its
 
 -- A worker was restarted after this life, if one is given.

@@ -1,6 +1,6 @@
 -- In reading order: an executor and its lines; a client's session; the values that clients see over epochs, and the
 -- replies that need no event; the base of a header; a session step over epochs, and the lives that clients are told;
--- how long an epoch is; and what a checkpoint preserves.
+-- how long an epoch is; what a checkpoint preserves; and what growth does.
 pub mod LoggedStates
 pub mod ClientSessions
 pub mod ClientValues
@@ -10,3 +10,4 @@ pub mod EpochStates
 pub mod ClientLives
 pub mod EpochLengths
 pub mod Checkpoints
+pub mod Growths

@@ -1,6 +1,8 @@
 //! Equality of what clients see.
 
 ghost use Rattle.std.specs.Prelude.{◌≡◌, IsTrue};
+ghost use Rattle.rme_durable_checkpoint.specs.Growths.{KeepsLives};
+ghost use Rattle.rme_durable_format.specs.Lives.{life_of};
 
 use crate::client_session::{ClientPending, ClientReady, ClientSession};
 use rme_line_text::ClientReceipt;
@@ -71,6 +73,32 @@ pub(crate) fn same_lives(one: &[u64], other: &[u64]) -> bool
     ensures { IsTrue result → one.now ≡ other.now }
 {
     one == other
+}
+
+/// Whether each worker has the lives that it had, and a worker that is only in the second list has none.
+pub(crate) fn are_lives_kept(one: &[u64], other: &[u64]) -> bool
+    ensures { IsTrue result → KeepsLives one.now other.now }
+{
+    if other.len() < one.len() {
+        return false;
+    }
+    for worker in 0..other.len() {
+        if other[worker] != life_at(one, worker) {
+            return false;
+        }
+    }
+    true
+}
+
+/// The lives of a worker; 0 if it is not listed.
+fn life_at(lives: &[u64], worker: usize) -> u64
+    ensures { result ≡ life_of lives.now worker }
+{
+    if worker < lives.len() {
+        lives[worker]
+    } else {
+        0
+    }
 }
 
 /// Whether two lists of names are equal.

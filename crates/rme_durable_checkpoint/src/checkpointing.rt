@@ -20,6 +20,7 @@ use rme_line_text::push_opening;
 use rme_script::Row;
 use rme_session_world::Executor;
 use rme_wire::Names;
+use rme_words::Shape;
 use rme_world::World;
 use std::alloc::{AllocError, Global};
 
@@ -30,6 +31,51 @@ pub struct Checkpoint {
     pub executor: EpochExecutor,
 }
 
+/// What a new epoch is to have: its sizes, and for each worker the session that has it.
+#[derive(Drop)]
+pub(crate) struct EpochPlan {
+    pub(crate) shape: Shape,
+    pub(crate) holders: Vec<Option<u64>>,
+}
+
+/// A new epoch that was not yet compared with the old one, and the cells that the finished scripts left in both.
+#[derive(Drop)]
+pub(crate) struct RebuiltEpoch {
+    pub(crate) checkpoint: Checkpoint,
+    /// The cells of the old epoch.
+    old_rows: Vec<Row>,
+    /// The cells of the new epoch.
+    new_rows: Vec<Row>,
+}
+
+impl RebuiltEpoch {
+    /// The state that a new epoch is compared with: that of the epoch before it.
+    pub(crate) fn before<'a>(&'a self, old: &'a EpochExecutor) -> ComparedState<'a>
+        ensures executor { result.executor.now ≡ old.now.executor }
+        ensures base { result.base.now ≡ old.now.base }
+        ensures rows { result.rows.now ≡ self.now.old_rows.items }
+    {
+        ComparedState {
+            executor: old.executor(),
+            base: old.base(),
+            rows: self.old_rows.as_slice(),
+        }
+    }
+
+    /// The state of the new epoch.
+    pub(crate) fn after(&self) -> ComparedState<'_>
+        ensures executor { result.executor.now ≡ self.now.checkpoint.executor.executor }
+        ensures base { result.base.now ≡ self.now.checkpoint.executor.base }
+        ensures rows { result.rows.now ≡ self.now.new_rows.items }
+    {
+        ComparedState {
+            executor: self.checkpoint.executor.executor(),
+            base: self.checkpoint.executor.base(),
+            rows: self.new_rows.as_slice(),
+        }
+    }
+}
+
 /// The progress of recovery is not reported.
 struct NoProgress;
 
@@ -38,12 +84,11 @@ impl RecoveryProgress for NoProgress {
 }
 
 impl EpochExecutor {
-    ghost use Rattle.std.specs.Prelude.{◌≡◌, ◌+◌, ◌<◌, ℕ, [], false, length, string_bytes};
+    ghost use Rattle.std.specs.Prelude.{◌≡◌, ◌<◌, ℕ, string_bytes};
     ghost use Rattle.std.specs.Prelude.{IfNone, IfOk, IfSome, None, Some};
     ghost use Rattle.rme_durable_checkpoint.specs.EpochLengths.{jobless_owner};
-    ghost use Rattle.rme_durable_checkpoint.specs.Checkpoints.{BeginsEpochHeader, CheckpointShowsSame};
-    ghost use Rattle.rme_durable_format.specs.Recovery.{RecoversWorld};
-    ghost use Rattle.rme_durable_format.specs.WholeLines.{AreWholeLines};
+    ghost use Rattle.rme_durable_checkpoint.specs.Checkpoints.{BeginsNextEpoch, CheckpointShowsSame};
+    ghost use Rattle.rme_history.specs.Legal.{rows_of_locks};
 
     /// Builds a new epoch of the same locks and workers, in which clients see the same state: each worker with a job
     /// has it again, and is inside its lock if it was; the same sessions have the same workers; and the cells have the
@@ -53,19 +98,40 @@ impl EpochExecutor {
     pub fn checkpoint(&self, alloc: Global, names: &Names) -> Result<Checkpoint, CheckpointFailed>
         ensures same { IfOk result (λ renewed. CheckpointShowsSame self.now.base self.now.executor renewed.executor.base
             renewed.executor.executor) }
-        ensures starts { IfOk result (λ renewed. RecoversWorld (string_bytes renewed.bytes) names.now
-            renewed.executor.executor.world) }
-        ensures whole { IfOk result (λ renewed. AreWholeLines (string_bytes renewed.bytes)) }
-        ensures epoch { IfOk result (λ renewed. renewed.executor.epoch ≡ self.now.epoch + 1) }
-        ensures lives { IfOk result (λ renewed. renewed.executor.lives ≡ self.now.lives) }
-        ensures header { IfOk result (λ renewed. BeginsEpochHeader (string_bytes renewed.bytes) names.now
+        ensures begins { IfOk result (λ renewed. BeginsNextEpoch names.now self.now (string_bytes renewed.bytes)
             renewed.executor) }
-        ensures lines { IfOk result (λ renewed. renewed.executor.lines ≡ []) }
-        ensures taken { IfOk result (λ renewed. renewed.executor.taken ≡ length (string_bytes renewed.bytes)) }
-        ensures works { IfOk result (λ renewed. renewed.executor.failed ≡ false) }
+        ensures lives { IfOk result (λ renewed. renewed.executor.lives ≡ self.now.lives) }
     {
-        let rows = rows_of(alloc, self.executor().world())?;
-        let bytes = checkpoint_lines(alloc, names, self, rows.as_slice())?;
+        let plan = EpochPlan {
+            shape: self.executor().world().shape(),
+            holders: copy_holders(alloc, self.executor().holders())?,
+        };
+        let rebuilt = self.rebuild(alloc, names, plan)?;
+        if !same_lives(rebuilt.checkpoint.executor.lives(), self.lives())
+            || !is_checkpoint_same(&rebuilt.before(self), &rebuilt.after())
+        {
+            return Err(CheckpointFailed);
+        }
+        Ok(rebuilt.checkpoint)
+    }
+
+    /// Builds a new epoch with these sizes and sessions, which nobody has compared with this one yet.
+    pub(crate) fn rebuild(
+        &self,
+        alloc: Global,
+        names: &Names,
+        plan: EpochPlan,
+    ) -> Result<RebuiltEpoch, CheckpointFailed>
+        ensures begins { IfOk result (λ rebuilt. BeginsNextEpoch names.now self.now
+            (string_bytes rebuilt.checkpoint.bytes) rebuilt.checkpoint.executor) }
+        ensures holders { IfOk result (λ rebuilt. rebuilt.checkpoint.executor.executor.holders ≡ plan.holders.items) }
+        ensures old_rows { IfOk result (λ rebuilt. rebuilt.old_rows.items ≡ rows_of_locks self.now.executor.world.shape
+            self.now.executor.world.history) }
+        ensures new_rows { IfOk result (λ rebuilt. rebuilt.new_rows.items ≡ rows_of_locks
+            rebuilt.checkpoint.executor.executor.world.shape rebuilt.checkpoint.executor.executor.world.history) }
+    {
+        let old_rows = rows_of(alloc, self.executor().world())?;
+        let bytes = checkpoint_lines(alloc, names, (self, old_rows.as_slice()), &plan)?;
         let Ok(started) = recover_log(alloc, bytes.as_bytes(), &NoProgress) else {
             return Err(CheckpointFailed);
         };
@@ -76,31 +142,17 @@ impl EpochExecutor {
             lives,
             ..
         } = started;
-        if !same_names(&own, names) || !are_whole_lines(bytes.as_bytes()) {
-            return Err(CheckpointFailed);
-        }
-        if !is_next_epoch(self.epoch(), header.epoch) || !same_lives(&lives, self.lives()) {
+        if !same_names(&own, names)
+            || !are_whole_lines(bytes.as_bytes())
+            || !is_next_epoch(self.epoch(), header.epoch)
+        {
             return Err(CheckpointFailed);
         }
         let base = base_of(alloc, &header)?;
-        let after = rows_of(alloc, &world)?;
-        let holders = copy_holders(alloc, self.executor().holders())?;
-        let Some(executor) = Executor::resume(world, holders) else {
+        let new_rows = rows_of(alloc, &world)?;
+        let Some(executor) = Executor::resume(world, plan.holders) else {
             return Err(CheckpointFailed);
         };
-        let before = ComparedState {
-            executor: self.executor(),
-            base: self.base(),
-            rows: rows.as_slice(),
-        };
-        let shown = ComparedState {
-            executor: &executor,
-            base: &base,
-            rows: after.as_slice(),
-        };
-        if !is_checkpoint_same(&before, &shown) {
-            return Err(CheckpointFailed);
-        }
         let start = EpochStart {
             executor,
             base,
@@ -109,7 +161,11 @@ impl EpochExecutor {
             bytes: bytes.len() as u64,
         };
         let executor = EpochExecutor::new(alloc, start);
-        Ok(Checkpoint { bytes, executor })
+        Ok(RebuiltEpoch {
+            checkpoint: Checkpoint { bytes, executor },
+            old_rows,
+            new_rows,
+        })
     }
 
     /// A worker that finished its job and crashed before it left the lock, if there is one: a new epoch cannot have it
@@ -194,18 +250,17 @@ fn copy_holders(
 fn checkpoint_lines(
     alloc: Global,
     names: &Names,
-    old: &EpochExecutor,
-    rows: &[Row],
+    (old, rows): (&EpochExecutor, &[Row]),
+    plan: &EpochPlan,
 ) -> Result<String, CheckpointFailed> {
-    let shape = old.executor().world().shape();
-    let mut draft = CheckpointBuilder::new(alloc, names, shape)?;
-    let sections_made = set_cells(alloc, &mut draft, shape, rows)?;
+    let mut draft = CheckpointBuilder::new(alloc, names, plan.shape)?;
+    let sections_made = set_cells(alloc, &mut draft, plan.shape, rows)?;
     restore_jobs(&mut draft, old.executor().world(), JobProgress::Inside)?;
     restore_jobs(&mut draft, old.executor().world(), JobProgress::Waiting)?;
-    crash_free_workers(&mut draft, old.executor())?;
-    let header = next_header(alloc, old, sections_made.as_slice())?;
+    crash_free_workers(&mut draft, plan.holders.as_slice())?;
+    let header = next_header(alloc, old, plan.shape, sections_made.as_slice())?;
     let mut lines = String::new(alloc);
-    match push_first_lines(&mut lines, names, &header, old.executor().world()) {
+    match push_first_lines(&mut lines, names, &header, plan.shape) {
         Ok(()) => {}
         Err(_) => return Err(CheckpointFailed),
     }
@@ -220,10 +275,10 @@ fn push_first_lines(
     lines: &mut String,
     names: &Names,
     header: &LogHeader,
-    world: &World,
+    shape: Shape,
 ) -> Result<(), AllocError> {
     push_header(lines, names, header)?;
-    push_opening(lines, names, world.shape())?;
+    push_opening(lines, names, shape)?;
     lines.push_str("\n")
 }
 
@@ -247,10 +302,10 @@ fn restore_jobs(
 /// Crashes each worker that no session has.
 fn crash_free_workers(
     draft: &mut CheckpointBuilder<'_>,
-    executor: &Executor,
+    holders: &[Option<u64>],
 ) -> Result<(), CheckpointFailed> {
     let mut worker: u32 = 0;
-    for holder in executor.holders() {
+    for holder in holders {
         if holder.is_none() {
             draft.crash_worker(worker)?;
         }

@@ -18,6 +18,8 @@ mod checkpointing;
 mod client_session;
 mod epoch_base;
 mod epoch_executor;
+mod growing;
+mod growth_validation;
 mod immediate;
 mod incoming;
 mod outgoing;

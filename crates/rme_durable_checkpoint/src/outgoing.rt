@@ -7,30 +7,38 @@ use crate::sections::{Sections, last_receipts};
 use rme_durable_format::{LastJob, LogHeader};
 use rme_line_text::ClientReceipt;
 use rme_program::Receipt;
+use rme_words::Shape;
 use rme_world::World;
 use std::alloc::Global;
 
-/// The header of the next epoch, in which the checkpoint worker makes this number of sections of each lock.
+/// The header of the next epoch, of this shape, in which the checkpoint worker makes this number of sections of each
+/// lock.
 pub(crate) fn next_header(
     alloc: Global,
     old: &EpochExecutor,
+    shape: Shape,
     sections_made: &[u32],
 ) -> Result<LogHeader, CheckpointFailed> {
-    let world = old.executor().world();
-    let Ok(mut header) = LogHeader::first(alloc, world.shape()) else {
+    let Ok(mut header) = LogHeader::first(alloc, shape) else {
         return Err(CheckpointFailed);
     };
     let Some(epoch) = old.epoch().checked_add(1) else {
         return Err(CheckpointFailed);
     };
-    let Ok(lives) = old.lives().to_vec(alloc) else {
-        return Err(CheckpointFailed);
-    };
     header.epoch = epoch;
-    header.lives = lives;
+    set_lives(&mut header, old.lives());
     set_places(&mut header, old, sections_made)?;
     set_workers(alloc, &mut header, old)?;
     Ok(header)
+}
+
+/// Sets the lives of each worker that had some.
+fn set_lives(header: &mut LogHeader, lives: &[u64]) {
+    for worker in 0..lives.len() {
+        if let Some(life) = header.lives.get_mut(worker) {
+            *life = lives[worker];
+        }
+    }
 }
 
 /// Sets the place offset of each lock.

@@ -1,6 +1,6 @@
 //! Translation validation: whether clients see the same in the new world as in the old one.
 
-ghost use Rattle.std.specs.Prelude.{◌≡◌, ◌<◌, ◌+◌, ℕ, IfOk, IfSome, IsTrue, Ok, Option, option_map};
+ghost use Rattle.std.specs.Prelude.{◌≡◌, ◌<◌, ◌≤◌, ◌+◌, ℕ, IfOk, IfSome, IsTrue, Ok, Option, option_map};
 ghost use Rattle.rme_program.specs.declared.note.Receipt.{Receipt};
 ghost use Rattle.rme_session_world.specs.Executors.{held_session};
 ghost use Rattle.rme_durable_checkpoint.specs.ClientValues.{client_session};
@@ -44,7 +44,16 @@ pub(crate) fn is_checkpoint_same(before: &ComparedState<'_>, after: &ComparedSta
     if !same_sizes(one, other) {
         return false;
     }
-    if !same_owners(one, other) || !same_rows(after.rows, before.rows) {
+    same_rows(after.rows, before.rows) && does_each_show_same(before, after)
+}
+
+/// Whether each worker but the last, and each lock, of the first state shows the same in the other one.
+pub(crate) fn does_each_show_same(before: &ComparedState<'_>, after: &ComparedState<'_>) -> bool
+    requires { before.now.executor.now.world.shape.workers ≤ after.now.executor.now.world.shape.workers }
+    ensures { IsTrue result → spec.EachShowsSame before.now.base.now before.now.executor.now after.now.base.now
+        after.now.executor.now }
+{
+    if !same_owners(before.executor.world(), after.executor.world()) {
         return false;
     }
     same_workers(before, after) && same_places(before, after)
@@ -113,7 +122,7 @@ fn is_place_alike(before: &ComparedState<'_>, after: &ComparedState<'_>, lock: u
 }
 
 /// The place of a lock's next section, as clients see it.
-fn next_client_place(shown: &ComparedState<'_>, lock: u32) -> Option<u64>
+pub(crate) fn next_client_place(shown: &ComparedState<'_>, lock: u32) -> Option<u64>
     ensures { IfSome result (λ place. place ≡ value.next_client_place shown.now.base.now
         shown.now.executor.now.world lock) }
 {
@@ -123,7 +132,7 @@ fn next_client_place(shown: &ComparedState<'_>, lock: u32) -> Option<u64>
 
 /// Whether all workers are alike, except the last, which is the checkpoint worker.
 fn same_workers(before: &ComparedState<'_>, after: &ComparedState<'_>) -> bool
-    requires { after.now.executor.now.world.shape.workers ≡ before.now.executor.now.world.shape.workers }
+    requires { before.now.executor.now.world.shape.workers ≤ after.now.executor.now.world.shape.workers }
     ensures { IsTrue result → (worker : ℕ) → worker + 1 < before.now.executor.now.world.shape.workers
         → spec.IsWorkerAlike before.now.base.now before.now.executor.now after.now.base.now after.now.executor.now
         worker }
@@ -190,7 +199,7 @@ fn is_number_alike(before: &ComparedState<'_>, after: &ComparedState<'_>, worker
 }
 
 /// The number of a worker's last job, as clients see it.
-fn client_number(shown: &ComparedState<'_>, worker: u32) -> Option<u64>
+pub(crate) fn client_number(shown: &ComparedState<'_>, worker: u32) -> Option<u64>
     requires { worker < shown.now.executor.now.world.shape.workers }
     ensures { IfSome result (λ number. number ≡ spec.client_number shown.now.base.now shown.now.executor.now.world
         worker) }
@@ -217,7 +226,10 @@ fn is_last_alike(before: &ComparedState<'_>, after: &ComparedState<'_>, worker: 
 }
 
 /// The outcome of a worker's last number, as clients see it.
-fn client_last_of(shown: &ComparedState<'_>, worker: u32) -> Option<Option<ClientReceipt>>
+pub(crate) fn client_last_of(
+    shown: &ComparedState<'_>,
+    worker: u32,
+) -> Option<Option<ClientReceipt>>
     requires { worker < shown.now.executor.now.world.shape.workers }
     ensures { IfSome result (λ told. spec.IsClientLast shown.now.base.now shown.now.executor.now.world worker
         (option_map as_receipt told)) }

@@ -207,7 +207,7 @@ module _ (session worker : ℕ) where
   epoch_keeps : (names : List (List ℕ)) (old : ServerState) (bytes : List ℕ) (new : ServerState) → worker + 1 < old.executor.world.shape.workers → slice_get old.executor.holders worker ≡ Some (Some session) → BeginsEpoch names old bytes new → KeepsWorker session worker old new
   epoch_keeps names old bytes new within has begins = record {
     has = ap (λ (h : List (Option ℕ)). slice_get h worker) begins.same.holders ∙ has;
-    shown = (begins.same.alike worker within).shown;
+    shown = (begins.same.each.alike worker within).shown;
   }
 
   keeps_then : (old mid new : ServerState) → KeepsWorker session worker old mid → KeepsWorker session worker mid new → KeepsWorker session worker old new

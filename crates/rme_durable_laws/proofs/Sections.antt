@@ -127,7 +127,7 @@ module _ (names : List (List ℕ)) (session worker : ℕ) (job : Job) where
       let section : IsInSectionOf me.stance job.lock = stance_of_held world.history worker me.asked inside.number me.stance job shown in
       let place = list_place world.shape batch.worker worker job.lock apart (batch_events batch) (batch_of world.shape batch.worker worker apart batch refl) applies.happened.0 world new.executor.world refl reached me (state_found world worker within) section applies.happened.1 in
       ap₂ (λ (b : Base) (n : ℕ). client_place b job.lock n) lead.base place
-  entry_place (Whole bytes) old new lead other reached inside = lead.same.places job.lock (inside_owns session worker job old reached inside).within
+  entry_place (Whole bytes) old new lead other reached inside = lead.same.each.places job.lock (inside_owns session worker job old reached inside).within
 
   pub entries_place : (log : List LogEntry) (old new : ServerState) → EntriesLead names old log new → AreNotByAuthor session log → IsWorldReachable old.executor.world → IsSessionInside session worker job old → SectionStays job.lock old new
   entries_place [] old new lead others reached inside = ap (λ (s : ServerState). next_client_place s.base s.executor.world job.lock) lead
