@@ -5,16 +5,17 @@ use Rattle.rme_durable_log.specs.Logs.{GrowsByOthers}
 use Rattle.rme_durable_log.specs.declared.log_entry.LogEntry.{LogEntry}
 use Rattle.rme_session_protocol.specs.declared.order.Order.TheVariants.{Attach}
 use Rattle.rme_session_protocol.specs.declared.reply.SessionReply.{SessionReply}
+use Rattle.rme_session_protocol.specs.declared.worker_choice.ChoiceRequest.{ChoiceRequest}
 use Rattle.rme_session_protocol.specs.declared.worker_choice.WorkerChoice.{WorkerChoice}
 use Rattle.rme_session_world.specs.Executors.{IsChosenWorker}
 use Rattle.rme_durable_server.specs.DurableAnswers.{AttachesChosen, AttemptFrom, ChoiceIsRefused, IsWhyNoneChosen, client_terms}
 use Rattle.rme_durable_server.specs.ServerHistories.{LogLeads, ServerOpening, ServerState, SessionMoment, session_moment}
 
-pub attaches_chosen : (state : ServerState) (opening : ServerOpening) (clients : ℕ) (old : SessionMoment) (choice : WorkerChoice) (worker : ℕ) (now : SessionMoment) (answer : SessionReply)
-    → AttemptFrom state opening old (Attach record { worker = worker; take = false; after = None }) now answer → IsChosenWorker state.executor choice clients worker → AttachesChosen opening clients old choice worker now answer
-attaches_chosen state opening clients old choice worker now answer (attempt, is) chosen = record {
+pub attaches_chosen : (state : ServerState) (opening : ServerOpening) (clients : ℕ) (old : SessionMoment) (asked : ChoiceRequest) (worker : ℕ) (now : SessionMoment) (answer : SessionReply)
+    → AttemptFrom state opening old (Attach record { worker = worker; take = false; after = None; label = asked.label }) now answer → IsChosenWorker state.executor asked.choice clients worker → AttachesChosen opening clients old asked worker now answer
+attaches_chosen state opening clients old asked worker now answer (attempt, is) chosen = record {
   attempt = attempt;
-  chosen = subst (λ (s : ServerState). IsChosenWorker s.executor choice clients worker) (sym is) chosen;
+  chosen = subst (λ (s : ServerState). IsChosenWorker s.executor asked.choice clients worker) (sym is) chosen;
 }
 
 -- A session gets no worker: at one moment it has one, or there is none that the choice takes.

@@ -10,6 +10,7 @@ use Rattle.rme_session_protocol.specs.Attempts.{merged_reply, retry_order, is_st
 use Rattle.rme_session_protocol.specs.SessionLines.{choice_reply_line, session_reply_line}
 use Rattle.rme_session_protocol.specs.WorkerChoices.{choice_of_line}
 use Rattle.rme_session_protocol.specs.declared.view.Session.TheVariants.{Nobody}
+use Rattle.rme_session_protocol.specs.declared.worker_choice.ChoiceRequest.{ChoiceRequest}
 use Rattle.rme_session_protocol.specs.declared.worker_choice.WorkerChoice.{WorkerChoice}
 use Rattle.rme_session_world.specs.Executors.{HasNoCandidate, IsChosenWorker, executor_session_view}
 use Rattle.rme_session_world.specs.ExecutorStates.{ExecutorState}
@@ -34,6 +35,7 @@ use Rattle.rme_durable_server.specs.declared.worker_choice.Chosen.{Chosen}
 use Rattle.rme_durable_server.specs.declared.worker_choice.Chosen.TheVariants as chosen
 use Rattle.rme_durable_server.specs.declared.worker_choice.Chosen.TheVariants.{Worker}
 use Rattle.rme_session_protocol.specs.ClientReplies.{reply_of_client}
+use Rattle.rme_durable_server.specs.declared.worker_notes.WorkerNote.{WorkerNote}
 use Rattle.rme_durable_server.specs.StatusTexts.{status_state, status_text}
 use Rattle.rme_durable_server.specs.ServerHistories.{LogLeads, ServerOpening, ServerState, SessionActs, SessionEnds, SessionMoment}
 
@@ -116,7 +118,8 @@ abbrev pub cells_reply : Result (List ℕ × Bool) Refusal → Reply
 cells_reply (Ok cells) = line.Cells cells.0 cells.1
 cells_reply (Err why) = line.Refused why
 
--- What a look-up shows of a state: the owner and the cells by the world's own calls, and the status.
+-- What a look-up shows of a state: the owner and the cells by the world's own calls, and the status with some notes on
+-- the workers.
 abbrev pub LookupShows : List (List ℕ) → ServerState → SessionLookup → List ℕ → Type 0
 LookupShows names state (Owner lock) bytes =
     (found : Result (Option ℕ) Refusal) × OwnerContract state.executor.world lock found
@@ -125,7 +128,8 @@ LookupShows names state (Cells lock) bytes =
     (found : Result (List ℕ × Bool) Refusal) × CellsContract state.executor.world lock found
     × (bytes ≡ reply_text names state.executor.world.history (cells_reply found) ++ 10 ∷ [])
 LookupShows names state Status bytes =
-    bytes ≡ status_text names (status_state state.epoch state.base state.executor.world) ++ 10 ∷ []
+    (notes : List WorkerNote)
+    × (bytes ≡ status_text names (status_state state.epoch state.base state.executor.world) notes ++ 10 ∷ [])
 
 -- The log leads to a state in which the look-up shows this.
 pub record LookupMoment (opening : ServerOpening) (look : SessionLookup) (bytes : List ℕ) (log : List LogEntry) : Type 0
@@ -162,43 +166,44 @@ pub record ChoiceIsRefused (terms : ClientTerms) (old : SessionMoment) (choice :
   pub acts : SessionActs terms.opening old state now state
   pub none : IsWhyNoneChosen terms.clients state.executor old.session choice why
 
--- At one moment of the log the session attaches the lowest worker that the choice takes then.
-pub record AttachesChosen (opening : ServerOpening) (clients : ℕ) (old : SessionMoment) (choice : WorkerChoice)
+-- At one moment of the log the session attaches the lowest worker that the choice takes then, with the label given.
+pub record AttachesChosen (opening : ServerOpening) (clients : ℕ) (old : SessionMoment) (asked : ChoiceRequest)
     (worker : ℕ) (now : SessionMoment) (answer : SessionReply) : Type 0 where
-  pub attempt : DurableAttempt opening old (Attach record { worker = worker; take = false; after = None }) now answer
-  pub chosen : IsChosenWorker attempt.before.executor choice clients worker
+  pub attempt : DurableAttempt opening old (Attach record
+      { worker = worker; take = false; after = None; label = asked.label }) now answer
+  pub chosen : IsChosenWorker attempt.before.executor asked.choice clients worker
 
 -- What a session gets that leaves the choice to the server, and its answer, once everything before its moment is
 -- durable.
-abbrev pub ChoiceOutcome : ClientTerms → SessionMoment → WorkerChoice → Chosen → SessionMoment → Type 0
-ChoiceOutcome terms old choice (Worker worker told) now =
-    AttachesChosen terms.opening terms.clients old choice worker now (reply_of_client told)
-ChoiceOutcome terms old choice (chosen.Refused why) now = ChoiceIsRefused terms old choice why now
+abbrev pub ChoiceOutcome : ClientTerms → SessionMoment → ChoiceRequest → Chosen → SessionMoment → Type 0
+ChoiceOutcome terms old asked (Worker worker told) now =
+    AttachesChosen terms.opening terms.clients old asked worker now (reply_of_client told)
+ChoiceOutcome terms old asked (chosen.Refused why) now = ChoiceIsRefused terms old asked.choice why now
 
 abbrev pub chosen_line : List (List ℕ) → Chosen → List ℕ
 chosen_line names (Worker worker told) = choice_reply_line names worker (reply_of_client told)
 chosen_line names (chosen.Refused why) = session_reply_line names (Refused why)
 
-abbrev pub DurableChoice : {X : Type 0} → (X → StoreState) → ClientTerms → SessionMoment → WorkerChoice → List ℕ
+abbrev pub DurableChoice : {X : Type 0} → (X → StoreState) → ClientTerms → SessionMoment → ChoiceRequest → List ℕ
     → SessionMoment → Type 0
-DurableChoice holds terms old choice bytes now =
-    (found : Chosen) × ChoiceOutcome terms old choice found now × IsLogDurable holds now.log
+DurableChoice holds terms old asked bytes now =
+    (found : Chosen) × ChoiceOutcome terms old asked found now × IsLogDurable holds now.log
     × (bytes ≡ chosen_line terms.opening.names found)
 
 -- What a line asks: an order, a look-up, a worker of the server's choice, or nothing, with why it is refused.
 pub data LineAsk : Type 0 where
   ask_order : Order → LineAsk
   ask_lookup : SessionLookup → LineAsk
-  ask_choice : WorkerChoice → LineAsk
+  ask_choice : ChoiceRequest → LineAsk
   ask_nothing : Refusal → LineAsk
 
 -- A line that is refused as no order may be a look-up, or leave the choice of a worker to the server.
-abbrev pub ask_if_bad : Refusal → Option SessionLookup → Option WorkerChoice → LineAsk
+abbrev pub ask_if_bad : Refusal → Option SessionLookup → Option ChoiceRequest → LineAsk
 ask_if_bad BadLine (Some look) choice = ask_lookup look
-ask_if_bad BadLine None (Some choice) = ask_choice choice
+ask_if_bad BadLine None (Some asked) = ask_choice asked
 ask_if_bad why look choice = ask_nothing why
 
-abbrev pub ask_by : Result Order Refusal → Option SessionLookup → Option WorkerChoice → LineAsk
+abbrev pub ask_by : Result Order Refusal → Option SessionLookup → Option ChoiceRequest → LineAsk
 ask_by (Ok its) look choice = ask_order its
 ask_by (Err why) look choice = ask_if_bad why look choice
 
@@ -214,7 +219,7 @@ DurableLineReply holds terms old (ask_order its) bytes now =
     (reply : SessionReply) × DurableOrderEffect holds terms old its now reply
     × (bytes ≡ session_reply_line terms.opening.names reply)
 DurableLineReply holds terms old (ask_lookup look) bytes now = DurableLookup holds terms.opening old look bytes now
-DurableLineReply holds terms old (ask_choice choice) bytes now = DurableChoice holds terms old choice bytes now
+DurableLineReply holds terms old (ask_choice asked) bytes now = DurableChoice holds terms old asked bytes now
 DurableLineReply holds terms old (ask_nothing why) bytes now =
     (now ≡ old) × (bytes ≡ session_reply_line terms.opening.names (Refused why))
 

@@ -1,7 +1,9 @@
--- The answer to the order `status`: a function of the names of the locks, of a world, and of the base and the number of
--- its epoch.
-use Rattle.std.specs.Prelude.{ℕ, ◌-◌, ◌==◌, nat_lt, Bool, false, List, [], ◌++◌, Option, Some, None, is_some, codes, decimal, if◌then◌else◌}
+-- The answer to the order `status`: a function of the names of the locks, of a world, of the base and the number of its
+-- epoch, and of the notes on its workers.
+use Rattle.std.specs.Prelude.{ℕ, ◌-◌, ◌==◌, nat_lt, Bool, false, List, [], ◌++◌, Option, Some, None, is_some, codes, decimal, slice_get, if◌then◌else◌}
 use Rattle.std.specs.List.{range_with_len}
+use Rattle.serde_json.specs.Data.{string}
+use Rattle.serde_json.specs.Written.{compact_text}
 use Rattle.rme_tree.specs.Nodes.{owner_in}
 use Rattle.rme_script.specs.declared.job.Job.{Job}
 use Rattle.rme_machine.specs.AbstractCells.{is_lock_settled}
@@ -17,6 +19,7 @@ use Rattle.rme_durable_server.specs.declared.status.StatusSource.{StatusSource}
 use Rattle.rme_durable_server.specs.declared.status.WorkerStance.{WorkerStance}
 use Rattle.rme_durable_server.specs.declared.status.WorkerStance.TheVariants.{Ready, Climb, Held}
 use Rattle.rme_durable_server.specs.declared.status.WorkerStatus.{WorkerStatus}
+use Rattle.rme_durable_server.specs.declared.worker_notes.WorkerNote.{WorkerNote}
 
 -- What a status tells of: a world, the base of its epoch, and the number of earlier epochs.
 pub record StatusState : Type 0 where
@@ -108,9 +111,17 @@ abbrev pub lock_member_text : List (List ℕ) → Option ℕ → List ℕ
 lock_member_text names None = []
 lock_member_text names (Some lock) = codes ",\"lock\":\"" ++ (lock_name names lock ++ codes "\"")
 
--- the text of a worker's status before its lock, with the worker that it waits for if there is one, and after its lock
+-- the beginning of a worker's status, with its label if there is one
+abbrev pub as_text : List ℕ → List ℕ
+as_text label = codes "{\"as\":" ++ (compact_text (string label) ++ codes ",")
+
+abbrev pub label_text : Option (List ℕ) → List ℕ
+label_text None = codes "{"
+label_text (Some label) = as_text label
+
+-- the text between that and its lock, with the worker that it waits for if there is one
 abbrev pub attached_text : Bool → List ℕ
-attached_text attached = codes "{\"attached\":" ++ bool_text attached
+attached_text attached = codes "\"attached\":" ++ bool_text attached
 
 abbrev pub blocked_by_text : Option ℕ → List ℕ
 blocked_by_text None = []
@@ -119,38 +130,54 @@ blocked_by_text (Some other) = codes ",\"blocked_by\":" ++ decimal other
 abbrev pub worker_front : Bool → Option ℕ → List ℕ
 worker_front attached blocked_by = attached_text attached ++ blocked_by_text blocked_by
 
-abbrev pub worker_status_end : ℕ → List ℕ → List ℕ
-worker_status_end number word =
-    codes ",\"number\":" ++ (decimal number ++ (codes ",\"stance\":\"" ++ (word ++ codes "\"}")))
+-- the text after its lock
+abbrev pub number_text : ℕ → List ℕ
+number_text number = codes ",\"number\":" ++ decimal number
 
--- `{"attached":..,"blocked_by":..,"lock":..,"number":..,"stance":..}`
-abbrev pub worker_status_text : List (List ℕ) → WorkerStatus → List ℕ
-worker_status_text names status =
-    worker_front status.attached status.blocked_by ++ (lock_member_text names (worker_stance_lock status.stance) ++
-    worker_status_end status.number (worker_stance_word status.stance))
+abbrev pub worker_status_end : Option ℕ → List ℕ → List ℕ
+worker_status_end None word = codes ",\"stance\":\"" ++ (word ++ codes "\"}")
+worker_status_end (Some seconds) word =
+    codes ",\"seconds\":" ++ (decimal seconds ++ (codes ",\"stance\":\"" ++ (word ++ codes "\"}")))
+
+-- What is noted of a worker.
+abbrev pub note_label : Option WorkerNote → Option (List ℕ)
+note_label None = None
+note_label (Some note) = note.label
+
+abbrev pub note_seconds : Option WorkerNote → Option ℕ
+note_seconds None = None
+note_seconds (Some note) = Some note.seconds
+
+-- `{"as":..,"attached":..,"blocked_by":..,"lock":..,"number":..,"seconds":..,"stance":..}`
+abbrev pub worker_status_text : List (List ℕ) → WorkerStatus → Option WorkerNote → List ℕ
+worker_status_text names status note =
+    label_text (note_label note) ++ (worker_front status.attached status.blocked_by ++
+    (lock_member_text names (worker_stance_lock status.stance) ++ (number_text status.number ++
+    worker_status_end (note_seconds note) (worker_stance_word status.stance))))
 
 -- ---- the whole text
 
 abbrev pub lock_text : List (List ℕ) → StatusState → ℕ → List ℕ
 lock_text names state lock = lock_status_text (lock_name names lock) (lock_status state lock)
 
-abbrev pub worker_text : List (List ℕ) → StatusState → ℕ → List ℕ
-worker_text names state worker = worker_status_text names (worker_status state worker)
+abbrev pub worker_text : List (List ℕ) → StatusState → List WorkerNote → ℕ → List ℕ
+worker_text names state notes worker =
+    worker_status_text names (worker_status state worker) (slice_get notes worker)
 
 -- every lock, separated by commas
 abbrev pub locks_text : List (List ℕ) → StatusState → List ℕ
 locks_text names state = separated_text (lock_text names state) false (range_with_len 0 state.world.shape.locks)
 
 -- every worker but the last, which is the checkpoint worker
-abbrev pub workers_text : List (List ℕ) → StatusState → List ℕ
-workers_text names state = separated_text (worker_text names state) false (range_with_len 0
+abbrev pub workers_text : List (List ℕ) → StatusState → List WorkerNote → List ℕ
+workers_text names state notes = separated_text (worker_text names state notes) false (range_with_len 0
     (state.world.shape.workers - 1))
 
 abbrev pub status_front : ℕ → List ℕ
 status_front epoch = codes "{\"epoch\":" ++ (decimal epoch ++ codes ",\"locks\":[")
 
 -- `{"epoch":..,"locks":[..],"ok":"status","workers":[..]}`
-abbrev pub status_text : List (List ℕ) → StatusState → List ℕ
-status_text names state =
+abbrev pub status_text : List (List ℕ) → StatusState → List WorkerNote → List ℕ
+status_text names state notes =
     status_front state.epoch ++ (locks_text names state ++ (codes "],\"ok\":\"status\",\"workers\":[" ++
-    (workers_text names state ++ codes "]}")))
+    (workers_text names state notes ++ codes "]}")))

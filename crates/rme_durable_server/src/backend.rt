@@ -11,7 +11,7 @@ use crate::lookup::{SessionLookup, parse_lookup};
 use crate::session::{DurableSession, ServerTag};
 use crate::worker_choice::Chosen;
 use rme_durable_log::LogStore;
-use rme_session_protocol::{ClientReply, SERVICE_NUMBERS, SessionReply, WorkerChoice};
+use rme_session_protocol::{ChoiceRequest, ClientReply, SERVICE_NUMBERS, SessionReply};
 use rme_session_server::{
     AnswerError, AttemptError, Backend, Buffers, Client, CloseHandle, OrderRequest, OrderRun,
 };
@@ -86,15 +86,16 @@ impl<L: LogStore, H: CloseHandle, J: ServerTag> Backend for DurableServer<L, H, 
         (Some(session), answered)
     }
 
-    fn end_session<R: Wait>(
+    fn end_session<R: Wait + Clock, C: Client<Handle = H>>(
         &self,
         rt: &R,
         stand: Option<DurableSession<L, J>>,
+        client: &C,
     ) -> Result<(), AttemptError> {
         let Some(session) = stand else {
             return Ok(());
         };
-        match self.detach_session(rt, session) {
+        match self.detach_session(rt, session, client) {
             Ok(()) => Ok(()),
             Err(_) => Err(AttemptError::NotLogged),
         }
@@ -132,7 +133,7 @@ impl<L: LogStore, H: CloseHandle, J: ServerTag> DurableServer<L, H, J> {
     }
 
     /// Answers a line that is no order: its look-up, its choice of a worker, or why it is refused.
-    fn answer_non_order<R: Wait, C: Client<Handle = H>>(
+    fn answer_non_order<R: Wait + Clock, C: Client<Handle = H>>(
         &self,
         rt: &R,
         session: DurableSession<L, J>,
@@ -158,7 +159,7 @@ impl<L: LogStore, H: CloseHandle, J: ServerTag> DurableServer<L, H, J> {
     }
 
     /// Answers a line that is neither an order nor a look-up: its choice of a worker, or that it is a bad line.
-    fn answer_choice_or_bad<R: Wait, C: Client<Handle = H>>(
+    fn answer_choice_or_bad<R: Wait + Clock, C: Client<Handle = H>>(
         &self,
         rt: &R,
         session: DurableSession<L, J>,
@@ -172,7 +173,7 @@ impl<L: LogStore, H: CloseHandle, J: ServerTag> DurableServer<L, H, J> {
         ensures err { IfErr result.1 (λ why. why ≢ AnswerError.WriteFailed) }
     {
         match buffers.parse_worker_choice() {
-            Ok(Some(choice)) => self.answer_choice(rt, session, choice, buffers, client),
+            Ok(Some(asked)) => self.answer_choice(rt, session, asked, buffers, client),
             Ok(None) => {
                 let refused = SessionReply::Refused(Refusal::BadLine);
                 (session, buffers.write_reply(&self.names, refused))
@@ -183,20 +184,20 @@ impl<L: LogStore, H: CloseHandle, J: ServerTag> DurableServer<L, H, J> {
 
     /// Attaches the session to a worker of the server's choice, and answers which, once its lines are durable; or why it
     /// gets none.
-    fn answer_choice<R: Wait, C: Client<Handle = H>>(
+    fn answer_choice<R: Wait + Clock, C: Client<Handle = H>>(
         &self,
         rt: &R,
         session: DurableSession<L, J>,
-        choice: WorkerChoice,
+        asked: ChoiceRequest,
         buffers: &mut Buffers,
         client: &C,
     ) -> (DurableSession<L, J>, Result<(), AnswerError>)
         ensures answers { OnOk result.1 (DurableChoice L.holds (client_terms self.now.clients J.opening) session
-            choice (string_bytes buffers.new.text) result.0) }
+            asked (string_bytes buffers.new.text) result.0) }
         ensures same { buffers.new.exchange ≡ buffers.old.exchange }
         ensures err { IfErr result.1 (λ why. why ≢ AnswerError.WriteFailed) }
     {
-        let (session, found) = self.attach_any(rt, session, choice, client);
+        let (session, found) = self.attach_any(rt, session, &asked, client);
         let told = match found {
             Ok(Chosen::Worker(worker, reply)) => {
                 self.answer_chosen(rt, &session, worker, reply, buffers)
@@ -232,7 +233,7 @@ impl<L: LogStore, H: CloseHandle, J: ServerTag> DurableServer<L, H, J> {
     }
 
     /// Answers a look-up, once all log lines that its answer depends on are durable.
-    fn answer_lookup<R: Wait>(
+    fn answer_lookup<R: Wait + Clock>(
         &self,
         rt: &R,
         session: DurableSession<L, J>,

@@ -8,7 +8,7 @@ use crate::session::ServerTag;
 use rme_durable_checkpoint::EpochExecutor;
 use rme_durable_log::{LogStore, LogWriter, PendingLines};
 use rme_session_protocol::{Attachment, Order};
-use rme_session_server::CloseHandle;
+use rme_session_server::{Client, CloseHandle, SessionEvent};
 use std::sync::atomic::{AtomicBool, AtomicU64, Ordering};
 use std::sync::{Mutex, Wait};
 use std::time::{Clock, Duration, Instant};
@@ -131,9 +131,14 @@ impl<L: LogStore, H: CloseHandle, J: ServerTag> DurableServer<L, H, J> {
     ghost use Rattle.std.specs.Prelude.{◌≡◌, IfErr, false};
 
     /// Makes a checkpoint, if one is still due, or if this worker has used all job numbers of the epoch. Meanwhile no
-    /// other session does anything. None is tried soon after one that failed. Answers true if a new epoch began, or if
-    /// none was due any more.
-    pub(crate) fn checkpoint<R: Wait + Clock>(&self, rt: &R, spent: Option<u32>) -> bool {
+    /// other session does anything. None is tried soon after one that failed. Answers true if a new epoch began, of which
+    /// the client is told, or if none was due any more.
+    pub(crate) fn checkpoint<R: Wait + Clock, C: Client<Handle = H>>(
+        &self,
+        rt: &R,
+        spent: Option<u32>,
+        client: &C,
+    ) -> bool {
         if !self.due.may_try(rt) {
             return false;
         }
@@ -157,8 +162,13 @@ impl<L: LogStore, H: CloseHandle, J: ServerTag> DurableServer<L, H, J> {
         if is_due {
             self.due.note_attempt(rt, executor.executor(), is_new);
         }
+        let epoch = executor.executor().epoch();
+        executor.note_standings(rt);
         drop(executor);
         self.commits.return_writer(rt, taken.into_empty(), kept);
+        if is_new {
+            client.observe(SessionEvent::Checkpoint(epoch));
+        }
         is_new || !is_due
     }
 
@@ -209,6 +219,7 @@ impl<L: LogStore, H: CloseHandle, J: ServerTag> DurableServer<L, H, J> {
             worker,
             take: false,
             after: None,
+            label: None,
         });
         let is_done = match executor.execute(&self.names, &session, &order) {
             Ok(done) => {

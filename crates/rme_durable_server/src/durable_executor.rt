@@ -4,6 +4,7 @@ ghost use Rattle.std.specs.Prelude.{◌≡◌, ◌≤◌, IfSome, OnSome, drop, 
 ghost use Rattle.rme_durable_server.specs.ServerHistories.{AppendsIfAny};
 
 use crate::session::{DurableSession, ServerTag};
+use crate::worker_notes::{WorkerNote, WorkerNotes};
 use rme_durable_checkpoint::{ApplyError, Checkpoint, ClientAnswer, EpochExecutor};
 use rme_durable_log::{
     LogAppender, LogAuthor, LogPosition, LogStore, LogTag, LogWriter, PendingBatch, PendingLines,
@@ -13,6 +14,7 @@ use rme_session_world::SessionState;
 use rme_wire::Names;
 use std::alloc::Global;
 use std::marker::Model;
+use std::time::Clock;
 
 /// The reply to an order, the state of its session afterwards, and the end of the log then.
 #[derive(Drop)]
@@ -22,12 +24,13 @@ pub(crate) struct DurableReply<L: LogStore, J: LogTag> {
     pub(crate) end: LogPosition<L, J>,
 }
 
-/// An executor, and the appender of its lines. In contracts it is the executor.
+/// An executor, the appender of its lines, and the notes on its workers. In contracts it is the executor.
 #[derive(Drop)]
 pub(crate) struct DurableExecutor<L: LogStore, J: ServerTag> {
     executor: EpochExecutor,
     /// `None` once an event batch could not be logged. Then no order is executed any more.
     appender: Option<LogAppender<L, J>>,
+    notes: WorkerNotes,
 }
 
 impl<L: LogStore, J: ServerTag> Model for DurableExecutor<L, J> {
@@ -52,8 +55,12 @@ impl<L: LogStore, J: ServerTag> DurableExecutor<L, J> {
     ghost use Rattle.rme_durable_server.specs.ServerHistories.{BeginsEpoch, LogLeads, SessionEnds, server_state, session_moment};
     ghost use Rattle.rme_session_protocol.specs.ClientReplies.{reply_of_client};
 
-    /// The executor of a server's opening, with a log that begins there.
-    pub(crate) fn new(executor: EpochExecutor, appender: LogAppender<L, J>) -> DurableExecutor<L, J>
+    /// The executor of a server's opening, with a log that begins there, and notes on its workers.
+    pub(crate) fn new(
+        executor: EpochExecutor,
+        appender: LogAppender<L, J>,
+        notes: WorkerNotes,
+    ) -> DurableExecutor<L, J>
         requires waits { appender.waits ≡ [] }
         requires first { (bytes : List ℕ) × (appender.log ≡ Whole bytes ∷ []) }
         requires lines { executor.lines ≡ [] }
@@ -63,6 +70,7 @@ impl<L: LogStore, J: ServerTag> DurableExecutor<L, J> {
         DurableExecutor {
             executor,
             appender: Some(appender),
+            notes,
         }
     }
 
@@ -71,6 +79,41 @@ impl<L: LogStore, J: ServerTag> DurableExecutor<L, J> {
         ensures { result.now ≡ self.now }
     {
         &self.executor
+    }
+
+    /// The notes on the workers, by their numbers, as of when their seconds were last counted.
+    pub(crate) fn notes(&self) -> &[WorkerNote] {
+        self.notes.told()
+    }
+
+    /// Counts the seconds of the notes up to now.
+    pub(crate) fn count_seconds<R: Clock>(&mut self, rt: &R)
+        ensures { self.new ≡ self.old }
+    {
+        self.notes.count_seconds(rt);
+    }
+
+    /// Begins the notes: every worker has its present standing since now.
+    pub(crate) fn begin_notes<R: Clock>(&mut self, rt: &R)
+        ensures { self.new ≡ self.old }
+    {
+        self.notes.begin(rt, self.executor.executor().world());
+    }
+
+    /// Notes the standing of every worker, after orders of the server's own.
+    pub(crate) fn note_standings<R: Clock>(&mut self, rt: &R)
+        ensures { self.new ≡ self.old }
+    {
+        self.notes.see_all(rt, self.executor.executor().world());
+    }
+
+    /// Notes the standing of a worker, if there is one.
+    pub(crate) fn note_standing<R: Clock>(&mut self, rt: &R, worker: Option<u32>)
+        ensures { self.new ≡ self.old }
+    {
+        if let Some(worker) = worker {
+            self.notes.see(rt, self.executor.executor().world(), worker);
+        }
     }
 
     /// Whether an event batch could not be logged: no order is executed any more.
@@ -144,6 +187,27 @@ impl<L: LogStore, J: ServerTag> DurableExecutor<L, J> {
             state,
             end,
         })
+    }
+
+    /// Executes an order of a client's session, and notes the label of an attachment and the standing of the worker that
+    /// the order concerns.
+    pub(crate) fn execute_noted<R: Clock>(
+        &mut self,
+        rt: &R,
+        names: &Names,
+        session: &DurableSession<L, J>,
+        order: &Order,
+    ) -> Result<DurableReply<L, J>, ApplyError>
+        requires names { names.now ≡ J.opening.names }
+        ensures { IfOk result (λ done. AttemptFrom (server_state self.old) J.opening session.now order.now
+            (session_moment done.state done.end) (reply_of_client done.answered.reply)) }
+    {
+        let acted = self.execute(names, session, order);
+        if let Ok(done) = &acted {
+            self.notes.note_reply(order, done.answered.reply);
+            self.note_standing(rt, order_worker(&session.state, order));
+        }
+        acted
     }
 
     /// Ends a session: its worker, if it has one, crashes, and the lines of that are appended. Answers the position
@@ -253,4 +317,13 @@ fn append_new_lines<L: LogStore, J: LogTag>(
         return None;
     }
     Some(appender.position())
+}
+
+/// The worker that an order concerns, if any.
+pub(crate) fn order_worker(session: &SessionState, order: &Order) -> Option<u32> {
+    match (session.worker, order) {
+        (Some(worker), _) => Some(worker),
+        (None, Order::Attach(asked)) => Some(asked.worker),
+        (None, _) => None,
+    }
 }

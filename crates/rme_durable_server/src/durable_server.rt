@@ -3,19 +3,19 @@
 ghost use Rattle.std.specs.Prelude.{◌≡◌};
 
 use crate::checkpoints::CheckpointPolicy;
-use crate::durable_executor::{DurableExecutor, DurableReply};
+use crate::durable_executor::{DurableExecutor, DurableReply, order_worker};
 use crate::lookup::SessionLookup;
 use crate::lookup_answer::write_lookup;
 use crate::session::{DurableSession, ServerTag};
 use crate::status::clients_of;
-use crate::waiting_jobs::WaitingJobs;
+use crate::waiting_jobs::{WaitingJobs, Withdrawal};
+use crate::worker_notes::WorkerNotes;
 use rme_durable_checkpoint::{ApplyError, ClientAnswer, EpochExecutor};
 use rme_durable_log::{
     GroupCommit, LogPosition, LogStore, LogTag, NotDurable, OpenLog, lock_with_spin,
 };
 use rme_session_protocol::{ClientReply, Order};
-use rme_session_server::{Client, CloseHandle, SessionRegistry, update_claim};
-use rme_session_world::SessionState;
+use rme_session_server::{Client, CloseHandle, Departure, SessionRegistry, is_take_over};
 use rme_wire::Names;
 use rme_words::{NoMemory, Refusal};
 use std::alloc::Global;
@@ -68,15 +68,17 @@ impl<L: LogStore, H: CloseHandle, J: ServerTag> DurableServer<L, H, J> {
         requires begins { J.opening.begins (server_state executor) }
     {
         let registry = SessionRegistry::new(alloc, executor.executor().world().shape())?;
+        let clients = clients_of(executor.executor().world());
+        let notes = WorkerNotes::new(alloc, clients)?;
         let (appender, commits) = opened.split::<J>(alloc);
         Ok(DurableServer {
             alloc,
             names,
-            clients: clients_of(executor.executor().world()),
+            clients,
             registry,
             due: CheckpointPolicy::after_sections(setting.sections),
             waiting: setting.waiting,
-            executor: Mutex::new(DurableExecutor::new(executor, appender)),
+            executor: Mutex::new(DurableExecutor::new(executor, appender, notes)),
             commits,
         })
     }
@@ -111,7 +113,7 @@ impl<L: LogStore, H: CloseHandle, J: ServerTag> DurableServer<L, H, J> {
             (reply_of_client answered.reply)) }
     {
         if self.due.is_seen_due() {
-            self.checkpoint(rt, None);
+            self.checkpoint(rt, None, client);
         }
         let done = self.execute_numbered(rt, session, order, client)?;
         Ok(session.advance(done))
@@ -129,14 +131,15 @@ impl<L: LogStore, H: CloseHandle, J: ServerTag> DurableServer<L, H, J> {
             (session_moment done.state done.end) (reply_of_client done.answered.reply)) }
     {
         let tried = self.execute_in_epoch(rt, session, order, client);
-        if has_spent_jobs(&tried) && self.checkpoint(rt, session.state.worker) {
+        if has_spent_jobs(&tried) && self.checkpoint(rt, session.state.worker, client) {
             return self.execute_in_epoch(rt, session, order, client);
         }
         tried
     }
 
-    /// Executes an order in this epoch with its worker's claim locked, and updates the claim.
-    fn execute_in_epoch<R: Wait, C: Client<Handle = H>>(
+    /// Executes an order in this epoch with its worker's claim locked, and updates the claim. If the order takes a worker
+    /// over that another session has, the client of that session is closed.
+    fn execute_in_epoch<R: Wait + Clock, C: Client<Handle = H>>(
         &self,
         rt: &R,
         session: &DurableSession<L, J>,
@@ -151,19 +154,24 @@ impl<L: LogStore, H: CloseHandle, J: ServerTag> DurableServer<L, H, J> {
             .registry
             .claim_worker(rt, order_worker(&session.state, order));
         let acted = self.execute_and_commit(rt, session, order);
-        let has = match &acted {
-            Ok(done) => done.state.worker.is_some(),
-            Err(_) => had,
+        let Ok(done) = &acted else {
+            return acted;
         };
-        update_claim(claim, client, had, has);
-        if let Ok(done) = &acted {
-            self.registry.notify_reply(rt, done.answered.reply);
+        let takes_over = is_take_over(order, done.answered.reply);
+        let has = done.state.worker.is_some();
+        if let Some(claim) = claim {
+            if takes_over {
+                claim.close_client(client);
+            } else {
+                claim.update(client, had, has);
+            }
         }
+        self.registry.notify_reply(rt, done.answered.reply);
         acted
     }
 
     /// Executes an order in this epoch. Its lines are committed at once, if that is quick.
-    fn execute_and_commit<R: Wait>(
+    fn execute_and_commit<R: Wait + Clock>(
         &self,
         rt: &R,
         session: &DurableSession<L, J>,
@@ -173,7 +181,7 @@ impl<L: LogStore, H: CloseHandle, J: ServerTag> DurableServer<L, H, J> {
             (session_moment done.state done.end) (reply_of_client done.answered.reply)) }
     {
         let mut executor = lock_with_spin(rt, &self.executor);
-        let acted = executor.execute(&self.names, session, order);
+        let acted = executor.execute_noted(rt, &self.names, session, order);
         self.observe(&executor);
         if let Ok(done) = &acted {
             self.commits.commit_inline(rt, &mut *executor, &done.end);
@@ -192,10 +200,11 @@ impl<L: LogStore, H: CloseHandle, J: ServerTag> DurableServer<L, H, J> {
 
     /// Detaches the worker of a session that ends, and waits until that is durable. If its job waits, and waiting jobs are
     /// withdrawn, that is durable too.
-    pub(crate) fn detach_session<R: Wait>(
+    pub(crate) fn detach_session<R: Wait + Clock, C: Client<Handle = H>>(
         &self,
         rt: &R,
         session: DurableSession<L, J>,
+        client: &C,
     ) -> Result<(), NotDurable>
         ensures { OnOk result (IsSessionEndDurable L.holds J.opening session) }
     {
@@ -204,14 +213,24 @@ impl<L: LogStore, H: CloseHandle, J: ServerTag> DurableServer<L, H, J> {
         let mut executor = lock_with_spin(rt, &self.executor);
         let gone = executor.detach_session(&self.names, session);
         let withdrawn = self.withdraw_if_waiting(&mut executor, worker);
+        executor.note_standing(rt, worker);
         self.observe(&executor);
         drop(executor);
-        if let Some(mut claim) = claim {
-            *claim = None;
+        if let Some(
+            Withdrawal {
+                event: Some(event),
+                ..
+            },
+        ) = &withdrawn
+        {
+            client.observe(*event);
+        }
+        if let Some(claim) = claim {
+            claim.release(client, Departure::SessionEnd);
         }
         self.registry.notify_worker_free(rt);
-        if let Some(last) = withdrawn {
-            self.commit(rt, &last)?;
+        if let Some(withdrawn) = withdrawn {
+            self.commit(rt, &withdrawn.end)?;
         }
         match gone {
             Ok(end) => self.commit(rt, &end),
@@ -241,7 +260,7 @@ impl<L: LogStore, H: CloseHandle, J: ServerTag> DurableServer<L, H, J> {
 
     /// Writes the line that answers a look-up of a session, and answers the end of the log then, since whose earlier
     /// moment only other sessions have appended; `None` once an event could not be logged.
-    pub(crate) fn write_lookup<R: Wait>(
+    pub(crate) fn write_lookup<R: Wait + Clock>(
         &self,
         rt: &R,
         look: SessionLookup,
@@ -253,8 +272,15 @@ impl<L: LogStore, H: CloseHandle, J: ServerTag> DurableServer<L, H, J> {
         ensures moment { IfOk result (λ found. IfSome found (λ end. LookupMoment J.opening look (string_bytes out.new)
             end)) }
     {
-        let executor = self.executor.lock(rt);
-        write_lookup(out, &self.names, executor.executor(), look)?;
+        let mut executor = self.executor.lock(rt);
+        executor.count_seconds(rt);
+        write_lookup(
+            out,
+            &self.names,
+            executor.executor(),
+            look,
+            executor.notes(),
+        )?;
         Ok(executor.position_after(session))
     }
 }
@@ -264,14 +290,5 @@ fn has_spent_jobs<L: LogStore, J: LogTag>(acted: &Result<DurableReply<L, J>, App
     match acted {
         Ok(done) => done.answered.reply == ClientReply::Refused(Refusal::TooManyJobs),
         Err(_) => false,
-    }
-}
-
-/// The worker that an order concerns, if any.
-fn order_worker(session: &SessionState, order: &Order) -> Option<u32> {
-    match (session.worker, order) {
-        (Some(worker), _) => Some(worker),
-        (None, Order::Attach(asked)) => Some(asked.worker),
-        (None, _) => None,
     }
 }

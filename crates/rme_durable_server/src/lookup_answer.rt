@@ -4,12 +4,14 @@ ghost use Rattle.std.specs.Prelude.{◌≡◌, ◌++◌, ℕ, Bool, List, OnOk, 
 ghost use Rattle.rme_durable_server.specs.DurableAnswers.{LookupShows, cells_reply, owner_reply};
 ghost use Rattle.rme_durable_server.specs.ServerHistories.{server_state};
 ghost use Rattle.rme_durable_server.specs.StatusTexts.{status_state, status_text};
+ghost use Rattle.rme_durable_server.specs.declared.worker_notes.WorkerNote.{WorkerNote};
 ghost use Rattle.rme_line_text.specs.Replies.{reply_text};
 ghost use Rattle.rme_words.specs.declared.refusal.Refusal.{Refusal};
 ghost use Rattle.rme_world.specs.Calls.{CellsContract, OwnerContract};
 
 use crate::lookup::SessionLookup;
 use crate::status::{StatusSource, push_status};
+use crate::worker_notes::WorkerNote;
 use rme_durable_checkpoint::EpochExecutor;
 use rme_line_text::{Reply, push_reply};
 use rme_wire::Names;
@@ -24,6 +26,7 @@ pub(crate) fn write_lookup(
     names: &Names,
     executor: &EpochExecutor,
     look: SessionLookup,
+    notes: &[WorkerNote],
 ) -> Result<(), NoMemory>
     ensures { OnOk result (LookupShows names.now (server_state executor.now) look (string_bytes out.new)) }
 {
@@ -32,7 +35,7 @@ pub(crate) fn write_lookup(
     match look {
         SessionLookup::Owner(lock) => push_owner(out, names, world, lock)?,
         SessionLookup::Cells(lock) => push_cells(out, names, world, lock)?,
-        SessionLookup::Status => push_executor_status(out, names, executor)?,
+        SessionLookup::Status => push_executor_status(out, names, executor, notes)?,
     }
     out.push_str("\n")?;
     Ok(())
@@ -64,14 +67,16 @@ fn push_cells(out: &mut String, names: &Names, world: &World, lock: u32) -> Resu
     push_reply(out, names, world.history(), &reply)
 }
 
-/// Appends the status of an executor.
+/// Appends the status of an executor, with the notes on its workers.
 fn push_executor_status(
     out: &mut String,
     names: &Names,
     executor: &EpochExecutor,
+    notes: &[WorkerNote],
 ) -> Result<(), NoMemory>
-    ensures { OnOk result (string_bytes out.new ≡ string_bytes out.old ++ status_text names.now
-        (status_state executor.now.epoch executor.now.base executor.now.executor.world)) }
+    ensures { OnOk result ((told : List WorkerNote) × (string_bytes out.new ≡ string_bytes out.old
+        ++ status_text names.now (status_state executor.now.epoch executor.now.base executor.now.executor.world)
+        told)) }
 {
-    push_status(out, names, &StatusSource::of(executor))
+    push_status(out, names, &StatusSource::of(executor), notes)
 }

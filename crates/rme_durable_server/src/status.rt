@@ -1,19 +1,24 @@
 //! The status of a world: its locks and its workers, without the checkpoint worker.
 
-ghost use Rattle.std.specs.Prelude.{◌≡◌, ◌++◌, ◌-◌, ◌<◌, IfSome, OnOk, string_bytes};
+ghost use Rattle.std.specs.Prelude.{◌≡◌, ◌++◌, ◌-◌, ◌<◌, IfOk, IfSome, OnOk, slice_get, string_bytes};
+ghost use Rattle.serde_json.specs.Data.{string};
+ghost use Rattle.serde_json.specs.Written.{compact_text};
 ghost use Rattle.rme_line_text.specs.Texts.{cells_text, comma_text};
 ghost use Rattle.rme_durable_checkpoint.specs.Checkpoints.{AreSectionCounts};
 ghost use Rattle.rme_waiting.specs.WorldWords.{world_bank};
 ghost use Rattle.rme_durable_server.specs.StatusTexts as spec;
 
+use crate::worker_notes::WorkerNote;
 use rme_durable_checkpoint::{Base, EpochExecutor, Sections};
 use rme_line_text::lock_name;
 use rme_script::Row;
+use rme_session_protocol::ClientLabel;
 use rme_waiting::{blocked_by, world_words};
 use rme_wire::Names;
 use rme_words::{Bank, NoMemory};
 use rme_world::World;
-use std::alloc::AllocError;
+use serde_json::Value;
+use std::alloc::{AllocError, Global};
 
 /// The stance of a worker: as its session shows it, or as the next attach would find it.
 #[derive(Clone, Copy, Debug, PartialEq, Eq)]
@@ -167,16 +172,22 @@ fn stance_at_lock(owner: Option<u32>, worker: u32, lock: u32) -> WorkerStance
     }
 }
 
-/// Appends the answer to the order `status`, without a newline. An error means that memory was refused, or that a
-/// number over all epochs is not a number of 64 bits; the text is then of no use.
-pub fn push_status(out: &mut String, names: &Names, told: &StatusSource<'_>) -> Result<(), NoMemory>
+/// Appends the answer to the order `status`, without a newline. Each worker that has one of the notes, by its number,
+/// is told with it. An error means that memory was refused, or that a number over all epochs is not a number of 64 bits;
+/// the text is then of no use.
+pub fn push_status(
+    out: &mut String,
+    names: &Names,
+    told: &StatusSource<'_>,
+    notes: &[WorkerNote],
+) -> Result<(), NoMemory>
     ensures { OnOk result (string_bytes out.new ≡ string_bytes out.old ++ spec.status_text names.now
-        (spec.source_state told.now)) }
+        (spec.source_state told.now) notes.now) }
 {
     push_status_front(out, told.epoch)?;
     push_locks(out, names, told)?;
     out.push_str("],\"ok\":\"status\",\"workers\":[")?;
-    push_workers(out, names, told)?;
+    push_workers(out, names, told, notes)?;
     out.push_str("]}")?;
     Ok(())
 }
@@ -262,9 +273,14 @@ fn push_lock_status_end(out: &mut String, sections: u64, settled: bool) -> Resul
 }
 
 /// Appends the status of each worker that clients may attach, separated by commas.
-fn push_workers(out: &mut String, names: &Names, told: &StatusSource<'_>) -> Result<(), NoMemory>
+fn push_workers(
+    out: &mut String,
+    names: &Names,
+    told: &StatusSource<'_>,
+    notes: &[WorkerNote],
+) -> Result<(), NoMemory>
     ensures { OnOk result (string_bytes out.new ≡ string_bytes out.old ++ spec.workers_text names.now
-        (spec.source_state told.now)) }
+        (spec.source_state told.now) notes.now) }
 {
     let words = world_words(told.world)?;
     let mut later = false;
@@ -273,20 +289,71 @@ fn push_workers(out: &mut String, names: &Names, told: &StatusSource<'_>) -> Res
             return Err(NoMemory);
         };
         push_comma(out, later)?;
-        push_worker(out, names, status)?;
+        push_worker(out, names, status, note_on(notes, worker))?;
         later = true;
     }
     Ok(())
 }
 
-/// Appends the status of a worker.
-fn push_worker(out: &mut String, names: &Names, status: WorkerStatus) -> Result<(), AllocError>
-    ensures { OnOk result (string_bytes out.new ≡ string_bytes out.old ++ spec.worker_status_text names.now status) }
+/// Appends the status of a worker, with the note on it if there is one.
+fn push_worker(
+    out: &mut String,
+    names: &Names,
+    status: WorkerStatus,
+    note: Option<WorkerNote>,
+) -> Result<(), AllocError>
+    ensures { OnOk result (string_bytes out.new ≡ string_bytes out.old ++ spec.worker_status_text names.now status
+        note) }
 {
+    let (label, seconds) = note_members(note);
+    push_label(out, label)?;
     push_worker_front(out, status.attached, status.blocked_by)?;
     push_lock_member(out, names, status.stance.lock())?;
-    push_worker_status_end(out, status.number, status.stance.word())?;
+    push_number(out, status.number)?;
+    push_worker_status_end(out, seconds, status.stance.word())?;
     Ok(())
+}
+
+/// The note on a worker, if there is one.
+fn note_on(notes: &[WorkerNote], worker: u32) -> Option<WorkerNote>
+    ensures { result ≡ slice_get notes.now worker }
+{
+    notes.get(worker as usize).copied()
+}
+
+/// The label and the seconds that a note tells.
+fn note_members(note: Option<WorkerNote>) -> (Option<ClientLabel>, Option<u64>)
+    ensures label { result.0 ≡ spec.note_label note }
+    ensures seconds { result.1 ≡ spec.note_seconds note }
+{
+    match note {
+        Some(WorkerNote { label, seconds }) => (label, Some(seconds)),
+        None => (None, None),
+    }
+}
+
+/// Appends the beginning of a worker's status, with the client's label if there is one.
+fn push_label(out: &mut String, label: Option<ClientLabel>) -> Result<(), AllocError>
+    ensures { OnOk result (string_bytes out.new ≡ string_bytes out.old ++ spec.label_text label) }
+{
+    match label {
+        Some(label) => push_as(out, label.as_str()),
+        None => out.push_str("{"),
+    }
+}
+
+fn push_as(out: &mut String, label: &str) -> Result<(), AllocError>
+    ensures { OnOk result (string_bytes out.new ≡ string_bytes out.old ++ spec.as_text label.now) }
+{
+    let quoted = json_text(*out.allocator(), label)?;
+    write!(out, "{{\"as\":{quoted},")
+}
+
+/// A text in JSON, with its quotes.
+fn json_text(alloc: Global, text: &str) -> Result<String, AllocError>
+    ensures { IfOk result (λ json. string_bytes json ≡ compact_text (string text.now)) }
+{
+    Value::String(String::from_str(alloc, text)?).to_string(alloc)
 }
 
 /// Appends the text of a worker's status before its lock.
@@ -305,7 +372,7 @@ fn push_worker_front(
 fn push_attached(out: &mut String, attached: bool) -> Result<(), AllocError>
     ensures { OnOk result (string_bytes out.new ≡ string_bytes out.old ++ spec.attached_text attached) }
 {
-    write!(out, "{{\"attached\":{attached}")
+    write!(out, "\"attached\":{attached}")
 }
 
 fn push_blocked_by(out: &mut String, blocked_by: Option<u32>) -> Result<(), AllocError>
@@ -327,8 +394,21 @@ fn push_lock_member(out: &mut String, names: &Names, lock: Option<u32>) -> Resul
     write!(out, ",\"lock\":\"{name}\"")
 }
 
-fn push_worker_status_end(out: &mut String, number: u64, word: &str) -> Result<(), AllocError>
-    ensures { OnOk result (string_bytes out.new ≡ string_bytes out.old ++ spec.worker_status_end number word.now) }
+fn push_number(out: &mut String, number: u64) -> Result<(), AllocError>
+    ensures { OnOk result (string_bytes out.new ≡ string_bytes out.old ++ spec.number_text number) }
 {
-    write!(out, ",\"number\":{number},\"stance\":\"{word}\"}}")
+    write!(out, ",\"number\":{number}")
+}
+
+fn push_worker_status_end(
+    out: &mut String,
+    seconds: Option<u64>,
+    word: &str,
+) -> Result<(), AllocError>
+    ensures { OnOk result (string_bytes out.new ≡ string_bytes out.old ++ spec.worker_status_end seconds word.now) }
+{
+    match seconds {
+        Some(seconds) => write!(out, ",\"seconds\":{seconds},\"stance\":\"{word}\"}}"),
+        None => write!(out, ",\"stance\":\"{word}\"}}"),
+    }
 }

@@ -6,8 +6,9 @@ use crate::session::ServerTag;
 use crate::status::{WorkerStance, worker_stance};
 use rme_durable_log::{LogPosition, LogStore, NotDurable, lock_with_spin};
 use rme_session_protocol::{Attachment, ClientReply, Order, SessionStance};
-use rme_session_server::CloseHandle;
+use rme_session_server::{CloseHandle, ServerObserver, SessionEvent};
 use std::sync::Wait;
+use std::time::Clock;
 
 /// What becomes of a job that waits for its lock and whose session is gone.
 ///
@@ -20,27 +21,45 @@ pub enum WaitingJobs {
     Withdraw,
 }
 
+/// What came of withdrawing a job that waits.
+#[derive(Drop)]
+pub(crate) struct Withdrawal<L: LogStore, J: ServerTag> {
+    /// That the job was withdrawn; `None` if memory was refused.
+    pub(crate) event: Option<SessionEvent>,
+    /// The position after the lines of it.
+    pub(crate) end: LogPosition<L, J>,
+}
+
 impl<L: LogStore, H: CloseHandle, J: ServerTag> DurableServer<L, H, J> {
-    /// Withdraws each job that waits and whose worker no session has, if waiting jobs are to be withdrawn, and waits until
-    /// that is durable. A server does so before its first session. After an error no order is executed.
-    pub fn withdraw_waiting_jobs<R: Wait>(&self, rt: &R) -> Result<(), NotDurable> {
+    /// Withdraws each job that waits and whose worker no session has, if waiting jobs are to be withdrawn, tells the
+    /// observer of each, and waits until that is durable. A server does so before its first session: from then on it
+    /// counts how long each worker has its stance. After an error no order is executed.
+    pub fn withdraw_waiting_jobs<R: Wait + Clock, T: ServerObserver>(
+        &self,
+        rt: &R,
+        observer: &T,
+    ) -> Result<(), NotDurable> {
         let mut executor = lock_with_spin(rt, &self.executor);
         let mut last = None;
         for worker in 0..self.clients {
-            if let Some(end) = self.withdraw_if_waiting(&mut executor, Some(worker)) {
-                last = Some(end);
+            if let Some(withdrawn) = self.withdraw_if_waiting(&mut executor, Some(worker)) {
+                if let Some(event) = withdrawn.event {
+                    observer.session_event(None, event);
+                }
+                last = Some(withdrawn);
             }
         }
+        executor.begin_notes(rt);
         self.observe(&executor);
         drop(executor);
         match last {
-            Some(end) => self.commit(rt, &end),
+            Some(withdrawn) => self.commit(rt, &withdrawn.end),
             None => Ok(()),
         }
     }
 
     /// Withdraws the job of a worker, if it waits, no session has the worker, and waiting jobs are to be withdrawn.
-    /// Answers the position after the lines of it, if there are any.
+    /// Answers what came of it, if its lines are appended.
     ///
     /// A session of the server's own does it: the worker is restarted, withdraws its job, takes its own steps until it is
     /// ready, and crashes.
@@ -48,7 +67,7 @@ impl<L: LogStore, H: CloseHandle, J: ServerTag> DurableServer<L, H, J> {
         &self,
         executor: &mut DurableExecutor<L, J>,
         worker: Option<u32>,
-    ) -> Option<LogPosition<L, J>> {
+    ) -> Option<Withdrawal<L, J>> {
         let worker = worker?;
         if self.waiting == WaitingJobs::Keep || !is_waiting(executor, worker) {
             return None;
@@ -58,16 +77,24 @@ impl<L: LogStore, H: CloseHandle, J: ServerTag> DurableServer<L, H, J> {
             worker,
             take: false,
             after: None,
+            label: None,
         });
+        let mut is_withdrawn = false;
         for order in [attach, Order::Withdraw] {
             let Ok(done) = executor.execute(&self.names, &session, &order) else {
                 break;
             };
-            if !goes_on(session.advance(done).reply) {
+            let reply = session.advance(done).reply;
+            is_withdrawn = matches!(reply, ClientReply::Withdrew(_));
+            if !goes_on(reply) {
                 break;
             }
         }
-        executor.detach_session(&self.names, session).ok()
+        let end = executor.detach_session(&self.names, session).ok()?;
+        Some(Withdrawal {
+            event: is_withdrawn.then_some(SessionEvent::Withdrawn(worker)),
+            end,
+        })
     }
 }
 

@@ -8,11 +8,12 @@ use crate::durable_server::DurableServer;
 use crate::session::{DurableSession, ServerTag};
 use rme_durable_checkpoint::ApplyError;
 use rme_durable_log::{LogPosition, LogStore, lock_with_spin};
-use rme_session_protocol::{Attachment, ClientReply, Order, Session, WorkerChoice};
-use rme_session_server::{AnswerError, Client, CloseHandle, update_claim};
+use rme_session_protocol::{Attachment, ChoiceRequest, ClientReply, Order, Session, WorkerChoice};
+use rme_session_server::{AnswerError, Client, CloseHandle};
 use rme_session_world::{Executor, SessionState};
 use rme_words::Refusal;
 use std::sync::Wait;
+use std::time::Clock;
 
 /// What a session gets that leaves the choice to the server.
 #[derive(Clone, Copy)]
@@ -34,27 +35,27 @@ impl<L: LogStore, H: CloseHandle, J: ServerTag> DurableServer<L, H, J> {
 
     /// Attaches a session to the lowest worker that the choice takes, or answers why it gets none. The session is then at
     /// that moment.
-    pub(crate) fn attach_any<R: Wait, C: Client<Handle = H>>(
+    pub(crate) fn attach_any<R: Wait + Clock, C: Client<Handle = H>>(
         &self,
         rt: &R,
         session: DurableSession<L, J>,
-        choice: WorkerChoice,
+        asked: &ChoiceRequest,
         client: &C,
     ) -> (DurableSession<L, J>, Result<Chosen, AnswerError>)
-        ensures outcome { IfOk result.1 (λ chosen. ChoiceOutcome (client_terms self.now.clients J.opening) session choice
-            chosen result.0) }
+        ensures outcome { IfOk result.1 (λ chosen. ChoiceOutcome (client_terms self.now.clients J.opening) session
+            asked.now chosen result.0) }
         ensures err { IfErr result.1 (λ why. why ≢ AnswerError.WriteFailed) }
     {
         // Another session may take the worker between the choice and the attachment; then the server chooses again.
         for _ in rt.forever() {
-            let worker = match self.choose(rt, &session, choice) {
+            let worker = match self.choose(rt, &session, asked.choice) {
                 Some(Ok(worker)) => worker,
                 Some(Err((why, end))) => {
                     return (session.moved_to(end), Ok(Chosen::Refused(why)));
                 }
                 None => return (session, Err(AnswerError::NotLogged)),
             };
-            match self.attach_if_chosen(rt, &session, choice, worker, client) {
+            match self.attach_if_chosen(rt, &session, asked, worker, client) {
                 Ok(Some(done)) => {
                     let mut session = session;
                     let answered = session.advance(done);
@@ -93,24 +94,26 @@ impl<L: LogStore, H: CloseHandle, J: ServerTag> DurableServer<L, H, J> {
 
     /// Attaches a session to this worker with its claim locked, if the choice takes the worker now, and updates the
     /// claim.
-    fn attach_if_chosen<R: Wait, C: Client<Handle = H>>(
+    fn attach_if_chosen<R: Wait + Clock, C: Client<Handle = H>>(
         &self,
         rt: &R,
         session: &DurableSession<L, J>,
-        choice: WorkerChoice,
+        asked: &ChoiceRequest,
         worker: u32,
         client: &C,
     ) -> Result<Option<DurableReply<L, J>>, ApplyError>
         ensures { IfOk result (λ tried. IfSome tried (λ done. AttachesChosen J.opening self.now.clients session.now
-            choice worker (session_moment done.state done.end) (reply_of_client done.answered.reply))) }
+            asked.now worker (session_moment done.state done.end) (reply_of_client done.answered.reply))) }
     {
         let claim = self.registry.claim_worker(rt, Some(worker));
-        let tried = self.attach_and_commit(rt, session, choice, worker);
+        let tried = self.attach_and_commit(rt, session, asked, worker);
         let has = match &tried {
             Ok(Some(done)) => done.state.worker.is_some(),
             _ => false,
         };
-        update_claim(claim, client, false, has);
+        if let Some(claim) = claim {
+            claim.update(client, false, has);
+        }
         if let Ok(Some(done)) = &tried {
             self.registry.notify_reply(rt, done.answered.reply);
         }
@@ -119,19 +122,19 @@ impl<L: LogStore, H: CloseHandle, J: ServerTag> DurableServer<L, H, J> {
 
     /// Attaches a session to this worker, if the choice takes the worker now. Its lines are committed at once, if that is
     /// quick.
-    fn attach_and_commit<R: Wait>(
+    fn attach_and_commit<R: Wait + Clock>(
         &self,
         rt: &R,
         session: &DurableSession<L, J>,
-        choice: WorkerChoice,
+        asked: &ChoiceRequest,
         worker: u32,
     ) -> Result<Option<DurableReply<L, J>>, ApplyError>
         ensures { IfOk result (λ tried. IfSome tried (λ done. AttachesChosen J.opening self.now.clients session.now
-            choice worker (session_moment done.state done.end) (reply_of_client done.answered.reply))) }
+            asked.now worker (session_moment done.state done.end) (reply_of_client done.answered.reply))) }
     {
         let mut durable = lock_with_spin(rt, &self.executor);
         let executor = durable.executor().executor();
-        let Some(chosen) = executor.choose_worker(choice, self.clients) else {
+        let Some(chosen) = executor.choose_worker(asked.choice, self.clients) else {
             return Ok(None);
         };
         if chosen != worker {
@@ -141,8 +144,9 @@ impl<L: LogStore, H: CloseHandle, J: ServerTag> DurableServer<L, H, J> {
             worker,
             take: false,
             after: None,
+            label: asked.label,
         });
-        let acted = durable.execute(&self.names, session, &order);
+        let acted = durable.execute_noted(rt, &self.names, session, &order);
         self.observe(&durable);
         match acted {
             Ok(done) => {

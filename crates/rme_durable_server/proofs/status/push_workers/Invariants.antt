@@ -7,4 +7,4 @@ use Rattle.rme_durable_server.proofs.status.push_workers.Given as goal
 abbrev pub invariant-loop-worker : goal.invariant-loop-worker
 invariant-loop-worker l =
     let told = l.fn.told in
-    SeparatesNumbers (worker_text l.fn.names (source_state told)) (string_bytes l.fn.out) (told.world.now.shape.workers - 1) (string_bytes l.out) l.later l.worker
+    SeparatesNumbers (worker_text l.fn.names (source_state told) l.fn.notes) (string_bytes l.fn.out) (told.world.now.shape.workers - 1) (string_bytes l.out) l.later l.worker

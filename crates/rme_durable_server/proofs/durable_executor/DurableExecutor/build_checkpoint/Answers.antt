@@ -8,12 +8,12 @@ pub returns-in-Ok-clause-begins : goal.returns-in-Ok-clause-begins
 returns-in-Ok-clause-begins g c =
     let renewed = c.in-Ok.renewed in
     let made = c.in-Ok.ensures in
-    let header = made.header in
+    let header = made.begins.header in
     let B = λ (old : EpochState) (names : List (List ℕ)). BeginsEpoch names (server_state old) (string_bytes renewed.bytes) (server_state renewed.executor) in
     let begins : B c.self.inside.executor c.args.names.now = record {
-      whole = made.whole;
-      recovers = made.starts;
-      epoch = made.epoch;
+      whole = made.begins.whole;
+      recovers = made.begins.starts;
+      epoch = made.begins.number;
       header = record { past = header.past; begins = header.begins; number = header.number; base = header.base };
       counts = header.counts;
       lives = made.lives;

@@ -12,7 +12,7 @@ returns-in-Ok g c =
     let done = c.in-Ok.done in
     let same : c.executor-executor.result.now ≡ before.executor = search rules in
     let worker : c.in-Some.chosen ≡ c.args.worker = search rules in
-    let W = λ (w : ℕ). IsChosenWorker c.executor-executor.result.now c.args.choice c.args.self.now.clients w in
-    let E = λ (e : ExecutorState). IsChosenWorker e c.args.choice c.args.self.now.clients c.args.worker in
-    attaches_chosen (server_state before) g.J.ServerTag.opening c.args.self.now.clients c.args.session.now c.args.choice c.args.worker (session_moment done.state done.end) (reply_of_client done.answered.reply)
+    let W = λ (w : ℕ). IsChosenWorker c.executor-executor.result.now c.args.asked.now.choice c.args.self.now.clients w in
+    let E = λ (e : ExecutorState). IsChosenWorker e c.args.asked.now.choice c.args.self.now.clients c.args.worker in
+    attaches_chosen (server_state before) g.J.ServerTag.opening c.args.self.now.clients c.args.session.now c.args.asked.now c.args.worker (session_moment done.state done.end) (reply_of_client done.answered.reply)
     c.in-Ok.ensures (subst E same (subst W worker c.in-Some.ensures.chosen))

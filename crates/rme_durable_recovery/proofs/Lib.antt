@@ -1,0 +1,2 @@
+-- The first bad line of a file.
+pub mod Judging
