@@ -10,7 +10,7 @@ use log::sink::Console;
 use log::{Level, Logged, info};
 use rme_cli_listen::{BoundAddresses, StderrObserver, listen};
 use rme_cli_messages::{CliFault, why_not_locks, why_not_sizes};
-use rme_cli_options::{Diagnostics, ServeTask};
+use rme_cli_options::{Diagnostics, ServeTask, ServerLog};
 use rme_server::{Listener, ServeFault, ServerLimits, SessionRegistry, Slots, serve};
 use rme_table::{CountRoom, Down, Service, Tag};
 use rme_wire::{GivenNames, Names};
@@ -35,6 +35,7 @@ pub fn run_serve<R: Threads + Wait + Clock + Sync>(
         at_once,
         idle,
         diagnostics,
+        log,
         locks,
         ..
     } = task;
@@ -54,6 +55,7 @@ pub fn run_serve<R: Threads + Wait + Clock + Sync>(
             idle,
             tells_why: diagnostics == Diagnostics::Why,
         },
+        log,
         names: &names,
     };
     let ended = serve_workers(threads, &host, listeners, shape);
@@ -74,12 +76,13 @@ fn shape_of(task: &ServeTask) -> Result<Shape, CliFault> {
     }
 }
 
-/// The addresses of a server, its limits, and the names of the locks.
+/// The addresses of a server, its limits, its log, and the names of the locks.
 #[derive(Drop)]
 struct ServeContext<'a> {
     rt: &'a HostRuntime,
     addresses: BoundAddresses,
     limits: ServerLimits,
+    log: ServerLog,
     names: &'a Names,
 }
 
@@ -151,7 +154,7 @@ fn serve_all<K: Tag + Send + Sync, R: Threads + Wait + Clock + Sync>(
         names: host.names,
         registry: &registry,
     };
-    let complaints = StderrObserver::new(host.rt);
+    let complaints = StderrObserver::new(host.rt, host.log);
     let served = serve(threads, listeners, host.limits, &complaints, &shared);
     Ok((slots.into_downs_in(threads, room), served))
 }

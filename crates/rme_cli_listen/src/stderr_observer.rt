@@ -1,8 +1,11 @@
-//! Reporting faults of connections on the standard error.
+//! Reporting faults of connections, and what happens to workers, on the standard error.
 
+use crate::event_line::EventLine;
+use jiff::Timestamp;
 use rme_cli_messages::{MessageLimit, RepeatCount, Stderr};
+use rme_cli_options::ServerLog;
 use rme_line_diagnose::Reason;
-use rme_session_server::ServerObserver;
+use rme_session_server::{ServerObserver, SessionEvent};
 use std::sync::atomic::{AtomicU64, Ordering};
 use std::time::Duration;
 use std::{io, thread};
@@ -10,11 +13,13 @@ use std::{io, thread};
 /// The pause in milliseconds after a connection that could not be accepted or served, so that others can end.
 const PAUSE: u64 = 100;
 
-/// Reports faults on the standard error; a repeated fault once in some seconds, with its count.
+/// Reports faults on the standard error; a repeated fault once in some seconds, with its count. If there is a log, each
+/// event has a line there, with its time.
 #[derive(Drop)]
 pub struct StderrObserver<'a> {
     rt: &'a HostRuntime,
     stderr: Stderr<'a>,
+    log: ServerLog,
     not_accepted: RepeatedFailure,
     no_thread: RepeatedFailure,
 }
@@ -45,10 +50,11 @@ impl RepeatedFailure {
 }
 
 impl<'a> StderrObserver<'a> {
-    pub fn new(rt: &'a HostRuntime) -> StderrObserver<'a> {
+    pub fn new(rt: &'a HostRuntime, log: ServerLog) -> StderrObserver<'a> {
         StderrObserver {
             rt,
             stderr: Stderr::new(rt),
+            log,
             not_accepted: RepeatedFailure::new(),
             no_thread: RepeatedFailure::new(),
         }
@@ -88,6 +94,19 @@ impl ServerObserver for StderrObserver<'_> {
         let text = format!(in self.rt.alloc();
             "rme: connection {connection}, line {line}: {why}\n"
         );
+        self.stderr.tell(text);
+    }
+
+    fn session_event(&self, connection: Option<u64>, event: SessionEvent) {
+        if self.log == ServerLog::Off {
+            return;
+        }
+        let line = EventLine { connection, event };
+        let text = match Timestamp::now(self.rt) {
+            Ok(time) => format!(in self.rt.alloc(); "rme: {time:.3} {line}\n"),
+            // A clock that can't be read costs the line its time.
+            Err(_) => format!(in self.rt.alloc(); "rme: {line}\n"),
+        };
         self.stderr.tell(text);
     }
 

@@ -12,9 +12,9 @@ use rme_cli_options::OutputFormat;
 use rme_durable_checkpoint::Sections;
 use rme_durable_file::bad_log_fault;
 use rme_durable_format::{BadLog, RecoveryProgress, whole_lines};
+use rme_durable_recovery::{RecoveredState, recover};
 use rme_durable_server::{
-    LockStatus, RecoveredState, StatusSource, WorkerStatus, clients_of, lock_status, push_status,
-    recover, worker_status,
+    LockStatus, StatusSource, WorkerStatus, clients_of, lock_status, push_status, worker_status,
 };
 use rme_tree::held;
 use rme_waiting::world_words;
@@ -87,9 +87,9 @@ fn status_view_of(recovered: &RecoveredState) -> StatusSource<'_>
 fn push_json(out: &mut String, recovered: &RecoveredState) -> Result<u8, NoMemory>
     ensures { OnOk result (string_bytes out.new ≡ string_bytes out.old
         ++ (status_text recovered.now.log.names (status_state recovered.now.log.header.epoch recovered.now.base
-        recovered.now.log.world) ++ 10 ∷ [])) }
+        recovered.now.log.world) [] ++ 10 ∷ [])) }
 {
-    push_status(out, &recovered.log.names, &status_view_of(recovered))?;
+    push_status(out, &recovered.log.names, &status_view_of(recovered), &[])?;
     out.push_str("\n")?;
     Ok(0)
 }

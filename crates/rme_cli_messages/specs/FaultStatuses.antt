@@ -13,7 +13,7 @@ use Rattle.rme_line_io.specs.declared.fault.EngineFault.TheVariants as engine
 use Rattle.rme_line_io.specs.declared.fault.ServeFault.{ServeFault}
 use Rattle.rme_line_io.specs.declared.fault.ServeFault.TheVariants as serving
 use Rattle.rme_cli_messages.specs.declared.fault.CliFault.{CliFault}
-use Rattle.rme_cli_messages.specs.declared.fault.CliFault.TheVariants.{BadArguments, ReadFailed, WriteFailed, NoMemory, BadNames, ImageUnread, BadImage, OtherLocks, Unsavable, ImageUnwritten, FolderUnsynced, ListenFailed, ConnectFailed, AcceptFailed, NoThread, BadState, StateOfVersion, StateOfProcesses, BadWords, StateUnread, StateUnwritten, Unexplained, NothingAsked}
+use Rattle.rme_cli_messages.specs.declared.fault.CliFault.TheVariants.{BadArguments, ReadFailed, WriteFailed, NoMemory, BadNames, ImageUnread, BadImage, OtherLocks, Unsavable, ImageUnwritten, FolderUnsynced, ListenFailed, ConnectFailed, AcceptFailed, NoThread, BadState, StateOfVersion, StateOfProcesses, BadWords, StateUnread, StateUnwritten, StateNotGrown, Unexplained, NothingAsked}
 use Rattle.rme_cli_messages.specs.declared.argument.BadArgument.TheVariants.{NoText}
 
 abbrev pub fault_status : CliFault → ℕ
@@ -38,6 +38,7 @@ fault_status (StateOfProcesses file) = 2
 fault_status (BadWords file why) = 2
 fault_status (StateUnread file why) = 3
 fault_status (StateUnwritten file why) = 4
+fault_status (StateNotGrown file) = 5
 fault_status (Unexplained asked) = 2
 fault_status NothingAsked = 2
 

@@ -3,7 +3,7 @@ use Rattle.std.specs.Prelude.{ℕ, List, ◌++◌, codes, decimal, string_bytes,
 use Rattle.rme_cli_messages.specs.declared.argument.BadArgument.{BadArgument}
 use Rattle.rme_cli_messages.specs.declared.argument.BadArgument.TheVariants.{NoText, NoFile, NoName, Twice, ManyLocks, OutOfRange, FallsBack, NoSocket, ServedAlready, NoState, StateServed, OtherSize, OtherNames, NoNames, RenewalTaken, RenewalUnnamed}
 use Rattle.rme_cli_messages.specs.declared.fault.CliFault.{CliFault}
-use Rattle.rme_cli_messages.specs.declared.fault.CliFault.TheVariants.{BadArguments, ReadFailed, WriteFailed, NoMemory, BadNames, ImageUnread, BadImage, OtherLocks, Unsavable, ImageUnwritten, FolderUnsynced, ListenFailed, ConnectFailed, AcceptFailed, NoThread, BadState, StateOfVersion, StateOfProcesses, BadWords, StateUnread, StateUnwritten, Unexplained, NothingAsked}
+use Rattle.rme_cli_messages.specs.declared.fault.CliFault.TheVariants.{BadArguments, ReadFailed, WriteFailed, NoMemory, BadNames, ImageUnread, BadImage, OtherLocks, Unsavable, ImageUnwritten, FolderUnsynced, ListenFailed, ConnectFailed, AcceptFailed, NoThread, BadState, StateOfVersion, StateOfProcesses, BadWords, StateUnread, StateUnwritten, StateNotGrown, Unexplained, NothingAsked}
 use Rattle.rme_cli_messages.specs.declared.fault.SaveError.{SaveError}
 use Rattle.rme_cli_messages.specs.declared.fault.SaveError.TheVariants.{Irregular, Unwritable}
 
@@ -76,6 +76,9 @@ fault_text (StateOfProcesses file) =
 fault_text (BadWords file why) = Some (codes "bad words\n  " ++ (string_bytes file ++ (codes ": " ++ string_bytes why)))
 fault_text (StateUnread file why) = None
 fault_text (StateUnwritten file why) = None
+fault_text (StateNotGrown file) =
+    Some (codes "the state " ++ (string_bytes file ++ codes
+    " can't grow: its checkpoint can't be made, and it is as it was"))
 fault_text (Unexplained asked) =
     Some (codes "no refusal and no status is called " ++ (string_bytes asked ++ codes ": rme explain names each"))
 fault_text NothingAsked = Some (codes "an empty word is the name of no refusal and no status: rme explain names each")

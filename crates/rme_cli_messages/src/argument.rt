@@ -1,5 +1,8 @@
 //! The refused words of the command line, with their reasons.
 
+ghost use Rattle.std.specs.Prelude.{◌≡◌, ◌++◌, IfOk, OnOk, string_bytes};
+ghost use Rattle.rme_cli_messages.specs.EscapedTexts.{escaped_char, escaped_text};
+
 use std::alloc::{AllocError, Global};
 use std::error::Error;
 use std::fmt::Write;
@@ -100,15 +103,24 @@ impl fmt::Display for BadArgument {
 
 impl Error for BadArgument {}
 
-/// A word as a text shows it: control characters of a terminal are written as their numbers.
-pub fn escape_controls(alloc: Global, word: &str) -> Result<String, AllocError> {
+/// A word as a text shows it: control characters of a terminal are written as their numbers, as `\u{1b}`.
+pub fn escape_controls(alloc: Global, word: &str) -> Result<String, AllocError>
+    ensures { IfOk result (λ text. string_bytes text ≡ escaped_text word.now) }
+{
     let mut text = String::new(alloc);
     for letter in word.chars() {
-        if letter.is_control() {
-            write!(text, "\\u{{{:x}}}", u32::from(letter))?;
-        } else {
-            text.push(letter)?;
-        }
+        push_escaped(&mut text, letter)?;
     }
     Ok(text)
+}
+
+/// Appends a character, or its number if it is a control character.
+fn push_escaped(out: &mut String, letter: char) -> Result<(), AllocError>
+    ensures { OnOk result (string_bytes out.new ≡ string_bytes out.old ++ escaped_char letter) }
+{
+    if !letter.is_control() {
+        return out.push(letter);
+    }
+    let number = u32::from(letter);
+    write!(out, "\\u{{{number:x}}}")
 }

@@ -76,6 +76,8 @@ pub enum CliFault {
     StateUnread(String, io::Error),
     /// The file of a state cannot be written.
     StateUnwritten(String, io::Error),
+    /// The state could not be given its new sizes or locks: its file is still of the old ones.
+    StateNotGrown(String),
     /// Nothing that can be explained has this number or name.
     Unexplained(String),
     /// A word that is to be explained is empty.
@@ -139,6 +141,10 @@ impl fmt::Display for CliFault {
                 f,
                 "the state {file} can't be written: {why}"
             ),
+            CliFault::StateNotGrown(file) => write!(
+                f,
+                "the state {file} can't grow: its checkpoint can't be made, and it is as it was"
+            ),
             CliFault::Unexplained(asked) => write!(
                 f,
                 "no refusal and no status is called {asked}: rme explain names each"
@@ -181,6 +187,7 @@ impl CliFault {
             CliFault::BadWords(_, _) => 2,
             CliFault::StateUnread(_, _) => 3,
             CliFault::StateUnwritten(_, _) => 4,
+            CliFault::StateNotGrown(_) => 5,
             CliFault::Unexplained(_) => 2,
             CliFault::NothingAsked => 2,
         }

@@ -328,6 +328,7 @@ fn serve_command<'a>(alloc: Global) -> Result<Command<'a>, AllocError> {
             "How long a client may send nothing, 1 to 1000000; for good without it",
         ),
         why(),
+        optional("log", ArgumentKind::Flag('l'), help_texts::log_help()),
         ArgumentSpec {
             presence: ArgumentPresence::RequiredWithout(&["state"]),
             ..optional(

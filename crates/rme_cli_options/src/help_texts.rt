@@ -46,6 +46,10 @@ pub fn why_help<'a>() -> &'a str {
     "Says on the standard error why a line is answered BadLine"
 }
 
+pub fn log_help<'a>() -> &'a str {
+    "Writes a line to the standard error for what happens to each worker, and for each checkpoint"
+}
+
 pub fn image_help<'a>() -> &'a str {
     "Begins with the world that was saved in this file; with nothing, where the file is not there"
 }
@@ -223,7 +227,8 @@ Each line of a client is one JSON object, which is obeyed and answered by one li
                                  {\"number\":N,\"ok\":\"attach\",\"stance\":\"ready\"} with its last number, or the
                                  stance climb or held with that of the job that it is in. With \"take\":true
                                  also from a session that has it, which is ended. With \"after\":L only
-                                 where the worker was not restarted since life L, else refused, 26
+                                 where the worker was not restarted since life L, else refused, 26.
+                                 With \"as\":TEXT, of at most 64 bytes, a state's `status` shows TEXT
   {\"do\":\"submit\",\"number\":N,\"lock\":NAME,\"script\":[OP,..]}
                                  makes the job of the number after the last: {\"ok\":\"submit\",\"receipt\":{..}};
                                  {\"ok\":\"submit\",\"waiting\":true} where the lock was not had in 1000 tries, or
@@ -250,6 +255,17 @@ Each line of a client is one JSON object, which is obeyed and answered by one li
 A line that is refused is answered {\"code\":N,\"error\":NAME} and changes nothing. --why says on the standard
 error what is wrong with one that is no order; where that is a pipe that nobody reads, it is left out. A
 worker that a session lets go, or whose session ends, falls; whoever attaches it next goes on where it was.
+
+--log says on the standard error who had which worker, and when, in UTC; it too is left out where nobody reads:
+
+  rme: 2026-11-29T05:07:18.250Z connection 12 attached worker 3
+  rme: 2026-11-29T05:07:19.013Z connection 13 takes over worker 3
+  rme: 2026-11-29T05:07:19.014Z connection 12 ended, worker 3 is free
+  rme: 2026-11-29T05:07:19.020Z connection 13 attached worker 3
+  rme: 2026-11-29T05:07:21.500Z connection 13 let worker 3 go
+
+and with --state `withdrew the job of worker 3` and `checkpoint, epoch 4`. Connections count from 1; the lines of
+one worker stand in their order.
 
 The file of a --socket is made with mode 0600. One that no server listens on is replaced; one that is listened on,
 and whatever else is there, is refused. It is removed at the end, but not after a signal.

@@ -17,6 +17,6 @@ pub use command_line::{ParsedCommandLine, finish_process, read_words};
 pub use parsing::task_of;
 pub use tasks::{
     AnswerForm, AskRequest, AskTask, CliTask, Diagnostics, DurableServeTask, FinishTask, LineTask,
-    ListenAddresses, LookTask, OutputFormat, RunImages, ServeTask, ServerAddress, SyncPolicy,
-    ThreadsTask, WaitingPolicy,
+    ListenAddresses, LookTask, OutputFormat, RunImages, ServeTask, ServerAddress, ServerLog,
+    SyncPolicy, ThreadsTask, WaitingPolicy,
 };

@@ -5,7 +5,7 @@ use crate::commands::command;
 use crate::help_texts;
 use crate::tasks::{
     CliTask, Diagnostics, DurableServeTask, LineTask, ListenAddresses, LookTask, OutputFormat,
-    RunImages, ServeTask, SyncPolicy, ThreadsTask, WaitingPolicy,
+    RunImages, ServeTask, ServerLog, SyncPolicy, ThreadsTask, WaitingPolicy,
 };
 use clap::error::ErrorKind;
 use clap::{ArgMatches, Error};
@@ -118,6 +118,14 @@ fn diagnostics_of(found: &ArgMatches<'_>) -> Diagnostics {
     Diagnostics::Nothing
 }
 
+/// The requested log of a server.
+fn server_log_of(found: &ArgMatches<'_>) -> ServerLog {
+    if found.get_flag("log") {
+        return ServerLog::On;
+    }
+    ServerLog::Off
+}
+
 /// The texts of an argument, in order.
 fn texts_of(
     alloc: Global,
@@ -186,6 +194,7 @@ fn serve_task(alloc: Global, found: &ArgMatches<'_>) -> Result<ServeTask, AllocE
         at_once: found.get_one("at-once").unwrap_or(AT_ONCE),
         idle: found.get_one("idle"),
         diagnostics: diagnostics_of(found),
+        log: server_log_of(found),
         locks: texts_of(alloc, found, "LOCK")?,
     })
 }
@@ -208,6 +217,7 @@ fn durable_serve_task(
         sync: sync_policy_of(found),
         waiting: waiting_policy_of(found),
         diagnostics: diagnostics_of(found),
+        log: server_log_of(found),
         locks: texts_of(alloc, found, "LOCK")?,
     })
 }

@@ -42,6 +42,14 @@ pub enum Diagnostics {
     Why,
 }
 
+/// The log of a server on the standard error.
+#[derive(Clone, Copy, PartialEq, Eq)]
+pub enum ServerLog {
+    Off,
+    /// A line for each attachment, take-over and end of a session, each withdrawal by the server, and each checkpoint.
+    On,
+}
+
 /// The images with which a run begins and ends.
 #[derive(Drop)]
 pub struct RunImages {
@@ -86,6 +94,7 @@ pub struct ServeTask {
     /// The number of seconds of silence that end a session, if any.
     pub idle: Option<u32>,
     pub diagnostics: Diagnostics,
+    pub log: ServerLog,
     /// The words for the names of its locks.
     pub locks: Vec<String>,
 }
@@ -126,6 +135,7 @@ pub struct DurableServeTask {
     pub sync: SyncPolicy,
     pub waiting: WaitingPolicy,
     pub diagnostics: Diagnostics,
+    pub log: ServerLog,
     /// The words for the names of its locks; if there are none, those of the state.
     pub locks: Vec<String>,
 }

@@ -30,3 +30,9 @@ pub(crate) fn write_fault(
     let path = escape_controls(rt.alloc(), path)?;
     Ok(CliFault::on_file(kind, CliFault::StateUnwritten(path, why)))
 }
+
+/// The fault if the state can't be given its new sizes or locks.
+pub(crate) fn not_grown_fault(rt: &HostRuntime, path: &str) -> Result<CliFault, CliFault> {
+    let path = escape_controls(rt.alloc(), path)?;
+    Ok(CliFault::StateNotGrown(path))
+}

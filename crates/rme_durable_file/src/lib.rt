@@ -1,14 +1,15 @@
 //! The log file of a durable server on the disk: made, locked for one server, read, appended to, and replaced.
 //!
-//! The crate stands on rme_durable_format for the file's format, on rme_durable_server, whose `LogStore` it implements,
-//! and on rme_cli_messages for its faults. The store and the start are proved over any `DiskFile`; only `SystemFile`,
-//! the file of the system, is trusted. The crates above use `open_state_file`, `make_state`, `RecoveredFile::read` and
-//! `RecoveredFile::open`. Begin with `disk_file.rt`, then `state_file.rt` and `start.rt`.
+//! The crate stands on rme_durable_recovery, which reads the file's bytes, on rme_durable_log, whose `LogStore` it
+//! implements, and on rme_cli_messages for its faults. The store and the start are proved over any `DiskFile`; only `SystemFile`,
+//! the file of the system, is trusted. The crates above use `open_state_file`, `make_state`, `RecoveredFile::read`,
+//! `RecoveredFile::open` and `OpenedState::grow`. Begin with `disk_file.rt`, then `state_file.rt` and `start.rt`.
 #![tactic(auto)]
 
 mod cause;
 mod disk_file;
 mod faults;
+mod growing;
 mod making;
 mod name;
 mod reading;

@@ -7,7 +7,7 @@ ghost use Rattle.rme_durable_file.specs.Starts.{ReadsState};
 
 use rme_cli_messages::{CliFault, escape_controls};
 use rme_durable_format::{BadLog, RecoveryProgress, whole_lines};
-use rme_durable_server::{RecoveredState, other_version, recover};
+use rme_durable_recovery::{RecoveredState, other_version, recover};
 use rme_process_file::is_process_file;
 use std::time::{Duration, Instant};
 

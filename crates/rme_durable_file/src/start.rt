@@ -11,7 +11,7 @@ use crate::state_file::StateFile;
 use rme_cli_messages::CliFault;
 use rme_durable_checkpoint::{EpochExecutor, EpochStart};
 use rme_durable_format::{RecoveredLog, append_crashes};
-use rme_durable_server::RecoveredState;
+use rme_durable_recovery::RecoveredState;
 use rme_session_world::Executor;
 use rme_wire::Names;
 use std::alloc::Global;

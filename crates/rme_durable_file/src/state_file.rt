@@ -3,7 +3,7 @@
 use crate::cause::Cause;
 use crate::disk_file::DiskFile;
 use crate::name::StateName;
-use rme_durable_server::{LogStore, NotDurable};
+use rme_durable_log::{LogStore, NotDurable};
 use std::alloc::Global;
 use std::io;
 use std::marker::Model;

@@ -1,0 +1,125 @@
+//! Growing: a state is given further workers, cells or locks before it is served.
+
+ghost use Rattle.std.specs.Prelude.{◌≡◌, ℕ, [], List, IfOk, IsTrue, OnOk, true};
+ghost use Rattle.rme_durable_file.specs.DiskFiles.{AppendsToFile};
+ghost use Rattle.rme_durable_file.specs.Growths.{KeepsNames, LeavesLocks, ReplacesByLargerEpoch};
+
+use crate::disk_file::DiskFile;
+use crate::faults::{not_grown_fault, write_fault};
+use crate::start::OpenedState;
+use crate::state_file::StateFile;
+use rme_cli_messages::CliFault;
+use rme_durable_checkpoint::EpochExecutor;
+use rme_durable_log::{LogStore, NotDurable};
+use rme_wire::Names;
+use rme_words::Shape;
+
+/// The number of the session by which workers leave their locks before a state grows: no other session has begun.
+const OWN_SESSION: u64 = 0;
+
+impl<'a, F: DiskFile> OpenedState<'a, F> {
+    ghost use Rattle.std.specs.Prelude.{◌≡◌, [], IfOk, true};
+    ghost use Rattle.rme_durable_file.specs.Growths.{GrowsState, file_epoch};
+
+    /// The same state with these names of the locks, of which those that it has are the first, and with this larger
+    /// shape: a new epoch of it replaces the file. Workers and locks keep their numbers, jobs and owners, and cells their
+    /// values; what is new is down, free, or 0.
+    ///
+    /// After an error the file is a state of the old shape. It may have more lines than before: those by which a worker
+    /// that crashed after its section leaves its lock.
+    pub fn grow(
+        self,
+        rt: &HostRuntime,
+        names: Names,
+        shape: Shape,
+    ) -> Result<OpenedState<'a, F>, CliFault>
+        requires works { self.file.works ≡ true }
+        ensures works { IfOk result (λ state. state.file.works ≡ true) }
+        ensures syncs { IfOk result (λ state. state.file.syncs ≡ self.entry.file.syncs) }
+        ensures lines { IfOk result (λ state. state.executor.lines ≡ []) }
+        ensures names { IfOk result (λ state. state.names ≡ names) }
+        ensures grows { IfOk result (λ state. GrowsState shape
+            (file_epoch self.entry.names self.entry.executor self.entry.file.bytes)
+            (file_epoch state.names state.executor state.file.bytes)) }
+    {
+        let OpenedState {
+            names: own,
+            executor,
+            file,
+        } = self;
+        let (mut executor, mut file) = (executor, file);
+        if !keeps_names(&own, &names) {
+            return Err(not_grown_fault(rt, file.path())?);
+        }
+        log_exits(rt, &own, &mut executor, &mut file)?;
+        let executor = replace_by_larger(rt, &executor, &names, shape, &mut file)?;
+        Ok(OpenedState {
+            names,
+            executor,
+            file,
+        })
+    }
+}
+
+/// Lets each worker leave its lock that crashed after its section, and appends the lines of that.
+fn log_exits<F: DiskFile>(
+    rt: &HostRuntime,
+    names: &Names,
+    executor: &mut EpochExecutor,
+    file: &mut StateFile<'_, F>,
+) -> Result<(), CliFault>
+    ensures exits { OnOk result (LeavesLocks names.now executor.old executor.new) }
+    ensures appends { OnOk result ((lines : List ℕ) × AppendsToFile file.old.bytes lines file.new.bytes) }
+    ensures works { file.new.works ≡ file.old.works }
+    ensures syncs { file.new.syncs ≡ file.old.syncs }
+{
+    if executor.finish_exits(names, OWN_SESSION).is_err() {
+        return Err(not_grown_fault(rt, file.path())?);
+    }
+    let Some(lines) = executor.take_lines(String::new(rt.alloc())) else {
+        return Err(not_grown_fault(rt, file.path())?);
+    };
+    match file.write(lines.as_bytes()) {
+        Ok(()) => Ok(()),
+        Err(error) => Err(write_fault(rt, file.path(), error)?),
+    }
+}
+
+/// Replaces a file by a new epoch of a larger shape, and answers the executor of that.
+fn replace_by_larger<F: DiskFile>(
+    rt: &HostRuntime,
+    executor: &EpochExecutor,
+    names: &Names,
+    shape: Shape,
+    file: &mut StateFile<'_, F>,
+) -> Result<EpochExecutor, CliFault>
+    requires works { file.old.works ≡ true }
+    ensures replaces { IfOk result (λ larger. ReplacesByLargerEpoch shape names.now executor.now larger file.old.bytes
+        file.new.bytes) }
+    ensures lines { IfOk result (λ larger. larger.lines ≡ []) }
+    ensures works { OnOk result (file.new.works ≡ true) }
+    ensures syncs { file.new.syncs ≡ file.old.syncs }
+{
+    let Ok(grown) = executor.grow(rt.alloc(), names, shape) else {
+        return Err(not_grown_fault(rt, file.path())?);
+    };
+    match file.replace(grown.bytes.as_bytes()) {
+        Ok(()) => Ok(grown.executor),
+        Err(NotDurable) => Err(CliFault::WriteFailed),
+    }
+}
+
+/// Whether the first names of a list are these.
+fn keeps_names(before: &Names, after: &Names) -> bool
+    ensures { IsTrue result → KeepsNames before.now after.now }
+{
+    if after.len() < before.len() {
+        return false;
+    }
+    for lock in 0..before.len() {
+        if after.name(lock) != before.name(lock) {
+            return false;
+        }
+    }
+    true
+}
