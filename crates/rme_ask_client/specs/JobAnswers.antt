@@ -2,7 +2,7 @@
 use Rattle.std.specs.Prelude.{◌≡◌, ℕ, List, ◌++◌, Option, Some, None, true, codes, decimal, string_bytes}
 use Rattle.serde_json.specs.Data.{Data, null}
 use Rattle.serde_json.specs.Written.{IsInOrder}
-use Rattle.rme_ask_client.specs.Members.{flag_member, number_member, some_member, text_member}
+use Rattle.rme_ask_client.specs.Members.{LockNameSays, flag_member, number_member, some_member, text_member}
 use Rattle.rme_ask_client.specs.declared.job_answers.AttachedWorker.{AttachedWorker}
 use Rattle.rme_ask_client.specs.declared.job_answers.JobOutcome.{JobOutcome}
 use Rattle.rme_ask_client.specs.declared.job_answers.JobOutcome.TheVariants as outcome
@@ -19,24 +19,27 @@ stance_word Held = codes "held"
 abbrev pub stance_member : Data → Option (List ℕ)
 stance_member answer = text_member (codes "stance") answer
 
+abbrev pub StanceSays : Data → WorkerStance → Type 0
+StanceSays answer stance = stance_member answer ≡ Some (stance_word stance)
+
 abbrev pub withdrawn_member : Data → Option ℕ
 withdrawn_member answer = number_member (codes "number") answer
 
 -- the worker of the answer to `attach`
 pub record AttachedSays (answer : Data) (worker : AttachedWorker) : Type 0 where
   pub number : number_member (codes "number") answer ≡ Some worker.number
-  pub stance : stance_member answer ≡ Some (stance_word worker.stance)
+  pub stance : StanceSays answer worker.stance
 
 -- the job of the answer to `pending`
 pub record PendingSays (answer : Data) (job : PendingJob) : Type 0 where
-  pub lock : text_member (codes "lock") answer ≡ Some (string_bytes job.lock)
+  pub lock : LockNameSays (codes "lock") answer job.lock
   pub number : number_member (codes "number") answer ≡ Some job.number
-  pub stance : stance_member answer ≡ Some (stance_word job.stance)
+  pub stance : StanceSays answer job.stance
   pub script : (said : Data) × (some_member (codes "script") answer ≡ Some said)
       × IsInOrder (string_bytes job.script) said
 
 pub record ReceiptSays (said : Data) (receipt : Receipt) : Type 0 where
-  pub lock : text_member (codes "lock") said ≡ Some (string_bytes receipt.lock)
+  pub lock : LockNameSays (codes "lock") said receipt.lock
   pub number : number_member (codes "number") said ≡ Some receipt.number
   pub place : number_member (codes "place") said ≡ Some receipt.place
   pub reply : number_member (codes "reply") said ≡ Some receipt.reply

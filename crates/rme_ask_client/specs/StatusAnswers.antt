@@ -6,7 +6,7 @@ use Rattle.serde_json.specs.Find.{as_array, as_number, as_u64, get}
 use Rattle.serde_json.specs.View as kit
 use Rattle.serde_json.specs.declared.value.Value.{Value}
 use Rattle.rme_ask_client.specs.JobAnswers.{stance_member, stance_word}
-use Rattle.rme_ask_client.specs.Members.{flag_member, number_member, some_member, text_member}
+use Rattle.rme_ask_client.specs.Members.{LockNameSays, flag_member, number_member, some_member, text_member}
 use Rattle.rme_ask_client.specs.declared.status_answer.CellsAnswer.{CellsAnswer}
 use Rattle.rme_ask_client.specs.declared.status_answer.LockStatus.{LockStatus}
 use Rattle.rme_ask_client.specs.declared.status_answer.ServerStatus.{ServerStatus}
@@ -42,15 +42,19 @@ abbrev pub OwnerSays : Data → Option ℕ → Type 0
 OwnerSays answer None = some_member (codes "owner") answer ≡ Some null
 OwnerSays answer (Some worker) = number_member (codes "owner") answer ≡ Some worker
 
--- the lock of a pending job, where no member is no job
-abbrev pub LockNameSays : Data → Option (String Global) → Type 0
-LockNameSays answer None = some_member (codes "lock") answer ≡ None
-LockNameSays answer (Some lock) = text_member (codes "lock") answer ≡ Some (string_bytes lock)
+-- a number, a text of a name, where no member is none
+abbrev pub OptionalNumberSays : List ℕ → Data → Option ℕ → Type 0
+OptionalNumberSays name answer None = some_member name answer ≡ None
+OptionalNumberSays name answer (Some number) = number_member name answer ≡ Some number
 
--- the worker that a waiting one waits for, where no member is none
-abbrev pub BlockedBySays : Data → Option ℕ → Type 0
-BlockedBySays answer None = some_member (codes "blocked_by") answer ≡ None
-BlockedBySays answer (Some worker) = number_member (codes "blocked_by") answer ≡ Some worker
+abbrev pub OptionalTextSays : List ℕ → Data → Option (String Global) → Type 0
+OptionalTextSays name answer None = some_member name answer ≡ None
+OptionalTextSays name answer (Some text) = text_member name answer ≡ Some (string_bytes text)
+
+-- the lock of a pending job, where no member is no job
+abbrev pub OptionalLockSays : Data → Option (String Global) → Type 0
+OptionalLockSays answer None = some_member (codes "lock") answer ≡ None
+OptionalLockSays answer (Some lock) = LockNameSays (codes "lock") answer lock
 
 -- the answer to `cells`
 pub record CellsSay (answer : Data) (told : CellsAnswer) : Type 0 where
@@ -58,7 +62,7 @@ pub record CellsSay (answer : Data) (told : CellsAnswer) : Type 0 where
   pub settled : flag_member (codes "settled") answer ≡ Some told.settled
 
 pub record LockSays (said : Data) (lock : LockStatus) : Type 0 where
-  pub name : text_member (codes "name") said ≡ Some (string_bytes lock.name)
+  pub name : LockNameSays (codes "name") said lock.name
   pub owner : OwnerSays said lock.owner
   pub cells : CellValuesSay said lock.cells.items
   pub settled : flag_member (codes "settled") said ≡ Some lock.settled
@@ -67,9 +71,14 @@ pub record LockSays (said : Data) (lock : LockStatus) : Type 0 where
 pub record WorkerSays (said : Data) (worker : WorkerStatus) : Type 0 where
   pub attached : flag_member (codes "attached") said ≡ Some worker.attached
   pub stance : stance_member said ≡ Some (stance_word worker.stance)
-  pub lock : LockNameSays said worker.lock
+  pub lock : OptionalLockSays said worker.lock
   pub number : number_member (codes "number") said ≡ Some worker.number
-  pub blocked_by : BlockedBySays said worker.blocked_by
+  -- the worker that it waits for
+  pub blocked_by : OptionalNumberSays (codes "blocked_by") said worker.blocked_by
+  -- since its stance last changed
+  pub seconds : OptionalNumberSays (codes "seconds") said worker.seconds
+  -- the name that its client gave
+  pub client : OptionalTextSays (codes "as") said worker.client
 
 -- the answer to `status`: every lock and every worker, in order
 pub record StatusSays (answer : Data) (status : ServerStatus) : Type 0 where

@@ -1,8 +1,9 @@
 //! What answers say of a worker and of its job.
 
-ghost use Rattle.std.specs.Prelude.{◌≡◌, Some, IfOk, codes};
+ghost use Rattle.std.specs.Prelude.{◌≡◌, Some, None, IfOk, IfErr, codes};
 ghost use Rattle.serde_json.specs.View.{view};
 ghost use Rattle.rme_ask_client.specs.JobAnswers as spec;
+ghost use Rattle.rme_ask_client.specs.Members.{NoneSaid, NoneSaidUnless};
 
 use crate::client_error::ClientError;
 use crate::members::{flag, lock_name, member, number, text};
@@ -21,9 +22,10 @@ pub enum WorkerStance {
     Held,
 }
 
-/// A worker that a session has taken: its stance, and the number of its pending job or, if there is none, of its last.
+/// A worker that a session has taken.
 #[derive(Clone, Copy, Debug, PartialEq, Eq)]
 pub struct AttachedWorker {
+    /// The number of its pending job; without one, of its last job.
     pub number: u64,
     pub stance: WorkerStance,
 }
@@ -84,7 +86,8 @@ pub enum JobOutcome {
 
 /// The worker of the answer to `attach`.
 pub fn attached_worker(value: &Value) -> Result<AttachedWorker, ClientError>
-    ensures { IfOk result (spec.AttachedSays (view value.now)) }
+    ensures said { IfOk result (spec.AttachedSays (view value.now)) }
+    ensures unsaid { IfErr result (λ _. NoneSaid spec.AttachedSays (view value.now)) }
 {
     Ok(AttachedWorker {
         number: number(value, "number")?,
@@ -94,7 +97,8 @@ pub fn attached_worker(value: &Value) -> Result<AttachedWorker, ClientError>
 
 /// The stance of an answer.
 pub(crate) fn stance(value: &Value) -> Result<WorkerStance, ClientError>
-    ensures { IfOk result (λ stance. spec.stance_member (view value.now) ≡ Some (spec.stance_word stance)) }
+    ensures said { IfOk result (spec.StanceSays (view value.now)) }
+    ensures unsaid { IfErr result (λ _. NoneSaid spec.StanceSays (view value.now)) }
 {
     match text(value, "stance")? {
         "ready" => Ok(WorkerStance::Ready),
@@ -106,7 +110,8 @@ pub(crate) fn stance(value: &Value) -> Result<WorkerStance, ClientError>
 
 /// The job of the answer to `pending`.
 pub fn pending_job(alloc: Global, value: &Value) -> Result<PendingJob, ClientError>
-    ensures { IfOk result (spec.PendingSays (view value.now)) }
+    ensures said { IfOk result (spec.PendingSays (view value.now)) }
+    ensures unsaid { IfErr result (NoneSaidUnless spec.PendingSays (view value.now)) }
 {
     Ok(PendingJob {
         lock: lock_name(alloc, value, "lock")?,
@@ -118,7 +123,8 @@ pub fn pending_job(alloc: Global, value: &Value) -> Result<PendingJob, ClientErr
 
 /// The outcome of the answer to `resume`.
 pub fn job_outcome(alloc: Global, value: &Value) -> Result<JobOutcome, ClientError>
-    ensures { IfOk result (spec.OutcomeSays (view value.now)) }
+    ensures said { IfOk result (spec.OutcomeSays (view value.now)) }
+    ensures unsaid { IfErr result (NoneSaidUnless (spec.HasReceipt (codes "receipt")) (view value.now)) }
 {
     if let Some(receipt) = value.get("receipt") {
         return Ok(JobOutcome::Receipt(receipt_of(alloc, receipt)?));
@@ -137,14 +143,16 @@ pub fn job_outcome(alloc: Global, value: &Value) -> Result<JobOutcome, ClientErr
 
 /// The number of the answer to `withdraw`.
 pub fn withdrawn_number(value: &Value) -> Result<u64, ClientError>
-    ensures { IfOk result (λ number. spec.withdrawn_member (view value.now) ≡ Some number) }
+    ensures said { IfOk result (λ number. spec.withdrawn_member (view value.now) ≡ Some number) }
+    ensures unsaid { IfErr result (λ _. spec.withdrawn_member (view value.now) ≡ None) }
 {
     number(value, "number")
 }
 
 /// The receipt of the answer to `last`, or `None` if there is no last job that counts.
 pub fn last_receipt(alloc: Global, value: &Value) -> Result<Option<Receipt>, ClientError>
-    ensures { IfOk result (spec.LastSays (view value.now)) }
+    ensures said { IfOk result (spec.LastSays (view value.now)) }
+    ensures unsaid { IfErr result (NoneSaidUnless spec.LastSays (view value.now)) }
 {
     let last = member(value, "last")?;
     if last.is_null() {
@@ -155,7 +163,8 @@ pub fn last_receipt(alloc: Global, value: &Value) -> Result<Option<Receipt>, Cli
 
 /// The receipt of a value.
 fn receipt_of(alloc: Global, value: &Value) -> Result<Receipt, ClientError>
-    ensures { IfOk result (spec.ReceiptSays (view value.now)) }
+    ensures said { IfOk result (spec.ReceiptSays (view value.now)) }
+    ensures unsaid { IfErr result (NoneSaidUnless spec.ReceiptSays (view value.now)) }
 {
     Ok(Receipt {
         lock: lock_name(alloc, value, "lock")?,

@@ -3,8 +3,9 @@
 //! A `Conversation` sends one line and receives one, over any two streams. The crate stands on rme_line_io, which cuts
 //! and writes lines, and on serde_json, which reads the answers; it knows no world and no server. Its contracts: the
 //! lines that are sent are those of the requests (`specs/RequestTexts.antt`), an answer is the line that was received
-//! (`specs/Conversations.antt`), and each number and name of an answer is that of its member (`specs/Answers.antt`).
-//! Begin with `conversation.rt`, then `request.rt` and `answer.rt`.
+//! (`specs/Conversations.antt`), each number and name of an answer is that of its member (`specs/JobAnswers.antt`,
+//! `specs/StatusAnswers.antt`), and an answer is refused only where it lacks one (`specs/Members.antt`). Begin with
+//! `conversation.rt`, then `request.rt` and `answer.rt`.
 #![tactic(auto)]
 
 mod answer;

@@ -1,9 +1,8 @@
 //! The members of an answer.
 
-ghost use Rattle.std.specs.Prelude.{◌≡◌, Some, IfOk, string_bytes, true};
+ghost use Rattle.std.specs.Prelude.{◌≡◌, Some, None, IfOk, IfErr};
 ghost use Rattle.serde_json.specs.View.{view};
-ghost use Rattle.rme_line_io.specs.Names.{is_name};
-ghost use Rattle.rme_ask_client.specs.Members.{flag_member, number_member, some_member, text_member};
+ghost use Rattle.rme_ask_client.specs.Members.{LockNameSays, NoneSaidUnless, TextSays, flag_member, number_member, some_member, text_member};
 
 use crate::client_error::ClientError;
 use rme_line_io::is_name;
@@ -12,7 +11,8 @@ use std::alloc::Global;
 
 /// The member of this name.
 pub(crate) fn member<'v>(value: &'v Value, name: &'static str) -> Result<&'v Value, ClientError>
-    ensures { IfOk result (λ found. some_member name.now (view value.now) ≡ Some (view found.now)) }
+    ensures found { IfOk result (λ found. some_member name.now (view value.now) ≡ Some (view found.now)) }
+    ensures missing { IfErr result (λ _. some_member name.now (view value.now) ≡ None) }
 {
     match value.get(name) {
         Some(found) => Ok(found),
@@ -22,7 +22,8 @@ pub(crate) fn member<'v>(value: &'v Value, name: &'static str) -> Result<&'v Val
 
 /// The number of this name.
 pub(crate) fn number(value: &Value, name: &'static str) -> Result<u64, ClientError>
-    ensures { IfOk result (λ number. number_member name.now (view value.now) ≡ Some number) }
+    ensures found { IfOk result (λ number. number_member name.now (view value.now) ≡ Some number) }
+    ensures missing { IfErr result (λ _. number_member name.now (view value.now) ≡ None) }
 {
     match member(value, name)?.as_u64() {
         Some(number) => Ok(number),
@@ -32,7 +33,8 @@ pub(crate) fn number(value: &Value, name: &'static str) -> Result<u64, ClientErr
 
 /// The truth value of this name.
 pub(crate) fn flag(value: &Value, name: &'static str) -> Result<bool, ClientError>
-    ensures { IfOk result (λ flag. flag_member name.now (view value.now) ≡ Some flag) }
+    ensures found { IfOk result (λ flag. flag_member name.now (view value.now) ≡ Some flag) }
+    ensures missing { IfErr result (λ _. flag_member name.now (view value.now) ≡ None) }
 {
     match member(value, name)?.as_bool() {
         Some(flag) => Ok(flag),
@@ -42,7 +44,8 @@ pub(crate) fn flag(value: &Value, name: &'static str) -> Result<bool, ClientErro
 
 /// The text of this name.
 pub(crate) fn text<'v>(value: &'v Value, name: &'static str) -> Result<&'v str, ClientError>
-    ensures { IfOk result (λ text. text_member name.now (view value.now) ≡ Some text.now) }
+    ensures found { IfOk result (λ text. text_member name.now (view value.now) ≡ Some text.now) }
+    ensures missing { IfErr result (λ _. text_member name.now (view value.now) ≡ None) }
 {
     match member(value, name)?.as_str() {
         Some(text) => Ok(text),
@@ -56,7 +59,8 @@ pub(crate) fn string(
     value: &Value,
     name: &'static str,
 ) -> Result<String, ClientError>
-    ensures { IfOk result (λ copy. text_member name.now (view value.now) ≡ Some (string_bytes copy)) }
+    ensures said { IfOk result (TextSays name.now (view value.now)) }
+    ensures unsaid { IfErr result (NoneSaidUnless (TextSays name.now) (view value.now)) }
 {
     Ok(String::from_str(alloc, text(value, name)?)?)
 }
@@ -67,8 +71,8 @@ pub(crate) fn lock_name(
     value: &Value,
     name: &'static str,
 ) -> Result<String, ClientError>
-    ensures copy { IfOk result (λ copy. text_member name.now (view value.now) ≡ Some (string_bytes copy)) }
-    ensures name { IfOk result (λ copy. is_name (string_bytes copy) ≡ true) }
+    ensures said { IfOk result (LockNameSays name.now (view value.now)) }
+    ensures unsaid { IfErr result (NoneSaidUnless (LockNameSays name.now) (view value.now)) }
 {
     let text = text(value, name)?;
     if !is_name(text) {

@@ -1,12 +1,14 @@
 //! What answers to look-ups say of locks and workers.
 
-ghost use Rattle.std.specs.Prelude.{◌≡◌, Some, IfOk, codes};
+ghost use Rattle.std.specs.Prelude.{◌≡◌, Some, None, IfOk, IfErr, codes};
+ghost use Rattle.serde_json.specs.Data.{Data};
 ghost use Rattle.serde_json.specs.View.{view};
+ghost use Rattle.rme_ask_client.specs.Members.{NoneSaid, NoneSaidUnless};
 ghost use Rattle.rme_ask_client.specs.StatusAnswers as spec;
 
 use crate::client_error::ClientError;
 use crate::job_answers::{WorkerStance, stance};
-use crate::members::{flag, lock_name, member, number};
+use crate::members::{flag, lock_name, member, number, string};
 use serde_json::Value;
 use std::alloc::Global;
 
@@ -38,12 +40,16 @@ pub struct WorkerStatus {
     /// Whether a session has it.
     pub attached: bool,
     pub stance: WorkerStance,
-    /// The lock of its pending job, if there is one.
+    /// The lock of its pending job; `None` without a pending job.
     pub lock: Option<String>,
-    /// The number of its pending job or, if there is none, of its last.
+    /// The number of its pending job; without one, of its last job.
     pub number: u64,
-    /// The worker that it waits for, if it waits for one.
+    /// The worker that it waits for; `None` if it waits for no other.
     pub blocked_by: Option<u64>,
+    /// The whole seconds since its stance last changed; `None` if the server does not tell them.
+    pub seconds: Option<u64>,
+    /// The name that its client gave when it attached the worker, of any characters; `None` if it gave none.
+    pub client: Option<String>,
 }
 
 /// The answer to `cells`.
@@ -55,7 +61,8 @@ pub struct CellsAnswer {
 
 /// The owner of the answer to `owner`, or of a lock in that to `status`.
 pub fn owner_answer(value: &Value) -> Result<Option<u64>, ClientError>
-    ensures { IfOk result (spec.OwnerSays (view value.now)) }
+    ensures said { IfOk result (spec.OwnerSays (view value.now)) }
+    ensures unsaid { IfErr result (λ _. NoneSaid spec.OwnerSays (view value.now)) }
 {
     if member(value, "owner")?.is_null() {
         return Ok(None);
@@ -65,28 +72,100 @@ pub fn owner_answer(value: &Value) -> Result<Option<u64>, ClientError>
 
 /// The cells of the answer to `cells`.
 pub fn cells_answer(alloc: Global, value: &Value) -> Result<CellsAnswer, ClientError>
-    ensures { IfOk result (spec.CellsSay (view value.now)) }
+    ensures said { IfOk result (spec.CellsSay (view value.now)) }
+    ensures unsaid { IfErr result (NoneSaidUnless spec.CellsSay (view value.now)) }
 {
     Ok(CellsAnswer {
-        cells: cells_of(alloc, value)?,
+        cells: list_of(alloc, value, "cells")?,
         settled: flag(value, "settled")?,
     })
 }
 
 /// The locks and workers of the answer to `status`.
 pub fn server_status(alloc: Global, value: &Value) -> Result<ServerStatus, ClientError>
-    ensures { IfOk result (spec.StatusSays (view value.now)) }
+    ensures said { IfOk result (spec.StatusSays (view value.now)) }
+    ensures unsaid { IfErr result (NoneSaidUnless spec.StatusSays (view value.now)) }
 {
     Ok(ServerStatus {
         epoch: number(value, "epoch")?,
-        locks: locks_of(alloc, list(value, "locks")?)?,
-        workers: workers_of(alloc, list(value, "workers")?)?,
+        locks: list_of(alloc, value, "locks")?,
+        workers: list_of(alloc, value, "workers")?,
     })
+}
+
+/// A value that an item of a list in an answer gives.
+trait ListItem: Drop + Sized {
+    /// The item gives this value.
+    ghost Says: { Data → Self → Type 0 };
+
+    /// The value of an item.
+    fn of_item(alloc: Global, item: &Value) -> Result<Self, ClientError>
+        ensures said { IfOk result (Says (view item.now)) }
+        ensures unsaid { IfErr result (NoneSaidUnless Says (view item.now)) };
+}
+
+impl ListItem for u64 {
+    ghost Says = { spec.NumberSays };
+
+    fn of_item(_alloc: Global, item: &Value) -> Result<u64, ClientError> {
+        match item.as_u64() {
+            Some(number) => Ok(number),
+            None => Err(ClientError::NoMember("cells")),
+        }
+    }
+}
+
+impl ListItem for LockStatus {
+    ghost Says = { spec.LockSays };
+
+    fn of_item(alloc: Global, item: &Value) -> Result<LockStatus, ClientError> {
+        Ok(LockStatus {
+            name: lock_name(alloc, item, "name")?,
+            owner: owner_answer(item)?,
+            cells: list_of(alloc, item, "cells")?,
+            settled: flag(item, "settled")?,
+            sections: number(item, "sections")?,
+        })
+    }
+}
+
+impl ListItem for WorkerStatus {
+    ghost Says = { spec.WorkerSays };
+
+    fn of_item(alloc: Global, item: &Value) -> Result<WorkerStatus, ClientError> {
+        Ok(WorkerStatus {
+            attached: flag(item, "attached")?,
+            stance: stance(item)?,
+            lock: lock_of_worker(alloc, item)?,
+            number: number(item, "number")?,
+            blocked_by: optional_number(item, "blocked_by")?,
+            seconds: optional_number(item, "seconds")?,
+            client: client_of_worker(alloc, item)?,
+        })
+    }
+}
+
+/// The values of the items of the list of this name.
+fn list_of<T: ListItem>(
+    alloc: Global,
+    value: &Value,
+    name: &'static str,
+) -> Result<Vec<T>, ClientError>
+    ensures said { IfOk result (λ values. spec.ListSays name.now T.Says (view value.now) values.items) }
+    ensures unsaid { IfErr result (NoneSaidUnless (spec.ListSays name.now T.Says) (view value.now)) }
+{
+    let mut values = Vec::new(alloc);
+    for item in list(value, name)? {
+        values.push(T::of_item(alloc, item)?)?;
+    }
+    Ok(values)
 }
 
 /// The list of this name.
 fn list<'v>(value: &'v Value, name: &'static str) -> Result<&'v [Value], ClientError>
-    ensures { IfOk result (λ items. spec.items_member name.now (view value.now) ≡ Some (spec.items_view items.now)) }
+    ensures found { IfOk result (λ items. spec.items_member name.now (view value.now)
+        ≡ Some (spec.items_view items.now)) }
+    ensures missing { IfErr result (λ _. spec.items_member name.now (view value.now) ≡ None) }
 {
     match member(value, name)?.as_array() {
         Some(items) => Ok(items.as_slice()),
@@ -94,57 +173,10 @@ fn list<'v>(value: &'v Value, name: &'static str) -> Result<&'v [Value], ClientE
     }
 }
 
-/// The locks of a list.
-fn locks_of(alloc: Global, items: &[Value]) -> Result<Vec<LockStatus>, ClientError>
-    ensures { IfOk result (λ locks. spec.EachSays spec.LockSays items.now locks.items) }
-{
-    let mut locks = Vec::new(alloc);
-    for item in items {
-        locks.push(lock_of(alloc, item)?)?;
-    }
-    Ok(locks)
-}
-
-/// The workers of a list.
-fn workers_of(alloc: Global, items: &[Value]) -> Result<Vec<WorkerStatus>, ClientError>
-    ensures { IfOk result (λ workers. spec.EachSays spec.WorkerSays items.now workers.items) }
-{
-    let mut workers = Vec::new(alloc);
-    for item in items {
-        workers.push(worker_of(alloc, item)?)?;
-    }
-    Ok(workers)
-}
-
-/// A lock of the answer to `status`.
-fn lock_of(alloc: Global, value: &Value) -> Result<LockStatus, ClientError>
-    ensures { IfOk result (spec.LockSays (view value.now)) }
-{
-    Ok(LockStatus {
-        name: lock_name(alloc, value, "name")?,
-        owner: owner_answer(value)?,
-        cells: cells_of(alloc, value)?,
-        settled: flag(value, "settled")?,
-        sections: number(value, "sections")?,
-    })
-}
-
-/// A worker of the answer to `status`.
-fn worker_of(alloc: Global, value: &Value) -> Result<WorkerStatus, ClientError>
-    ensures { IfOk result (spec.WorkerSays (view value.now)) }
-{
-    Ok(WorkerStatus {
-        attached: flag(value, "attached")?,
-        stance: stance(value)?,
-        lock: lock_of_worker(alloc, value)?,
-        number: number(value, "number")?,
-        blocked_by: blocked_by(value)?,
-    })
-}
-
 /// The lock of a worker's pending job.
 fn lock_of_worker(alloc: Global, value: &Value) -> Result<Option<String>, ClientError>
-    ensures { IfOk result (spec.LockNameSays (view value.now)) }
+    ensures said { IfOk result (spec.OptionalLockSays (view value.now)) }
+    ensures unsaid { IfErr result (NoneSaidUnless spec.OptionalLockSays (view value.now)) }
 {
     if value.get("lock").is_none() {
         return Ok(None);
@@ -152,26 +184,24 @@ fn lock_of_worker(alloc: Global, value: &Value) -> Result<Option<String>, Client
     Ok(Some(lock_name(alloc, value, "lock")?))
 }
 
-/// The worker that a waiting one waits for.
-fn blocked_by(value: &Value) -> Result<Option<u64>, ClientError>
-    ensures { IfOk result (spec.BlockedBySays (view value.now)) }
+/// The name that the client of a worker gave.
+fn client_of_worker(alloc: Global, value: &Value) -> Result<Option<String>, ClientError>
+    ensures said { IfOk result (spec.OptionalTextSays (codes "as") (view value.now)) }
+    ensures unsaid { IfErr result (NoneSaidUnless (spec.OptionalTextSays (codes "as")) (view value.now)) }
 {
-    if value.get("blocked_by").is_none() {
+    if value.get("as").is_none() {
         return Ok(None);
     }
-    Ok(Some(number(value, "blocked_by")?))
+    Ok(Some(string(alloc, value, "as")?))
 }
 
-/// The values of a lock's cells.
-fn cells_of(alloc: Global, value: &Value) -> Result<Vec<u64>, ClientError>
-    ensures { IfOk result (λ cells. spec.CellValuesSay (view value.now) cells.items) }
+/// The number of this name; `None` without such a member.
+fn optional_number(value: &Value, name: &'static str) -> Result<Option<u64>, ClientError>
+    ensures said { IfOk result (spec.OptionalNumberSays name.now (view value.now)) }
+    ensures unsaid { IfErr result (λ _. NoneSaid (spec.OptionalNumberSays name.now) (view value.now)) }
 {
-    let mut cells = Vec::new(alloc);
-    for item in list(value, "cells")? {
-        let Some(cell) = item.as_u64() else {
-            return Err(ClientError::NoMember("cells"));
-        };
-        cells.push(cell)?;
+    if value.get(name).is_none() {
+        return Ok(None);
     }
-    Ok(cells)
+    Ok(Some(number(value, name)?))
 }

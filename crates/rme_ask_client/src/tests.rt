@@ -169,7 +169,7 @@ fn outcomes_and_receipts_are_read(rt: HostRuntime) -> Result<(), Fail> {
 fn look_ups_are_read(rt: HostRuntime) -> Result<(), Fail> {
     let alloc = rt.alloc();
     let told =
-        b"{\"epoch\":4,\"locks\":[{\"cells\":[5,7],\"name\":\"bank\",\"owner\":1,\"sections\":2,\"settled\":false}],\"ok\":\"status\",\"workers\":[{\"attached\":true,\"number\":0,\"stance\":\"ready\"},{\"attached\":false,\"lock\":\"bank\",\"number\":3,\"stance\":\"held\"},{\"attached\":true,\"blocked_by\":1,\"lock\":\"bank\",\"number\":2,\"stance\":\"climb\"}]}\n";
+        b"{\"epoch\":4,\"locks\":[{\"cells\":[5,7],\"name\":\"bank\",\"owner\":1,\"sections\":2,\"settled\":false}],\"ok\":\"status\",\"workers\":[{\"attached\":true,\"number\":0,\"stance\":\"ready\"},{\"attached\":false,\"lock\":\"bank\",\"number\":3,\"stance\":\"held\"},{\"as\":\"host7:\\u001bcron\",\"attached\":true,\"blocked_by\":1,\"lock\":\"bank\",\"number\":2,\"seconds\":12,\"stance\":\"climb\"}]}\n";
     let Answer::Accepted(value) = answer_to(alloc, Request::Status, told)? else {
         return Err(Fail::from("status"));
     };
@@ -179,7 +179,13 @@ fn look_ups_are_read(rt: HostRuntime) -> Result<(), Fail> {
     assert!(rt; status.locks[0].owner == Some(1) && !status.locks[0].settled);
     assert!(rt; status.workers[0].attached && status.workers[0].lock.is_none());
     assert!(rt; status.workers[1].number == 3 && status.workers[1].stance == WorkerStance::Held);
-    assert!(rt; status.workers[1].blocked_by.is_none() && status.workers[2].blocked_by == Some(1));
+    let (inside, waits) = (&status.workers[1], &status.workers[2]);
+    assert!(rt; inside.blocked_by.is_none() && inside.seconds.is_none() && inside.client.is_none());
+    assert!(rt; waits.blocked_by == Some(1) && waits.seconds == Some(12));
+    assert_eq!(rt;
+        waits.client.as_ref().map(|name| name.as_str()),
+        Some("host7:\u{1b}cron")
+    );
     let told = b"{\"ok\":\"owner\",\"owner\":null}\n";
     let Answer::Accepted(value) = answer_to(alloc, Request::Owner("bank"), told)? else {
         return Err(Fail::from("owner"));

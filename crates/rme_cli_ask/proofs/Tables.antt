@@ -1,9 +1,9 @@
 -- One more row of a table, and one more cell of a row.
-use Rattle.std.proofs.Common.{◌≡◌, ℕ, ◌+◌, ◌<◌, ◌≤◌, max, List, [], ◌∷◌, ◌++◌, codes, get_or, length, map, take, drop, string_bytes, String, refl, sym, ap, ◌∙◌, append_assoc, append-nil, arith}
+use Rattle.std.proofs.Common.{◌≡◌, ℕ, ◌+◌, ◌<◌, ◌≤◌, max, List, [], ◌∷◌, ◌++◌, codes, get_or, length, take, drop, string_bytes, String, refl, sym, ap, ◌∙◌, append_assoc, append-nil, arith}
 use Rattle.std.specs.Prelude.{Vec}
-use Rattle.std.specs.List.{flat_map, fold}
+use Rattle.std.specs.List.{flat_map}
 use Rattle.std.specs.declared.alloc.Global.{Global}
-use Rattle.std.proofs.lemmas.List.{take_more, map_more, flat_map_more, drop_more, drop_all, length-map, length-drop}
+use Rattle.std.proofs.lemmas.List.{map_more, flat_map_more, drop_more, drop_all, length-map, length-drop}
 use Rattle.std.proofs.lemmas.List.Sums.{fold-append}
 use Rattle.rme_cli_ask.specs.Tables.{cell_width, cells_view, padded_text, row_text, row_view, rows_view, wider, width_of}
 

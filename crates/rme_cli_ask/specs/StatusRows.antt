@@ -1,5 +1,5 @@
 -- The rows of the tables of locks and workers.
-use Rattle.std.specs.Prelude.{ℕ, ◌+◌, ◌&&◌, Bool, true, false, List, [], ◌∷◌, ◌++◌, codes, decimal, count_by, if◌then◌else◌, map, Option, Some, None, slice_get, string_bytes, String}
+use Rattle.std.specs.Prelude.{ℕ, ◌&&◌, Bool, true, false, List, [], ◌∷◌, ◌++◌, codes, decimal, if◌then◌else◌, Option, Some, None, slice_get, string_bytes, String}
 use Rattle.std.specs.List.{flat_map}
 use Rattle.std.specs.Str.{bytes_eq}
 use Rattle.std.specs.declared.alloc.Global.{Global}
@@ -10,13 +10,19 @@ use Rattle.rme_ask_client.specs.declared.status_answer.CellsAnswer.{CellsAnswer}
 use Rattle.rme_ask_client.specs.declared.status_answer.LockStatus.{LockStatus}
 use Rattle.rme_ask_client.specs.declared.status_answer.ServerStatus.{ServerStatus}
 use Rattle.rme_ask_client.specs.declared.status_answer.WorkerStatus.{WorkerStatus}
+use Rattle.rme_cli_ask.specs.Ages.{age_text}
 pub use Rattle.rme_cli_ask.specs.Tables.{row_view, rows_view}
-use Rattle.rme_cli_ask.specs.Tables.{table_text}
+use Rattle.rme_cli_ask.specs.Tables.{lock_table, numbered_rows, table_text}
+use Rattle.rme_cli_messages.specs.EscapedTexts.{escaped_text}
+
+-- a number, or this text for none
+abbrev pub number_or : List ℕ → Option ℕ → List ℕ
+number_or nothing None = nothing
+number_or nothing (Some number) = decimal number
 
 -- the number of an owner, or `nobody`
 abbrev pub owner_text : Option ℕ → List ℕ
-owner_text None = codes "nobody"
-owner_text (Some worker) = decimal worker
+owner_text owner = number_or (codes "nobody") owner
 
 -- whether a session has the worker of a number
 abbrev pub attached_or_not : Option WorkerStatus → Bool
@@ -68,7 +74,7 @@ lock_header = codes "LOCK" ∷ codes "OWNER" ∷ codes "STATE" ∷ codes "CELLS"
 
 -- a row for each lock, below a header
 abbrev pub lock_rows : ServerStatus → List (List (List ℕ))
-lock_rows status = lock_header ∷ map (lock_row status.workers.items) status.locks.items
+lock_rows status = lock_header ∷ numbered_rows (λ number. lock_row status.workers.items) 0 status.locks.items
 
 abbrev pub session_word : Bool → List ℕ
 session_word attached = if attached then codes "yes" else codes "none"
@@ -77,27 +83,30 @@ abbrev pub lock_or_nothing : Option (String Global) → List ℕ
 lock_or_nothing None = codes "-"
 lock_or_nothing (Some lock) = string_bytes lock
 
-abbrev pub number_or_nothing : Option ℕ → List ℕ
-number_or_nothing None = codes "-"
-number_or_nothing (Some number) = decimal number
+-- how long a stance is as it is
+abbrev pub since_text : Option ℕ → List ℕ
+since_text None = codes "-"
+since_text (Some seconds) = age_text seconds
+
+-- the name that a client gave
+abbrev pub client_text : Option (String Global) → List ℕ
+client_text None = codes "-"
+client_text (Some name) = escaped_text (string_bytes name)
 
 abbrev pub worker_row : ℕ → WorkerStatus → List (List ℕ)
 worker_row number worker =
     decimal number ∷ session_word worker.attached ∷ stance_word worker.stance ∷ lock_or_nothing worker.lock ∷
-    decimal worker.number ∷ number_or_nothing worker.blocked_by ∷ []
-
--- the rows of workers, the first of which has this number
-abbrev pub worker_rows_from : ℕ → List WorkerStatus → List (List (List ℕ))
-worker_rows_from number [] = []
-worker_rows_from number (worker ∷ workers) = worker_row number worker ∷ worker_rows_from (number + 1) workers
+    decimal worker.number ∷ number_or (codes "-") worker.blocked_by ∷ since_text worker.seconds ∷
+    client_text worker.client ∷ []
 
 abbrev pub worker_header : List (List ℕ)
 worker_header =
-    codes "WORKER" ∷ codes "SESSION" ∷ codes "STANCE" ∷ codes "LOCK" ∷ codes "JOB" ∷ codes "BLOCKED BY" ∷ []
+    codes "WORKER" ∷ codes "SESSION" ∷ codes "STANCE" ∷ codes "LOCK" ∷ codes "JOB" ∷ codes "BLOCKED BY" ∷
+    codes "SINCE" ∷ codes "AS" ∷ []
 
 -- a row for each worker, below a header
 abbrev pub worker_rows : List WorkerStatus → List (List (List ℕ))
-worker_rows workers = worker_header ∷ worker_rows_from 0 workers
+worker_rows workers = worker_header ∷ numbered_rows worker_row 0 workers
 
 -- the tables of the locks and of the workers, with an empty line between
 abbrev pub status_tables_text : ServerStatus → List ℕ
@@ -105,33 +114,7 @@ status_tables_text status =
     table_text (lock_rows status) ++ (codes "\n" ++ table_text (worker_rows status.workers.items))
 
 abbrev pub owner_rows : List ℕ → Option ℕ → List (List (List ℕ))
-owner_rows lock owner = (codes "LOCK" ∷ codes "OWNER" ∷ []) ∷ (lock ∷ owner_text owner ∷ []) ∷ []
+owner_rows lock owner = lock_table lock (codes "OWNER") (owner_text owner)
 
 abbrev pub cells_rows : List ℕ → CellsAnswer → List (List (List ℕ))
-cells_rows lock answer =
-    (codes "LOCK" ∷ codes "CELLS" ∷ []) ∷ (lock ∷ cells_text answer.cells.items answer.settled ∷ []) ∷ []
-
--- ---- the rows of `top`
-
-abbrev pub top_header : List (List ℕ)
-top_header = codes "LOCK" ∷ codes "OWNER" ∷ codes "STATE" ∷ codes "WAITING" ∷ codes "JOBS/S" ∷ []
-
-abbrev pub rate_text : Option ℕ → List ℕ
-rate_text None = codes "-"
-rate_text (Some rate) = decimal rate
-
-abbrev pub top_row : List WorkerStatus → Option ℕ → LockStatus → List (List ℕ)
-top_row workers rate lock =
-    string_bytes lock.name ∷ owner_text lock.owner ∷ owner_state workers lock.owner ∷
-    decimal (count_by (waits_for (string_bytes lock.name)) workers) ∷ rate_text rate ∷ []
-
--- the first cells of rows, and those that the table of `top` has: its header's, and the name of each lock
-abbrev pub first_cell : List (List ℕ) → List ℕ
-first_cell [] = []
-first_cell (cell ∷ cells) = cell
-
-abbrev pub names_of_rows : List (List (List ℕ)) → List (List ℕ)
-names_of_rows rows = map first_cell rows
-
-abbrev pub names_of_top : ServerStatus → List (List ℕ)
-names_of_top status = codes "LOCK" ∷ map (λ lock. string_bytes lock.name) status.locks.items
+cells_rows lock answer = lock_table lock (codes "CELLS") (cells_text answer.cells.items answer.settled)

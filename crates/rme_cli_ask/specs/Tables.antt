@@ -2,6 +2,7 @@
 use Rattle.std.specs.Prelude.{ℕ, ◌+◌, ◌-◌, max, List, [], ◌∷◌, ◌++◌, codes, length, map, option_map, replicate, slice_get, string_bytes, String, Vec, unwrap_or}
 use Rattle.std.specs.List.{flat_map, fold}
 use Rattle.std.specs.declared.alloc.Global.{Global}
+use denote.Ref.{Bor}
 
 -- the texts of cells, of a row, of rows
 abbrev pub cells_view : List (String Global) → List (List ℕ)
@@ -12,6 +13,23 @@ row_view row = cells_view row.items
 
 abbrev pub rows_view : List (Vec (String Global) Global) → List (List (List ℕ))
 rows_view rows = map row_view rows
+
+-- ---- the rows of lists
+
+-- the texts of titles
+abbrev pub titles_view : List (Bor (List ℕ)) → List (List ℕ)
+titles_view titles = map (λ title. title.now) titles
+
+-- a row for each item, the first of which has this number
+abbrev pub numbered_rows : {T : Type 0} → (ℕ → T → List (List ℕ)) → ℕ → List T → List (List (List ℕ))
+numbered_rows cells_of number [] = []
+numbered_rows cells_of number (item ∷ items) = cells_of number item ∷ numbered_rows cells_of (number + 1) items
+
+-- a lock, and what is told of it under this title
+abbrev pub lock_table : List ℕ → List ℕ → List ℕ → List (List (List ℕ))
+lock_table lock title cell = (codes "LOCK" ∷ title ∷ []) ∷ (lock ∷ cell ∷ []) ∷ []
+
+-- ---- their layout
 
 -- the width of the cell of a column; 0 in a shorter row
 abbrev pub cell_width : ℕ → List (List ℕ) → ℕ

@@ -2,7 +2,7 @@
 use Rattle.std.specs.Prelude.{ℕ, ◌-◌, ◌*◌, min, Option, Some, None}
 use Rattle.rme_cli_ask.specs.declared.patience.Patience.{Patience}
 
--- the milliseconds of so many seconds, or as long as it takes
+-- the milliseconds of a number of seconds; none for a wait without an end
 abbrev pub milliseconds : Option ℕ → Option ℕ
 milliseconds None = None
 milliseconds (Some seconds) = Some (seconds * 1000)

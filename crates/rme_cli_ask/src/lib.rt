@@ -4,18 +4,21 @@
 //! standard input. The crate stands on rme_ask_client, whose conversations it has, on rme_line_io, which cuts and
 //! writes lines, on rme_cli_options for the task, and on rme_cli_messages for faults and for the explanations of
 //! refusals. Its one call is `run_ask`. Its contracts: a table has a row for each lock and each worker of the answer
-//! (`specs/Tables.antt`, `specs/StatusRows.antt`), the exit status is that of the end (`specs/Ends.antt`). Begin with
-//! `run.rt`, then `finish.rt`.
+//! (`specs/Tables.antt`, `specs/StatusRows.antt`, `specs/TopRows.antt`), the exit status is that of the end
+//! (`specs/Ends.antt`). Begin with `run.rt`, then `finish.rt`.
 #![tactic(auto)]
 
+mod age;
 mod ask_end;
 mod connect;
 mod console;
+mod dialogue;
 mod finish;
 mod lines;
 mod look_ups;
 mod patience;
 mod refusals;
+mod rows;
 mod run;
 mod status_rows;
 mod table;

@@ -1,7 +1,7 @@
 //! How long to wait for a lock, in rounds.
 
 /// The longest wait of one request, in milliseconds. Between two requests the server may find that this client is gone,
-/// and the user is told who has the lock.
+/// and the user is told the owner of the lock.
 const ROUND: u32 = 5_000;
 
 /// The milliseconds to wait that are left, or as long as it takes.

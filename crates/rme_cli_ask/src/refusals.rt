@@ -1,8 +1,8 @@
 //! The text of a refusal: its name, its explanation, and what to do here.
 
 use crate::ask_end::AskFault;
-use crate::console::Console;
-use rme_ask_client::{Answer, Conversation, RefusedAnswer, Request};
+use crate::dialogue::Dialogue;
+use rme_ask_client::{Answer, RefusedAnswer, Request};
 use rme_cli_messages::{escape_controls, refusal_advice, refusal_of, refusal_when};
 use rme_line_io::{Sink, Source};
 use serde_json::Value;
@@ -14,22 +14,20 @@ const BAD_LINE: u64 = 1;
 /// The number of `Taken`.
 const TAKEN: u64 = 18;
 
-/// Sends a request, and answers what was accepted; `None` if it was refused, which is explained on the standard error.
-pub(crate) fn accepted<R: Source + Drop, W: Sink + Drop, O: Sink + Drop, E: Sink + Drop>(
-    alloc: Global,
-    talk: &mut Conversation<R, W>,
-    console: &mut Console<O, E>,
-    request: Request<'_>,
-) -> Result<Option<Value>, AskFault> {
-    match talk.ask(request)? {
-        Answer::Accepted(value) => Ok(Some(value)),
-        Answer::Refused(refused) => {
-            if console.is_json() {
-                console.print_line(talk.answer_line())?;
+impl<R: Source + Drop, W: Sink + Drop, O: Sink + Drop, E: Sink + Drop> Dialogue<R, W, O, E> {
+    /// Sends a request, and answers what was accepted; `None` if it was refused, which is explained on the standard
+    /// error.
+    pub(crate) fn accepted(&mut self, request: Request<'_>) -> Result<Option<Value>, AskFault> {
+        match self.talk.ask(request)? {
+            Answer::Accepted(value) => Ok(Some(value)),
+            Answer::Refused(refused) => {
+                if self.console.is_json() {
+                    self.print_answer()?;
+                }
+                let text = refusal_text(self.alloc, request, &refused)?;
+                self.console.tell(text.as_str());
+                Ok(None)
             }
-            let text = refusal_text(alloc, request, &refused)?;
-            console.tell(text.as_str());
-            Ok(None)
         }
     }
 }
@@ -48,7 +46,7 @@ fn refusal_text(
     Ok(text)
 }
 
-/// Appends the name and the explanation of a refusal; of a server with further refusals the name alone.
+/// Appends the name of a refusal, and its explanation if this program knows one.
 fn push_explanation(
     out: &mut String,
     alloc: Global,

@@ -3,10 +3,8 @@
 use crate::ask_end::{AskEnd, AskFault};
 use crate::connect::connect;
 use crate::console::Console;
-use crate::finish::finish;
-use crate::lines::relay_lines;
-use crate::look_ups::look_up;
-use crate::top::{TopView, top};
+use crate::dialogue::Dialogue;
+use crate::top::TopView;
 use rme_ask_client::{ClientError, Conversation, Request};
 use rme_cli_messages::CliFault;
 use rme_cli_options::{AskRequest, AskTask};
@@ -23,38 +21,40 @@ pub fn run_ask<R: Wait>(rt: &HostRuntime, threads: &R, task: AskTask) -> Result<
         form,
     } = task;
     let stream = connect(rt, &server)?;
-    let mut talk = Conversation::new(rt.alloc(), &stream, &stream)?;
-    let mut console = Console {
+    let console = Console {
         out: io::writer(rt),
         errors: rt.stderr(),
         form,
     };
-    let ended = perform(rt, threads, &mut talk, &mut console, request);
-    Ok(end_of(rt, &mut console, ended)?.status())
+    let mut dialogue = Dialogue {
+        alloc: rt.alloc(),
+        talk: Conversation::new(rt.alloc(), &stream, &stream)?,
+        console,
+    };
+    let ended = perform(rt, threads, &mut dialogue, request);
+    Ok(end_of(rt, &mut dialogue.console, ended)?.status())
 }
 
 /// Does what is asked.
-fn perform<R: Wait, S: Source + Drop, W: Sink + Drop, O: Sink + Drop, E: Sink + Drop>(
+fn perform<P: Wait, R: Source + Drop, W: Sink + Drop, O: Sink + Drop, E: Sink + Drop>(
     rt: &HostRuntime,
-    threads: &R,
-    talk: &mut Conversation<S, W>,
-    console: &mut Console<O, E>,
+    threads: &P,
+    dialogue: &mut Dialogue<R, W, O, E>,
     request: AskRequest,
 ) -> Result<AskEnd, AskFault> {
-    let alloc = rt.alloc();
     match request {
-        AskRequest::Lines => relay_lines(alloc, talk, console, rt.stdin()),
-        AskRequest::Status => look_up(alloc, talk, console, Request::Status),
-        AskRequest::Ping => look_up(alloc, talk, console, Request::Ping),
-        AskRequest::Owner(lock) => look_up(alloc, talk, console, Request::Owner(lock.as_str())),
-        AskRequest::Cells(lock) => look_up(alloc, talk, console, Request::Cells(lock.as_str())),
-        AskRequest::Finish(task) => finish(alloc, threads, talk, console, task),
+        AskRequest::Lines => dialogue.relay_lines(rt.stdin()),
+        AskRequest::Status => dialogue.look_up(Request::Status),
+        AskRequest::Ping => dialogue.look_up(Request::Ping),
+        AskRequest::Owner(lock) => dialogue.look_up(Request::Owner(lock.as_str())),
+        AskRequest::Cells(lock) => dialogue.look_up(Request::Cells(lock.as_str())),
+        AskRequest::Finish(task) => dialogue.finish(threads, task),
         AskRequest::Top(count) => {
             let view = TopView {
                 count,
                 is_terminal: rt.stdout().is_terminal(),
             };
-            top(rt, threads, talk, console, view)
+            dialogue.top(rt, threads, view)
         }
     }
 }

@@ -5,17 +5,18 @@ ghost use Rattle.std.specs.List.{flat_map};
 ghost use Rattle.rme_ask_client.specs.JobAnswers.{stance_word};
 ghost use Rattle.rme_cli_ask.specs.StatusRows as spec;
 
+use crate::age::Age;
+use crate::rows::{RowOf, rows_of, rows_of_lock};
 use crate::table::push_table;
-use rme_ask_client::{
-    CellsAnswer, ClientError, LockStatus, ServerStatus, WorkerStance, WorkerStatus,
-};
+use rme_ask_client::{CellsAnswer, LockStatus, ServerStatus, WorkerStance, WorkerStatus};
+use rme_cli_messages::escape_controls;
 use std::alloc::{AllocError, Global};
 
 /// The cell of what there is not.
 pub(crate) const NOTHING: &str = "-";
 
 /// The tables of locks and of workers.
-pub(crate) fn status_text(alloc: Global, status: &ServerStatus) -> Result<String, ClientError>
+pub(crate) fn status_text(alloc: Global, status: &ServerStatus) -> Result<String, AllocError>
     ensures { IfOk result (λ text. string_bytes text ≡ spec.status_tables_text status.now) }
 {
     let mut text = String::new(alloc);
@@ -35,12 +36,7 @@ pub(crate) fn owner_rows(
 ) -> Result<Vec<Vec<String>>, AllocError>
     ensures { IfOk result (λ rows. spec.rows_view rows.items ≡ spec.owner_rows lock.now owner) }
 {
-    let row = vec![in alloc; String::from_str(alloc, lock)?, owner_text(alloc, owner)?]?;
-    let header = vec![in alloc;
-        String::from_str(alloc, "LOCK")?,
-        String::from_str(alloc, "OWNER")?,
-    ]?;
-    Ok(vec![in alloc; header, row]?)
+    rows_of_lock(alloc, lock, "OWNER", owner_text(alloc, owner)?)
 }
 
 /// The rows of an answer to `cells`.
@@ -52,112 +48,126 @@ pub(crate) fn cells_rows(
     ensures { IfOk result (λ rows. spec.rows_view rows.items ≡ spec.cells_rows lock.now answer.now) }
 {
     let cells = cells_text(alloc, answer.cells.as_slice(), answer.settled)?;
-    let row = vec![in alloc; String::from_str(alloc, lock)?, cells]?;
-    let header = vec![in alloc;
-        String::from_str(alloc, "LOCK")?,
-        String::from_str(alloc, "CELLS")?,
-    ]?;
-    Ok(vec![in alloc; header, row]?)
+    rows_of_lock(alloc, lock, "CELLS", cells)
 }
 
 /// The rows of locks: a header, and a row for each lock.
 fn lock_rows(alloc: Global, status: &ServerStatus) -> Result<Vec<Vec<String>>, AllocError>
     ensures { IfOk result (λ rows. spec.rows_view rows.items ≡ spec.lock_rows status.now) }
 {
-    let mut rows = vec![in alloc; lock_header(alloc)?]?;
-    let locks = status.locks.as_slice();
-    for lock in locks {
-        rows.push(lock_row(alloc, lock, status.workers.as_slice())?)?;
-    }
-    Ok(rows)
+    let titles = ["LOCK", "OWNER", "STATE", "CELLS", "SECTIONS"];
+    let view = LockView {
+        workers: status.workers.as_slice(),
+    };
+    rows_of(alloc, &titles, status.locks.as_slice(), &view)
 }
 
 /// The rows of workers: a header, and a row for each worker.
 fn worker_rows(alloc: Global, workers: &[WorkerStatus]) -> Result<Vec<Vec<String>>, AllocError>
     ensures { IfOk result (λ rows. spec.rows_view rows.items ≡ spec.worker_rows workers.now) }
 {
-    let mut rows = vec![in alloc; worker_header(alloc)?]?;
-    for (number, worker) in workers.iter().enumerate() {
-        rows.push(worker_row(alloc, number, worker)?)?;
+    let titles = [
+        "WORKER",
+        "SESSION",
+        "STANCE",
+        "LOCK",
+        "JOB",
+        "BLOCKED BY",
+        "SINCE",
+        "AS",
+    ];
+    rows_of(alloc, &titles, workers, &WorkerView)
+}
+
+/// Locks, beside the workers of their server.
+#[derive(Drop)]
+struct LockView<'a> {
+    workers: &'a [WorkerStatus],
+}
+
+impl<'a> RowOf<LockStatus> for LockView<'a> {
+    ghost cells_of = { λ view _ lock. spec.lock_row view.workers.now lock };
+
+    fn row(
+        &self,
+        alloc: Global,
+        _number: usize,
+        lock: &LockStatus,
+    ) -> Result<Vec<String>, AllocError> {
+        let sections = lock.sections;
+        Ok(vec![in alloc;
+            String::from_str(alloc, lock.name.as_str())?,
+            owner_text(alloc, lock.owner)?,
+            String::from_str(alloc, owner_state(lock.owner, self.workers))?,
+            cells_text(alloc, lock.cells.as_slice(), lock.settled)?,
+            format!(in alloc; "{sections}")?,
+        ]?)
     }
-    Ok(rows)
 }
 
-/// The header of the rows of locks.
-fn lock_header(alloc: Global) -> Result<Vec<String>, AllocError>
-    ensures { IfOk result (λ row. spec.row_view row ≡ spec.lock_header) }
-{
-    Ok(vec![in alloc;
-        String::from_str(alloc, "LOCK")?,
-        String::from_str(alloc, "OWNER")?,
-        String::from_str(alloc, "STATE")?,
-        String::from_str(alloc, "CELLS")?,
-        String::from_str(alloc, "SECTIONS")?,
-    ]?)
+/// Workers.
+#[derive(Drop)]
+struct WorkerView;
+
+impl RowOf<WorkerStatus> for WorkerView {
+    ghost cells_of = { λ _ number worker. spec.worker_row number worker };
+
+    fn row(
+        &self,
+        alloc: Global,
+        number: usize,
+        worker: &WorkerStatus,
+    ) -> Result<Vec<String>, AllocError> {
+        let job = worker.number;
+        let session = if worker.attached { "yes" } else { "none" };
+        let lock = match &worker.lock {
+            Some(lock) => lock.as_str(),
+            None => NOTHING,
+        };
+        Ok(vec![in alloc;
+            format!(in alloc; "{number}")?,
+            String::from_str(alloc, session)?,
+            String::from_str(alloc, stance_word(worker.stance))?,
+            String::from_str(alloc, lock)?,
+            format!(in alloc; "{job}")?,
+            number_or(alloc, worker.blocked_by, NOTHING)?,
+            since_text(alloc, worker.seconds)?,
+            client_text(alloc, &worker.client)?,
+        ]?)
+    }
 }
 
-/// The header of the rows of workers.
-fn worker_header(alloc: Global) -> Result<Vec<String>, AllocError>
-    ensures { IfOk result (λ row. spec.row_view row ≡ spec.worker_header) }
-{
-    Ok(vec![in alloc;
-        String::from_str(alloc, "WORKER")?,
-        String::from_str(alloc, "SESSION")?,
-        String::from_str(alloc, "STANCE")?,
-        String::from_str(alloc, "LOCK")?,
-        String::from_str(alloc, "JOB")?,
-        String::from_str(alloc, "BLOCKED BY")?,
-    ]?)
-}
-
-/// The row of a lock.
-fn lock_row(
+/// A number, or this text for none.
+pub(crate) fn number_or(
     alloc: Global,
-    lock: &LockStatus,
-    workers: &[WorkerStatus],
-) -> Result<Vec<String>, AllocError>
-    ensures { IfOk result (λ row. spec.row_view row ≡ spec.lock_row workers.now lock.now) }
-{
-    let sections = lock.sections;
-    Ok(vec![in alloc;
-        String::from_str(alloc, lock.name.as_str())?,
-        owner_text(alloc, lock.owner)?,
-        String::from_str(alloc, owner_state(lock.owner, workers))?,
-        cells_text(alloc, lock.cells.as_slice(), lock.settled)?,
-        format!(in alloc; "{sections}")?,
-    ]?)
-}
-
-/// The row of the worker of this number.
-fn worker_row(
-    alloc: Global,
-    number: usize,
-    worker: &WorkerStatus,
-) -> Result<Vec<String>, AllocError>
-    ensures { IfOk result (λ row. spec.row_view row ≡ spec.worker_row number worker.now) }
-{
-    let job = worker.number;
-    let session = if worker.attached { "yes" } else { "none" };
-    let lock = match &worker.lock {
-        Some(lock) => lock.as_str(),
-        None => NOTHING,
-    };
-    Ok(vec![in alloc;
-        format!(in alloc; "{number}")?,
-        String::from_str(alloc, session)?,
-        String::from_str(alloc, stance_word(worker.stance))?,
-        String::from_str(alloc, lock)?,
-        format!(in alloc; "{job}")?,
-        number_or_nothing(alloc, worker.blocked_by)?,
-    ]?)
-}
-
-/// A number, if there is one.
-fn number_or_nothing(alloc: Global, number: Option<u64>) -> Result<String, AllocError>
-    ensures { IfOk result (λ text. string_bytes text ≡ spec.number_or_nothing number) }
+    number: Option<u64>,
+    nothing: &str,
+) -> Result<String, AllocError>
+    ensures { IfOk result (λ text. string_bytes text ≡ spec.number_or nothing.now number) }
 {
     match number {
         Some(number) => format!(in alloc; "{number}"),
+        None => String::from_str(alloc, nothing),
+    }
+}
+
+/// How long a stance is as it is, where the server tells it.
+pub(crate) fn since_text(alloc: Global, seconds: Option<u64>) -> Result<String, AllocError>
+    ensures { IfOk result (λ text. string_bytes text ≡ spec.since_text seconds) }
+{
+    let Some(seconds) = seconds else {
+        return String::from_str(alloc, NOTHING);
+    };
+    let age = Age { seconds };
+    format!(in alloc; "{age}")
+}
+
+/// The name that a client gave.
+fn client_text(alloc: Global, name: &Option<String>) -> Result<String, AllocError>
+    ensures { IfOk result (λ text. string_bytes text ≡ spec.client_text name.now) }
+{
+    match name {
+        Some(name) => escape_controls(alloc, name.as_str()),
         None => String::from_str(alloc, NOTHING),
     }
 }
@@ -166,10 +176,7 @@ fn number_or_nothing(alloc: Global, number: Option<u64>) -> Result<String, Alloc
 pub(crate) fn owner_text(alloc: Global, owner: Option<u64>) -> Result<String, AllocError>
     ensures { IfOk result (λ text. string_bytes text ≡ spec.owner_text owner) }
 {
-    match owner {
-        Some(worker) => format!(in alloc; "{worker}"),
-        None => String::from_str(alloc, "nobody"),
-    }
+    number_or(alloc, owner, "nobody")
 }
 
 /// Whether a session has the owner of a lock.

@@ -1,16 +1,14 @@
 //! The locks, once a second.
 
-ghost use Rattle.std.specs.Prelude.{◌≡◌, ◌*◌, ◌-◌, ◌/◌, IfOk, IfSome};
-ghost use Rattle.rme_cli_ask.specs.StatusRows as spec;
+ghost use Rattle.std.specs.Prelude.{◌≡◌, IfOk};
+ghost use Rattle.rme_cli_ask.specs.TopRows as spec;
 
 use crate::ask_end::{AskEnd, AskFault};
-use crate::console::Console;
-use crate::refusals::accepted;
-use crate::status_rows::{NOTHING, owner_state, owner_text, waiting_for};
+use crate::dialogue::Dialogue;
+use crate::rows::{RowOf, rows_of};
+use crate::status_rows::{NOTHING, number_or, owner_state, owner_text, since_text, waiting_for};
 use crate::table::push_table;
-use rme_ask_client::{
-    Conversation, LockStatus, Request, ServerStatus, WorkerStatus, server_status,
-};
+use rme_ask_client::{LockStatus, Request, ServerStatus, WorkerStatus, server_status};
 use rme_line_io::{Sink, Source};
 use std::alloc::{AllocError, Global};
 use std::sync::Wait;
@@ -23,52 +21,53 @@ const PAUSE: u64 = 1_000;
 /// What clears a terminal, and puts its cursor at the top.
 const CLEAR: &str = "\u{1b}[H\u{1b}[J";
 
-/// How many tables are printed, or as many as there are seconds; and whether each takes the place of the last one.
+/// The number of tables, `None` for one each second without an end; and whether each takes the place of the last one.
 #[derive(Clone, Copy)]
 pub(crate) struct TopView {
     pub(crate) count: Option<u32>,
     pub(crate) is_terminal: bool,
 }
 
-/// A status, and when it was answered, if there is a clock.
+/// A status, and when it was answered; `None` without a clock.
 #[derive(Drop)]
 struct Sample {
     status: ServerStatus,
     at: Option<Instant>,
 }
 
-/// Prints a table of the locks each second, until it is interrupted or the server is gone.
-pub(crate) fn top<P: Wait, R: Source + Drop, W: Sink + Drop, O: Sink + Drop, E: Sink + Drop>(
-    rt: &HostRuntime,
-    threads: &P,
-    talk: &mut Conversation<R, W>,
-    console: &mut Console<O, E>,
-    view: TopView,
-) -> Result<AskEnd, AskFault> {
-    let mut last = None;
-    let mut made: u32 = 0;
-    for _ in threads.forever() {
-        let Some(value) = accepted(rt.alloc(), talk, console, Request::Status)? else {
-            return Ok(AskEnd::Refused);
-        };
-        if console.is_json() {
-            console.print_line(talk.answer_line())?;
-        } else {
-            let sample = Sample {
-                status: server_status(rt.alloc(), &value)?,
-                at: Instant::now(rt).ok(),
+impl<R: Source + Drop, W: Sink + Drop, O: Sink + Drop, E: Sink + Drop> Dialogue<R, W, O, E> {
+    /// Prints a table of the locks each second, until it is interrupted or the server is gone.
+    pub(crate) fn top<P: Wait>(
+        &mut self,
+        rt: &HostRuntime,
+        threads: &P,
+        view: TopView,
+    ) -> Result<AskEnd, AskFault> {
+        let mut last = None;
+        let mut made: u32 = 0;
+        for _ in threads.forever() {
+            let Some(value) = self.accepted(Request::Status)? else {
+                return Ok(AskEnd::Refused);
             };
-            let text = sample_text(rt.alloc(), view, &last, &sample)?;
-            console.print(text.as_str())?;
-            last = Some(sample);
+            if self.console.is_json() {
+                self.print_answer()?;
+            } else {
+                let sample = Sample {
+                    status: server_status(self.alloc, &value)?,
+                    at: Instant::now(rt).ok(),
+                };
+                let text = sample_text(self.alloc, view, &last, &sample)?;
+                self.console.print(text.as_str())?;
+                last = Some(sample);
+            }
+            made = made.saturating_add(1);
+            if view.count.is_some_and(|count| made >= count) {
+                break;
+            }
+            thread::sleep(rt, Duration::from_millis(PAUSE));
         }
-        made = made.saturating_add(1);
-        if view.count.is_some_and(|count| made >= count) {
-            break;
-        }
-        thread::sleep(rt, Duration::from_millis(PAUSE));
+        Ok(AskEnd::Done)
     }
-    Ok(AskEnd::Done)
 }
 
 /// The table of a sample, with the jobs a second since the last one, and what separates the two.
@@ -103,70 +102,75 @@ fn millis_between(from: Option<Instant>, to: Option<Instant>) -> Option<u64> {
     u64::try_from(passed.as_millis()).ok()
 }
 
-/// The rows of locks: a header, and a row for each lock; the rates are those since the locks were as before, so many
-/// milliseconds ago.
+/// The rows of locks: a header, and a row for each lock. The rates are those since the locks were as before, this
+/// number of milliseconds ago.
 fn top_rows(
     alloc: Global,
     status: &ServerStatus,
     before: &[LockStatus],
     millis: Option<u64>,
 ) -> Result<Vec<Vec<String>>, AllocError>
-    ensures { IfOk result (λ rows. spec.names_of_rows (spec.rows_view rows.items)
-        ≡ spec.names_of_top status.now) }
+    ensures { IfOk result (λ rows. spec.rows_view rows.items ≡ spec.top_rows status.now before.now millis) }
 {
-    let mut rows = vec![in alloc; top_header(alloc)?]?;
-    let locks = status.locks.as_slice();
-    for (index, lock) in locks.iter().enumerate() {
-        let rate = rate_of(before.get(index), lock, millis);
-        rows.push(top_row(alloc, status.workers.as_slice(), lock, rate)?)?;
-    }
-    Ok(rows)
-}
-
-/// The header of the rows of `top`.
-fn top_header(alloc: Global) -> Result<Vec<String>, AllocError>
-    ensures { IfOk result (λ row. spec.row_view row ≡ spec.top_header) }
-{
-    Ok(vec![in alloc;
-        String::from_str(alloc, "LOCK")?,
-        String::from_str(alloc, "OWNER")?,
-        String::from_str(alloc, "STATE")?,
-        String::from_str(alloc, "WAITING")?,
-        String::from_str(alloc, "JOBS/S")?,
-    ]?)
-}
-
-/// The row of a lock with this number of jobs a second, if it is known.
-fn top_row(
-    alloc: Global,
-    workers: &[WorkerStatus],
-    lock: &LockStatus,
-    rate: Option<u64>,
-) -> Result<Vec<String>, AllocError>
-    ensures { IfOk result (λ row. spec.row_view row ≡ spec.top_row workers.now rate lock.now) }
-{
-    let waiting = waiting_for(workers, lock.name.as_str());
-    let rate = match rate {
-        Some(rate) => format!(in alloc; "{rate}")?,
-        None => String::from_str(alloc, NOTHING)?,
+    let titles = ["LOCK", "OWNER", "STATE", "SINCE", "WAITING", "JOBS/S"];
+    let view = TopLocks {
+        workers: status.workers.as_slice(),
+        before,
+        millis,
     };
-    Ok(vec![in alloc;
-        String::from_str(alloc, lock.name.as_str())?,
-        owner_text(alloc, lock.owner)?,
-        String::from_str(alloc, owner_state(lock.owner, workers))?,
-        format!(in alloc; "{waiting}")?,
-        rate,
-    ]?)
+    rows_of(alloc, &titles, status.locks.as_slice(), &view)
 }
 
-/// The jobs a second of a lock since an earlier status, if there is one.
-fn rate_of(before: Option<&LockStatus>, lock: &LockStatus, millis: Option<u64>) -> Option<u64> {
-    rate(before?.sections, lock.sections, millis?)
+/// Locks, beside the workers of their server, and the same locks some milliseconds ago.
+#[derive(Drop)]
+struct TopLocks<'a> {
+    workers: &'a [WorkerStatus],
+    before: &'a [LockStatus],
+    millis: Option<u64>,
 }
 
-/// The jobs a second between two numbers of finished sections, so many milliseconds apart; `None` if no time passed.
-fn rate(before: u64, after: u64, millis: u64) -> Option<u64>
-    ensures { IfSome result (λ rate. rate ≡ (after - before) * 1000 / millis) }
+impl<'a> RowOf<LockStatus> for TopLocks<'a> {
+    ghost cells_of = { λ view number lock. spec.top_row view.workers.now view.before.now view.millis number lock };
+
+    fn row(
+        &self,
+        alloc: Global,
+        number: usize,
+        lock: &LockStatus,
+    ) -> Result<Vec<String>, AllocError> {
+        let waiting = waiting_for(self.workers, lock.name.as_str());
+        Ok(vec![in alloc;
+            String::from_str(alloc, lock.name.as_str())?,
+            owner_text(alloc, lock.owner)?,
+            String::from_str(alloc, owner_state(lock.owner, self.workers))?,
+            since_text(alloc, owner_seconds(lock.owner, self.workers))?,
+            format!(in alloc; "{waiting}")?,
+            number_or(alloc, self.rate(number, lock), NOTHING)?,
+        ]?)
+    }
+}
+
+impl<'a> TopLocks<'a> {
+    /// The jobs a second of a lock since its earlier status; `None` without an earlier status, or without a clock.
+    fn rate(&self, number: usize, lock: &LockStatus) -> Option<u64>
+        ensures { result ≡ spec.lock_rate self.now.before.now self.now.millis number lock.now }
+    {
+        let earlier = self.before.get(number)?;
+        jobs_per_second(earlier.sections, lock.sections, self.millis?)
+    }
+}
+
+/// The seconds since the stance of an owner changed, where the server tells them.
+fn owner_seconds(owner: Option<u64>, workers: &[WorkerStatus]) -> Option<u64>
+    ensures { result ≡ spec.owner_seconds workers.now owner }
+{
+    workers.get(owner? as usize)?.seconds
+}
+
+/// The jobs a second between two numbers of finished sections, this number of milliseconds apart; `None` if no time
+/// passed.
+fn jobs_per_second(before: u64, after: u64, millis: u64) -> Option<u64>
+    ensures { result ≡ spec.jobs_per_second before after millis }
 {
     after
         .saturating_sub(before)

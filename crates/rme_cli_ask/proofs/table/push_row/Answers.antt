@@ -1,4 +1,4 @@
-use Rattle.std.proofs.Common.{◌≡◌, ◌+◌, ◌<◌, ◌≤◌, ◌++◌, codes, length, string_bytes, rules, arith}
+use Rattle.std.proofs.Common.{◌≡◌, ◌++◌, codes, string_bytes, rules, arith}
 use Rattle.rme_cli_ask.specs.Tables.{padded_text, rows_view, width_of}
 use Rattle.rme_cli_ask.proofs.Tables.{cell_last, cell_more}
 use Rattle.rme_cli_ask.proofs.table.push_row.Goals.{then-column-cells+in_ok-push_padded+in_ok-push_str, else-column-cells+in_ok-push_str-2}

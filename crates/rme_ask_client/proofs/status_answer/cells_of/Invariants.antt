@@ -1,6 +1,0 @@
-use Rattle.std.proofs.Common.{take}
-use Rattle.rme_ask_client.specs.StatusAnswers as spec
-use Rattle.rme_ask_client.proofs.status_answer.cells_of.Given as goal
-
-abbrev pub invariant-loop-item : goal.invariant-loop-item
-invariant-loop-item l = spec.EachSays spec.NumberSays (take l.item-index l.item-items) l.cells.items
