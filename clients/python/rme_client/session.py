@@ -30,8 +30,8 @@ class Session:
     job's, where it was handed over in this session, and `section` that of the job, where it was entered in this session;
     `life` is the worker's, where a job was entered and the server told it."""
 
-    def __init__(self, connection: Connection, worker: int, timeout: float):
-        self.connection, self.worker, self.timeout = connection, worker, timeout
+    def __init__(self, connection: Connection, worker: int, timeout: float, label: Optional[str] = None):
+        self.connection, self.worker, self.timeout, self.label = connection, worker, timeout, label
         self.number, self.stance = 0, READY
         self.lock: Optional[str] = None
         self.section: Optional[int] = None
@@ -46,6 +46,8 @@ class Session:
             order["take"] = True
         if after is not None:
             order["after"] = after
+        if self.label is not None:
+            order["as"] = self.label
         try:
             answer = self._ask(order, timeout)
         except Refused as refused:

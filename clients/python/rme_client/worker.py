@@ -72,6 +72,7 @@ class Worker:
         take: bool = False,
         socket_path: str = "",
         connect_timeout: Optional[float] = None,
+        label: Optional[str] = None,
     ):
         """Nothing is connected yet.
 
@@ -83,12 +84,16 @@ class Worker:
 
         With `take` the worker is first taken over from a client that has it: that one's connection is closed, so it must be
         known to be gone, or to hang. With `socket_path` the server is reached over that Unix socket, and `host` and `port`
-        say nothing. `ValueError` where a number of seconds is none.
+        say nothing. With `label` the `status` of a server that keeps its state shows this text of the worker.
+
+        `ValueError` where a number of seconds is none, or the label has more than 64 bytes of UTF-8.
         """
         if not timeout > 0 or (connect_timeout is not None and not connect_timeout >= 0):  # nor is NaN
             raise ValueError("`timeout` is a number of seconds, more than 0, and `connect_timeout` one, or None")
         self.address, self.socket_path, self.worker = (host, port), socket_path, worker
-        self.timeout, self.connect_timeout, self.take = timeout, connect_timeout, take
+        if label is not None and len(label.encode()) > 64:
+            raise ValueError("`label` is a text of at most 64 bytes")
+        self.timeout, self.connect_timeout, self.take, self.label = timeout, connect_timeout, take, label
         self._server = Address(host, port, socket_path)
         self._session: Optional[Session] = None
         self._own: Optional[int] = None  # the job that a call of this object handed over and left, as others had its lock
@@ -291,7 +296,7 @@ class Worker:
             raise
 
     def _attached(self, connection: Connection, after: Optional[int], ends: Optional[float]) -> Session:
-        session, began = Session(connection, self.worker, self.timeout), time.monotonic()
+        session, began = Session(connection, self.worker, self.timeout, self.label), time.monotonic()
         # Another client has the worker, or the server has not seen the end of its last session yet.
         while not session.attach(self.take, after, self._limit(ends)):
             now = time.monotonic()
