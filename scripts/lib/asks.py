@@ -1,6 +1,7 @@
 """`rme ask`, and the two servers that it is tried with; a stand-in for a server, which answers what it is told to."""
 
 import os
+import re
 import socket
 import threading
 
@@ -28,6 +29,11 @@ def ask(server, *words, **how):
     place = ["--port", server if isinstance(server, int) else server.port]
     ran = programs.run(["ask", *place, *words], **how)
     return ran.returncode, ran.stdout.decode(), ran.stderr.decode()
+
+
+def still(told):
+    """Tables whose times are written as `-`: they are not compared."""
+    return re.sub(r"(?<= )(\d+[smhd])+(?= )", lambda time: "-".ljust(len(time[0])), told)
 
 
 def enter(server, worker, lock="bank", number=1, **more):

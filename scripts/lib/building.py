@@ -36,8 +36,8 @@ SECONDS = {
     "rme_service_steps": 60, "rme_service_phases": 100, "rme_table": 135, "rme_supervisor": 140,
     "rme_session_threads": 140, "rme_session_server": 150, "rme_server": 65, "rme_line_engine": 88,
     "rme_draw_history": 70, "rme_cli_lines": 80, "rme_cli_run": 49, "rme_session_world": 95, "rme_durable_log": 65,
-    "rme_durable_format": 160, "rme_durable_checkpoint": 190, "rme_durable_server": 210, "rme_process_file": 90,
-    "rme_durable_file": 120, "rme_cli_listen": 70, "rme_cli_look": 150, "rme_cli_durable": 150, "rme_cli_state": 200,
+    "rme_durable_format": 160, "rme_durable_checkpoint": 190, "rme_durable_recovery": 60, "rme_durable_server": 210,
+    "rme_process_file": 90, "rme_durable_file": 120, "rme_cli_listen": 70, "rme_cli_look": 150, "rme_cli_durable": 150, "rme_cli_state": 200,
     "rme_cli_commands": 250, "rme_cli": 300,
 }  # fmt: skip
 # Side by side crates keep some 2.7 processors busy, where there are four. The longest chain takes about four fifths of

@@ -1,5 +1,7 @@
 """rme-hold, and the ways in which it has a worker: a server without a state, one with a state, and a file."""
 
+import functools
+import importlib
 import os
 import socket
 import subprocess
@@ -38,9 +40,13 @@ class Way:
     def words(self):
         return ["--file", self.path] if self.name == "file" else ["--port", str((self.door or self.server).port)]
 
-    def command(self, *words, worker=0):
+    def words_for(self, *words, worker=0):
+        """The words of rme-hold, for this worker or for any."""
         who = ["--any"] if worker is None else ["--worker", str(worker)]
-        return [sys.executable, "-m", "rme_hold", *self.words, *who, *words]
+        return [*self.words, *who, *words]
+
+    def command(self, *words, worker=0):
+        return [sys.executable, "-m", "rme_hold", *self.words_for(*words, worker=worker)]
 
     def hold(self, *words, worker=0, **how):
         """Runs rme-hold to its end: its status, and what it and its command wrote."""
@@ -101,6 +107,34 @@ class Door:
     def close(self):
         self.listener.close()
         self.cut()
+
+
+def fork_hold(words):
+    """Starts rme-hold as a copy of this process, which has its modules already; its process. It writes nowhere."""
+    hold = hold_of_this_process()
+    process = os.fork()
+    if process:
+        return process
+    status = 70
+    try:
+        nothing = os.open(os.devnull, os.O_RDWR)
+        for stream in range(3):
+            os.dup2(nothing, stream)
+        os.closerange(3, nothing + 1024)
+        status = hold(words)
+    except SystemExit as end:
+        status = end.code
+    finally:
+        os._exit(status)
+
+
+@functools.lru_cache(maxsize=None)
+def hold_of_this_process():
+    """The call that rme-hold is, with all modules that it takes."""
+    sys.path[:0] = [HOLD, SHARED]
+    if "file" in ways():
+        importlib.import_module("rme_shared")
+    return importlib.import_module("rme_hold.main").main
 
 
 def environment():

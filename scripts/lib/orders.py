@@ -1,6 +1,7 @@
 """Orders of a session, and answers to them by their bytes."""
 
 import json
+import re
 
 ONE = [["add", 0, 1]]
 STATUS, LAST, COMMIT, RESUME, WITHDRAW, DETACH = (
@@ -34,5 +35,22 @@ def lock_status(name, cells, owner=None, sections=0, settled=True):
     return {"cells": cells, "name": name, "owner": owner, "sections": sections, "settled": settled}
 
 
-def worker_status(attached, stance, number, **lock):
-    return {"attached": attached, "number": number, "stance": stance, **lock}
+def worker_status(attached, stance, number, **more):
+    return {"attached": attached, "number": number, "stance": stance, **more}
+
+
+def without_seconds(status):
+    """A server's status without the seconds of its workers, each of which has a whole number of them."""
+    workers = [dict(worker) for worker in status["workers"]]
+    for worker in workers:
+        if type(worker["seconds"]) is not int or worker.pop("seconds") < 0:
+            raise ValueError(f"no seconds: {status}")
+    return {**status, "workers": workers}
+
+
+def status_bytes(answer):
+    """The bytes of a server's status without the seconds of its workers, each of which stand before its stance."""
+    told, count = re.subn(rb',"seconds":(0|[1-9]\d*)(?=,"stance":)', b"", answer)
+    if count != told.count(b'"stance":'):
+        raise ValueError(f"no seconds: {answer!r}")
+    return told

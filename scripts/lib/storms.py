@@ -11,6 +11,7 @@ import threading
 import time
 
 from lib.kept import TORN, answers_to, epoch_of, faults_of, kill, look, looked, read, state_words, status_in, whole_lines
+from lib.orders import without_seconds
 from lib.programs import TOP, built
 from lib.servers import HOST, Server, line_of
 
@@ -98,7 +99,7 @@ class Storm:
             if not any(worker["attached"] for worker in status["workers"]):
                 break
             time.sleep(0.01)
-        return status
+        return without_seconds(status)
 
     # -- the server
 

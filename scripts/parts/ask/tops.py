@@ -8,15 +8,15 @@ import signal
 import subprocess
 import time
 
-from lib.asks import ask, enter, leave_inside, with_state
+from lib.asks import ask, enter, leave_inside, still, with_state
 from lib.checks import check, main_in_folders, same
 from lib.programs import built
 
 CLEAR = "\x1b[H\x1b[J"
 FIRST = """\
-LOCK  OWNER   STATE  WAITING  JOBS/S
-bank  0       DEAD   1        -
-shop  nobody  -      0        -
+LOCK  OWNER   STATE  SINCE  WAITING  JOBS/S
+bank  0       DEAD   -      1        -
+shop  nobody  -      -      0        -
 """
 
 
@@ -24,11 +24,12 @@ def try_count(folder):
     server = with_state(folder)
     leave_inside(server, 0)
     waits, _ = enter(server, 1, tries=3)
-    same("one table", ask(server, "top", "--count", "1"), (0, FIRST, ""))
+    status, told, why = ask(server, "top", "--count", "1")
+    same("one table", (status, still(told), why), (0, FIRST, ""))
     began = time.monotonic()
     status, told, why = ask(server, "top", "--count", "3")
     wanted = "\n".join([FIRST, *[FIRST.replace("1        -", "1        0").replace("0        -", "0        0")] * 2])
-    same("three tables", (status, told, why), (0, wanted, ""))
+    same("three tables", (status, still(told), why), (0, wanted, ""))
     check("a second between two", 1.8 < time.monotonic() - began < 10)
     status, told, _ = ask(server, "--json", "top", "--count", "2")
     same("as lines", (status, told.count('"ok":"status"'), len(told.splitlines())), (0, 2, 2))
@@ -48,7 +49,7 @@ def try_rate(folder):
         session.told(do="submit", lock="shop", number=number, script=[])
     rates = []
     while len(rates) < 8:
-        found = re.fullmatch(r"shop +nobody +- +0 +(\d+)\n", top.stdout.readline())
+        found = re.fullmatch(r"shop +nobody +- +- +0 +(\d+)\n", top.stdout.readline())
         rates += [int(found[1])] if found else []
     top.send_signal(signal.SIGINT)
     same("it is interrupted", top.wait(20), -signal.SIGINT)

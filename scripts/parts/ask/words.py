@@ -4,7 +4,7 @@ that are wrong."""
 import json
 import os
 
-from lib.asks import ask, enter, leave_inside, with_state, without_state
+from lib.asks import StandIn, ask, enter, leave_inside, still, with_state, without_state
 from lib.checks import check, main_in_folders, same
 from lib.programs import ends_with, run
 
@@ -14,10 +14,25 @@ LOCK  OWNER   STATE  CELLS          SECTIONS
 bank  0       DEAD   0,0 unsettled  0
 shop  nobody  -      0,0            0
 
-WORKER  SESSION  STANCE  LOCK  JOB  BLOCKED BY
-0       none     held    bank  1    -
-1       yes      climb   bank  1    0
-2       none     ready   -     0    -
+WORKER  SESSION  STANCE  LOCK  JOB  BLOCKED BY  SINCE  AS
+0       none     held    bank  1    -           -      -
+1       yes      climb   bank  1    0           -      -
+2       none     ready   -     0    -           -      -
+"""
+TOLD = """\
+LOCK  OWNER  STATE  CELLS  SECTIONS
+bank  0      held   5      2
+
+WORKER  SESSION  STANCE  LOCK  JOB  BLOCKED BY  SINCE  AS
+0       yes      held    bank  3    -           12s    host7:cron
+1       yes      climb   bank  2    0           3m12s  \\u{1b}[2J\u00e9
+2       none     ready   -     0    -           2h03m  -
+3       none     ready   -     0    -           4d01h  -
+4       none     ready   -     0    -           -      -
+"""
+TOP = """\
+LOCK  OWNER  STATE  SINCE  WAITING  JOBS/S
+bank  0      held   12s    1        -
 """
 
 
@@ -27,7 +42,8 @@ def try_tables(folder):
     leave_inside(server, 0)
     waits, told = enter(server, 1, tries=3)
     same("worker 1 waits", told, {"ok": "enter", "waiting": True})
-    same("status", ask(server, "status"), (0, STATUS, ""))
+    status, told, why = ask(server, "status")
+    same("status", (status, still(told), why), (0, STATUS, ""))
     same("owner", ask(server, "owner", "bank"), (0, "LOCK  OWNER\nbank  0\n", ""))
     same("the owner of a free lock", ask(server, "owner", "shop"), (0, "LOCK  OWNER\nshop  nobody\n", ""))
     same("cells", ask(server, "cells", "bank"), (0, "LOCK  CELLS\nbank  0,0 unsettled\n", ""))
@@ -45,6 +61,25 @@ def try_tables(folder):
     waits.close()
     session.close()
     server.kill()
+
+
+def try_told(_folder):
+    """Since when a worker's stance is so, and the name that its client gave, as far as the server tells them."""
+    workers = [
+        {"attached": True, "lock": "bank", "number": 3, "seconds": 12, "stance": "held", "as": "host7:cron"},
+        {"attached": True, "blocked_by": 0, "lock": "bank", "number": 2, "seconds": 192, "stance": "climb", "as": "\x1b[2J\u00e9"},
+        {"attached": False, "number": 0, "seconds": 7384, "stance": "ready"},
+        {"attached": False, "number": 0, "seconds": 349_200, "stance": "ready"},
+        {"attached": False, "number": 0, "stance": "ready"},
+    ]
+    locks = [{"cells": [5], "name": "bank", "owner": 0, "sections": 2, "settled": True}]
+    line = json.dumps({"epoch": 0, "locks": locks, "ok": "status", "workers": workers}).encode() + b"\n"
+    server = StandIn(line)
+    same("status", ask(server, "status"), (0, TOLD, ""))
+    server.end()
+    server = StandIn(line)
+    same("top", ask(server, "top", "--count", "1"), (0, TOP, ""))
+    server.end()
 
 
 def try_socket(folder):
@@ -134,4 +169,4 @@ def try_wrong_words(_folder):
 
 
 def part():
-    main_in_folders(try_tables, try_socket, try_refusals, try_lines, try_wrong_words, minutes=5)
+    main_in_folders(try_tables, try_told, try_socket, try_refusals, try_lines, try_wrong_words, minutes=5)

@@ -506,12 +506,29 @@ def try_written():
     server.kill()
 
 
+def try_label():
+    """Each session of a worker has its label, which a server with a state shows; one that is too long is refused at once."""
+    with tempfile.TemporaryDirectory() as folder:
+        server = kept.serve(os.path.join(folder, "labels"), "bank", workers=2)
+        watcher = server.session()
+        with Worker(HOST, server.port, 0, label="host7:cron") as worker, Worker(HOST, server.port, 1) as other:
+            for number in (1, 2):
+                same(f"session {number}", (worker.next_number(), other.next_number()), (1, 1))
+                told = watcher.told(do="status")["workers"]
+                same(f"session {number}: the labels", [it.get("as") for it in told], ["host7:cron", None])
+                cut_off(worker)
+        server.kill()
+    same("32 letters of two bytes", Worker(HOST, 7000, 0, label="\u00fc" * 32).label, "\u00fc" * 32)
+    same("33 letters of two bytes", raised(lambda: Worker(HOST, 7000, 0, label="\u00fc" * 33)), ("ValueError",))
+
+
 INSIDE = (try_inside, try_inside_and_cut, try_lives, try_inside_and_overtaken, try_inside_of_an_older_server)
 INSIDE += (try_inside_and_raised, try_inside_and_raised_and_finished)
 INSIDE += (try_inside_and_pending, try_inside_and_another_is_pending, try_inside_and_withdrawn)
 INSIDE += (try_inside_and_withdrawn_meanwhile,)
 KILLED = (try_killed, try_killed_at_each_line, try_written)
 PLAIN = try_python, try_ready, try_waiting, try_withdrawn_meanwhile, try_pending, try_second_lock, try_64_bits, try_late
+PLAIN += (try_label,)
 
 
 def part():

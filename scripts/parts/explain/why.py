@@ -27,11 +27,12 @@ WRONG = {
     "script": SCRIPTS, "until": [*TEXTS, "blocked", "quiet", "soon"], "max": [*NUMBERS, 0, 10_001],
     "tries": [*NUMBERS, 0, 1_000_001], "wait": [*NUMBERS, 3_600_001], "steps": [*NUMBERS, 1_000_001],
     "take": [None, 0, "true", []], "after": [None, "1", -1, 1.5, [1], 2**53 + 1, 2**64, True],
+    "as": [*TEXTS, "a" * 65, "ü" * 33],
 }  # fmt: skip
 GOOD = {
     "worker": 0, "number": 1, "cells": 1, "jobs": 10, "workers": 2, "lock": "bank", "locks": ["bank"], "image": "00",
     "script": [["add", 0, 5]], "until": "entered", "max": 10_000, "tries": 1, "wait": 0, "steps": 1_000_000, "take": False,
-    "after": 2**53,
+    "after": 2**53, "as": "ü" * 32,
 }  # fmt: skip
 # Each word with the keys that it needs and those that it may have.
 COMMANDS = {
@@ -41,7 +42,7 @@ COMMANDS = {
     "save": ("", ""), "load": ("image locks", ""),
 }  # fmt: skip
 ORDERS = {
-    "attach": ("worker", "take after"), "submit": ("number lock script", "tries wait"), "resume": ("", "tries wait"),
+    "attach": ("worker", "take after as"), "submit": ("number lock script", "tries wait"), "resume": ("", "tries wait"),
     "enter": ("number lock script", "tries wait"), "commit": ("", ""), "withdraw": ("", ""), "last": ("", ""),
     "crash_after": ("steps", ""), "detach": ("", ""), "ping": ("", ""), "pending": ("", ""),
 }  # fmt: skip
@@ -70,6 +71,9 @@ OF_ORDERS = {
     b'{"do":"attach","worker":0,"take":1}': 'the key "take" must be true or false',
     b'{"after":9007199254740993,"do":"attach","worker":0}':
         'the key "after" must be a whole number from 0 to 9007199254740992',
+    b'{"as":7,"do":"attach","worker":0}': 'the key "as" must be a text of at most 64 bytes',
+    b'{"any":"ready","as":7,"do":"attach"}': 'the key "as" must be a text of at most 64 bytes',
+    b'{"as":"host7:cron","do":"detach"}': '"detach" takes no key "as"',
     b'{"after":0,"any":"ready","do":"attach"}': 'the key "after" may not stand beside the key "any"',
     b'{"any":"idle","do":"attach"}': 'the key "any" must be "pending" or "ready"',
     b'{"any":"ready","do":"attach","worker":0}': 'the key "worker" may not stand beside the key "any"',

@@ -1,136 +1,227 @@
-"""storm [SECONDS] [SEED]: wrappers for few workers, started again and again, and killed, they or their commands.
+"""storm [SECONDS | kills N] [SEED]: wrappers for few workers, started again and again, and killed, they or their commands, for
+so many seconds, or until so many were killed.
 
-At no moment are two commands of one lock at work: each takes a lock of the kernel on a file, which ends with it. Each section
-that counted is one whose command came to its end. The pairs of section and life rise, from one end to the next.
+At no moment are two commands of one lock at work: each takes a lock of the kernel on a file, which ends with it and with its
+children. Each section that counted is one whose command came to its end. The pairs of section and life rise, from one end to
+the next. Several servers and files are stormed side by side, so that none of the processors waits.
 """
 
+import collections
 import os
 import random
+import shutil
 import signal
-import subprocess
 import sys
 import tempfile
 import time
 
-from lib.checks import check, main
-from lib.holds import Way, environment, ways
+from lib.checks import check, main, note, skip
+from lib.holds import Way, fork_hold, ways
 
-SECONDS = float(sys.argv[1]) if len(sys.argv) > 1 else 24
-SEED = int(sys.argv[2]) if len(sys.argv) > 2 else random.randrange(10**6)
+SECONDS = 24
 WORKERS = 3
+SIDE_BY_SIDE = 4
+"""How many there are of each way to have a worker."""
 ENOUGH = 5
-# Two that are at work at once are seen by the second.
+LOCK = "bank"
+# Two that are at work at once are seen by the second. What is killed without its children is at work as long as they are.
 COMMAND = """
-import fcntl, os, sys, time
-beside = os.open(sys.argv[1] + ".beside", os.O_RDWR | os.O_CREAT)
-try:
-    fcntl.flock(beside, fcntl.LOCK_EX | fcntl.LOCK_NB)
-except OSError:
-    os.write(os.open(sys.argv[1] + ".wrong", os.O_WRONLY | os.O_CREAT | os.O_APPEND), b"two\\n")
-time.sleep(float(sys.argv[2]))
-line = " ".join(os.environ.get(name, "-") for name in ("RME_SECTION", "RME_WORKER", "RME_NUMBER", "RME_LIFE")) + "\\n"
-os.write(os.open(sys.argv[1] + ".over", os.O_WRONLY | os.O_CREAT | os.O_APPEND), line.encode())
+exec 9<> "$0.beside"
+flock -n 9 || echo two >> "$0.wrong"
+sleep "$1"
+echo "$RME_SECTION $RME_WORKER $RME_NUMBER $RME_LIFE" >> "$0.over"
 """
+WRAPPER, ONE, GROUP = "wrapper", "command", "command with its children"
+
+
+class Run:
+    """A wrapper that runs, and when it is killed."""
+
+    def __init__(self, pid, kill_at):
+        self.pid, self.kill_at, self.victim, self.is_inside = pid, kill_at, WRAPPER, False
 
 
 class Storm:
     def __init__(self, way, chance):
-        self.way, self.chance, self.kills, self.ended = way, chance, {"wrapper": 0, "command": 0}, {}
+        self.way, self.chance = way, chance
+        self.kills, self.ended, self.runs = collections.Counter(), collections.Counter(), {}
         self.notes = os.path.join(way.folder, way.name)
-        self.running = {}
+
+    def words(self, wait, seconds, worker):
+        return self.way.words_for("--wait", str(wait), LOCK, "--", "sh", "-c", COMMAND, self.notes, str(seconds), worker=worker)
 
     def start(self, place):
-        words = ["bank", "--", sys.executable, "-Sc", COMMAND, self.notes, str(self.chance.choice((0, 0.01, 0.05)))]
-        worker = None if place >= WORKERS else place
-        how = {"stdout": subprocess.DEVNULL, "stderr": subprocess.DEVNULL, "stdin": subprocess.DEVNULL}
-        self.running[place] = subprocess.Popen(self.way.command("--wait", "5", *words, worker=worker), env=environment(), **how)
+        """Starts the wrapper of a worker, or behind the last that of any; one of four is killed whatever it does then."""
+        kill_at = time.monotonic() + self.chance.uniform(0, 0.2) if self.chance.random() < 0.25 else None
+        words = self.words(5, self.chance.choice((0, 0.005, 0.02)), None if place >= WORKERS else place)
+        self.runs[place] = Run(fork_hold(words), kill_at)
 
-    def command(self, program):
+    def command(self, pid):
         """The process of a wrapper's command, if it runs; the guard of a session is started before it."""
         try:
-            with open(f"/proc/{program.pid}/task/{program.pid}/children", encoding="utf-8") as file:
+            with open(f"/proc/{pid}/task/{pid}/children", encoding="utf-8") as file:
                 children = file.read().split()
         except OSError:
             return None
         return int(children[-1]) if len(children) > (self.way.name != "file") else None
 
-    def kill(self, place):
-        program = self.running[place]
-        command = self.command(program)
-        if command is not None and self.chance.random() < 0.7:
-            self.kills["command"] += 1
-            os.kill(command, signal.SIGKILL)
-        else:
-            self.kills["wrapper"] += 1
-            program.kill()
+    def turn(self):
+        """Starts each wrapper that has ended once more, and kills some."""
+        for place in range(WORKERS + 1):
+            run = self.runs.get(place)
+            status = None if run is None else ended(run.pid)
+            if status is not None:
+                self.ended[status] += 1
+            if run is None or status is not None:
+                self.start(place)
+            else:
+                self.harm(run)
 
-    def is_enough(self):
-        return min(self.kills.values()) > ENOUGH
-
-    def run(self, seconds):
-        """Storms for so many seconds, and longer on a slow machine, until there were some kills of each kind."""
-        began = time.monotonic()
-        while time.monotonic() < began + seconds * (1 if self.is_enough() else 5):
-            for place in range(WORKERS + 1):
-                program = self.running.get(place)
-                if program is None or program.poll() is not None:
-                    if program is not None:
-                        self.ended[program.returncode] = self.ended.get(program.returncode, 0) + 1
-                    self.start(place)
-                elif self.chance.random() < (0.1 if self.command(program) else 0.005):
-                    self.kill(place)
-            time.sleep(0.02)
-
-    def ends(self, worker):
-        """Lets a worker end its job, and make one more; answers how its wrapper ends."""
-        return self.way.hold("--wait", "5", "bank", "--", sys.executable, "-Sc", COMMAND, self.notes, "0", worker=worker)[0]
+    def harm(self, run):
+        command = self.command(run.pid)
+        if command is not None and not run.is_inside:
+            run.is_inside = True
+            if self.chance.random() < 0.6:
+                run.kill_at = time.monotonic() + self.chance.uniform(0, 0.03)
+                run.victim = self.chance.choice((WRAPPER, ONE, ONE, GROUP))
+        if run.kill_at is None or time.monotonic() < run.kill_at:
+            return
+        run.kill_at = None
+        if run.victim == WRAPPER or command is not None:
+            self.kills[run.victim] += 1
+            kill(run, command)
 
     def finish(self):
         """Lets all that runs come to its end, and each worker its job; answers how many sections the lock has then."""
-        for program in self.running.values():
-            program.wait(60)
+        for run in self.runs.values():
+            end_of(run.pid)
         # The worker of a wrapper that was killed while it waited holds a part of the lock's tree: one behind it ends later.
         for _ in range(WORKERS + 1):
-            if not any([self.ends(worker) for worker in range(WORKERS + 1)]):
+            runs = [fork_hold(self.words(2, 0, worker)) for worker in range(WORKERS + 1)]
+            if not any([end_of(pid) for pid in runs]):
                 break
-        told = self.way.hold("bank", "--", "sh", "-c", "echo $RME_SECTION")[1]
-        return int(told)
+        return int(self.way.hold(LOCK, "--", "sh", "-c", "echo $RME_SECTION")[1])
+
+    def lines(self, ending):
+        try:
+            with open(f"{self.notes}.{ending}", encoding="utf-8") as file:
+                return file.read().splitlines()
+        except FileNotFoundError:
+            return []
 
 
-def lines_of(path):
+def kill(run, command):
     try:
-        with open(path, encoding="utf-8") as file:
-            return file.read().splitlines()
-    except FileNotFoundError:
-        return []
+        if run.victim == GROUP:
+            os.killpg(command, signal.SIGKILL)
+        else:
+            os.kill(run.pid if run.victim == WRAPPER else command, signal.SIGKILL)
+    except ProcessLookupError:
+        pass  # it has just ended
 
 
-def try_storm(name, seconds, seed):
+def ended(pid):
+    """The status of a process, negative for a signal; `None` where it runs."""
+    gone, status = os.waitpid(pid, os.WNOHANG)
+    return os.waitstatus_to_exitcode(status) if gone else None
+
+
+def end_of(pid, seconds=60):
+    """The status of a process, once it has ended."""
+    ends = time.monotonic() + seconds
+    while (status := ended(pid)) is None:
+        if time.monotonic() > ends:
+            raise TimeoutError(f"no end of process {pid} after {seconds} seconds")
+        time.sleep(0.005)
+    return status
+
+
+class Asked:
+    """How long it storms, and the seed, by the words of the command line."""
+
+    def __init__(self, words):
+        words = list(words)
+        self.kills = int(words[1]) if words[:1] == ["kills"] else None
+        del words[: 2 if self.kills else 0]
+        self.seconds = float(words.pop(0)) if words and not self.kills else SECONDS
+        self.seed = int(words[0]) if words else random.randrange(10**6)
+        self.began = time.monotonic()
+
+    def passed(self):
+        return time.monotonic() - self.began
+
+    def is_over(self, storms):
+        """After so many kills; or after so many seconds, and longer on a slow machine, until there were some of each kind."""
+        if self.kills:
+            return killed(storms) >= self.kills
+        return self.passed() > self.seconds * (1 if all(is_enough(of_way(storms, name)) for name in ways()) else 5)
+
+
+def of_way(storms, name):
+    return [storm for storm in storms if storm.way.name == name]
+
+
+def is_enough(storms):
+    """Whether some of each kind were killed, in all storms of a way together."""
+    return all(sum(storm.kills[victim] for storm in storms) > ENOUGH for victim in (WRAPPER, ONE))
+
+
+def killed(storms):
+    return sum(sum(storm.kills.values()) for storm in storms)
+
+
+def try_storms(asked):
     with tempfile.TemporaryDirectory() as folder:
-        way = Way(name, folder)
-        storm = Storm(way, random.Random(seed))
-        storm.run(seconds)
-        sections = storm.finish()
-        way.end()
-        over = {int(line.split()[0]) for line in lines_of(storm.notes + ".over")}
-        told = f"{sections} sections, killed {storm.kills}, ended {storm.ended}"
-        wrong = lines_of(storm.notes + ".wrong")
-        check(f"{name}, seed {seed}: no two commands were at work: {told}", not wrong, len(wrong))
-        rise(name, [(int(line.split()[0]), int(line.split()[3])) for line in lines_of(storm.notes + ".over")])
-        missing = [it for it in range(sections) if it not in over]
-        check(f"{name}: each section that counted was worked to its end", not missing, missing[:9])
-        if seconds >= 5:
-            check(f"{name}: there was enough of it", sections > 10 and storm.is_enough(), told)
+        storms = [Storm(way, random.Random(f"{asked.seed} {way.folder}")) for way in started(folder)]
+        try:
+            while not asked.is_over(storms):
+                for storm in storms:
+                    storm.turn()
+                time.sleep(0.002)
+            seconds = asked.passed()
+            for name in ways():
+                judge(name, of_way(storms, name), asked)
+            note(f"seed {asked.seed}: {killed(storms)} kills in {seconds:.0f} seconds")
+        finally:
+            for storm in storms:
+                storm.way.end()
+
+
+def started(folder):
+    """Several of each way, each in a folder of its own."""
+    for name in ways():
+        for number in range(SIDE_BY_SIDE):
+            own = os.path.join(folder, f"{name}-{number}")
+            os.mkdir(own)
+            yield Way(name, own)
+
+
+def judge(name, storms, asked):
+    sections = [storm.finish() for storm in storms]
+    kills = sum((storm.kills for storm in storms), collections.Counter())
+    ends = sum((storm.ended for storm in storms), collections.Counter())
+    told = f"{sum(sections)} sections, killed {dict(kills)}, ended {dict(ends)}"
+    wrong = sum(len(storm.lines("wrong")) for storm in storms)
+    check(f"{name}, seed {asked.seed}: no two commands of a lock were at work: {told}", not wrong, wrong)
+    pairs = [[(int(it[0]), int(it[3])) for it in map(str.split, storm.lines("over"))] for storm in storms]
+    rise(name, pairs)
+    missing = [set(range(most)) - {section for section, _ in some} for most, some in zip(sections, pairs)]
+    check(f"{name}: each section that counted was worked to its end", not any(missing), missing)
+    if asked.kills or asked.seconds >= 5:
+        check(f"{name}: there was enough of it", sum(sections) > 10 and is_enough(storms), told)
 
 
 def rise(name, pairs):
     """Each is greater than the one before: a resource that keeps the greatest refuses none of them."""
-    both = list(zip(pairs, pairs[1:]))
+    both = [two for some in pairs for two in zip(some, some[1:])]
     again = sum(one[0] == other[0] for one, other in both)
-    wrong = [it for it in both if it[0] >= it[1]]
-    check(f"{name}: {len(pairs)} pairs of section and life rise, {again} in the section of the one before", not wrong, wrong[:9])
+    wrong = [two for two in both if two[0] >= two[1]]
+    made = sum(map(len, pairs))
+    check(f"{name}: {made} pairs of section and life rise, {again} in the section of the one before", not wrong, wrong[:9])
 
 
 def part():
-    some = ways()
-    main(*(lambda name=name: try_storm(name, SECONDS / len(some), SEED) for name in some))
+    if shutil.which("flock") is None:
+        main(lambda: skip("storm", "there is no flock of util-linux"))
+    asked = Asked(sys.argv[1:])
+    main(lambda: try_storms(asked))

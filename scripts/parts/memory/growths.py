@@ -251,7 +251,7 @@ def answered_by(server):
     try:
         session = server.session()
         for order in ORDERS:
-            answers.append(re.sub(rb'"epoch":\d+,', b"", session.ask(order)))
+            answers.append(re.sub(rb'"(epoch|seconds)":\d+,', b"", session.ask(order)))
             if not answers[-1] or answers[-1] in MAY_REFUSE:
                 break
         session.close()

@@ -11,7 +11,7 @@ import sys
 
 from lib.checks import check, main_in_folders, note, same
 from lib.kept import LOCKS, faults_of, kill, looked, read, serve, status_in, status_of, whole_lines, written
-from lib.orders import RESUME, STATUS, attach, job
+from lib.orders import RESUME, STATUS, attach, job, without_seconds
 from lib.servers import Server
 from rows.reading import Serve, all_rows, asks, cuts_of, items_of, of_cut, text_of
 from rows.sessions import turns_of, words_of
@@ -187,7 +187,7 @@ def beside(folder, name, talks, more, lives):
             orders += 1
         for session in sides[0]:
             session.close()
-        before = json.loads(sides[1][0].ask(STATUS))
+        before = without_seconds(json.loads(sides[1][0].ask(STATUS)))
         kill(server)
         wrong += [("status", before, looked(path))] * (before != looked(path))
         wrong += [("run", status_in(read(path)))] * (before != status_in(read(path)))

@@ -18,7 +18,7 @@ from lib.checks import check, main_in_folders, note, same
 from lib.damage import changes_of, verdicts_on
 from lib.kept import LOCKS, TORN, end_of, faults_of, kill, look, looked, read, serve, state_words, status_of
 from lib.kept import whole_lines, without_count, written
-from lib.orders import COMMIT, DETACH, LAST, ONE, RESUME, STATUS, WITHDRAW, attach, job, text
+from lib.orders import COMMIT, DETACH, LAST, ONE, RESUME, STATUS, WITHDRAW, attach, job, text, without_seconds
 from lib.programs import built, ends_with, run
 
 SEED = int(sys.argv[1]) if len(sys.argv) > 1 else random.randrange(10**6)
@@ -161,7 +161,7 @@ def start_cut(path, held):
     for worker in wanted["workers"]:
         worker["attached"] = False
     server = serve(written(path, held))
-    told = server.session().told(do="status") if server.port else server.first
+    told = without_seconds(server.session().told(do="status")) if server.port else server.first
     now, first = read(path), server.first
     kill(server)
     names = [json.loads(line)["do"] for line in whole_lines(now)[len(front) :]]
@@ -240,11 +240,11 @@ def try_words(folder):
     """Words that contradict a file, words that make none, and words that are none."""
     path = os.path.join(folder, "words")
     kill(serve(path, *LOCKS, workers=8, cells=2, jobs=10))
-    for option, has in {"workers": 8, "cells": 2, "jobs": 10}.items():
-        for number in (has + 1, 1, 1000, 0):
+    for option, has, other in (("workers", 8, 7), ("cells", 2, 1), ("jobs", 10, 11)):
+        for number in (other, 1, 0):
             why = f"bad arguments\n  --{option} {number}: the state has {has}"
             refused(f"--{option} {number}", path, why, *LOCKS, **{option: number})
-    for locks in (("bank",), ("shop", "bank"), ("bank", "mill"), (*LOCKS, "mill"), ("bank", "bank"), ("Bank", "shop")):
+    for locks in (("bank",), ("shop", "bank"), ("bank", "mill"), ("mill", *LOCKS), ("bank", "bank"), ("Bank", "shop")):
         refused(f"{locks}", path, f"bad arguments\n  LOCK: the state {path} has other locks: bank shop", *locks)
     for options in ({}, {"workers": 8}, {"cells": 2, "jobs": 10}, {"sync": "always"}, {"sync": "never"}):
         for locks in ((), LOCKS):

@@ -15,7 +15,7 @@ import time
 from lib.checks import check, main_in_folders, note, same, skip
 from lib.kept import LOCKS, faults_of, kill, look, looked, read, serve, state_words, until_waiting, without_count
 from lib.orders import COMMIT, DETACH, LAST, ONE, RESUME, STATUS, WITHDRAW, attach, job, lock_status, receipt, stands
-from lib.orders import text, worker_status
+from lib.orders import status_bytes, text, without_seconds, worker_status
 from lib.programs import built, ends_with, has_strace, lines_traced
 from lib.servers import HOST, Server, line_of
 from lib.storms import Storm
@@ -53,7 +53,7 @@ def try_first(folder):
     server = serve(path, *LOCKS, **SIZES)
     one, two = server.session(), server.session()
     free = [lock_status(name, [0, 0]) for name in LOCKS]
-    same("nothing was done yet", one.ask(STATUS), status(free, [worker_status(False, "ready", 0)] * 2))
+    same("nothing was done yet", status_bytes(one.ask(STATUS)), status(free, [worker_status(False, "ready", 0)] * 2))
     made = receipt(0, 1, "bank", 0, 9)
     told = one.ask_all(attach(0), job("submit", "bank", 1, ["add", 0, 5], ["set", 1, 9]), LAST)
     same("a job", told, [stands("ready", 0), text(ok="submit", receipt=made), text(last=made, ok="last")])
@@ -66,7 +66,7 @@ def try_first(folder):
     for up in (True, False):
         owner, waiter = worker_status(up, "held", 2, lock="shop"), worker_status(up, "climb", 1, blocked_by=0, lock="shop")
         begun.append(status(locks, [owner, waiter]))
-    same("what all are at", two.ask(STATUS), begun[0])
+    same("what all are at", status_bytes(two.ask(STATUS)), begun[0])
     same("it is in the file, which a server has", ends_with(look(path, "--json")), (0, begun[0] + b"\n", b""))
     same("it is killed", kill(server)[:2], (-signal.SIGKILL, b""))
     same("look, by tables", ends_with(look(path)), (0, TABLES.format(session="SESSION ", up="attached").encode(), b""))
@@ -79,7 +79,7 @@ def go_on(path, port, begun):
     server = serve(path, *LOCKS, port=port, **SIZES)
     one, two, three = (server.session() for _ in range(3))
     same("the same words again", server.port, port)
-    same("all workers are down", three.ask(STATUS), begun)
+    same("all workers are down", status_bytes(three.ask(STATUS)), begun)
     told = TABLES.format(session="SESSION", up="down   ") + LEFT
     same("look says what is left to finish", ends_with(look(path)), (0, told.encode(), b""))
     same("and so it is in the file", ends_with(look(path, "--json")), (0, begun + b"\n", b""))
@@ -145,7 +145,7 @@ def try_observer(folder):
     session = server.session()
     session.ask_all(attach(7), job("submit", "bank", 1, ["add", 0, 5]), job("enter", "bank", 2))
     for observer in (Observer(HOST, server.port), Observer("", 0, socket_path=server.path)):
-        name, told = observer.socket_path and "the socket" or "the port", observer.status()
+        name, told = observer.socket_path and "the socket" or "the port", without_seconds(observer.status())
         same(f"by {name}: a worker with a job", told["workers"][7], worker_status(True, "held", 2, lock="bank"))
         same(f"by {name}: the workers that are there without words", len(told["workers"]), 8)
         same(f"by {name}: a lock", told["locks"], [lock_status("bank", [5], 7, 1, False)])
@@ -231,7 +231,7 @@ def try_waiting(folder):
     one.ask_all(attach(0), job("enter", "bank", 1, *ONE))
     two.ask(attach(1))
     two.send(line_of(**job("enter", "bank", 1, *ONE, wait=60_000)))
-    told = until_waiting(three, 1)["workers"]
+    told = without_seconds(until_waiting(three, 1))["workers"]
     wanted = [worker_status(True, "held", 1, lock="bank"), worker_status(True, "climb", 1, blocked_by=0, lock="bank")]
     same("who waits is seen, and for whom", told, wanted)
     time.sleep(0.3)  # its pauses grow
@@ -241,7 +241,7 @@ def try_waiting(folder):
     took = time.monotonic() - began
     check("and at once", took < 1, took)
     one.send(line_of(**job("enter", "bank", 2, *ONE, wait=60_000)))
-    before = until_waiting(three, 0)
+    before = without_seconds(until_waiting(three, 0))
     kill(server)
     same("what was answered of one that waits is kept", looked(path), before)
     server = serve(path)
@@ -307,6 +307,68 @@ def try_doors(folder):
     check("a reason for a line that is none", without_count(said).startswith(b"rme: connection "), said)
 
 
+def worker_in_status(session, worker, is_up):
+    """The status of a worker once a session has it, or has it no more; after ten seconds as it is."""
+    latest = time.monotonic() + 10
+    told = session.told(**STATUS)["workers"][worker]
+    while told["attached"] != is_up and time.monotonic() < latest:
+        time.sleep(0.01)
+        told = session.told(**STATUS)["workers"][worker]
+    return told
+
+
+def try_labels(folder):
+    """The label of a worker's last attachment is shown, also once its session is gone, but not by the next server."""
+    path, odd = os.path.join(folder, "labels"), 'a"\\\u0007\u00fc'
+    server = serve(path, "bank", workers=3)
+    one, two, watcher = (server.session() for _ in range(3))
+    same("nobody attached", [it.get("as") for it in watcher.told(**STATUS)["workers"]], [None] * 3)
+    same("with a label", one.ask(attach(0, **{"as": "host7:cron"})), stands("ready", 0))
+    same("one that is refused", watcher.told(**attach(0, **{"as": "host9"})).get("code"), 18)
+    same("one of the server's choice", two.told(**{"do": "attach", "any": "ready", "as": odd}).get("worker"), 1)
+    answer = watcher.ask(STATUS)
+    same("both labels", [it.get("as") for it in json.loads(answer)["workers"]], ["host7:cron", odd, None])
+    escaped = b'{"as":"a\\"\\\\\\u0007\xc3\xbc","attached":true,"number":0,"seconds":'
+    check("the bytes of the second, escaped", escaped in answer, answer)
+    same("it is inside", one.told(**job("enter", "bank", 1, *ONE)).get("stance"), "held")
+    one.close()
+    left = worker_in_status(watcher, 0, False)
+    told = left.get("as"), left.get("lock"), left["stance"]
+    same("whose worker is dead", told, ("host7:cron", "bank", "held"))
+    next_one = server.session()
+    same("an attachment without a label", next_one.ask(attach(0)), stands("held", 1))
+    same("removes it", worker_in_status(watcher, 0, True).get("as"), None)
+    kill(server)
+    server = serve(path)
+    same("the next server knows none", [it.get("as") for it in server.session().told(**STATUS)["workers"]], [None] * 3)
+    kill(server)
+
+
+def try_seconds(folder):
+    """Since when each worker is at what it is at: since the start, or since it last changed."""
+    server = serve(os.path.join(folder, "seconds"), "bank", workers=2)
+    one, watcher = server.session(), server.session()
+    one.ask(attach(0))
+    time.sleep(1.5)
+    first, second = (it["seconds"] for it in watcher.told(**STATUS)["workers"])
+    check("since the attachment, and since the start", 1 <= first <= second <= first + 5, (first, second))
+    one.ask_all(job("submit", "bank", 1, *ONE), LAST)
+    third = watcher.told(**STATUS)["workers"][0]["seconds"]
+    check("a job that is done in one order is no change", first <= third <= first + 5, (first, third))
+    one.ask(job("enter", "bank", 2, *ONE))
+    inside = watcher.told(**STATUS)["workers"]
+    check("inside since now", (inside[0]["stance"], inside[0]["seconds"]) in (("held", 0), ("held", 1)), inside)
+    check("of the other it is since the start", inside[1]["seconds"] >= second, inside)
+    time.sleep(1.5)
+    one.close()
+    left = worker_in_status(watcher, 0, False)
+    check("down since now", left["seconds"] in (0, 1), left)
+    time.sleep(1.5)
+    dead = watcher.told(**STATUS)["workers"][0]["seconds"]
+    check("and then for longer", 1 <= dead <= 6, dead)
+    kill(server)
+
+
 # ---- storms
 
 
@@ -320,7 +382,7 @@ def try_storm(folder):
         check(f"a server that is killed under its clients: {told}", not wrong and storm.jobs() > 200, wrong[:3])
 
 
-LIVING = (try_sync, try_lines_together, try_waiting, try_taking, try_doors, try_storm)
+LIVING = (try_sync, try_lines_together, try_waiting, try_taking, try_labels, try_seconds, try_doors, try_storm)
 
 
 def part():

@@ -21,7 +21,7 @@ from lib.checks import check, main_in_folders, note, same, skip
 from lib.damage import changes_of, verdicts_on
 from lib.kept import epoch_of, faults_of, kill, lives_of, look, looked, read, serve, state_words, status_in, whole_lines, written
 from lib.orders import COMMIT, DETACH, LAST, ONE, RESUME, STATUS, WITHDRAW
-from lib.orders import attach, job, lock_status, receipt, stands, text, worker_status
+from lib.orders import attach, job, lock_status, receipt, stands, status_bytes, text, worker_status
 from lib.programs import built, ends_with, has_strace, lines_traced, run
 from lib.servers import Server, line_of
 from lib.storms import Storm
@@ -101,7 +101,7 @@ def try_one_worker(folder):
     check("a new epoch for each three jobs", all(it in ends for it, ends in zip(epochs, may_be)), epochs)
     locks = [lock_status("bank", [10], sections=10), lock_status("shop", [5], sections=1)]
     workers = [worker_status(True, "ready", 10), worker_status(True, "ready", 1)]
-    same("what all is at", idle.ask(STATUS), text(epoch=epochs[-1], locks=locks, ok="status", workers=workers))
+    same("what all is at", status_bytes(idle.ask(STATUS)), text(epoch=epochs[-1], locks=locks, ok="status", workers=workers))
     header = json.loads(whole_lines(read(path))[0])
     told = header["epoch"], header["numbers"][1], header["last"][1]
     same("what the header says of the other", told, (epochs[-1], 1, first))
@@ -239,9 +239,10 @@ def waits_in(told):
 
 
 def without_waits(told):
-    """What is shown of all but the busy one. Who waits for whom is another matter: a worker that waits has climbed to nothing
-    where its epoch begins."""
-    return told["locks"][:3], [{key: it for key, it in worker.items() if key != "blocked_by"} for worker in told["workers"][1:]]
+    """What is shown of all but the busy one, and since when. Who waits for whom is another matter: a worker that waits has
+    climbed to nothing where its epoch begins."""
+    others = ("blocked_by", "seconds")
+    return told["locks"][:3], [{key: it for key, it in worker.items() if key not in others} for worker in told["workers"][1:]]
 
 
 def try_stances(folder):
@@ -416,7 +417,7 @@ def try_large(folder):
     locks = [lock_status("bank", [reply + 1], sections=place + 1)]
     workers = [worker_status(True, "ready", number), worker_status(False, "ready", 2**52 + 1)]
     epoch = other.told(**STATUS)["epoch"]
-    same("the status", other.ask(STATUS), text(epoch=epoch, locks=locks, ok="status", workers=workers))
+    same("the status", status_bytes(other.ask(STATUS)), text(epoch=epoch, locks=locks, ok="status", workers=workers))
     check("it was renewed", epoch > 9, epoch)
     same("the lives of a file that had none, from 0 on", lives_of(read(path)), [1, 1])
     is_run("large numbers", path)
