@@ -195,7 +195,7 @@ header_data names past =
     (member (codes "last") (array (items_of (last_job_data names) past.last))
     (member (codes "lives") (array (items_of (λ n. number (unsigned n)) past.lives))
     (member (codes "numbers") (array (items_of (λ n. number (unsigned n)) past.numbers))
-    (member (codes "places") (array (items_of place_data past.places)) (member (codes "rme") (string (codes "kept")) (member (codes "version") (number (unsigned 1)) no_members)))))))
+    (member (codes "places") (array (items_of place_data past.places)) (member (codes "rme") (string (codes "kept")) (member (codes "version") (number (unsigned 2)) no_members)))))))
 
 number_item : (n : ℕ) → n ≤ 2 ^ 53 → IsTextOf 1 (number (unsigned n)) (decimal n)
 number_item n few = let it = number_written n (omega arith) in record { is = it.is; utf8 = it.utf8; numbers = it.numbers; shallow = omega arith; back = it.back }
@@ -220,15 +220,15 @@ module _ (names : List (List ℕ)) (past : HeaderValues) (are : AreLockNames nam
   header_same : header_text names past ≡ compact_text (header_data names past)
   unfolding header_data escape_byte
   header_same =
-      let end : List ℕ = codes ",\"rme\":\"kept\",\"version\":" ++ (decimal 1 ++ 125 ∷ []) in
-      let one : 49 ∷ [] ≡ decimal 1 = sym (decimal_digit 1 (omega arith)) in
-      let from_places : places_text past.places ++ codes "],\"rme\":\"kept\",\"version\":1}" ≡ items_text false (items_of place_data past.places) ++ end =
-      ap (λ (digit : List ℕ). places_text past.places ++ (codes "],\"rme\":\"kept\",\"version\":" ++ (digit ++ 125 ∷ []))) one ∙ array_then signed_decimal place_data past.places end places in
+      let end : List ℕ = codes ",\"rme\":\"kept\",\"version\":" ++ (decimal 2 ++ 125 ∷ []) in
+      let two : 50 ∷ [] ≡ decimal 2 = sym (decimal_digit 2 (omega arith)) in
+      let from_places : places_text past.places ++ codes "],\"rme\":\"kept\",\"version\":2}" ≡ items_text false (items_of place_data past.places) ++ end =
+      ap (λ (digit : List ℕ). places_text past.places ++ (codes "],\"rme\":\"kept\",\"version\":" ++ (digit ++ 125 ∷ []))) two ∙ array_then signed_decimal place_data past.places end places in
       let last_places : List ℕ = codes ",\"places\":[" ++ (items_text false (items_of place_data past.places) ++ end) in
-      let from_numbers : numbers_text past.numbers ++ (codes "],\"places\":[" ++ (places_text past.places ++ codes "],\"rme\":\"kept\",\"version\":1}")) ≡ items_text false (items_of (λ n. number (unsigned n)) past.numbers) ++ last_places =
+      let from_numbers : numbers_text past.numbers ++ (codes "],\"places\":[" ++ (places_text past.places ++ codes "],\"rme\":\"kept\",\"version\":2}")) ≡ items_text false (items_of (λ n. number (unsigned n)) past.numbers) ++ last_places =
       ap (λ (rest : List ℕ). numbers_text past.numbers ++ (codes "],\"places\":[" ++ rest)) from_places ∙ array_then decimal (λ n. number (unsigned n)) past.numbers last_places numbers in
       let last_numbers : List ℕ = codes ",\"numbers\":[" ++ (items_text false (items_of (λ n. number (unsigned n)) past.numbers) ++ last_places) in
-      let from_lives : numbers_text past.lives ++ (codes "],\"numbers\":[" ++ (numbers_text past.numbers ++ (codes "],\"places\":[" ++ (places_text past.places ++ codes "],\"rme\":\"kept\",\"version\":1}")))) ≡ items_text false (items_of (λ n. number (unsigned n)) past.lives) ++ last_numbers =
+      let from_lives : numbers_text past.lives ++ (codes "],\"numbers\":[" ++ (numbers_text past.numbers ++ (codes "],\"places\":[" ++ (places_text past.places ++ codes "],\"rme\":\"kept\",\"version\":2}")))) ≡ items_text false (items_of (λ n. number (unsigned n)) past.lives) ++ last_numbers =
       ap (λ (rest : List ℕ). numbers_text past.lives ++ (codes "],\"numbers\":[" ++ rest)) from_numbers ∙ array_then decimal (λ n. number (unsigned n)) past.lives last_numbers lives in
       let last_lives : List ℕ = codes ",\"lives\":[" ++ (items_text false (items_of (λ n. number (unsigned n)) past.lives) ++ last_numbers) in
       ap (λ (rest : List ℕ). codes "{\"epoch\":" ++ (decimal past.epoch ++ (codes ",\"last\":[" ++ (last_jobs_text names past.last ++ (codes "],\"lives\":[" ++ rest))))) from_lives
@@ -236,7 +236,7 @@ module _ (names : List (List ℕ)) (past : HeaderValues) (are : AreLockNames nam
 
   header_utf8 : IsUtf8 (header_text names past)
   header_utf8 =
-      let from_places = IsUtf8-append _ _ (items_utf8 signed_decimal place_data false past.places places) (IsUtf8-are_ascii (codes "],\"rme\":\"kept\",\"version\":1}") refl) in
+      let from_places = IsUtf8-append _ _ (items_utf8 signed_decimal place_data false past.places places) (IsUtf8-are_ascii (codes "],\"rme\":\"kept\",\"version\":2}") refl) in
       let from_numbers = IsUtf8-append _ _ (items_utf8 decimal (λ n. number (unsigned n)) false past.numbers numbers) (then_utf8 (codes "],\"places\":[") _ refl from_places) in
       let from_lives = IsUtf8-append _ _ (items_utf8 decimal (λ n. number (unsigned n)) false past.lives lives) (then_utf8 (codes "],\"numbers\":[") _ refl from_numbers) in
       let from_last = IsUtf8-append _ _ (items_utf8 (last_job_text names) (last_job_data names) false past.last words) (then_utf8 (codes "],\"lives\":[") _ refl from_lives) in
@@ -252,7 +252,7 @@ module _ (names : List (List ℕ)) (past : HeaderValues) (are : AreLockNames nam
         items_numbers decimal (λ n. number (unsigned n)) past.lives lives,
         (
           items_numbers decimal (λ n. number (unsigned n)) past.numbers numbers,
-          (items_numbers signed_decimal place_data past.places places, (tt, (IsNumber-decimal 1 (omega arith), tt))),
+          (items_numbers signed_decimal place_data past.places places, (tt, (IsNumber-decimal 2 (omega arith), tt))),
         ),
       ),
     ),
@@ -278,7 +278,7 @@ module _ (names : List (List ℕ)) (past : HeaderValues) (are : AreLockNames nam
         items_back decimal (λ n. number (unsigned n)) past.lives lives,
         items_back decimal (λ n. number (unsigned n)) past.numbers numbers,
         items_back signed_decimal place_data past.places places,
-        number_of-decimal 1 (omega arith),
+        number_of-decimal 2 (omega arith),
       ) refl
 
   header_reads : json_value_of (header_text names past) ≡ Some (header_data names past)
@@ -293,7 +293,7 @@ module _ (names : List (List ℕ)) (past : HeaderValues) (are : AreLockNames nam
 
   header_version : IsLogVersion (header_data names past)
   unfolding header_data
-  header_version = record { members = refl; rme = refl; version = refl }
+  header_version = record { members = refl; rme = refl; version = inr refl }
 
   header_tells : HasHeaderMembers names (header_data names past) past
   unfolding header_data

@@ -49,14 +49,14 @@ pub header_written : {T E : Type 0} (result : Result T E) (names : List (List �
     → first ≡ out ++ (codes "{\"epoch\":" ++ (decimal past.epoch ++ codes ",\"last\":[")) → second ≡ first ++ last_jobs_text names past.last → third ≡ second ++ codes "],\"lives\":["
     → fourth ≡ third ++ numbers_text past.lives → fifth ≡ fourth ++ codes "],\"numbers\":[" → sixth ≡ fifth ++ numbers_text past.numbers
     → seventh ≡ sixth ++ codes "],\"places\":[" → eighth ≡ seventh ++ places_text past.places
-    → last ≡ (if is_ok result then eighth ++ codes "],\"rme\":\"kept\",\"version\":1}\n" else eighth) → OnOk result (last ≡ out ++ header_line names past)
+    → last ≡ (if is_ok result then eighth ++ codes "],\"rme\":\"kept\",\"version\":2}\n" else eighth) → OnOk result (last ≡ out ++ header_line names past)
 header_written result names past out first second third fourth fifth sixth seventh eighth last a b c d e f h i z =
     let front : List ℕ = codes "{\"epoch\":" ++ (decimal past.epoch ++ codes ",\"last\":[") in
     let words = last_jobs_text names past.last in
     let lives = numbers_text past.lives in
     let numbers = numbers_text past.numbers in
     let places = places_text past.places in
-    let end : List ℕ = codes "],\"rme\":\"kept\",\"version\":1}" in
+    let end : List ℕ = codes "],\"rme\":\"kept\",\"version\":2}" in
     on_ok_weaker result
     (λ g. append_five out first second third fourth last front words (codes "],\"lives\":[") lives (codes "],\"numbers\":[" ++ (numbers ++ (codes "],\"places\":[" ++ (places ++ (end ++ 10 ∷ []))))) a b c d
     (append_five fourth fifth sixth seventh eighth last (codes "],\"numbers\":[") numbers (codes "],\"places\":[") places (end ++ 10 ∷ []) e f h i g)

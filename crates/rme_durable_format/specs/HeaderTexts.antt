@@ -25,7 +25,7 @@ numbers_text numbers = separated_text decimal false numbers
 abbrev pub places_text : List ℤ → List ℕ
 places_text places = separated_text signed_decimal false places
 
--- `{"epoch":..,"last":[..],"lives":[..],"numbers":[..],"places":[..],"rme":"kept","version":1}`, with these names of the
+-- `{"epoch":..,"last":[..],"lives":[..],"numbers":[..],"places":[..],"rme":"kept","version":2}`, with these names of the
 -- locks
 abbrev pub header_text : List (List ℕ) → HeaderValues → List ℕ
 header_text names past =
@@ -34,7 +34,7 @@ header_text names past =
     ++ (codes "],\"lives\":[" ++ (numbers_text past.lives
     ++ (codes "],\"numbers\":[" ++ (numbers_text past.numbers
     ++ (codes "],\"places\":[" ++ (places_text past.places
-    ++ codes "],\"rme\":\"kept\",\"version\":1}")))))))))
+    ++ codes "],\"rme\":\"kept\",\"version\":2}")))))))))
 
 -- The line of a header, with its newline.
 abbrev pub header_line : List (List ℕ) → HeaderValues → List ℕ

@@ -1,5 +1,5 @@
 -- Line 1 of a file: the base that earlier epochs left.
-use Rattle.std.specs.Prelude.{◌≡◌, ◌≢◌, ℕ, ◌+◌, ◌-◌, ◌^◌, ◌<◌, ◌≤◌, true, ℤ, pos, unsigned_abs, List, [], ◌∷◌, length, replicate, slice_get, codes, Option, Some, None, option_map, option_and_then}
+use Rattle.std.specs.Prelude.{◌≡◌, ◌≢◌, ◌⊎◌, ℕ, ◌+◌, ◌-◌, ◌^◌, ◌<◌, ◌≤◌, true, ℤ, pos, unsigned_abs, List, [], ◌∷◌, length, replicate, slice_get, codes, Option, Some, None, option_map, option_and_then}
 use Rattle.std.specs.List.{All}
 use Rattle.serde_json.specs.Data.{Data, null, boolean, number, string, array, unsigned, Items, no_items, item}
 use Rattle.serde_json.specs.Events.{members_len}
@@ -102,13 +102,18 @@ pub record HasHeaderMembers (names : List (List ℕ)) (value : Data) (past : Hea
   pub numbers : IsListMember IsJobCount (codes "numbers") value past.numbers
   pub places : IsListMember IsPlaceCount (codes "places") value past.places
 
--- The object has the fields of a log header of version 1, among which `lives` may be absent.
+-- The versions of logs that are read. They differ in what stands between the lines: in version 2 each write ends with
+-- its checksum.
+abbrev pub IsReadVersion : Data → Type 0
+IsReadVersion value = HasNumberMember (codes "version") value 1 ⊎ HasNumberMember (codes "version") value 2
+
+-- The object has the fields of a log header of such a version, among which `lives` may be absent.
 pub record IsLogVersion (value : Data) : Type 0 where
   pub members : HasMemberCount (6 + member_count (get (codes "lives") value)) value
   pub rme : get (codes "rme") value ≡ Some (string (codes "kept"))
-  pub version : HasNumberMember (codes "version") value 1
+  pub version : IsReadVersion value
 
--- A line has the JSON value of a log header of version 1.
+-- A line has the JSON value of a log header of such a version.
 pub record HasLogVersion (line : List ℕ) : Type 0 where
   pub value : Data
   pub reads : json_value_of line ≡ Some value

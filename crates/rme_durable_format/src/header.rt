@@ -73,7 +73,7 @@ pub fn push_header(out: &mut String, names: &Names, header: &LogHeader) -> Resul
     push_numbers(out, header.numbers.as_slice())?;
     out.push_str("],\"places\":[")?;
     push_places(out, header.places.as_slice())?;
-    out.push_str("],\"rme\":\"kept\",\"version\":1}\n")
+    out.push_str("],\"rme\":\"kept\",\"version\":2}\n")
 }
 
 fn push_last_jobs(out: &mut String, names: &Names, words: &[LastJob]) -> Result<(), AllocError>

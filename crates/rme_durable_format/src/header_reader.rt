@@ -1,6 +1,6 @@
 //! Reading line 1 of a file, the base that earlier epochs left.
 
-ghost use Rattle.std.specs.Prelude.{◌≡◌, ◌<◌, ◌≤◌, ◌^◌, ◌↔◌, ℕ, List, Some, IfOk, IsTrue, codes, length, option_map, pos, slice_get};
+ghost use Rattle.std.specs.Prelude.{◌≡◌, ◌⊎◌, ◌<◌, ◌≤◌, ◌^◌, ◌↔◌, ℕ, List, Some, IfOk, IsTrue, codes, length, option_map, pos, slice_get};
 ghost use Rattle.std.specs.List.{All};
 ghost use Rattle.serde_json.specs.Data.{array, string};
 ghost use Rattle.serde_json.specs.Find.{get};
@@ -16,7 +16,7 @@ use rme_wire::{Names, Value, ValueReader, ValueStorage, whole_u32, whole_up_to};
 use rme_words::{NoMemory, Shape};
 use std::alloc::{AllocError, Global};
 
-/// The JSON value of a header's line; `None` if the line is not one of this version.
+/// The JSON value of a header's line; `None` if the line is not one of a version that is read.
 pub(crate) fn header_value<'a>(
     values: &'a mut ValueReader,
     room: &'a mut ValueStorage,
@@ -34,7 +34,7 @@ pub(crate) fn header_value<'a>(
     Ok(Some(value))
 }
 
-/// Whether a value has the members of a header of this version.
+/// Whether a value has the members of a header of a version that is read.
 fn is_log_version(value: &Value<'_>) -> bool
     ensures { IsTrue result ↔ IsLogVersion (value_view value.now) }
 {
@@ -45,7 +45,14 @@ fn is_log_version(value: &Value<'_>) -> bool
     if text_in(value, "rme") != Some("kept") {
         return false;
     }
-    number_in(value, "version") == Some(1)
+    is_read_version(number_in(value, "version"))
+}
+
+/// Whether this is the number of a version that is read.
+fn is_read_version(version: Option<u64>) -> bool
+    ensures { IsTrue result ↔ ((version ≡ Some 1) ⊎ (version ≡ Some 2)) }
+{
+    version == Some(1) || version == Some(2)
 }
 
 /// The header of a value, for a world of this shape with these names of the locks; `None` if the value is no header.

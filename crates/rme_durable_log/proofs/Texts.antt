@@ -8,7 +8,7 @@ use Rattle.logbook.specs.Pages.{Book, Named}
 use Rattle.rme_durable_log.specs.declared.log_entry.LogEntry.{LogEntry}
 use Rattle.rme_durable_log.specs.declared.log_entry.LogEntry.TheVariants.{Lines, Whole}
 use Rattle.rme_durable_log.specs.Logs.{AreAllLines, log_bytes_after, log_bytes}
-use Rattle.rme_durable_log.specs.LogRules.{AppenderInvariant, AreAuthorsBelow, AreLastEntries, entries_behind, entry_lines}
+use Rattle.rme_durable_log.specs.LogRules.{AppenderInvariant, AreAuthorsBelow, AreLastOfAuthors, entries_behind, entry_lines}
 use Rattle.rme_durable_log.proofs.Authors.{lasts_replaced}
 
 -- ---- entries that are lines
@@ -65,7 +65,7 @@ module _ (book : Book) (head : Named) (taken log after : List LogEntry) (authors
   since_more : after ≡ taken ++ (is.since.entries ++ Lines author lines ∷ [])
   since_more = more ∙ (ap (λ l. l ++ Lines author lines ∷ []) is.since.told ∙ append_assoc taken is.since.entries (Lines author lines ∷ []))
 
-  pub appender_appends : (now : BTreeMap ℕ ℕ) → author < authors → AreLastEntries authors after now → AppenderInvariant book head taken after authors now
+  pub appender_appends : (now : BTreeMap ℕ ℕ) → author < authors → AreLastOfAuthors authors after now → AppenderInvariant book head taken after authors now
   appender_appends now less lasts_are =
       record {
         head_is = is.head_is;
@@ -85,7 +85,7 @@ module _ (book : Book) (head : Named) (taken log after : List LogEntry) (authors
       let last : lines ++ [] ≡ lines = append-nil lines in
       waits_as taken after (is.since.entries ++ Lines author lines ∷ []) since_more ∙ (entry_lines-append is.since.entries (Lines author lines ∷ []) ∙ (ap (λ w. entry_lines is.since.entries ++ w) last ∙ ap (λ w. w ++ lines) (sym is.since.come)))
 
-pub appender_authors : (book : Book) (head : Named) (taken log : List LogEntry) (authors more : ℕ) (lasts now : BTreeMap ℕ ℕ) → AppenderInvariant book head taken log authors lasts → authors ≤ more → AreLastEntries more log now → AppenderInvariant book head taken log more now
+pub appender_authors : (book : Book) (head : Named) (taken log : List LogEntry) (authors more : ℕ) (lasts now : BTreeMap ℕ ℕ) → AppenderInvariant book head taken log authors lasts → authors ≤ more → AreLastOfAuthors more log now → AppenderInvariant book head taken log more now
 appender_authors book head taken log authors more lasts now is le lasts_are = record { head_is = is.head_is; some = is.some; since = is.since; by = authors-more authors more log le is.by; lasts_are = lasts_are }
 
 -- all entries are taken once other bytes replaced them
@@ -97,7 +97,7 @@ appender_replaces book head taken log one two authors lasts bytes is whole same 
       some = omega (arith, ap length whole, length-append log (Whole bytes ∷ []));
       since = record { entries = []; all = tt; told = told; come = waits_as one two [] told };
       by = subst (λ (l : List LogEntry). AreAuthorsBelow authors l) (sym (same ∙ whole)) (authors-append authors log (Whole bytes ∷ []) is.by (tt, tt));
-      lasts_are = subst (λ (l : List LogEntry). AreLastEntries authors l lasts) (sym (same ∙ whole)) (lasts_replaced authors log (Whole bytes ∷ []) lasts is.lasts_are (λ _. (tt, tt)));
+      lasts_are = subst (λ (l : List LogEntry). AreLastOfAuthors authors l lasts) (sym (same ∙ whole)) (lasts_replaced authors log (Whole bytes ∷ []) lasts is.lasts_are (λ _. (tt, tt)));
     }
 
 -- ---- prefixes

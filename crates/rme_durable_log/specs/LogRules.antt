@@ -66,8 +66,8 @@ pub record IsLastEntryOf (authors : ℕ) (log : List LogEntry) (author : ℕ) (l
   pub below : author < authors
   pub others : AreNotByAuthor author (drop (suc last) log)
 
-abbrev pub AreLastEntries : ℕ → List LogEntry → BTreeMap ℕ ℕ → Type 0
-AreLastEntries authors log lasts = (author : ℕ) → IfSome (get nat_cmp lasts author) (IsLastEntryOf authors log author)
+abbrev pub AreLastOfAuthors : ℕ → List LogEntry → BTreeMap ℕ ℕ → Type 0
+AreLastOfAuthors authors log lasts = (author : ℕ) → IfSome (get nat_cmp lasts author) (IsLastEntryOf authors log author)
 
 -- The log, the pending lines, which nobody has taken yet, and the number of authors.
 pub record AppenderState : Type 0 where
@@ -81,7 +81,7 @@ pub record AppenderInvariant (book : Book) (head : Named) (taken : List LogEntry
   pub some : 0 < length taken
   pub since : AreLinesSince taken told (entry_lines (entries_behind taken told))
   pub by : AreAuthorsBelow authors told
-  pub lasts_are : AreLastEntries authors told lasts
+  pub lasts_are : AreLastOfAuthors authors told lasts
 
 -- A log that was just opened over a store.
 pub record OpenLogInvariant {X : Type 0} (holds : X → StoreState) (store : X) (head : Named) (kept : Named)

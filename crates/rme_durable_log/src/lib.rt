@@ -33,6 +33,3 @@ pub use log_store::{LogStore, NotDurable};
 pub use log_writer::LogWriter;
 pub use open_log::OpenLog;
 pub use spinning::lock_with_spin;
-
-#[cfg(test)]
-mod tests;

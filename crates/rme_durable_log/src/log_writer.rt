@@ -84,8 +84,9 @@ impl<L: LogStore, J: LogTag> LogWriter<L, J> {
         bytes: &[u8],
     ) -> Result<(LogWriter<L, J>, bool), L>
         ensures is { IfOk result (λ now. MatchBool now.1 (now.0 ≡ appender.new.log) (now.0 ≡ self)) }
-        ensures told { IfOk result (λ now. MatchBool now.1 ((appender.new.log ≡ appender.old.log ++ Whole bytes.now ∷ [])
-            × (appender.new.waits ≡ [])) (appender.new ≡ appender.old)) }
+        ensures told { IfOk result (λ now. MatchBool now.1
+            ((appender.new.log ≡ appender.old.log ++ Whole bytes.now ∷ []) × (appender.new.waits ≡ []))
+            (appender.new ≡ appender.old)) }
         ensures lost { IfErr result (λ store. appender.new ≡ appender.old) }
         ensures stops { IfErr result (λ store. (L.holds store).works ≡ false) }
     {

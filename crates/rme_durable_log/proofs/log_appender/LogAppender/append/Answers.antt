@@ -4,7 +4,7 @@ use Rattle.std.specs.BTreeMap.{get}
 use Rattle.std.specs.Ordering.{nat_cmp}
 use Rattle.rme_durable_log.specs.declared.log_entry.LogEntry.{LogEntry}
 use Rattle.rme_durable_log.specs.declared.log_entry.LogEntry.TheVariants.{Lines}
-use Rattle.rme_durable_log.specs.LogRules.{AreLastEntries}
+use Rattle.rme_durable_log.specs.LogRules.{AreLastOfAuthors}
 use Rattle.rme_durable_log.proofs.Authors.{author_below, lasts_appended}
 use Rattle.rme_durable_log.proofs.Texts.{appender_appends, waits_more}
 use Rattle.rme_durable_log.proofs.log_appender.LogAppender.append.Goals as goal
@@ -21,7 +21,7 @@ invariant_of-self-in-Some-append_entry g c =
     let counted : length (it.told ++ Lines author c.args.lines.now ∷ []) ≡ suc c.count.result = ap length (sym more) ∙ c.count.ensures in
     let updates = (c.get_mut.follows.holds c.count.result).3 (subst (λ (o : Option ℕ). IsSome o) (sym found) refl) in
     let lasts = lasts_appended it.authors it.told it.lasts now author c.count.result c.args.lines.now c.self.invariant.lasts_are below updates counted in
-    appender_appends g.J.LogTag.book it.head it.taken it.told told it.authors author it.lasts c.args.lines.now c.self.invariant more now below (subst (λ (l : List LogEntry). AreLastEntries it.authors l now) (sym more) lasts)
+    appender_appends g.J.LogTag.book it.head it.taken it.told told it.authors author it.lasts c.args.lines.now c.self.invariant more now below (subst (λ (l : List LogEntry). AreLastOfAuthors it.authors l now) (sym more) lasts)
 
 pub returns-in-Some-append_entry : goal.returns-in-Some-append_entry
 returns-in-Some-append_entry g c =

@@ -1,0 +1,9 @@
+pub mod Checksums
+pub mod Firsts
+pub mod Marks
+pub mod Numbers
+pub mod Options
+pub mod Reading
+pub mod Sealing
+pub mod Skips
+pub mod Texts
