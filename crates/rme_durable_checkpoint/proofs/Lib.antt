@@ -1,9 +1,2 @@
--- A worker with a job has a number; refusals over epochs; session steps over epochs; the replies of sessions, and the
--- lives in them; places; and workers that are down.
-pub mod Numbering
-pub mod Refusals
-pub mod Overs
-pub mod Telling
-pub mod Living
-pub mod Places
+-- Workers that are down.
 pub mod NotUp

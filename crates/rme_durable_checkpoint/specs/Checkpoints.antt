@@ -1,40 +1,24 @@
 -- What a checkpoint preserves: everything that clients can see.
-use Rattle.std.specs.Prelude.{◌≡◌, ℕ, ◌+◌, ◌<◌, Bool, true, false, List, [], length, get_or, ◌==◌, if◌then◌else◌, Option, Some, None, Ok}
+use Rattle.std.specs.Prelude.{◌≡◌, ℕ, ◌+◌, ◌<◌, false, List, [], length, Option, Some, None, Ok}
 use Rattle.rme_tree.specs.Nodes.{owner_in}
 use Rattle.rme_script.specs.declared.job.Job.{Job}
-use Rattle.rme_program.specs.declared.note.Entry.{Entry}
 use Rattle.rme_program.specs.declared.note.Receipt.{Receipt}
-use Rattle.rme_machine.specs.Histories.{place_of}
-use Rattle.rme_machine.specs.Views.{is_pending, slate_job}
 use Rattle.rme_history.specs.Legal.{rows_of_locks}
 use Rattle.rme_world.specs.Calls.{LastContract}
 use Rattle.rme_world.specs.Queries.{world_worker_words}
 use Rattle.rme_world.specs.WorldViews.{WorldView, world_memory}
 use Rattle.rme_session_world.specs.Executors.{held_session}
 use Rattle.rme_session_world.specs.ExecutorStates.{ExecutorState}
-use Rattle.rme_durable_checkpoint.specs.ClientValues.{client_last, next_client_place, worker_base, client_session}
+use Rattle.rme_durable_epochs.specs.ClientValues.{client_last, client_number, client_session, next_client_place, pending_job_of, worker_base}
 use Rattle.rme_durable_format.specs.Headers.{HeaderValues}
 use Rattle.rme_durable_format.specs.Lives.{RecoversLives}
 use Rattle.rme_durable_format.specs.Recovery.{BeginsWithHeader, RecoversWorld}
 use Rattle.rme_durable_format.specs.WholeLines.{AreWholeLines}
-use Rattle.rme_durable_checkpoint.specs.EpochStates.{EpochState}
-use Rattle.rme_durable_checkpoint.specs.HeaderBases.{IsHeaderBase}
-use Rattle.rme_durable_checkpoint.specs.declared.epoch_base.Base.{Base}
+use Rattle.rme_durable_epochs.specs.EpochStates.{EpochState}
+use Rattle.rme_durable_epochs.specs.HeaderBases.{IsHeaderBase}
+use Rattle.rme_durable_epochs.specs.declared.epoch_base.Base.{Base}
 
--- The pending job of a worker: begun, and neither finished nor withdrawn, whether the worker is up or down.
-abbrev pub pending_job_if : Bool → Job → Option Job
-pending_job_if true job = Some job
-pending_job_if false job = None
-
-abbrev pub pending_job_of : WorldView → ℕ → Option Job
-pending_job_of seen worker =
-    pending_job_if (is_pending (world_worker_words seen worker)) (slate_job (world_worker_words seen worker))
-
--- The number of a worker's last job, as clients see it.
-abbrev pub client_number : Base → WorldView → ℕ → ℕ
-client_number base seen worker = (worker_base base worker).numbers + (world_worker_words seen worker).begun
-
--- The outcome of that number, as clients see it: the answer of the world's look-up `last`, with the numbers and places
+-- The outcome of a worker's last number, as clients see it: the answer of the world's look-up `last`, with the numbers and places
 -- of earlier epochs.
 pub record IsClientLast (base : Base) (seen : WorldView) (worker : ℕ) (told : Option Receipt) : Type 0 where
   pub last : Option Receipt
@@ -55,14 +39,6 @@ pub record IsWorkerAlike (base : Base) (before : ExecutorState) (later : Base) (
   pub pending : pending_job_of after.world worker ≡ pending_job_of before.world worker
   pub number : client_number later after.world worker ≡ client_number base before.world worker
   pub last : IsLastAlike (pending_job_of before.world worker) base before.world later after.world worker
-
--- A receipt is of this lock.
-abbrev pub sections_in : Receipt → ℕ → ℕ
-sections_in receipt lock = if receipt.lock == lock then 1 else 0
-
--- The counts of a history's sections, by lock.
-abbrev pub AreSectionCounts : List Entry → List ℕ → Type 0
-AreSectionCounts history counts = (lock : ℕ) → lock < 16 → get_or counts lock 0 ≡ place_of history lock
 
 -- Each worker but the last is alike, each lock has the same owner, and its places go on: of all workers and locks that
 -- the earlier world has.

@@ -1,5 +1,5 @@
 -- Growth: a checkpoint of a larger shape shows what was there as it was, and what is new as unused.
-use Rattle.std.specs.Prelude.{◌≡◌, ℕ, zero, suc, ◌+◌, ◌<◌, ◌≤◌, List, [], get_or, Some, None, slice_get}
+use Rattle.std.specs.Prelude.{◌≡◌, ℕ, ◌+◌, ◌<◌, ◌≤◌, List, [], get_or, Some, None, slice_get}
 use Rattle.rme_words.specs.declared.shape.Shape.{Shape}
 use Rattle.rme_tree.specs.Nodes.{owner_in}
 use Rattle.rme_history.specs.Legal.{rows_of_locks}
@@ -7,10 +7,9 @@ use Rattle.rme_world.specs.WorldViews.{WorldView, world_memory}
 use Rattle.rme_session_world.specs.Downs.{IsWorkerDown}
 use Rattle.rme_session_world.specs.ExecutorStates.{ExecutorState}
 use Rattle.rme_durable_format.specs.Lives.{life_of}
-use Rattle.rme_durable_checkpoint.specs.Checkpoints.{EachShowsSame, IsClientLast, client_number, pending_job_of}
-use Rattle.rme_durable_checkpoint.specs.ClientValues.{next_client_place}
-use Rattle.rme_durable_checkpoint.specs.LoggedStates.{LoggedState, LoggedStep}
-use Rattle.rme_durable_checkpoint.specs.declared.epoch_base.Base.{Base}
+use Rattle.rme_durable_checkpoint.specs.Checkpoints.{EachShowsSame, IsClientLast}
+use Rattle.rme_durable_epochs.specs.ClientValues.{client_number, next_client_place, pending_job_of}
+use Rattle.rme_durable_epochs.specs.declared.epoch_base.Base.{Base}
 
 -- A shape has at least the numbers of another one.
 pub record IsLargerShape (small large : Shape) : Type 0 where
@@ -65,9 +64,3 @@ pub record GrowthShowsSame (base : Base) (before : ExecutorState) (later : Base)
 -- Each worker was restarted as often as before; a new one never was.
 abbrev pub KeepsLives : List ℕ → List ℕ → Type 0
 KeepsLives before after = (worker : ℕ) → life_of after worker ≡ life_of before worker
-
--- A session executed this number of orders, each of which was logged.
-abbrev pub LoggedSteps : List (List ℕ) → ℕ → ℕ → LoggedState → LoggedState → Type 0
-LoggedSteps names session zero old new = new ≡ old
-LoggedSteps names session (suc count) old new =
-    (mid : LoggedState) × LoggedSteps names session count old mid × LoggedStep names session mid new

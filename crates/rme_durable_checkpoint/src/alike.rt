@@ -4,7 +4,7 @@ ghost use Rattle.std.specs.Prelude.{◌≡◌, IsTrue};
 ghost use Rattle.rme_durable_checkpoint.specs.Growths.{KeepsLives};
 ghost use Rattle.rme_durable_format.specs.Lives.{life_of};
 
-use crate::client_session::{ClientPending, ClientReady, ClientSession};
+use rme_durable_epochs::{ClientPending, ClientReady, ClientSession};
 use rme_line_text::ClientReceipt;
 use rme_script::{Job, Row};
 use rme_wire::Names;

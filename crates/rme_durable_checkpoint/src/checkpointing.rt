@@ -1,19 +1,18 @@
 //! The checkpoint: a new epoch, in which clients see the same state.
 
-ghost use Rattle.std.specs.Prelude.{◌≡◌, ◌+◌, ◌<◌, IfOk, IsTrue, string_bytes};
-ghost use Rattle.rme_durable_checkpoint.specs.EpochLengths.{jobless_owner};
-ghost use Rattle.rme_durable_checkpoint.specs.HeaderBases.{IsHeaderBase};
+ghost use Rattle.std.specs.Prelude.{◌≡◌, ◌+◌, IfOk, IsTrue, string_bytes};
+ghost use Rattle.rme_durable_checkpoint.specs.Checkpoints.{BeginsNextEpoch};
+ghost use Rattle.rme_durable_epochs.specs.HeaderBases.{IsHeaderBase};
 ghost use Rattle.rme_durable_format.specs.Headers.{header_values};
 ghost use Rattle.rme_durable_format.specs.WholeLines.{AreWholeLines};
 ghost use Rattle.rme_history.specs.Legal.{rows_of_locks};
 
 use crate::alike::{same_lives, same_names};
 use crate::checkpoint_builder::{CheckpointBuilder, CheckpointFailed, JobProgress};
-use crate::epoch_base::Base;
-use crate::epoch_executor::{EpochExecutor, EpochStart};
 use crate::outgoing::next_header;
 use crate::setting::set_cells;
 use crate::validation::{ComparedState, is_checkpoint_same};
+use rme_durable_epochs::{Base, EpochExecutor, EpochStart};
 use rme_durable_format::{LogHeader, RecoveredLog, RecoveryProgress, push_header, recover_log};
 use rme_history::replay;
 use rme_line_text::push_opening;
@@ -83,121 +82,89 @@ impl RecoveryProgress for NoProgress {
     fn read(&self, _lines: u64) {}
 }
 
-impl EpochExecutor {
-    ghost use Rattle.std.specs.Prelude.{◌≡◌, ◌<◌, ℕ, string_bytes};
-    ghost use Rattle.std.specs.Prelude.{IfNone, IfOk, IfSome, None, Some};
-    ghost use Rattle.rme_durable_checkpoint.specs.EpochLengths.{jobless_owner};
+impl Checkpoint {
+    ghost use Rattle.std.specs.Prelude.{◌≡◌, IfOk, string_bytes};
     ghost use Rattle.rme_durable_checkpoint.specs.Checkpoints.{BeginsNextEpoch, CheckpointShowsSame};
-    ghost use Rattle.rme_history.specs.Legal.{rows_of_locks};
 
     /// Builds a new epoch of the same locks and workers, in which clients see the same state: each worker with a job
     /// has it again, and is inside its lock if it was; the same sessions have the same workers; and the cells have the
     /// values that the finished scripts left. Recovery from its bytes leads to its world.
-    ///
-    /// After an error nothing is changed.
-    pub fn checkpoint(&self, alloc: Global, names: &Names) -> Result<Checkpoint, CheckpointFailed>
-        ensures same { IfOk result (λ renewed. CheckpointShowsSame self.now.base self.now.executor renewed.executor.base
-            renewed.executor.executor) }
-        ensures begins { IfOk result (λ renewed. BeginsNextEpoch names.now self.now (string_bytes renewed.bytes)
+    pub fn of(
+        executor: &EpochExecutor,
+        alloc: Global,
+        names: &Names,
+    ) -> Result<Checkpoint, CheckpointFailed>
+        ensures same { IfOk result (λ renewed. CheckpointShowsSame executor.now.base executor.now.executor
+            renewed.executor.base renewed.executor.executor) }
+        ensures begins { IfOk result (λ renewed. BeginsNextEpoch names.now executor.now (string_bytes renewed.bytes)
             renewed.executor) }
-        ensures lives { IfOk result (λ renewed. renewed.executor.lives ≡ self.now.lives) }
+        ensures lives { IfOk result (λ renewed. renewed.executor.lives ≡ executor.now.lives) }
     {
         let plan = EpochPlan {
-            shape: self.executor().world().shape(),
-            holders: copy_holders(alloc, self.executor().holders())?,
+            shape: executor.executor().world().shape(),
+            holders: copy_holders(alloc, executor.executor().holders())?,
         };
-        let rebuilt = self.rebuild(alloc, names, plan)?;
-        if !same_lives(rebuilt.checkpoint.executor.lives(), self.lives())
-            || !is_checkpoint_same(&rebuilt.before(self), &rebuilt.after())
+        let rebuilt = rebuild(executor, alloc, names, plan)?;
+        if !same_lives(rebuilt.checkpoint.executor.lives(), executor.lives())
+            || !is_checkpoint_same(&rebuilt.before(executor), &rebuilt.after())
         {
             return Err(CheckpointFailed);
         }
         Ok(rebuilt.checkpoint)
     }
-
-    /// Builds a new epoch with these sizes and sessions, which nobody has compared with this one yet.
-    pub(crate) fn rebuild(
-        &self,
-        alloc: Global,
-        names: &Names,
-        plan: EpochPlan,
-    ) -> Result<RebuiltEpoch, CheckpointFailed>
-        ensures begins { IfOk result (λ rebuilt. BeginsNextEpoch names.now self.now
-            (string_bytes rebuilt.checkpoint.bytes) rebuilt.checkpoint.executor) }
-        ensures holders { IfOk result (λ rebuilt. rebuilt.checkpoint.executor.executor.holders ≡ plan.holders.items) }
-        ensures old_rows { IfOk result (λ rebuilt. rebuilt.old_rows.items ≡ rows_of_locks self.now.executor.world.shape
-            self.now.executor.world.history) }
-        ensures new_rows { IfOk result (λ rebuilt. rebuilt.new_rows.items ≡ rows_of_locks
-            rebuilt.checkpoint.executor.executor.world.shape rebuilt.checkpoint.executor.executor.world.history) }
-    {
-        let old_rows = rows_of(alloc, self.executor().world())?;
-        let bytes = checkpoint_lines(alloc, names, (self, old_rows.as_slice()), &plan)?;
-        let Ok(started) = recover_log(alloc, bytes.as_bytes(), &NoProgress) else {
-            return Err(CheckpointFailed);
-        };
-        let RecoveredLog {
-            header,
-            names: own,
-            world,
-            lives,
-            ..
-        } = started;
-        if !same_names(&own, names)
-            || !are_whole_lines(bytes.as_bytes())
-            || !is_next_epoch(self.epoch(), header.epoch)
-        {
-            return Err(CheckpointFailed);
-        }
-        let base = base_of(alloc, &header)?;
-        let new_rows = rows_of(alloc, &world)?;
-        let Some(executor) = Executor::resume(world, plan.holders) else {
-            return Err(CheckpointFailed);
-        };
-        let start = EpochStart {
-            executor,
-            base,
-            lives,
-            epoch: header.epoch,
-            bytes: bytes.len() as u64,
-        };
-        let executor = EpochExecutor::new(alloc, start);
-        Ok(RebuiltEpoch {
-            checkpoint: Checkpoint { bytes, executor },
-            old_rows,
-            new_rows,
-        })
-    }
-
-    /// A worker that finished its job and crashed before it left the lock, if there is one: a new epoch cannot have it
-    /// inside.
-    pub fn crashed_before_exit(&self) -> Option<u32>
-        ensures found { IfSome result (λ worker. (lock : ℕ) × (lock < self.now.executor.world.shape.locks)
-            × (jobless_owner self.now.executor.world lock ≡ Some worker)) }
-        ensures none { IfNone result ((lock : ℕ) → lock < self.now.executor.world.shape.locks
-            → jobless_owner self.now.executor.world lock ≡ None) }
-    {
-        let world = self.executor().world();
-        for lock in 0..world.shape().locks {
-            if let Some(owner) = jobless_owner(world, lock) {
-                return Some(owner);
-            }
-        }
-        None
-    }
 }
 
-/// The owner of a lock, if it has no pending job.
-fn jobless_owner(world: &World, lock: u32) -> Option<u32>
-    requires { lock < world.now.shape.locks }
-    ensures { result ≡ jobless_owner world.now lock }
+/// Builds a new epoch with these sizes and sessions, which nobody has compared with the old one yet.
+pub(crate) fn rebuild(
+    executor: &EpochExecutor,
+    alloc: Global,
+    names: &Names,
+    plan: EpochPlan,
+) -> Result<RebuiltEpoch, CheckpointFailed>
+    ensures begins { IfOk result (λ rebuilt. BeginsNextEpoch names.now executor.now
+        (string_bytes rebuilt.checkpoint.bytes) rebuilt.checkpoint.executor) }
+    ensures holders { IfOk result (λ rebuilt. rebuilt.checkpoint.executor.executor.holders ≡ plan.holders.items) }
+    ensures old_rows { IfOk result (λ rebuilt. rebuilt.old_rows.items ≡ rows_of_locks executor.now.executor.world.shape
+        executor.now.executor.world.history) }
+    ensures new_rows { IfOk result (λ rebuilt. rebuilt.new_rows.items ≡ rows_of_locks
+        rebuilt.checkpoint.executor.executor.world.shape rebuilt.checkpoint.executor.executor.world.history) }
 {
-    let Ok(Some(owner)) = world.owner(lock) else {
-        return None;
+    let old_rows = rows_of(alloc, executor.executor().world())?;
+    let bytes = checkpoint_lines(alloc, names, (executor, old_rows.as_slice()), &plan)?;
+    let Ok(started) = recover_log(alloc, bytes.as_bytes(), &NoProgress) else {
+        return Err(CheckpointFailed);
     };
-    if owner >= world.shape().workers || world.pending(owner).is_some() {
-        return None;
+    let RecoveredLog {
+        header,
+        names: own,
+        world,
+        lives,
+        ..
+    } = started;
+    if !same_names(&own, names)
+        || !are_whole_lines(bytes.as_bytes())
+        || !is_next_epoch(executor.epoch(), header.epoch)
+    {
+        return Err(CheckpointFailed);
     }
-    Some(owner)
+    let base = base_of(alloc, &header)?;
+    let new_rows = rows_of(alloc, &world)?;
+    let Some(resumed) = Executor::resume(world, plan.holders) else {
+        return Err(CheckpointFailed);
+    };
+    let start = EpochStart {
+        executor: resumed,
+        base,
+        lives,
+        epoch: header.epoch,
+        bytes: bytes.len() as u64,
+    };
+    let executor = EpochExecutor::new(alloc, start);
+    Ok(RebuiltEpoch {
+        checkpoint: Checkpoint { bytes, executor },
+        old_rows,
+        new_rows,
+    })
 }
 
 /// Whether an epoch follows another one, by the numbers of epochs before them.

@@ -1,9 +1,7 @@
 //! The header of the next epoch.
 
 use crate::checkpoint_builder::CheckpointFailed;
-use crate::epoch_base::Base;
-use crate::epoch_executor::EpochExecutor;
-use crate::sections::{Sections, last_receipts};
+use rme_durable_epochs::{Base, EpochExecutor, Sections, last_receipts};
 use rme_durable_format::{LastJob, LogHeader};
 use rme_line_text::ClientReceipt;
 use rme_program::Receipt;

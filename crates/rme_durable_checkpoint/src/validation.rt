@@ -3,8 +3,8 @@
 ghost use Rattle.std.specs.Prelude.{◌≡◌, ◌<◌, ◌≤◌, ◌+◌, ℕ, IfOk, IfSome, IsTrue, Ok, Option, option_map};
 ghost use Rattle.rme_program.specs.declared.note.Receipt.{Receipt};
 ghost use Rattle.rme_session_world.specs.Executors.{held_session};
-ghost use Rattle.rme_durable_checkpoint.specs.ClientValues.{client_session};
-ghost use Rattle.rme_durable_checkpoint.specs.ClientValues as value;
+ghost use Rattle.rme_durable_epochs.specs.ClientValues.{client_session};
+ghost use Rattle.rme_durable_epochs.specs.ClientValues as value;
 ghost use Rattle.rme_history.specs.Legal.{rows_of_locks};
 ghost use Rattle.rme_tree.specs.Nodes.{owner_in};
 ghost use Rattle.rme_line_text.specs.ClientReceipts.{as_receipt};
@@ -14,8 +14,7 @@ ghost use Rattle.rme_world.specs.WorldViews.{world_memory};
 ghost use Rattle.rme_durable_checkpoint.specs.Checkpoints as spec;
 
 use crate::alike::{same_job, same_last, same_rows, same_session};
-use crate::epoch_base::Base;
-use crate::sections::next_place;
+use rme_durable_epochs::{Base, next_place};
 use rme_line_text::ClientReceipt;
 use rme_script::Row;
 use rme_session_world::Executor;
@@ -189,7 +188,7 @@ fn is_number_alike(before: &ComparedState<'_>, after: &ComparedState<'_>, worker
     requires one { worker < before.now.executor.now.world.shape.workers }
     requires other { worker < after.now.executor.now.world.shape.workers }
     ensures { IsTrue result
-        → spec.client_number after.now.base.now after.now.executor.now.world worker ≡ spec.client_number
+        → value.client_number after.now.base.now after.now.executor.now.world worker ≡ value.client_number
         before.now.base.now before.now.executor.now.world worker }
 {
     match (client_number(before, worker), client_number(after, worker)) {
@@ -201,7 +200,7 @@ fn is_number_alike(before: &ComparedState<'_>, after: &ComparedState<'_>, worker
 /// The number of a worker's last job, as clients see it.
 pub(crate) fn client_number(shown: &ComparedState<'_>, worker: u32) -> Option<u64>
     requires { worker < shown.now.executor.now.world.shape.workers }
-    ensures { IfSome result (λ number. number ≡ spec.client_number shown.now.base.now shown.now.executor.now.world
+    ensures { IfSome result (λ number. number ≡ value.client_number shown.now.base.now shown.now.executor.now.world
         worker) }
 {
     let numbers = shown.base.worker_base(worker).numbers;

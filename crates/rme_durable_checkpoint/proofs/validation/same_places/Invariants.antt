@@ -1,6 +1,6 @@
 -- The locks so far have the same next places.
 use Rattle.std.proofs.Common.{◌≡◌, ℕ, ◌<◌}
-use Rattle.rme_durable_checkpoint.specs.ClientValues.{next_client_place}
+use Rattle.rme_durable_epochs.specs.ClientValues.{next_client_place}
 use Rattle.rme_durable_checkpoint.proofs.validation.same_places.Given as goal
 
 abbrev pub invariant-loop-lock : goal.invariant-loop-lock
