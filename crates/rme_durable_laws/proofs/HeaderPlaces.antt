@@ -8,8 +8,8 @@ use Rattle.rme_line_json.specs.Values.{json_value_of}
 use Rattle.rme_words.specs.declared.shape.Shape.{Shape}
 use Rattle.rme_durable_format.specs.Headers.{AreItemsOf, HasHeaderMembers, HeaderValues, IsPlaceCount}
 use Rattle.rme_durable_format.specs.Recovery.{BeginsWithHeader}
-use Rattle.rme_durable_checkpoint.specs.HeaderBases.{IsHeaderBase, header_offset}
-use Rattle.rme_durable_checkpoint.specs.declared.epoch_base.Base.{Base}
+use Rattle.rme_durable_epochs.specs.HeaderBases.{IsHeaderBase, header_offset}
+use Rattle.rme_durable_epochs.specs.declared.epoch_base.Base.{Base}
 
 items_same : (items : Items) (one other : List ℤ) → AreItemsOf IsPlaceCount items one → AreItemsOf IsPlaceCount items other → one ≡ other
 items_same no_items [] [] all more = refl

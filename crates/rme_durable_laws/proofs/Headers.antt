@@ -16,7 +16,7 @@ use Rattle.rme_durable_log.proofs.Texts.{bytes_after-append}
 use Rattle.rme_durable_format.specs.Headers.{HeaderValues}
 use Rattle.rme_durable_format.specs.Recovery.{BeginsWithHeader}
 use Rattle.rme_durable_format.specs.WholeLines.{AreWholeLines}
-use Rattle.rme_durable_checkpoint.specs.HeaderBases.{IsHeaderBase}
+use Rattle.rme_durable_epochs.specs.HeaderBases.{IsHeaderBase}
 use Rattle.rme_durable_server.specs.ServerHistories.{BeginsEpoch, EntriesLead, HasStateHeader, ServerState}
 use Rattle.rme_durable_laws.specs.Histories.{checkpoint_count}
 use Rattle.rme_durable_laws.proofs.Prefixes.{bytes_grown, last_whole, lines_whole, split_lead}

@@ -6,7 +6,7 @@ use Rattle.rme_session_world.specs.SessionBatches.{AppliesSessionBatch, holder_b
 use Rattle.rme_session_world.specs.declared.event_batch.EventBatch.{EventBatch}
 use Rattle.rme_durable_log.specs.declared.log_entry.LogEntry.{LogEntry}
 use Rattle.rme_durable_log.specs.declared.log_entry.LogEntry.TheVariants.{Lines, Whole}
-use Rattle.rme_durable_checkpoint.specs.declared.epoch_base.Base.{Base}
+use Rattle.rme_durable_epochs.specs.declared.epoch_base.Base.{Base}
 use Rattle.rme_durable_format.specs.Lives.{lives_after_batch}
 use Rattle.rme_durable_server.specs.ServerHistories.{EntriesLead, EntryLeads, ServerState}
 use Rattle.rme_durable_laws.specs.Histories.{AreStatesAlike}

@@ -23,8 +23,8 @@ use Rattle.rme_session_world.specs.WorkerSessions.{worker_session, worker_sessio
 use Rattle.rme_world.specs.WorldViews.{WorldView, private_if_up, world_abstract_state, world_memory}
 use Rattle.rme_durable_log.specs.declared.log_entry.LogEntry.{LogEntry}
 use Rattle.rme_durable_log.specs.declared.log_entry.LogEntry.TheVariants.{Lines}
-use Rattle.rme_durable_checkpoint.specs.ClientValues.{client_session}
-use Rattle.rme_durable_checkpoint.specs.declared.epoch_base.Base.{Base}
+use Rattle.rme_durable_epochs.specs.ClientValues.{client_session}
+use Rattle.rme_durable_epochs.specs.declared.epoch_base.Base.{Base}
 use Rattle.rme_durable_server.specs.ServerHistories.{EntriesLead, KeepsWorker, LogLeads, ServerOpening, ServerState, SessionActs, SessionMoment}
 use Rattle.rme_durable_server.proofs.Leading.{leads_more}
 use Rattle.rme_durable_laws.specs.AlikeWorlds.{AreWorldsAlike}

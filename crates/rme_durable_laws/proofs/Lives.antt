@@ -21,7 +21,7 @@ use Rattle.rme_session_protocol.specs.declared.view.Session.{Session}
 use Rattle.rme_session_protocol.specs.declared.view.Session.TheVariants.{Held, Nobody}
 use Rattle.rme_session_world.specs.Executors.{executor_session_view}
 use Rattle.rme_words.specs.declared.refusal.Refusal.TheVariants.{Overtaken}
-use Rattle.rme_durable_checkpoint.specs.ClientLives.{IsRestartedAfter, TellsOvertaken}
+use Rattle.rme_durable_epochs.specs.ClientLives.{IsRestartedAfter, TellsOvertaken}
 use Rattle.rme_durable_server.specs.DurableAnswers.{DurableAttempt}
 use Rattle.rme_durable_server.specs.ServerHistories.{EntriesLead, EntryLeads, ServerOpening, ServerState, SessionMoment}
 use Rattle.rme_durable_laws.specs.Histories.{AreLivesWhole, HaveLivesGrown}

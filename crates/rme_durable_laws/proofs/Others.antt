@@ -35,8 +35,8 @@ use Rattle.rme_program.specs.declared.note.Receipt.{Receipt}
 use Rattle.rme_durable_log.specs.Logs.{AreNotByAuthor, IsNotByAuthor}
 use Rattle.rme_durable_log.specs.declared.log_entry.LogEntry.{LogEntry}
 use Rattle.rme_durable_log.specs.declared.log_entry.LogEntry.TheVariants.{Lines, Whole}
-use Rattle.rme_durable_checkpoint.specs.ClientValues.{client_session}
-use Rattle.rme_durable_checkpoint.specs.declared.epoch_base.Base.{Base}
+use Rattle.rme_durable_epochs.specs.ClientValues.{client_session}
+use Rattle.rme_durable_epochs.specs.declared.epoch_base.Base.{Base}
 use Rattle.rme_durable_server.specs.ServerHistories.{AppendsSessionBatch, BeginsEpoch, EntriesLead, EntryLeads, KeepsWorker, ServerState}
 
 -- ---- a step of the machine

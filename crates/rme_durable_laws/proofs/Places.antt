@@ -28,8 +28,8 @@ use Rattle.rme_session_world.specs.Executors.{executor_session_view, held_sessio
 use Rattle.rme_session_world.specs.ExecutorStates.{ExecutorState, is_held_by}
 use Rattle.rme_session_world.specs.WorkerSessions.{worker_session, worker_session_by, worker_state_in}
 use Rattle.rme_session_world.specs.declared.executor.SessionState.{SessionState}
-use Rattle.rme_durable_checkpoint.specs.ClientValues.{client_pending, client_session, next_client_place}
-use Rattle.rme_durable_checkpoint.specs.declared.epoch_base.Base.{Base}
+use Rattle.rme_durable_epochs.specs.ClientValues.{client_pending, client_session, next_client_place}
+use Rattle.rme_durable_epochs.specs.declared.epoch_base.Base.{Base}
 use Rattle.rme_durable_server.specs.DurableAnswers.{DurableAttempt}
 use Rattle.rme_durable_server.specs.ServerHistories.{AppendsAtMostOne, ServerOpening, ServerState, SessionMoment}
 use Rattle.rme_durable_laws.specs.HeldLocks.{BeginsWith, IsSessionInside}

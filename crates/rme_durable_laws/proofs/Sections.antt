@@ -28,9 +28,9 @@ use Rattle.rme_session_world.specs.WorkerSessions.{worker_session, worker_state_
 use Rattle.rme_durable_log.specs.Logs.{AreNotByAuthor, IsNotByAuthor}
 use Rattle.rme_durable_log.specs.declared.log_entry.LogEntry.{LogEntry}
 use Rattle.rme_durable_log.specs.declared.log_entry.LogEntry.TheVariants.{Lines, Whole}
-use Rattle.rme_durable_checkpoint.specs.ClientValues.{client_place, next_client_place, offset_place}
-use Rattle.rme_durable_checkpoint.specs.declared.epoch_base.Base.{Base}
-use Rattle.rme_durable_checkpoint.specs.declared.epoch_base.PlaceOffset.{PlaceOffset}
+use Rattle.rme_durable_epochs.specs.ClientValues.{client_place, next_client_place, offset_place}
+use Rattle.rme_durable_epochs.specs.declared.epoch_base.Base.{Base}
+use Rattle.rme_durable_epochs.specs.declared.epoch_base.PlaceOffset.{PlaceOffset}
 use Rattle.rme_durable_server.specs.ServerHistories.{EntriesLead, EntryLeads, ServerOpening, ServerState, SessionActs, SessionMoment, LogLeads}
 use Rattle.rme_durable_laws.specs.HeldLocks.{BeginsWith, IsSessionInside, IsWorldReachable}
 use Rattle.rme_durable_laws.specs.Histories.{AreStatesAlike}

@@ -27,7 +27,7 @@ ghost use Rattle.rme_session_protocol.specs.declared.reply.SessionReply.TheVaria
 ghost use Rattle.rme_session_protocol.specs.declared.view.PendingWorker.{PendingWorker};
 ghost use Rattle.rme_session_protocol.specs.declared.view.Session.TheVariants.{Held, Nobody};
 ghost use Rattle.rme_words.specs.declared.refusal.Refusal.TheVariants.{Overtaken};
-ghost use Rattle.rme_durable_checkpoint.specs.ClientValues.{next_client_place};
+ghost use Rattle.rme_durable_epochs.specs.ClientValues.{next_client_place};
 ghost use Rattle.rme_durable_server.specs.DurableAnswers.{DurableAttempt};
 ghost use Rattle.rme_durable_server.specs.ServerHistories.{EntriesLead, HasStateHeader, KeepsWorker, ServerState, SessionActs, SessionMoment};
 ghost use Rattle.rme_durable_laws.specs.AlikeWorlds.{AreWorldsAlike};

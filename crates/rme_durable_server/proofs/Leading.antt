@@ -12,12 +12,13 @@ use Rattle.rme_durable_log.specs.declared.log_entry.LogEntry.TheVariants.{Lines,
 use Rattle.rme_durable_format.specs.BatchCommands.{batch_commands, batch_commands_if}
 use Rattle.rme_durable_format.specs.CommandLines.{AppendsCommands}
 use Rattle.rme_durable_format.specs.Lives.{lives_after_batch, lives_after_batch_if}
-use Rattle.rme_durable_checkpoint.specs.EpochStates.{EpochState}
-use Rattle.rme_durable_checkpoint.specs.declared.epoch_base.Base.{Base}
-use Rattle.rme_durable_checkpoint.specs.LoggedStates.{LoggedStep, logged_state}
+use Rattle.rme_durable_epochs.specs.EpochStates.{EpochState}
+use Rattle.rme_durable_epochs.specs.declared.epoch_base.Base.{Base}
+use Rattle.rme_durable_epochs.specs.LoggedStates.{LoggedStep, logged_state}
 use Rattle.rme_durable_server.specs.ServerHistories.{AppendsAtMostOne, AppendsIfAny, AppendsSessionBatch, BeginsEpoch, EntriesLead, EntryLeads, IsLogged, LogLeads, ServerOpening, ServerState, SessionActs, SessionMoment, server_state, session_moment}
-use Rattle.rme_durable_server.specs.DurableAnswers.{DurableLookup, LookupMoment, LookupShows}
-use Rattle.rme_durable_server.specs.declared.lookup.SessionLookup.{SessionLookup}
+use Rattle.rme_durable_lookups.specs.LookupAnswers.{LookupShows}
+use Rattle.rme_durable_server.specs.DurableAnswers.{DurableLookup, LookupMoment, shown_state}
+use Rattle.rme_durable_lookups.specs.declared.lookup.SessionLookup.{SessionLookup}
 use Rattle.rme_session_world.specs.declared.executor.SessionState.{SessionState}
 use Rattle.rme_durable_server.proofs.Growing.{appends_from, commands_some, drop_all, drop_rest}
 
@@ -122,10 +123,10 @@ acted opening old state end epoch after from to author by others logged appends 
   session = session;
 }
 
-pub shown_at : (found : Option (List LogEntry)) (opening : ServerOpening) (names : List (List ℕ)) (state : ServerState) (look : SessionLookup) (bytes : List ℕ) → names ≡ opening.names → IfSome found (λ (end : List LogEntry). LogLeads opening end state) → LookupShows names state look bytes
+pub shown_at : (found : Option (List LogEntry)) (opening : ServerOpening) (names : List (List ℕ)) (state : ServerState) (look : SessionLookup) (bytes : List ℕ) → names ≡ opening.names → IfSome found (λ (end : List LogEntry). LogLeads opening end state) → LookupShows names (shown_state state) look bytes
     → IfSome found (λ (end : List LogEntry). LookupMoment opening look bytes end)
 shown_at None opening names state look bytes named leads shows = tt
-shown_at (Some end) opening names state look bytes named leads shows = record { state = state; leads = leads; shows = subst (λ (n : List (List ℕ)). LookupShows n state look bytes) named shows }
+shown_at (Some end) opening names state look bytes named leads shows = record { state = state; leads = leads; shows = subst (λ (n : List (List ℕ)). LookupShows n (shown_state state) look bytes) named shows }
 
 pub looked_up : {X : Type 0} (holds : X → StoreState) (opening : ServerOpening) (old : SessionMoment) (look : SessionLookup) (bytes : List ℕ) (end : List LogEntry) (now : SessionMoment) → now ≡ session_moment old.session end → GrowsByOthers old.session.session old.log end → LookupMoment opening look bytes end → IsLogDurable holds end
     → DurableLookup holds opening old look bytes now

@@ -1,8 +1,8 @@
 -- How the lines of a session of the durable server are answered.
 use Rattle.std.specs.Prelude.{◌≡◌, ◌≢◌, ◌⊎◌, ℕ, zero, suc, nat_le, Bool, true, false, List, [], ◌∷◌, ◌++◌, Option, Some, None, Result, Ok, Err}
 use Rattle.rme_line_io.specs.Pieces.{InputLine}
-use Rattle.rme_durable_checkpoint.specs.ClientLives.{TellsClientLife, TellsOvertaken}
-use Rattle.rme_durable_checkpoint.specs.EpochStates.{SessionStepAcrossCheckpoints, TellsClientPlace, TellsClientSection, executor_session}
+use Rattle.rme_durable_epochs.specs.ClientLives.{TellsClientLife, TellsOvertaken}
+use Rattle.rme_durable_epochs.specs.EpochStates.{SessionStepAcrossCheckpoints, TellsClientPlace, TellsClientSection, executor_session}
 use Rattle.rme_durable_log.specs.StoreCalls.{StoreState}
 use Rattle.rme_durable_log.specs.Logs.{AreNotByAuthor, IsLogDurable}
 use Rattle.rme_durable_log.specs.declared.log_entry.LogEntry.{LogEntry}
@@ -24,19 +24,14 @@ use Rattle.rme_session_protocol.specs.declared.reply.SessionReply.{SessionReply}
 use Rattle.rme_session_protocol.specs.declared.reply.SessionReply.TheVariants.{Refused}
 use Rattle.rme_words.specs.declared.refusal.Refusal.{Refusal}
 use Rattle.rme_words.specs.declared.refusal.Refusal.TheVariants.{BadLine, Busy, NoWorker, Taken}
-use Rattle.rme_line_text.specs.Replies.{reply_text}
-use Rattle.rme_line_text.specs.declared.reply.Reply.{Reply}
-use Rattle.rme_line_text.specs.declared.reply.Reply.TheVariants as line
-use Rattle.rme_world.specs.Calls.{CellsContract, OwnerContract}
-use Rattle.rme_durable_server.specs.declared.lookup.SessionLookup.{SessionLookup}
-use Rattle.rme_durable_server.specs.declared.lookup.SessionLookup.TheVariants.{Owner, Cells, Status}
-use Rattle.rme_durable_server.specs.Lookups.{lookup_of_line}
+use Rattle.rme_durable_lookups.specs.declared.lookup.SessionLookup.{SessionLookup}
+use Rattle.rme_durable_lookups.specs.Lookups.{lookup_of_line}
 use Rattle.rme_durable_server.specs.declared.worker_choice.Chosen.{Chosen}
 use Rattle.rme_durable_server.specs.declared.worker_choice.Chosen.TheVariants as chosen
 use Rattle.rme_durable_server.specs.declared.worker_choice.Chosen.TheVariants.{Worker}
 use Rattle.rme_session_protocol.specs.ClientReplies.{reply_of_client}
-use Rattle.rme_durable_server.specs.declared.worker_notes.WorkerNote.{WorkerNote}
-use Rattle.rme_durable_server.specs.StatusTexts.{status_state, status_text}
+use Rattle.rme_durable_lookups.specs.LookupAnswers.{LookupShows}
+use Rattle.rme_durable_lookups.specs.StatusTexts.{StatusState, status_state}
 use Rattle.rme_durable_server.specs.ServerHistories.{LogLeads, ServerOpening, ServerState, SessionActs, SessionEnds, SessionMoment}
 
 -- One try: at one moment of the log, with no other session between, the session executed the order, as its client sees
@@ -109,34 +104,16 @@ IsSessionBegun None stand =
     × AreNotByAuthor stand.session.session stand.log
 IsSessionBegun (Some old) stand = stand ≡ old
 
--- The answers of the world's own look-ups.
-abbrev pub owner_reply : Result (Option ℕ) Refusal → Reply
-owner_reply (Ok owner) = line.Owner owner
-owner_reply (Err why) = line.Refused why
-
-abbrev pub cells_reply : Result (List ℕ × Bool) Refusal → Reply
-cells_reply (Ok cells) = line.Cells cells.0 cells.1
-cells_reply (Err why) = line.Refused why
-
--- What a look-up shows of a state: the owner and the cells by the world's own calls, and the status with some notes on
--- the workers.
-abbrev pub LookupShows : List (List ℕ) → ServerState → SessionLookup → List ℕ → Type 0
-LookupShows names state (Owner lock) bytes =
-    (found : Result (Option ℕ) Refusal) × OwnerContract state.executor.world lock found
-    × (bytes ≡ reply_text names state.executor.world.history (owner_reply found) ++ 10 ∷ [])
-LookupShows names state (Cells lock) bytes =
-    (found : Result (List ℕ × Bool) Refusal) × CellsContract state.executor.world lock found
-    × (bytes ≡ reply_text names state.executor.world.history (cells_reply found) ++ 10 ∷ [])
-LookupShows names state Status bytes =
-    (notes : List WorkerNote)
-    × (bytes ≡ status_text names (status_state state.epoch state.base state.executor.world) notes ++ 10 ∷ [])
+-- What look-ups show of a state.
+abbrev pub shown_state : ServerState → StatusState
+shown_state state = status_state state.epoch state.base state.executor.world
 
 -- The log leads to a state in which the look-up shows this.
 pub record LookupMoment (opening : ServerOpening) (look : SessionLookup) (bytes : List ℕ) (log : List LogEntry) : Type 0
   where
     pub state : ServerState
     pub leads : LogLeads opening log state
-    pub shows : LookupShows opening.names state look bytes
+    pub shows : LookupShows opening.names (shown_state state) look bytes
 
 -- A look-up is answered with what it shows at one moment of the log, at which the session acts and appends nothing,
 -- once everything before that moment is durable.
@@ -175,10 +152,10 @@ pub record AttachesChosen (opening : ServerOpening) (clients : ℕ) (old : Sessi
 
 -- What a session gets that leaves the choice to the server, and its answer, once everything before its moment is
 -- durable.
-abbrev pub ChoiceOutcome : ClientTerms → SessionMoment → ChoiceRequest → Chosen → SessionMoment → Type 0
-ChoiceOutcome terms old asked (Worker worker told) now =
+abbrev pub DurableChoiceOutcome : ClientTerms → SessionMoment → ChoiceRequest → Chosen → SessionMoment → Type 0
+DurableChoiceOutcome terms old asked (Worker worker told) now =
     AttachesChosen terms.opening terms.clients old asked worker now (reply_of_client told)
-ChoiceOutcome terms old asked (chosen.Refused why) now = ChoiceIsRefused terms old asked.choice why now
+DurableChoiceOutcome terms old asked (chosen.Refused why) now = ChoiceIsRefused terms old asked.choice why now
 
 abbrev pub chosen_line : List (List ℕ) → Chosen → List ℕ
 chosen_line names (Worker worker told) = choice_reply_line names worker (reply_of_client told)
@@ -187,7 +164,7 @@ chosen_line names (chosen.Refused why) = session_reply_line names (Refused why)
 abbrev pub DurableChoice : {X : Type 0} → (X → StoreState) → ClientTerms → SessionMoment → ChoiceRequest → List ℕ
     → SessionMoment → Type 0
 DurableChoice holds terms old asked bytes now =
-    (found : Chosen) × ChoiceOutcome terms old asked found now × IsLogDurable holds now.log
+    (found : Chosen) × DurableChoiceOutcome terms old asked found now × IsLogDurable holds now.log
     × (bytes ≡ chosen_line terms.opening.names found)
 
 -- What a line asks: an order, a look-up, a worker of the server's choice, or nothing, with why it is refused.

@@ -17,10 +17,10 @@ use Rattle.rme_durable_format.specs.Lives.{RecoversLives, lives_after_batch}
 use Rattle.rme_durable_format.specs.Recovery.{BeginsWithHeader, RecoversWorld}
 use Rattle.rme_durable_format.specs.WholeLines.{AreWholeLines}
 use Rattle.rme_durable_checkpoint.specs.Checkpoints.{CheckpointShowsSame}
-use Rattle.rme_durable_checkpoint.specs.HeaderBases.{IsHeaderBase}
-use Rattle.rme_durable_checkpoint.specs.ClientValues.{client_session}
-use Rattle.rme_durable_checkpoint.specs.EpochStates.{EpochState}
-use Rattle.rme_durable_checkpoint.specs.declared.epoch_base.Base.{Base}
+use Rattle.rme_durable_epochs.specs.HeaderBases.{IsHeaderBase}
+use Rattle.rme_durable_epochs.specs.ClientValues.{client_session}
+use Rattle.rme_durable_epochs.specs.EpochStates.{EpochState}
+use Rattle.rme_durable_epochs.specs.declared.epoch_base.Base.{Base}
 
 -- The state of a server: the world with the session that has each worker, the base of the epoch, how often each worker
 -- was restarted, and the number of earlier epochs.

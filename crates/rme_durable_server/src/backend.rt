@@ -7,10 +7,10 @@ ghost use Rattle.rme_line_io.specs.StreamEvents.{LastWriteFailed, WritesMade};
 ghost use Rattle.rme_session_server.specs.SessionAnswers.{AnswerFailure};
 
 use crate::durable_server::DurableServer;
-use crate::lookup::{SessionLookup, parse_lookup};
 use crate::session::{DurableSession, ServerTag};
 use crate::worker_choice::Chosen;
 use rme_durable_log::LogStore;
+use rme_durable_lookups::{SessionLookup, parse_lookup};
 use rme_session_protocol::{ChoiceRequest, ClientReply, SERVICE_NUMBERS, SessionReply};
 use rme_session_server::{
     AnswerError, AttemptError, Backend, Buffers, Client, CloseHandle, OrderRequest, OrderRun,
@@ -105,7 +105,7 @@ impl<L: LogStore, H: CloseHandle, J: ServerTag> Backend for DurableServer<L, H, 
 impl<L: LogStore, H: CloseHandle, J: ServerTag> DurableServer<L, H, J> {
     ghost use Rattle.std.specs.Prelude.{◌≡◌, ◌≢◌, IfErr, IfOk, IfSome, None, OnOk, string_bytes, Err};
     ghost use Rattle.rme_durable_server.specs.DurableAnswers.{DurableChoice, DurableLineReply, DurableLookup, IsSessionBegun, ask_if_bad, client_terms};
-    ghost use Rattle.rme_durable_server.specs.Lookups.{lookup_of_bytes};
+    ghost use Rattle.rme_durable_lookups.specs.Lookups.{lookup_of_bytes};
     ghost use Rattle.rme_durable_log.specs.Logs.{IsLogDurable};
     ghost use Rattle.rme_session_protocol.specs.SessionLines.{choice_reply_line, session_reply_line};
     ghost use Rattle.rme_session_protocol.specs.WorkerChoices.{choice_of_bytes};

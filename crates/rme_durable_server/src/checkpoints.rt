@@ -5,7 +5,7 @@ ghost use Rattle.std.specs.Prelude.{◌≡◌};
 use crate::durable_executor::DurableExecutor;
 use crate::durable_server::DurableServer;
 use crate::session::ServerTag;
-use rme_durable_checkpoint::EpochExecutor;
+use rme_durable_epochs::EpochExecutor;
 use rme_durable_log::{LogStore, LogWriter, PendingLines};
 use rme_session_protocol::{Attachment, Order};
 use rme_session_server::{Client, CloseHandle, SessionEvent};

@@ -4,11 +4,12 @@ ghost use Rattle.std.specs.Prelude.{◌≡◌, ◌≤◌, IfSome, OnSome, drop, 
 ghost use Rattle.rme_durable_server.specs.ServerHistories.{AppendsIfAny};
 
 use crate::session::{DurableSession, ServerTag};
-use crate::worker_notes::{WorkerNote, WorkerNotes};
-use rme_durable_checkpoint::{ApplyError, Checkpoint, ClientAnswer, EpochExecutor};
+use rme_durable_checkpoint::Checkpoint;
+use rme_durable_epochs::{ApplyError, ClientAnswer, EpochExecutor};
 use rme_durable_log::{
     LogAppender, LogAuthor, LogPosition, LogStore, LogTag, LogWriter, PendingBatch, PendingLines,
 };
+use rme_durable_lookups::{WorkerNote, WorkerNotes};
 use rme_session_protocol::Order;
 use rme_session_world::SessionState;
 use rme_wire::Names;
@@ -35,7 +36,7 @@ pub(crate) struct DurableExecutor<L: LogStore, J: ServerTag> {
 
 impl<L: LogStore, J: ServerTag> Model for DurableExecutor<L, J> {
     ghost use Rattle.std.specs.Prelude.{IfSome};
-    ghost use Rattle.rme_durable_checkpoint.specs.EpochStates.{EpochState};
+    ghost use Rattle.rme_durable_epochs.specs.EpochStates.{EpochState};
     ghost use Rattle.rme_durable_server.specs.ServerHistories.{IsLogged};
 
     ghost Value = { EpochState };
@@ -248,7 +249,7 @@ impl<L: LogStore, J: ServerTag> DurableExecutor<L, J> {
         ensures begins { IfSome result (λ renewed. BeginsEpoch J.opening.names (server_state self.now)
             (string_bytes renewed.bytes) (server_state renewed.executor)) }
     {
-        match self.executor.checkpoint(alloc, names) {
+        match Checkpoint::of(&self.executor, alloc, names) {
             Ok(renewed) => Some(renewed),
             Err(_) => None,
         }

@@ -4,18 +4,15 @@ ghost use Rattle.std.specs.Prelude.{◌≡◌};
 
 use crate::checkpoints::CheckpointPolicy;
 use crate::durable_executor::{DurableExecutor, DurableReply, order_worker};
-use crate::lookup::SessionLookup;
-use crate::lookup_answer::write_lookup;
 use crate::session::{DurableSession, ServerTag};
-use crate::status::clients_of;
 use crate::waiting_jobs::{WaitingJobs, Withdrawal};
-use crate::worker_notes::WorkerNotes;
-use rme_durable_checkpoint::{ApplyError, ClientAnswer, EpochExecutor};
+use rme_durable_epochs::{ApplyError, ClientAnswer, EpochExecutor};
 use rme_durable_log::{
     GroupCommit, LogPosition, LogStore, LogTag, NotDurable, OpenLog, lock_with_spin,
 };
+use rme_durable_lookups::{SessionLookup, WorkerNotes, clients_of, write_lookup};
 use rme_session_protocol::{ClientReply, Order};
-use rme_session_server::{Client, CloseHandle, Departure, SessionRegistry, is_take_over};
+use rme_session_server::{Client, CloseHandle, ReleaseCause, SessionRegistry, is_take_over};
 use rme_wire::Names;
 use rme_words::{NoMemory, Refusal};
 use std::alloc::Global;
@@ -226,7 +223,7 @@ impl<L: LogStore, H: CloseHandle, J: ServerTag> DurableServer<L, H, J> {
             client.observe(*event);
         }
         if let Some(claim) = claim {
-            claim.release(client, Departure::SessionEnd);
+            claim.release(client, ReleaseCause::SessionEnd);
         }
         self.registry.notify_worker_free(rt);
         if let Some(withdrawn) = withdrawn {

@@ -3,8 +3,8 @@
 //! The sessions share one world. An order is a batch of events of the world, applied under one lock, and it is answered
 //! once the lines of the batch are in the log. One session commits the lines of all sessions that wait (group commit).
 //! A session begins a new epoch where a checkpoint is due. The crate stands on rme_durable_checkpoint, whose executor
-//! applies the orders and logs them, on rme_durable_log, which appends and commits the lines, and on
-//! rme_session_server, whose `session` and `serve` it is a backend of. Those above use `DurableServer`, which is that
+//! applies the orders and logs them, on rme_durable_log, which appends and commits the lines, on rme_durable_lookups,
+//! which answers look-ups, and on rme_session_server, whose `session` and `serve` it is a backend of. Those above use `DurableServer`, which is that
 //! backend. Begin with `specs/ServerHistories.antt`, the history of a server's life,
 //! and `durable_executor.rt`, whose invariant it is; then `durable_server.rt`, `order_attempts.rt`, where an order is
 //! tried, and `checkpoints.rt`.
@@ -14,22 +14,12 @@ mod backend;
 mod checkpoints;
 mod durable_executor;
 mod durable_server;
-mod lookup;
-mod lookup_answer;
 mod order_attempts;
 mod session;
-mod status;
 mod waiting_jobs;
 mod worker_choice;
-mod worker_notes;
 
 pub use durable_server::{DurableServer, ServerSetting};
-pub use lookup::{SessionLookup, parse_lookup};
 pub use rme_durable_log::{LogStore, NotDurable};
 pub use session::ServerTag;
-pub use status::{
-    LockStatus, StatusSource, WorkerStance, WorkerStatus, clients_of, lock_status,
-    push_cell_values, push_status, worker_status,
-};
 pub use waiting_jobs::WaitingJobs;
-pub use worker_notes::WorkerNote;

@@ -6,7 +6,7 @@ ghost use Rattle.rme_session_protocol.specs.ClientReplies.{reply_of_client};
 
 use crate::durable_server::DurableServer;
 use crate::session::{DurableSession, ServerTag};
-use rme_durable_checkpoint::{ApplyError, ClientAnswer};
+use rme_durable_epochs::{ApplyError, ClientAnswer};
 use rme_durable_log::LogStore;
 use rme_session_protocol::{
     ClientReply, Order, is_client_waiting, merge_client_replies, retry_order,

@@ -3,7 +3,7 @@
 ghost use Rattle.std.specs.Prelude.{◌≡◌};
 
 use crate::durable_executor::DurableReply;
-use rme_durable_checkpoint::ClientAnswer;
+use rme_durable_epochs::ClientAnswer;
 use rme_durable_log::{LogAppender, LogAuthor, LogPosition, LogStore, LogTag};
 use rme_session_world::SessionState;
 use std::marker::{Brand, Model};

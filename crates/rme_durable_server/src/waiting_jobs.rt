@@ -3,8 +3,8 @@
 use crate::durable_executor::DurableExecutor;
 use crate::durable_server::DurableServer;
 use crate::session::ServerTag;
-use crate::status::{WorkerStance, worker_stance};
 use rme_durable_log::{LogPosition, LogStore, NotDurable, lock_with_spin};
+use rme_durable_lookups::{WorkerStance, worker_stance};
 use rme_session_protocol::{Attachment, ClientReply, Order, SessionStance};
 use rme_session_server::{CloseHandle, ServerObserver, SessionEvent};
 use std::sync::Wait;

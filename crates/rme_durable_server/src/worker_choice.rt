@@ -6,7 +6,7 @@ ghost use Rattle.rme_durable_server.specs.DurableAnswers.{IsWhyNoneChosen};
 use crate::durable_executor::DurableReply;
 use crate::durable_server::DurableServer;
 use crate::session::{DurableSession, ServerTag};
-use rme_durable_checkpoint::ApplyError;
+use rme_durable_epochs::ApplyError;
 use rme_durable_log::{LogPosition, LogStore, lock_with_spin};
 use rme_session_protocol::{Attachment, ChoiceRequest, ClientReply, Order, Session, WorkerChoice};
 use rme_session_server::{AnswerError, Client, CloseHandle};
@@ -29,7 +29,7 @@ type NoChoice<L, J> = (Refusal, LogPosition<L, J>);
 
 impl<L: LogStore, H: CloseHandle, J: ServerTag> DurableServer<L, H, J> {
     ghost use Rattle.std.specs.Prelude.{◌≢◌, IfErr, IfOk, IfSome};
-    ghost use Rattle.rme_durable_server.specs.DurableAnswers.{AttachesChosen, ChoiceIsRefused, ChoiceOutcome, client_terms};
+    ghost use Rattle.rme_durable_server.specs.DurableAnswers.{AttachesChosen, ChoiceIsRefused, DurableChoiceOutcome, client_terms};
     ghost use Rattle.rme_durable_server.specs.ServerHistories.{session_moment};
     ghost use Rattle.rme_session_protocol.specs.ClientReplies.{reply_of_client};
 
@@ -42,8 +42,8 @@ impl<L: LogStore, H: CloseHandle, J: ServerTag> DurableServer<L, H, J> {
         asked: &ChoiceRequest,
         client: &C,
     ) -> (DurableSession<L, J>, Result<Chosen, AnswerError>)
-        ensures outcome { IfOk result.1 (λ chosen. ChoiceOutcome (client_terms self.now.clients J.opening) session
-            asked.now chosen result.0) }
+        ensures outcome { IfOk result.1 (λ chosen. DurableChoiceOutcome (client_terms self.now.clients J.opening)
+            session asked.now chosen result.0) }
         ensures err { IfErr result.1 (λ why. why ≢ AnswerError.WriteFailed) }
     {
         // Another session may take the worker between the choice and the attachment; then the server chooses again.

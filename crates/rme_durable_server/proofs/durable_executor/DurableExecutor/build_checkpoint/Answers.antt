@@ -1,6 +1,6 @@
 use Rattle.std.proofs.Common.{ℕ, List, subst}
 use Rattle.std.specs.Prelude.{string_bytes}
-use Rattle.rme_durable_checkpoint.specs.EpochStates.{EpochState}
+use Rattle.rme_durable_epochs.specs.EpochStates.{EpochState}
 use Rattle.rme_durable_server.specs.ServerHistories.{BeginsEpoch, server_state}
 use Rattle.rme_durable_server.proofs.durable_executor.DurableExecutor.build_checkpoint.Goals as goal
 

@@ -1,6 +1,6 @@
 use Rattle.std.proofs.Common.{◌≡◌, ◌++◌, ◌∷◌, [], ℕ, List, ap, sym, subst, ◌∙◌}
 use Rattle.std.specs.Prelude.{Bool, MatchBool, string_bytes}
-use Rattle.rme_durable_checkpoint.specs.EpochStates.{EpochState}
+use Rattle.rme_durable_epochs.specs.EpochStates.{EpochState}
 use Rattle.rme_durable_log.specs.declared.log_entry.LogEntry.TheVariants.{Whole}
 use Rattle.rme_durable_server.specs.ServerHistories.{BeginsEpoch, server_state}
 use Rattle.rme_durable_server.proofs.Leading.{logged_epoch, logged_some}

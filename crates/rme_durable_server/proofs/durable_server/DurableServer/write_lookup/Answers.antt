@@ -1,7 +1,8 @@
 use Rattle.std.proofs.Common.{sym, subst, ◌∙◌}
 use Rattle.std.specs.Prelude.{string_bytes}
-use Rattle.rme_durable_checkpoint.specs.EpochStates.{EpochState}
-use Rattle.rme_durable_server.specs.DurableAnswers.{LookupShows}
+use Rattle.rme_durable_epochs.specs.EpochStates.{EpochState}
+use Rattle.rme_durable_lookups.specs.LookupAnswers.{LookupShows}
+use Rattle.rme_durable_server.specs.DurableAnswers.{shown_state}
 use Rattle.rme_durable_server.specs.ServerHistories.{server_state}
 use Rattle.rme_durable_server.proofs.Leading.{shown_at}
 use Rattle.rme_durable_server.proofs.durable_server.DurableServer.write_lookup.Goals as goal
@@ -9,6 +10,6 @@ use Rattle.rme_durable_server.proofs.durable_server.DurableServer.write_lookup.G
 pub returns-clause-moment : goal.returns-clause-moment
 returns-clause-moment g c =
     let epoch = c.deref-3.result.now in
-    let S = λ (e : EpochState). LookupShows c.args.self.now.names (server_state e) c.args.look (string_bytes c.write_lookup.new.out) in
+    let S = λ (e : EpochState). LookupShows c.args.self.now.names (shown_state (server_state e)) c.args.look (string_bytes c.write_lookup.new.out) in
     shown_at c.position_after.result g.J.ServerTag.opening c.args.self.now.names (server_state epoch) c.args.look (string_bytes c.write_lookup.new.out) c.args.self.now.named c.position_after.ensures.leads
     (subst S (c.executor.ensures ∙ (c.deref.ensures ∙ sym c.deref-3.ensures)) c.in_ok-write_lookup.ensures)
