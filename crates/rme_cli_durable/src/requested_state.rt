@@ -3,7 +3,7 @@
 use rme_cli_messages::{BadArgument, CliFault, escape_controls, why_not_locks, why_not_sizes};
 use rme_durable_checkpoint::MOST_SET;
 use rme_durable_format::{LogHeader, RecoveredLog, push_header};
-use rme_durable_server::clients_of;
+use rme_durable_lookups::clients_of;
 use rme_line_text::{lock_name, push_opening};
 use rme_wire::{GivenNames, Names};
 use rme_words::Shape;

@@ -9,7 +9,7 @@ use rme_cli_messages::{BadArgument, CliFault, Stderr, escape_controls};
 use rme_cli_options::{
     Diagnostics, DurableServeTask, ListenAddresses, ServerLog, SyncPolicy, WaitingPolicy,
 };
-use rme_durable_checkpoint::EpochExecutor;
+use rme_durable_epochs::EpochExecutor;
 use rme_durable_file::{
     OpenedState, RecoveredFile, StateFile, StateName, SystemFile, check_replaceable, make_state,
     open_state_file,

@@ -1,7 +1,7 @@
 //! The command `rme look`: the contents of a file, whether or not a process uses it.
 //!
 //! The file of a state is read as by the start of a server, and a file of words as its bytes are; nothing is changed.
-//! The crate stands on rme_durable_format, which recovers a state, on rme_durable_checkpoint and rme_durable_server,
+//! The crate stands on rme_durable_format, which recovers a state, on rme_durable_epochs and rme_durable_lookups,
 //! which make its status, on rme_process_file and rme_waiting, which read words, on rme_cli_options for the
 //! request, and on rme_cli_messages for faults. Its one call is `run_look`. Begin with `look.rt`, then `state_file.rt`
 //! and `words_file.rt`.

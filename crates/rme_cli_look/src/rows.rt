@@ -1,7 +1,7 @@
 //! The rows of locks and workers, and what is left to finish.
 
 use crate::table::{Table, number_or, text_of};
-use rme_durable_server::{LockStatus, WorkerStance, push_cell_values};
+use rme_durable_lookups::{LockStatus, WorkerStance, push_cell_values};
 use rme_line_text::lock_name;
 use rme_wire::Names;
 use std::alloc::{AllocError, Global};

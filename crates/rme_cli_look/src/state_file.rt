@@ -1,7 +1,7 @@
 //! The contents of a state's file, whether or not a server uses it.
 
 ghost use Rattle.std.specs.Prelude.{◌≡◌, ◌<◌, ◌++◌, ◌∷◌, [], OnOk, string_bytes};
-ghost use Rattle.rme_durable_server.specs.StatusTexts.{source_state, status_state, status_text};
+ghost use Rattle.rme_durable_lookups.specs.StatusTexts.{source_state, status_state, status_text};
 
 use crate::rows::{
     Finisher, HeldLevels, Presence, WorkerRow, WorkerView, push_lock_table, push_workers,
@@ -9,13 +9,13 @@ use crate::rows::{
 use crate::table::text_of;
 use rme_cli_messages::CliFault;
 use rme_cli_options::OutputFormat;
-use rme_durable_checkpoint::Sections;
-use rme_durable_file::bad_log_fault;
+use rme_durable_epochs::Sections;
+use rme_durable_file::{ContentsError, FileContents, bad_log_fault, contents_fault, line_in_file};
 use rme_durable_format::{BadLog, RecoveryProgress, whole_lines};
-use rme_durable_recovery::{RecoveredState, recover};
-use rme_durable_server::{
+use rme_durable_lookups::{
     LockStatus, StatusSource, WorkerStatus, clients_of, lock_status, push_status, worker_status,
 };
+use rme_durable_recovery::{RecoveredState, recover};
 use rme_tree::held;
 use rme_waiting::world_words;
 use rme_words::{Bank, NoMemory};
@@ -36,37 +36,53 @@ pub(crate) fn push_state(
     bytes: &[u8],
     form: OutputFormat,
 ) -> Result<u8, CliFault> {
-    let read = recover(rt.alloc(), whole_lines(bytes), &NoRecoveryObserver);
-    if form == OutputFormat::Check {
-        return push_verdict(out, &read);
-    }
-    let recovered = match read {
-        Ok(recovered) => recovered,
-        Err(why) => return Err(bad_log_fault(rt, path, bytes, why)?),
+    let contents = match FileContents::of(rt.alloc(), bytes) {
+        Ok(contents) => contents,
+        Err(ContentsError::Changed(line)) if form == OutputFormat::Check => {
+            return push_refused_line(out, line);
+        }
+        Err(why) => return Err(contents_fault(rt, path, why)?),
     };
-    if form == OutputFormat::Json {
-        return Ok(push_json(out, &recovered)?);
+    let lines = contents.lines.as_slice();
+    let recovered = match recover(rt.alloc(), whole_lines(lines), &NoRecoveryObserver) {
+        Ok(recovered) => recovered,
+        Err(BadLog::Line(line)) if form == OutputFormat::Check => {
+            return push_refused_line(out, line_in_file(rt.alloc(), bytes, line));
+        }
+        Err(BadLog::Line(line)) => {
+            let why = BadLog::Line(line_in_file(rt.alloc(), bytes, line));
+            return Err(bad_log_fault(rt, path, lines, why)?);
+        }
+        Err(BadLog::NoMemory) => return Err(CliFault::NoMemory),
+    };
+    match form {
+        OutputFormat::Check => push_accepted(out, bytes, contents.length),
+        OutputFormat::Json => Ok(push_json(out, &recovered)?),
+        OutputFormat::Tables => Ok(push_tables(out, rt.alloc(), &recovered, false)?),
+        OutputFormat::AllTables => Ok(push_tables(out, rt.alloc(), &recovered, true)?),
     }
-    let all = form == OutputFormat::AllTables;
-    Ok(push_tables(out, rt.alloc(), &recovered, all)?)
 }
 
-/// Appends whether a start accepts the file, or the line that it refuses, and answers the status.
-fn push_verdict(out: &mut String, read: &Result<RecoveredState, BadLog>) -> Result<u8, CliFault> {
-    match read {
-        Ok(_) => {
-            out.push_str("yes\n")?;
-            Ok(0)
-        }
-        Err(why) => push_why(out, *why),
+/// Appends that a start accepts the file, up to this number of bytes, and answers the status.
+fn push_accepted(out: &mut String, bytes: &[u8], length: usize) -> Result<u8, CliFault> {
+    let torn = bytes.len().saturating_sub(length);
+    if torn == 0 {
+        out.push_str("yes\n")?;
+        return Ok(0);
     }
+    let lines = bytes[..length.min(bytes.len())]
+        .iter()
+        .filter(|byte| **byte == b'\n')
+        .count();
+    write!(
+        out,
+        "yes, up to line {lines}: {torn} bytes behind it were never known to be with the disk\n"
+    )?;
+    Ok(0)
 }
 
 /// Appends the line that a start refuses, and answers the status.
-fn push_why(out: &mut String, why: BadLog) -> Result<u8, CliFault> {
-    let BadLog::Line(line) = why else {
-        return Err(CliFault::NoMemory);
-    };
+fn push_refused_line(out: &mut String, line: u64) -> Result<u8, CliFault> {
     write!(out, "no {line}\n")?;
     Ok(1)
 }

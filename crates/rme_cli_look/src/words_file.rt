@@ -10,7 +10,7 @@ use crate::rows::{
 use crate::table::text_of;
 use rme_cli_messages::{CliFault, escape_controls};
 use rme_cli_options::OutputFormat;
-use rme_durable_server::{LockStatus, WorkerStance};
+use rme_durable_lookups::{LockStatus, WorkerStance};
 use rme_process_file::{FileDefect, FileStance, ProcessFile, push_damage, push_json};
 use std::alloc::{AllocError, Global};
 use std::fs;

@@ -3,7 +3,7 @@ use Rattle.std.specs.Prelude.{ℕ, List, ◌++◌, codes, decimal, string_bytes,
 use Rattle.rme_cli_messages.specs.declared.argument.BadArgument.{BadArgument}
 use Rattle.rme_cli_messages.specs.declared.argument.BadArgument.TheVariants.{NoText, NoFile, NoName, Twice, ManyLocks, OutOfRange, FallsBack, NoSocket, ServedAlready, NoState, StateServed, OtherSize, OtherNames, NoNames, RenewalTaken, RenewalUnnamed}
 use Rattle.rme_cli_messages.specs.declared.fault.CliFault.{CliFault}
-use Rattle.rme_cli_messages.specs.declared.fault.CliFault.TheVariants.{BadArguments, ReadFailed, WriteFailed, NoMemory, BadNames, ImageUnread, BadImage, OtherLocks, Unsavable, ImageUnwritten, FolderUnsynced, ListenFailed, ConnectFailed, AcceptFailed, NoThread, BadState, StateOfVersion, StateOfProcesses, BadWords, StateUnread, StateUnwritten, StateNotGrown, Unexplained, NothingAsked}
+use Rattle.rme_cli_messages.specs.declared.fault.CliFault.TheVariants.{BadArguments, ReadFailed, WriteFailed, NoMemory, BadNames, ImageUnread, BadImage, OtherLocks, Unsavable, ImageUnwritten, FolderUnsynced, ListenFailed, ConnectFailed, AcceptFailed, NoThread, BadState, StateChanged, StateOfVersion, StateOfProcesses, BadWords, StateUnread, StateUnwritten, StateNotGrown, Unexplained, NothingAsked}
 use Rattle.rme_cli_messages.specs.declared.fault.SaveError.{SaveError}
 use Rattle.rme_cli_messages.specs.declared.fault.SaveError.TheVariants.{Irregular, Unwritable}
 
@@ -67,9 +67,12 @@ fault_text (AcceptFailed place) =
 fault_text NoThread = Some (codes "no thread")
 fault_text (BadState file line) =
     Some (codes "bad state\n  " ++ (string_bytes file ++ (codes ": line " ++ decimal line)))
+fault_text (StateChanged file line) =
+    Some (codes "bad state\n  " ++ (string_bytes file ++
+    (codes ": what was written up to line " ++ (decimal line ++ codes " has changed since"))))
 fault_text (StateOfVersion file version) =
     Some (codes "bad state\n  " ++ (string_bytes file ++
-    (codes ": it is of version " ++ (decimal version ++ codes ", and this program reads version 1"))))
+    (codes ": it is of version " ++ (decimal version ++ codes ", and this program reads versions 1 and 2"))))
 fault_text (StateOfProcesses file) =
     Some (codes "bad state\n  " ++ (string_bytes file ++ codes
     ": it is a file of processes, which `rme look` shows and no server keeps"))

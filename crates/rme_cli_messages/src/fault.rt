@@ -66,6 +66,8 @@ pub enum CliFault {
     NoThread,
     /// This line of a state's file, counted from 1, is not valid, or is refused.
     BadState(String, u64),
+    /// A write of a state's file that was with the disk has changed: the one that ends at this line, counted from 1.
+    StateChanged(String, u64),
     /// The file is a state of this version, which is not supported.
     StateOfVersion(String, u64),
     /// The file is a file of words that processes map, not a state.
@@ -127,9 +129,13 @@ impl fmt::Display for CliFault {
             ),
             CliFault::NoThread => f.write_str("no thread"),
             CliFault::BadState(file, line) => write!(f, "bad state\n  {file}: line {line}"),
+            CliFault::StateChanged(file, line) => write!(
+                f,
+                "bad state\n  {file}: what was written up to line {line} has changed since"
+            ),
             CliFault::StateOfVersion(file, version) => write!(
                 f,
-                "bad state\n  {file}: it is of version {version}, and this program reads version 1"
+                "bad state\n  {file}: it is of version {version}, and this program reads versions 1 and 2"
             ),
             CliFault::StateOfProcesses(file) => write!(
                 f,
@@ -182,6 +188,7 @@ impl CliFault {
             CliFault::AcceptFailed(_) => 6,
             CliFault::NoThread => 7,
             CliFault::BadState(_, _) => 2,
+            CliFault::StateChanged(_, _) => 2,
             CliFault::StateOfVersion(_, _) => 2,
             CliFault::StateOfProcesses(_) => 2,
             CliFault::BadWords(_, _) => 2,

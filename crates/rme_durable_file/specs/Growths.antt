@@ -2,9 +2,9 @@
 use Rattle.std.specs.Prelude.{◌≡◌, ℕ, ◌<◌, List, Option, get_or, [], length}
 use Rattle.rme_words.specs.declared.shape.Shape.{Shape}
 use Rattle.rme_durable_checkpoint.specs.Checkpoints.{BeginsNextEpoch}
-use Rattle.rme_durable_checkpoint.specs.EpochStates.{EpochState}
-use Rattle.rme_durable_checkpoint.specs.Growths.{GrowthShowsSame, HaveSameSizes, KeepsLives, LoggedSteps}
-use Rattle.rme_durable_checkpoint.specs.LoggedStates.{logged_state}
+use Rattle.rme_durable_epochs.specs.EpochStates.{EpochState}
+use Rattle.rme_durable_checkpoint.specs.Growths.{GrowthShowsSame, HaveSameSizes, KeepsLives}
+use Rattle.rme_durable_epochs.specs.LoggedStates.{LoggedSteps, logged_state}
 use Rattle.rme_durable_file.specs.DiskFiles.{ReplacesFile}
 
 -- Each lock has the name that it had.

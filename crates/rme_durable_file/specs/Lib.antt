@@ -1,5 +1,6 @@
 -- In reading order: the effect of one call on the bytes of a file; a file as the store of a log; how a server begins
--- with a file, and how its state grows; the faults of files that are no state; and the codes of the causes that a server reports.
+-- with a file, and how its state grows; the faults of files that are no state; and the codes of the causes that a
+-- server reports.
 pub mod DiskFiles
 pub mod FileStores
 pub mod Starts

@@ -5,7 +5,7 @@ use Rattle.rme_durable_format.specs.BatchCommands.{crash_commands_from}
 use Rattle.rme_durable_format.specs.CommandLines.{AppendsCommands}
 use Rattle.rme_durable_format.specs.WholeLines.{AreWholeLinesOf}
 use Rattle.rme_durable_format.specs.declared.recovery.RecoveredLog.{RecoveredLog}
-use Rattle.rme_durable_checkpoint.specs.EpochStates.{EpochState}
+use Rattle.rme_durable_epochs.specs.EpochStates.{EpochState}
 use Rattle.rme_durable_recovery.specs.RecoveredStates.{AreState}
 use Rattle.rme_durable_recovery.specs.declared.recovery.RecoveredState.{RecoveredState}
 
@@ -26,9 +26,9 @@ abbrev pub ReadsKnownLog : Option (List ℕ) → RecoveredLog → Type 0
 ReadsKnownLog bytes log =
     (whole : ℕ) × (found : RecoveredState) × ReadsKnownState bytes whole found × (log ≡ found.log)
 
--- A server begins with the state in the whole lines of a file, its lives among it, in which no session has a worker: it
--- crashes each worker that was up, and a line for each of these crashes is in the file behind the whole lines. It counts
--- all bytes of that file as the epoch's; the greatest `u64` if there are more.
+-- A server begins with the state in the whole lines of a file, its lives among it, in which no session has a worker:
+-- it crashes each worker that was up, and a line for each of these crashes is in the file behind the whole lines. It
+-- counts all bytes of that file as the epoch's; the greatest `u64` if that is smaller.
 pub record BeginsServer (bytes : List ℕ) (names : List (List ℕ)) (epoch : EpochState) (after : List ℕ) : Type 0 where
   pub whole : ℕ
   pub found : RecoveredState

@@ -1,5 +1,6 @@
 //! Why a file could not be written or replaced.
 
+use rme_durable_writes::SealError;
 use std::alloc::AllocError;
 use std::{fmt, io};
 
@@ -12,7 +13,7 @@ pub enum Cause {
     /// An error number of the system.
     System(u32),
     NoMemory,
-    /// The file's name names another file, or none.
+    /// The file's name names another file, or nothing has it.
     NameLost,
     /// Another program has locked the new file.
     Locked,
@@ -20,6 +21,8 @@ pub enum Cause {
     NameUnsure,
     /// What is under the name `FILE.renewal` was not made by a server.
     NotOurs,
+    /// The lines can't be given a checksum.
+    NotLines,
     /// The system gave no error number.
     Unknown,
 }
@@ -40,7 +43,8 @@ impl Cause {
             Cause::Locked => OWN + 2,
             Cause::NameUnsure => OWN + 3,
             Cause::NotOurs => OWN + 4,
-            Cause::Unknown => OWN + 5,
+            Cause::NotLines => OWN + 5,
+            Cause::Unknown => OWN + 6,
         }
     }
 
@@ -56,6 +60,7 @@ impl Cause {
                 2 => Cause::Locked,
                 3 => Cause::NameUnsure,
                 4 => Cause::NotOurs,
+                5 => Cause::NotLines,
                 _ => Cause::Unknown,
             },
         }
@@ -85,6 +90,15 @@ impl From<AllocError> for Cause {
     }
 }
 
+impl From<SealError> for Cause {
+    fn from(why: SealError) -> Cause {
+        match why {
+            SealError::NoMemory => Cause::NoMemory,
+            SealError::NotLines | SealError::TooMany => Cause::NotLines,
+        }
+    }
+}
+
 impl fmt::Display for Cause {
     fn fmt<W: fmt::Write>(&self, f: &mut fmt::Formatter<W>) -> fmt::Result {
         match self {
@@ -97,6 +111,7 @@ impl fmt::Display for Cause {
             Cause::Locked => f.write_str("another program has locked it"),
             Cause::NameUnsure => f.write_str("the disk may not have its name"),
             Cause::NotOurs => f.write_str("what is there was not made by a server"),
+            Cause::NotLines => f.write_str("its lines can't be given a checksum"),
             Cause::Unknown => f.write_str("the system does not say why"),
         }
     }

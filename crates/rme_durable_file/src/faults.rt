@@ -1,5 +1,7 @@
 //! The faults of a state's file.
 
+use crate::contents::contents_fault;
+use crate::disk_file::FileReadError;
 use rme_cli_messages::{BadArgument, CliFault, escape_controls};
 use std::io;
 
@@ -29,6 +31,24 @@ pub(crate) fn write_fault(
     let kind = why.kind();
     let path = escape_controls(rt.alloc(), path)?;
     Ok(CliFault::on_file(kind, CliFault::StateUnwritten(path, why)))
+}
+
+/// The fault if the lines of the file can't be read for this reason.
+pub(crate) fn unread_fault(
+    rt: &HostRuntime,
+    path: &str,
+    why: FileReadError,
+) -> Result<CliFault, CliFault> {
+    match why {
+        FileReadError::System(error) => read_fault(rt, path, error),
+        FileReadError::Contents(why) => contents_fault(rt, path, why),
+    }
+}
+
+/// The fault if the write that ends at this line has changed.
+pub(crate) fn changed_fault(rt: &HostRuntime, path: &str, line: u64) -> Result<CliFault, CliFault> {
+    let path = escape_controls(rt.alloc(), path)?;
+    Ok(CliFault::StateChanged(path, line))
 }
 
 /// The fault if the state can't be given its new sizes or locks.

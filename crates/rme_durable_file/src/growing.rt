@@ -9,8 +9,9 @@ use crate::faults::{not_grown_fault, write_fault};
 use crate::start::OpenedState;
 use crate::state_file::StateFile;
 use rme_cli_messages::CliFault;
-use rme_durable_checkpoint::EpochExecutor;
-use rme_durable_log::{LogStore, NotDurable};
+use rme_durable_checkpoint::Checkpoint;
+use rme_durable_epochs::EpochExecutor;
+use rme_durable_log::LogStore;
 use rme_wire::Names;
 use rme_words::Shape;
 
@@ -22,8 +23,8 @@ impl<'a, F: DiskFile> OpenedState<'a, F> {
     ghost use Rattle.rme_durable_file.specs.Growths.{GrowsState, file_epoch};
 
     /// The same state with these names of the locks, of which those that it has are the first, and with this larger
-    /// shape: a new epoch of it replaces the file. Workers and locks keep their numbers, jobs and owners, and cells their
-    /// values; what is new is down, free, or 0.
+    /// shape: a new epoch of it replaces the file. Workers and locks keep their numbers, jobs and owners, and cells
+    /// their values; what is new is down, free, or 0.
     ///
     /// After an error the file is a state of the old shape. It may have more lines than before: those by which a worker
     /// that crashed after its section leaves its lock.
@@ -100,12 +101,12 @@ fn replace_by_larger<F: DiskFile>(
     ensures works { OnOk result (file.new.works ≡ true) }
     ensures syncs { file.new.syncs ≡ file.old.syncs }
 {
-    let Ok(grown) = executor.grow(rt.alloc(), names, shape) else {
+    let Ok(grown) = Checkpoint::grown(executor, rt.alloc(), names, shape) else {
         return Err(not_grown_fault(rt, file.path())?);
     };
     match file.replace(grown.bytes.as_bytes()) {
-        Ok(()) => Ok(grown.executor),
-        Err(NotDurable) => Err(CliFault::WriteFailed),
+        Ok(()) if !file.is_in_doubt() => Ok(grown.executor),
+        _ => Err(CliFault::WriteFailed),
     }
 }
 

@@ -7,7 +7,7 @@ ghost use Rattle.rme_durable_file.specs.Starts.{ReadsState};
 
 use rme_cli_messages::{CliFault, escape_controls};
 use rme_durable_format::{BadLog, RecoveryProgress, whole_lines};
-use rme_durable_recovery::{RecoveredState, other_version, recover};
+use rme_durable_recovery::{RecoveredState, recover, version_of};
 use rme_process_file::is_process_file;
 use std::time::{Duration, Instant};
 
@@ -41,11 +41,7 @@ pub(crate) struct ReadState {
 
 /// Recovers a state from these bytes, which may end with a torn line, and reports the number of lines and the time on
 /// the standard error.
-pub(crate) fn recover_reporting(
-    rt: &HostRuntime,
-    path: &str,
-    bytes: &[u8],
-) -> Result<ReadState, CliFault>
+pub(crate) fn recover_reporting(rt: &HostRuntime, bytes: &[u8]) -> Result<ReadState, BadLog>
     ensures { IfOk result (λ found. ReadsState bytes.now found.whole found.recovered) }
 {
     let telling = StderrProgress {
@@ -54,10 +50,7 @@ pub(crate) fn recover_reporting(
     };
     let lines = whole_lines(bytes);
     let whole = lines.len();
-    let recovered = match recover(rt.alloc(), lines, &telling) {
-        Ok(recovered) => recovered,
-        Err(why) => return Err(bad_log_fault(rt, path, bytes, why)?),
-    };
+    let recovered = recover(rt.alloc(), lines, &telling)?;
     let took = telling.began.and_then(|began| began.elapsed(rt).ok());
     let milliseconds = took.map_or(0, |took| took.as_millis());
     let lines = recovered.log.lines;
@@ -86,8 +79,10 @@ pub fn bad_log_fault(
     if is_process_file(bytes) {
         return Ok(CliFault::StateOfProcesses(path));
     }
-    match other_version(rt.alloc(), bytes)? {
-        Some(version) => Ok(CliFault::StateOfVersion(path, version)),
-        None => Ok(CliFault::BadState(path, line)),
+    match version_of(rt.alloc(), bytes)? {
+        Some(version) if version != 1 && version != 2 => {
+            Ok(CliFault::StateOfVersion(path, version))
+        }
+        _ => Ok(CliFault::BadState(path, line)),
     }
 }

@@ -5,11 +5,11 @@ ghost use Rattle.rme_durable_format.specs.BatchCommands.{crash_commands_from};
 ghost use Rattle.rme_durable_format.specs.CommandLines.{AppendsCommands};
 
 use crate::disk_file::DiskFile;
-use crate::faults::{read_fault, write_fault};
-use crate::reading::{ReadState, recover_reporting};
+use crate::faults::{unread_fault, write_fault};
+use crate::reading::{ReadState, bad_log_fault, recover_reporting};
 use crate::state_file::StateFile;
 use rme_cli_messages::CliFault;
-use rme_durable_checkpoint::{EpochExecutor, EpochStart};
+use rme_durable_epochs::{EpochExecutor, EpochStart};
 use rme_durable_format::{RecoveredLog, append_crashes};
 use rme_durable_recovery::RecoveredState;
 use rme_session_world::Executor;
@@ -60,9 +60,15 @@ impl<'a, F: DiskFile> RecoveredFile<'a, F> {
         let mut file = file;
         let bytes = match file.read_all(rt.alloc()) {
             Ok(bytes) => bytes,
-            Err(error) => return Err(read_fault(rt, file.path(), error)?),
+            Err(why) => return Err(unread_fault(rt, file.path(), why)?),
         };
-        let ReadState { recovered, whole } = recover_reporting(rt, file.path(), bytes.as_slice())?;
+        let ReadState { recovered, whole } = match recover_reporting(rt, bytes.as_slice()) {
+            Ok(found) => found,
+            Err(why) => {
+                let why = file.reason_in_file(rt.alloc(), why);
+                return Err(bad_log_fault(rt, file.path(), bytes.as_slice(), why)?);
+            }
+        };
         Ok(RecoveredFile {
             file,
             recovered,

@@ -1,15 +1,16 @@
 //! The store of a server: a file to which it appends.
 
 use crate::cause::Cause;
-use crate::disk_file::DiskFile;
+use crate::disk_file::{DiskFile, FileReadError};
 use crate::name::StateName;
+use rme_durable_format::BadLog;
 use rme_durable_log::{LogStore, NotDurable};
 use std::alloc::Global;
 use std::io;
 use std::marker::Model;
 
-/// The file of a state, as the store of its log. In contracts it is the file's bytes, if they are known, whether it takes
-/// lines, and whether each append waits for the disk.
+/// The file of a state, as the store of its log. In contracts it is the file's bytes, if they are known, whether it
+/// takes lines, and whether each append waits for the disk.
 ///
 /// If an append fails, its `StateName` notes the cause, and nothing more is written: what is not durable must not be
 /// answered, and the next recovery continues from what was written.
@@ -40,7 +41,8 @@ impl<'a, F: DiskFile> Model for StateFile<'a, F> {
 
 impl<'a, F: DiskFile> StateFile<'a, F> {
     ghost use Rattle.std.specs.Prelude.{◌≡◌, IfOk, OnErr, OnOk, true};
-    ghost use Rattle.rme_durable_file.specs.DiskFiles.{AppendsPartToFile, AppendsToFile, AreFileBytes, CutsFile, ReplacesFile};
+    ghost use Rattle.rme_durable_file.specs.DiskFiles.{AppendsPartToFile, AppendsToFile};
+    ghost use Rattle.rme_durable_file.specs.DiskFiles.{AreFileBytes, CutsFile, ReplacesFile};
 
     /// The store of a file that is open and locked. Each append waits for the disk if `syncs`.
     pub fn new(name: &'a StateName, file: F, syncs: bool) -> StateFile<'a, F>
@@ -62,12 +64,26 @@ impl<'a, F: DiskFile> StateFile<'a, F> {
         self.name.path()
     }
 
-    /// All bytes of the file.
-    pub(crate) fn read_all(&mut self, alloc: Global) -> io::Result<Vec<u8>>
+    /// Whether appends wait for the disk, and it may not have the file under its name. Then nothing may be answered:
+    /// after a stop of the machine recovery may read an older file.
+    pub(crate) fn is_in_doubt(&self) -> bool {
+        self.syncs && self.is_unsure
+    }
+
+    /// All lines of the file.
+    pub(crate) fn read_all(&mut self, alloc: Global) -> Result<Vec<u8>, FileReadError>
         ensures found { IfOk result (λ found. AreFileBytes self.old.bytes found.items) }
         ensures same { self.new ≡ self.old }
     {
         self.file.read_all(alloc)
+    }
+
+    /// Why its lines are no state, if this is the reason among the lines that recovery reads.
+    pub(crate) fn reason_in_file(&self, alloc: Global, why: BadLog) -> BadLog {
+        match why {
+            BadLog::Line(line) => BadLog::Line(self.file.line_in_file(alloc, line)),
+            BadLog::NoMemory => BadLog::NoMemory,
+        }
     }
 
     /// Cuts a file that was read, and is a state, to `length` bytes, and prepares it for appends.
@@ -98,7 +114,7 @@ impl<'a, F: DiskFile> StateFile<'a, F> {
         if self.name.is_lost() {
             return Err(Cause::NameLost);
         }
-        if self.syncs && self.is_unsure {
+        if self.is_in_doubt() {
             return Err(Cause::NameUnsure);
         }
         match self.file.append(lines, self.syncs) {
@@ -110,7 +126,7 @@ impl<'a, F: DiskFile> StateFile<'a, F> {
     /// Replaces this file by one with these bytes, and continues with that. After an error this file is as it was.
     ///
     /// If the disk may not have the new file's name, nothing is lost by that, but later lines would be: so if appends
-    /// wait for the disk, none succeeds any more.
+    /// wait for the disk, each later one fails.
     fn replace_with_new(&mut self, bytes: &[u8]) -> Result<(), Cause>
         ensures replaced { OnOk result (ReplacesFile self.old.bytes bytes.now self.new.bytes) }
         ensures same { OnErr result (self.new.bytes ≡ self.old.bytes) }

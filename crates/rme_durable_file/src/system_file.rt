@@ -4,13 +4,15 @@
 ghost use Rattle.std.specs.Prelude.{◌≡◌, IfOk, IfSome, true};
 
 use crate::cause::Cause;
-use crate::disk_file::DiskFile;
+use crate::contents::{FileContents, WriteForm, line_in_file};
+use crate::disk_file::{DiskFile, FileReadError};
 use crate::faults::{in_use_fault, read_fault, write_fault};
 use crate::making::{create_whole, sync_folder};
 use crate::name::StateName;
 use crate::replacing::{ReplacedFile, is_still_named, remove_leftover, replace_file};
 use crate::state_file::StateFile;
 use rme_cli_messages::{BadArgument, CliFault, escape_controls};
+use rme_durable_writes::{SealError, WriteSealer};
 use std::alloc::Global;
 use std::fs::{File, OpenOptions, TryLockError};
 use std::io::{ErrorKind, Read, Write};
@@ -25,6 +27,14 @@ pub struct SystemFile<'a> {
     rt: &'a HostRuntime,
     name: &'a StateName,
     file: File,
+    /// Whether the writes of the file end with checksums, as those of version 2 do.
+    is_sealed: bool,
+    /// The sealer of the file's next write, or, in a file of version 1, of a new file's first.
+    sealer: WriteSealer,
+    /// The last write that was made. Its memory serves for the next.
+    write: Vec<u8>,
+    /// The number of bytes that held lines when the file was read.
+    length: usize,
 }
 
 /// The outcome of one try to open a file.
@@ -40,15 +50,19 @@ enum OpenAttempt {
 /// Makes the file with these bytes, if nothing has its name yet: written and synced under a temporary name first, then
 /// linked to its name. A file that has the name by then stays as it is.
 pub fn make_state(rt: &HostRuntime, path: &str, bytes: &[u8]) -> Result<(), CliFault> {
-    match create_whole(rt, path, bytes) {
+    let mut write = Vec::new(rt.alloc());
+    if let Err(why) = WriteSealer::new(rt.alloc())?.seal(bytes, &mut write) {
+        return Err(write_fault(rt, path, seal_error(why))?);
+    }
+    match create_whole(rt, path, write.as_slice()) {
         Ok(()) => Ok(()),
         Err(error) if error.kind() == ErrorKind::AlreadyExists => Ok(()),
         Err(error) => Err(write_fault(rt, path, error)?),
     }
 }
 
-/// Opens and locks the file of this name, so that no other server can; `None` if there is none. What is not a regular
-/// file is refused, as is a file that another server has. No file is changed.
+/// Opens and locks the file of this name, so that no other server can; `None` if nothing has the name. What is not a
+/// regular file is refused, as is a file that another server has. No file is changed.
 ///
 /// A server replaces its file by new ones, each locked before it has the name. So a program that opens a file just
 /// before it is replaced, and gets its lock once the server has dropped it, has a file without a name: it is closed,
@@ -87,7 +101,15 @@ fn system_file<'a>(
         Ok(found) => name.set(&found),
         Err(error) => return Err(read_fault(rt, name.path(), error)?),
     }
-    Ok(SystemFile { rt, name, file })
+    Ok(SystemFile {
+        rt,
+        name,
+        file,
+        is_sealed: false,
+        sealer: WriteSealer::new(rt.alloc())?,
+        write: Vec::new(rt.alloc()),
+        length: 0,
+    })
 }
 
 /// Tries once to open and lock the file of a name.
@@ -137,10 +159,38 @@ impl DiskFile for SystemFile<'_> {
 
     ghost contents = { λ _. None };
 
-    fn read_all(&mut self, alloc: Global) -> io::Result<Vec<u8>> {
+    fn read_all(&mut self, alloc: Global) -> Result<Vec<u8>, FileReadError> {
         let mut bytes = Vec::new(alloc);
-        self.file.read_to_end(&mut bytes)?;
-        Ok(bytes)
+        if let Err(error) = self.file.read_to_end(&mut bytes) {
+            return Err(FileReadError::System(error));
+        }
+        match FileContents::of(alloc, bytes.as_slice()) {
+            Ok(
+                FileContents {
+                    lines,
+                    length,
+                    form,
+                },
+            ) => {
+                self.length = length;
+                match form {
+                    WriteForm::Plain => self.is_sealed = false,
+                    WriteForm::Sealed(sealer) => {
+                        self.is_sealed = true;
+                        self.sealer = sealer;
+                    }
+                }
+                Ok(lines)
+            }
+            Err(why) => Err(FileReadError::Contents(why)),
+        }
+    }
+
+    fn line_in_file(&self, alloc: Global, line: u64) -> u64 {
+        match fs::read(self.rt, self.name.path()) {
+            Ok(bytes) => line_in_file(alloc, bytes.as_slice(), line),
+            Err(_) => line,
+        }
     }
 
     fn begin(&mut self, length: usize, syncs: bool) -> io::Result<()> {
@@ -148,29 +198,89 @@ impl DiskFile for SystemFile<'_> {
         if syncs {
             sync_folder(self.rt, self.name.path())?;
         }
-        let length = length as u64;
+        if self.is_sealed {
+            self.tell_cut()?;
+            self.cut(self.length as u64)
+        } else {
+            self.cut(length as u64)
+        }
+    }
+
+    fn append(&mut self, lines: &[u8], syncs: bool) -> io::Result<()> {
+        self.write_lines(lines)?;
+        if syncs {
+            self.file.sync_data()?;
+            self.sealer.mark_durable();
+        }
+        Ok(())
+    }
+
+    fn replace(&mut self, bytes: &[u8]) -> Result<Option<Cause>, Cause> {
+        let mut write = Vec::new(self.rt.alloc());
+        self.sealer.seal_first(bytes, &mut write)?;
+        let ReplacedFile {
+            file,
+            found,
+            unsure,
+        } = replace_file(self.rt, self.name.path(), &self.file, write.as_slice())?;
+        self.name.set(&found);
+        self.file = file;
+        // The new file was synced before it had the name.
+        self.sealer.begin_log();
+        self.is_sealed = true;
+        Ok(unsure)
+    }
+}
+
+impl SystemFile<'_> {
+    /// Writes lines; nothing for no bytes.
+    fn write_lines(&mut self, lines: &[u8]) -> io::Result<()> {
+        if lines.is_empty() {
+            return Ok(());
+        }
+        if !self.is_sealed {
+            return self.file.write_all(lines);
+        }
+        match self.sealer.seal(lines, &mut self.write) {
+            Ok(()) => self.file.write_all(self.write.as_slice()),
+            Err(why) => Err(seal_error(why)),
+        }
+    }
+
+    /// Cuts the file to this number of bytes, if it has more.
+    fn cut(&self, length: u64) -> io::Result<()> {
         if length < self.file.metadata()?.len() {
             self.file.set_len(length)?;
         }
         Ok(())
     }
 
-    fn append(&mut self, lines: &[u8], syncs: bool) -> io::Result<()> {
-        self.file.write_all(lines)?;
-        if syncs {
-            self.file.sync_data()?;
+    /// Says how many bytes are cut off behind the last write.
+    fn tell_cut(&self) -> io::Result<()> {
+        let torn = self
+            .file
+            .metadata()?
+            .len()
+            .saturating_sub(self.length as u64);
+        if torn > 0 {
+            let path = escape_controls(self.rt.alloc(), self.name.path())?;
+            let _ = eprintln!(self.rt;
+                "rme: {torn} bytes at the end of {path} were never known to be with the disk, and are cut off"
+            );
         }
         Ok(())
     }
+}
 
-    fn replace(&mut self, bytes: &[u8]) -> Result<Option<Cause>, Cause> {
-        let ReplacedFile {
-            file,
-            found,
-            unsure,
-        } = replace_file(self.rt, self.name.path(), &self.file, bytes)?;
-        self.name.set(&found);
-        self.file = file;
-        Ok(unsure)
+/// The error of lines that were not made a write.
+fn seal_error(why: SealError) -> io::Error {
+    match why {
+        SealError::NoMemory => io::Error::from(ErrorKind::OutOfMemory),
+        SealError::NotLines | SealError::TooMany => {
+            io::Error::new(
+                ErrorKind::InvalidData,
+                "its lines can't be given a checksum",
+            )
+        }
     }
 }

@@ -19,7 +19,7 @@ use Rattle.rme_durable_format.specs.declared.fault.BadLog.{BadLog}
 use Rattle.rme_durable_format.specs.declared.fault.BadLog.TheVariants as bad
 use Rattle.rme_durable_format.proofs.OnePast.{same_past}
 use Rattle.rme_durable_format.proofs.Opened.{first_opens, opens_same, opens_unrejected}
-use Rattle.rme_durable_checkpoint.specs.HeaderBases.{LeavesRoom}
+use Rattle.rme_durable_epochs.specs.HeaderBases.{LeavesRoom}
 use Rattle.rme_durable_recovery.specs.RecoveredStates.{AreState, FitsNextLine, FitsWorld, HasFullHeader, HasGoodHeader, IsBadState, IsFirstBadLine, IsWhyNoState, OpensWorld}
 use Rattle.rme_durable_recovery.specs.declared.recovery.RecoveredState.{RecoveredState}
 

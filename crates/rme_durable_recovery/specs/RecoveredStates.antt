@@ -10,7 +10,7 @@ use Rattle.rme_durable_format.specs.Lives.{RecoversLives}
 use Rattle.rme_durable_format.specs.Recovery.{AcceptsLine, BeginsWithHeader, IsDamagedAfterHeader, IsDamagedLog, RecoversWorld}
 use Rattle.rme_durable_format.specs.declared.fault.BadLog.{BadLog}
 use Rattle.rme_durable_format.specs.declared.fault.BadLog.TheVariants as bad
-use Rattle.rme_durable_checkpoint.specs.HeaderBases.{IsHeaderBase, LeavesRoom}
+use Rattle.rme_durable_epochs.specs.HeaderBases.{IsHeaderBase, LeavesRoom}
 use Rattle.rme_durable_recovery.specs.declared.recovery.RecoveredState.{RecoveredState}
 
 -- The bytes are the state's: all lines after the first lead to its world, and from the lives of the header to its lives;

@@ -3,14 +3,11 @@
 ghost use Rattle.std.specs.Prelude.{IfErr, IfOk};
 ghost use Rattle.rme_durable_recovery.specs.RecoveredStates.{AreState, IsBadState, IsWhyNoState};
 
-use rme_durable_checkpoint::Base;
+use rme_durable_epochs::Base;
 use rme_durable_format::{BadLog, RecoveredLog, RecoveryProgress, first_two_lines, recover_log};
 use rme_wire::{ValueReader, ValueStorage};
 use rme_words::NoMemory;
 use std::alloc::Global;
-
-/// The version of the files that are read and written.
-pub const VERSION: u64 = 1;
 
 /// The state of a file: the world that its lines lead to, and the base that earlier epochs left.
 #[derive(Drop)]
@@ -78,8 +75,8 @@ fn first_bad_line<P: RecoveryProgress>(
     }
 }
 
-/// The version in the first line of these bytes, if it is one that this program does not read.
-pub fn other_version(alloc: Global, bytes: &[u8]) -> Result<Option<u64>, NoMemory> {
+/// The version that the first line of these bytes tells, if it is the header of a state.
+pub fn version_of(alloc: Global, bytes: &[u8]) -> Result<Option<u64>, NoMemory> {
     let line = bytes.split(|byte| *byte == b'\n').next().unwrap_or(bytes);
     let mut values = ValueReader::new(alloc);
     let mut room = ValueStorage::new();
@@ -89,8 +86,8 @@ pub fn other_version(alloc: Global, bytes: &[u8]) -> Result<Option<u64>, NoMemor
     let (Some(name), Some(version)) = (header.get("rme"), header.get("version")) else {
         return Ok(None);
     };
-    match version.as_u64() {
-        Some(version) if name.as_str() == Some("kept") && version != VERSION => Ok(Some(version)),
-        _ => Ok(None),
+    if name.as_str() != Some("kept") {
+        return Ok(None);
     }
+    Ok(version.as_u64())
 }
