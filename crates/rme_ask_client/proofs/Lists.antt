@@ -7,7 +7,7 @@ use Rattle.serde_json.specs.Data.{Data, Items, null}
 use Rattle.serde_json.specs.Data as json
 use Rattle.serde_json.specs.View as kit
 use Rattle.serde_json.specs.declared.value.Value.{Value}
-use Rattle.rme_ask_client.specs.StatusAnswers.{EachSays, items_view}
+use Rattle.rme_ask_client.specs.StatusAnswers.{EachSays, list_view}
 use Rattle.rme_ask_client.specs.Members.{NoneSaid}
 
 each_snoc : {T : Type 0} (Says : Data → T → Type 0) (items : List Value) (values : List T) (item : Value) (value : T)
@@ -38,7 +38,7 @@ is_empty (json.item first items) = false
 
 -- a list of which one item says nothing says nothing
 pub none_said_by_list : {T : Type 0} (Says : Data → T → Type 0) (items others : List Value) (i : ℕ) (one : Value) (values : List T)
-    → i < length items → one ≡ get_or items i one → NoneSaid Says (kit.view one) → items_view others ≡ items_view items
+    → i < length items → one ≡ get_or items i one → NoneSaid Says (kit.view one) → list_view others ≡ list_view items
     → EachSays Says others values → ⊥
 unfolding head_of others_of is_empty
 none_said_by_list Says [] others i one values inside at none same each = absurd (omega (arith, inside))

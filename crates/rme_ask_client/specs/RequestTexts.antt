@@ -2,10 +2,10 @@
 use Rattle.std.specs.Prelude.{ℕ, List, ◌++◌, codes, decimal}
 use Rattle.serde_json.specs.Data.{string}
 use Rattle.serde_json.specs.Written.{compact_text}
-use Rattle.rme_ask_client.specs.declared.request.Request.{Request}
-use Rattle.rme_ask_client.specs.declared.request.Request.TheVariants.{Status, Owner, Cells, Ping, Attach, TakeOver, Pending, Resume, Withdraw, Last, Detach}
+use Rattle.rme_ask_client.specs.declared.request.ClientRequest.{ClientRequest}
+use Rattle.rme_ask_client.specs.declared.request.ClientRequest.TheVariants.{Status, Owner, Cells, Ping, Attach, TakeOver, Pending, Resume, Withdraw, Last, Detach}
 
-abbrev pub request_word : Request → List ℕ
+abbrev pub request_word : ClientRequest → List ℕ
 request_word Status = codes "status"
 request_word (Owner lock) = codes "owner"
 request_word (Cells lock) = codes "cells"
@@ -27,7 +27,7 @@ abbrev pub lock_request_text : List ℕ → List ℕ → List ℕ
 lock_request_text word lock =
     codes "{\"do\":\"" ++ (word ++ (codes "\",\"lock\":" ++ (compact_text (string lock) ++ codes "}")))
 
-abbrev pub request_text : Request → List ℕ
+abbrev pub request_text : ClientRequest → List ℕ
 request_text Status = codes "{\"do\":\"status\"}"
 request_text (Owner lock) = lock_request_text (codes "owner") lock.now
 request_text (Cells lock) = lock_request_text (codes "cells") lock.now

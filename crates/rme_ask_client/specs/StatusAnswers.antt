@@ -5,15 +5,15 @@ use Rattle.serde_json.specs.Data.{Data, Items, null}
 use Rattle.serde_json.specs.Find.{as_array, as_number, as_u64, get}
 use Rattle.serde_json.specs.View as kit
 use Rattle.serde_json.specs.declared.value.Value.{Value}
-use Rattle.rme_ask_client.specs.JobAnswers.{stance_member, stance_word}
+use Rattle.rme_ask_client.specs.JobAnswers.{stance_member, reported_stance_word}
 use Rattle.rme_ask_client.specs.Members.{LockNameSays, flag_member, number_member, some_member, text_member}
 use Rattle.rme_ask_client.specs.declared.status_answer.CellsAnswer.{CellsAnswer}
-use Rattle.rme_ask_client.specs.declared.status_answer.LockStatus.{LockStatus}
+use Rattle.rme_ask_client.specs.declared.status_answer.ReportedLock.{ReportedLock}
 use Rattle.rme_ask_client.specs.declared.status_answer.ServerStatus.{ServerStatus}
-use Rattle.rme_ask_client.specs.declared.status_answer.WorkerStatus.{WorkerStatus}
+use Rattle.rme_ask_client.specs.declared.status_answer.ReportedWorker.{ReportedWorker}
 
-abbrev pub items_view : List Value → Items
-items_view = kit.items_view
+abbrev pub list_view : List Value → Items
+list_view = kit.items_view
 
 -- the list of a name
 abbrev pub items_member : List ℕ → Data → Option Items
@@ -28,7 +28,7 @@ EachSays Says _ _ = ⊥
 -- the same for the list of a name
 abbrev pub ListSays : {T : Type 0} → List ℕ → (Data → T → Type 0) → Data → List T → Type 0
 ListSays name Says answer values =
-    (items : List Value) × (items_member name answer ≡ Some (items_view items)) × EachSays Says items values
+    (items : List Value) × (items_member name answer ≡ Some (list_view items)) × EachSays Says items values
 
 -- an item is this number
 abbrev pub NumberSays : Data → ℕ → Type 0
@@ -61,16 +61,16 @@ pub record CellsSay (answer : Data) (told : CellsAnswer) : Type 0 where
   pub cells : CellValuesSay answer told.cells.items
   pub settled : flag_member (codes "settled") answer ≡ Some told.settled
 
-pub record LockSays (said : Data) (lock : LockStatus) : Type 0 where
+pub record LockSays (said : Data) (lock : ReportedLock) : Type 0 where
   pub name : LockNameSays (codes "name") said lock.name
   pub owner : OwnerSays said lock.owner
   pub cells : CellValuesSay said lock.cells.items
   pub settled : flag_member (codes "settled") said ≡ Some lock.settled
   pub sections : number_member (codes "sections") said ≡ Some lock.sections
 
-pub record WorkerSays (said : Data) (worker : WorkerStatus) : Type 0 where
+pub record WorkerSays (said : Data) (worker : ReportedWorker) : Type 0 where
   pub attached : flag_member (codes "attached") said ≡ Some worker.attached
-  pub stance : stance_member said ≡ Some (stance_word worker.stance)
+  pub stance : stance_member said ≡ Some (reported_stance_word worker.stance)
   pub lock : OptionalLockSays said worker.lock
   pub number : number_member (codes "number") said ≡ Some worker.number
   -- the worker that it waits for

@@ -13,7 +13,7 @@ use std::alloc::Global;
 
 /// The answer to a request.
 #[derive(Drop)]
-pub enum Answer {
+pub enum ServerAnswer {
     /// It was executed, and this is what was answered.
     Accepted(Value),
     /// It was refused, and changed nothing.
@@ -32,17 +32,17 @@ pub(crate) fn read_answer(
     alloc: Global,
     line: &[u8],
     word: &'static str,
-) -> Result<Answer, ClientError>
+) -> Result<ServerAnswer, ClientError>
     ensures { IfOk result (AnswerReceived word.now line.now) }
 {
     let value = read_value(alloc, line)?;
     if value.get("error").is_some() {
-        return Ok(Answer::Refused(refused_answer(alloc, &value)?));
+        return Ok(ServerAnswer::Refused(refused_answer(alloc, &value)?));
     }
     if text(&value, "ok")? != word {
         return Err(ClientError::OtherAnswer);
     }
-    Ok(Answer::Accepted(value))
+    Ok(ServerAnswer::Accepted(value))
 }
 
 /// The JSON value of a line.

@@ -1,8 +1,8 @@
 //! A conversation with a server: a line is sent, and a line is received.
 
-use crate::answer::{Answer, read_answer};
+use crate::answer::{ServerAnswer, read_answer};
 use crate::client_error::ClientError;
-use crate::request::{Request, push_request};
+use crate::request::{ClientRequest, push_request};
 use rme_line_io::{Cut, LineReader, Sink, Source, put_all};
 use std::alloc::{AllocError, Global};
 
@@ -19,13 +19,13 @@ impl<R: Source + Drop, W: Sink + Drop> Conversation<R, W> {
     ghost use Rattle.std.specs.Prelude.{◌≡◌, ◌++◌, ◌∷◌, [], IfOk, OnOk, OnErr};
     ghost use Rattle.std.specs.Io.KnownBytes.{Appends, Keeps};
     ghost use Rattle.rme_line_io.specs.BufferedWrites.{WritesPrefix};
-    ghost use Rattle.rme_ask_client.specs.Conversations.{AnswerReceived, LineReceived, last_line, sent_bytes, unread_bytes};
+    ghost use Rattle.rme_ask_client.specs.Conversations.{AnswerReceived, LineReceived, last_line, sent_bytes, unread_answer_bytes};
     ghost use Rattle.rme_ask_client.specs.RequestTexts.{request_text, request_word};
 
     /// A conversation in which nothing was sent yet, over the reader and the writer of a connection.
     pub fn new(alloc: Global, reader: R, writer: W) -> Result<Conversation<R, W>, AllocError>
         ensures sent { IfOk result (λ talk. sent_bytes W.contents talk ≡ W.contents writer) }
-        ensures unread { IfOk result (λ talk. Keeps (R.remaining reader) (unread_bytes R.remaining talk)) }
+        ensures unread { IfOk result (λ talk. Keeps (R.remaining reader) (unread_answer_bytes R.remaining talk)) }
     {
         Ok(Conversation {
             alloc,
@@ -60,7 +60,7 @@ impl<R: Source + Drop, W: Sink + Drop> Conversation<R, W> {
     }
 
     /// Sends a request, and receives its answer.
-    pub fn ask(&mut self, request: Request<'_>) -> Result<Answer, ClientError>
+    pub fn ask(&mut self, request: ClientRequest<'_>) -> Result<ServerAnswer, ClientError>
         ensures sent { OnOk result (Appends (sent_bytes W.contents self.old) (sent_bytes W.contents self.new)
             (request_text request.entry ++ 10 ∷ [])) }
         ensures received { OnOk result (LineReceived R.remaining self.old self.new) }

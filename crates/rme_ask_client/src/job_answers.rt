@@ -13,7 +13,7 @@ use std::fmt;
 
 /// The stance of a worker.
 #[derive(Clone, Copy, Debug, PartialEq, Eq)]
-pub enum WorkerStance {
+pub enum ReportedStance {
     /// No job is pending.
     Ready,
     /// Its job waits for the lock.
@@ -27,22 +27,22 @@ pub enum WorkerStance {
 pub struct AttachedWorker {
     /// The number of its pending job; without one, of its last job.
     pub number: u64,
-    pub stance: WorkerStance,
+    pub stance: ReportedStance,
 }
 
 /// The pending job of a worker.
 #[derive(Drop)]
-pub struct PendingJob {
+pub struct ReportedJob {
     pub lock: String,
     pub number: u64,
     /// The script, in JSON.
     pub script: String,
-    pub stance: WorkerStance,
+    pub stance: ReportedStance,
 }
 
 /// The receipt of a job that counts.
 #[derive(Debug, Drop)]
-pub struct Receipt {
+pub struct ReportedReceipt {
     pub lock: String,
     pub number: u64,
     /// The number of sections of the lock that were finished before.
@@ -51,13 +51,13 @@ pub struct Receipt {
     pub worker: u64,
 }
 
-impl fmt::Display for Receipt {
+impl fmt::Display for ReportedReceipt {
     ghost use Rattle.rme_ask_client.specs.JobAnswers.{receipt_output};
 
     ghost output = { λ receipt. Some (receipt_output receipt) };
 
     fn fmt<W: fmt::Write>(&self, f: &mut fmt::Formatter<W>) -> fmt::Result {
-        let Receipt {
+        let ReportedReceipt {
             lock,
             number,
             place,
@@ -73,9 +73,9 @@ impl fmt::Display for Receipt {
 
 /// The outcome of a request that goes on with a job.
 #[derive(Debug, Drop)]
-pub enum JobOutcome {
+pub enum ReportedOutcome {
     /// It is finished.
-    Receipt(Receipt),
+    Receipt(ReportedReceipt),
     /// It still waits for its lock.
     Waiting,
     /// It was withdrawn, and never counts.
@@ -96,24 +96,24 @@ pub fn attached_worker(value: &Value) -> Result<AttachedWorker, ClientError>
 }
 
 /// The stance of an answer.
-pub(crate) fn stance(value: &Value) -> Result<WorkerStance, ClientError>
+pub(crate) fn stance(value: &Value) -> Result<ReportedStance, ClientError>
     ensures said { IfOk result (spec.StanceSays (view value.now)) }
     ensures unsaid { IfErr result (λ _. NoneSaid spec.StanceSays (view value.now)) }
 {
     match text(value, "stance")? {
-        "ready" => Ok(WorkerStance::Ready),
-        "climb" => Ok(WorkerStance::Climb),
-        "held" => Ok(WorkerStance::Held),
+        "ready" => Ok(ReportedStance::Ready),
+        "climb" => Ok(ReportedStance::Climb),
+        "held" => Ok(ReportedStance::Held),
         _ => Err(ClientError::NoMember("stance")),
     }
 }
 
 /// The job of the answer to `pending`.
-pub fn pending_job(alloc: Global, value: &Value) -> Result<PendingJob, ClientError>
+pub fn pending_job(alloc: Global, value: &Value) -> Result<ReportedJob, ClientError>
     ensures said { IfOk result (spec.PendingSays (view value.now)) }
     ensures unsaid { IfErr result (NoneSaidUnless spec.PendingSays (view value.now)) }
 {
-    Ok(PendingJob {
+    Ok(ReportedJob {
         lock: lock_name(alloc, value, "lock")?,
         number: number(value, "number")?,
         script: member(value, "script")?.to_string(alloc)?,
@@ -122,21 +122,21 @@ pub fn pending_job(alloc: Global, value: &Value) -> Result<PendingJob, ClientErr
 }
 
 /// The outcome of the answer to `resume`.
-pub fn job_outcome(alloc: Global, value: &Value) -> Result<JobOutcome, ClientError>
+pub fn job_outcome(alloc: Global, value: &Value) -> Result<ReportedOutcome, ClientError>
     ensures said { IfOk result (spec.OutcomeSays (view value.now)) }
     ensures unsaid { IfErr result (NoneSaidUnless (spec.HasReceipt (codes "receipt")) (view value.now)) }
 {
     if let Some(receipt) = value.get("receipt") {
-        return Ok(JobOutcome::Receipt(receipt_of(alloc, receipt)?));
+        return Ok(ReportedOutcome::Receipt(receipt_of(alloc, receipt)?));
     }
     if flag(value, "waiting") == Ok(true) {
-        return Ok(JobOutcome::Waiting);
+        return Ok(ReportedOutcome::Waiting);
     }
     if flag(value, "withdrawn") == Ok(true) {
-        return Ok(JobOutcome::Withdrawn);
+        return Ok(ReportedOutcome::Withdrawn);
     }
     if flag(value, "fell")? {
-        return Ok(JobOutcome::Fell);
+        return Ok(ReportedOutcome::Fell);
     }
     Err(ClientError::NoMember("receipt"))
 }
@@ -150,7 +150,7 @@ pub fn withdrawn_number(value: &Value) -> Result<u64, ClientError>
 }
 
 /// The receipt of the answer to `last`, or `None` if there is no last job that counts.
-pub fn last_receipt(alloc: Global, value: &Value) -> Result<Option<Receipt>, ClientError>
+pub fn last_receipt(alloc: Global, value: &Value) -> Result<Option<ReportedReceipt>, ClientError>
     ensures said { IfOk result (spec.LastSays (view value.now)) }
     ensures unsaid { IfErr result (NoneSaidUnless spec.LastSays (view value.now)) }
 {
@@ -162,11 +162,11 @@ pub fn last_receipt(alloc: Global, value: &Value) -> Result<Option<Receipt>, Cli
 }
 
 /// The receipt of a value.
-fn receipt_of(alloc: Global, value: &Value) -> Result<Receipt, ClientError>
+fn receipt_of(alloc: Global, value: &Value) -> Result<ReportedReceipt, ClientError>
     ensures said { IfOk result (spec.ReceiptSays (view value.now)) }
     ensures unsaid { IfErr result (NoneSaidUnless spec.ReceiptSays (view value.now)) }
 {
-    Ok(Receipt {
+    Ok(ReportedReceipt {
         lock: lock_name(alloc, value, "lock")?,
         number: number(value, "number")?,
         place: number(value, "place")?,

@@ -16,17 +16,15 @@ mod members;
 mod request;
 mod status_answer;
 
-pub use answer::{Answer, RefusedAnswer};
+pub use answer::{RefusedAnswer, ServerAnswer};
 pub use client_error::ClientError;
 pub use conversation::Conversation;
 pub use job_answers::{
-    AttachedWorker, JobOutcome, PendingJob, Receipt, WorkerStance, attached_worker, job_outcome,
-    last_receipt, pending_job, withdrawn_number,
+    AttachedWorker, ReportedJob, ReportedOutcome, ReportedReceipt, ReportedStance, attached_worker,
+    job_outcome, last_receipt, pending_job, withdrawn_number,
 };
-pub use request::{Request, push_request};
+pub use request::{ClientRequest, push_request};
 pub use status_answer::{
-    CellsAnswer, LockStatus, ServerStatus, WorkerStatus, cells_answer, owner_answer, server_status,
+    CellsAnswer, ReportedLock, ReportedWorker, ServerStatus, cells_answer, owner_answer,
+    server_status,
 };
-
-#[cfg(test)]
-mod tests;

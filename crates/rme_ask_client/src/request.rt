@@ -10,7 +10,7 @@ use std::alloc::{AllocError, Global};
 
 /// A request of a client.
 #[derive(Clone, Copy)]
-pub enum Request<'a> {
+pub enum ClientRequest<'a> {
     /// Everything at once.
     Status,
     /// The owner of the lock of this name.
@@ -34,42 +34,46 @@ pub enum Request<'a> {
     Detach,
 }
 
-impl Request<'_> {
+impl ClientRequest<'_> {
     /// The word of the request, which its answer repeats.
     pub fn word(self) -> &'static str
         ensures { result.now ≡ spec.request_word self.entry }
     {
         match self {
-            Request::Status => "status",
-            Request::Owner(_) => "owner",
-            Request::Cells(_) => "cells",
-            Request::Ping => "ping",
-            Request::Attach(_) | Request::TakeOver(_) => "attach",
-            Request::Pending => "pending",
-            Request::Resume(_) => "resume",
-            Request::Withdraw => "withdraw",
-            Request::Last => "last",
-            Request::Detach => "detach",
+            ClientRequest::Status => "status",
+            ClientRequest::Owner(_) => "owner",
+            ClientRequest::Cells(_) => "cells",
+            ClientRequest::Ping => "ping",
+            ClientRequest::Attach(_) | ClientRequest::TakeOver(_) => "attach",
+            ClientRequest::Pending => "pending",
+            ClientRequest::Resume(_) => "resume",
+            ClientRequest::Withdraw => "withdraw",
+            ClientRequest::Last => "last",
+            ClientRequest::Detach => "detach",
         }
     }
 }
 
 /// Appends the line of a request, without its newline.
-pub fn push_request(out: &mut String, alloc: Global, request: Request<'_>) -> Result<(), AllocError>
+pub fn push_request(
+    out: &mut String,
+    alloc: Global,
+    request: ClientRequest<'_>,
+) -> Result<(), AllocError>
     ensures { OnOk result (string_bytes out.new ≡ string_bytes out.old ++ spec.request_text request.entry) }
 {
     match request {
-        Request::Owner(lock) | Request::Cells(lock) => {
+        ClientRequest::Owner(lock) | ClientRequest::Cells(lock) => {
             push_lock_request(out, alloc, request.word(), lock)
         }
-        Request::Attach(worker) => write!(out, "{{\"do\":\"attach\",\"worker\":{worker}}}"),
-        Request::TakeOver(worker) => {
+        ClientRequest::Attach(worker) => write!(out, "{{\"do\":\"attach\",\"worker\":{worker}}}"),
+        ClientRequest::TakeOver(worker) => {
             write!(
                 out,
                 "{{\"do\":\"attach\",\"take\":true,\"worker\":{worker}}}"
             )
         }
-        Request::Resume(wait) => write!(out, "{{\"do\":\"resume\",\"wait\":{wait}}}"),
+        ClientRequest::Resume(wait) => write!(out, "{{\"do\":\"resume\",\"wait\":{wait}}}"),
         _ => push_plain_request(out, request.word()),
     }
 }

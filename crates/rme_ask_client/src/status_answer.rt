@@ -7,7 +7,7 @@ ghost use Rattle.rme_ask_client.specs.Members.{NoneSaid, NoneSaidUnless};
 ghost use Rattle.rme_ask_client.specs.StatusAnswers as spec;
 
 use crate::client_error::ClientError;
-use crate::job_answers::{WorkerStance, stance};
+use crate::job_answers::{ReportedStance, stance};
 use crate::members::{flag, lock_name, member, number, string};
 use serde_json::Value;
 use std::alloc::Global;
@@ -17,14 +17,14 @@ use std::alloc::Global;
 pub struct ServerStatus {
     /// The number of checkpoints.
     pub epoch: u64,
-    pub locks: Vec<LockStatus>,
+    pub locks: Vec<ReportedLock>,
     /// The workers, from number 0.
-    pub workers: Vec<WorkerStatus>,
+    pub workers: Vec<ReportedWorker>,
 }
 
 /// A lock in the answer to `status`.
 #[derive(Drop)]
-pub struct LockStatus {
+pub struct ReportedLock {
     pub name: String,
     pub owner: Option<u64>,
     pub cells: Vec<u64>,
@@ -36,10 +36,10 @@ pub struct LockStatus {
 
 /// A worker in the answer to `status`.
 #[derive(Drop)]
-pub struct WorkerStatus {
+pub struct ReportedWorker {
     /// Whether a session has it.
     pub attached: bool,
-    pub stance: WorkerStance,
+    pub stance: ReportedStance,
     /// The lock of its pending job; `None` without a pending job.
     pub lock: Option<String>,
     /// The number of its pending job; without one, of its last job.
@@ -115,11 +115,11 @@ impl ListItem for u64 {
     }
 }
 
-impl ListItem for LockStatus {
+impl ListItem for ReportedLock {
     ghost Says = { spec.LockSays };
 
-    fn of_item(alloc: Global, item: &Value) -> Result<LockStatus, ClientError> {
-        Ok(LockStatus {
+    fn of_item(alloc: Global, item: &Value) -> Result<ReportedLock, ClientError> {
+        Ok(ReportedLock {
             name: lock_name(alloc, item, "name")?,
             owner: owner_answer(item)?,
             cells: list_of(alloc, item, "cells")?,
@@ -129,11 +129,11 @@ impl ListItem for LockStatus {
     }
 }
 
-impl ListItem for WorkerStatus {
+impl ListItem for ReportedWorker {
     ghost Says = { spec.WorkerSays };
 
-    fn of_item(alloc: Global, item: &Value) -> Result<WorkerStatus, ClientError> {
-        Ok(WorkerStatus {
+    fn of_item(alloc: Global, item: &Value) -> Result<ReportedWorker, ClientError> {
+        Ok(ReportedWorker {
             attached: flag(item, "attached")?,
             stance: stance(item)?,
             lock: lock_of_worker(alloc, item)?,
@@ -164,7 +164,7 @@ fn list_of<T: ListItem>(
 /// The list of this name.
 fn list<'v>(value: &'v Value, name: &'static str) -> Result<&'v [Value], ClientError>
     ensures found { IfOk result (λ items. spec.items_member name.now (view value.now)
-        ≡ Some (spec.items_view items.now)) }
+        ≡ Some (spec.list_view items.now)) }
     ensures missing { IfErr result (λ _. spec.items_member name.now (view value.now) ≡ None) }
 {
     match member(value, name)?.as_array() {

@@ -1,3 +1,4 @@
 pub mod Tables
 pub mod MoreRows
 pub mod Ages
+pub mod Ends

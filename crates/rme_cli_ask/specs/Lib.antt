@@ -1,7 +1,9 @@
--- In reading order: how a command ends; how long it waits; times; tables, and their rows.
+-- In reading order: how a command ends; how long it waits; times; tables, and their rows; the
+-- tables of answers.
 pub mod Ends
 pub mod Waits
 pub mod Ages
 pub mod Tables
 pub mod StatusRows
 pub mod TopRows
+pub mod LookUps

@@ -48,14 +48,14 @@ abbrev pub padded_text : ℕ → List ℕ → List ℕ
 padded_text width text = text ++ replicate (width - length text) 32
 
 -- The cells of a row from this column on: each is as wide as its column, and two spaces follow; the last is as it is.
-abbrev pub row_text : List (List (List ℕ)) → ℕ → List (List ℕ) → List ℕ
-row_text rows column [] = []
-row_text rows column (cell ∷ []) = cell
-row_text rows column (cell ∷ next ∷ cells) =
-    padded_text (width_of rows column) cell ++ (codes "  " ++ row_text rows (column + 1) (next ∷ cells))
+abbrev pub table_row_text : List (List (List ℕ)) → ℕ → List (List ℕ) → List ℕ
+table_row_text rows column [] = []
+table_row_text rows column (cell ∷ []) = cell
+table_row_text rows column (cell ∷ next ∷ cells) =
+    padded_text (width_of rows column) cell ++ (codes "  " ++ table_row_text rows (column + 1) (next ∷ cells))
 
 abbrev pub row_line : List (List (List ℕ)) → List (List ℕ) → List ℕ
-row_line rows row = row_text rows 0 row ++ codes "\n"
+row_line rows row = table_row_text rows 0 row ++ codes "\n"
 
 -- a line for each row
 abbrev pub table_text : List (List (List ℕ)) → List ℕ

@@ -1,13 +1,13 @@
 -- How long to wait for a lock, in rounds of at most five seconds.
 use Rattle.std.specs.Prelude.{ℕ, ◌-◌, ◌*◌, min, Option, Some, None}
-use Rattle.rme_cli_ask.specs.declared.patience.Patience.{Patience}
+use Rattle.rme_cli_ask.specs.declared.patience.RemainingPatience.{RemainingPatience}
 
 -- the milliseconds of a number of seconds; none for a wait without an end
 abbrev pub milliseconds : Option ℕ → Option ℕ
 milliseconds None = None
 milliseconds (Some seconds) = Some (seconds * 1000)
 
-abbrev pub milliseconds_left : Patience → Option ℕ
+abbrev pub milliseconds_left : RemainingPatience → Option ℕ
 milliseconds_left patience = patience.left
 
 -- the next round, by what is left

@@ -1,11 +1,14 @@
 //! Finishing the pending job of a worker whose client will not come back.
 
+ghost use Rattle.std.specs.Prelude.{◌≡◌, ◌+◌, ◌<◌, ◌↔◌, ℕ, IsTrue, Some};
+ghost use Rattle.rme_cli_ask.specs.Waits.{milliseconds_left};
+
 use crate::ask_end::{AskEnd, AskFault};
 use crate::dialogue::Dialogue;
-use crate::patience::Patience;
+use crate::patience::RemainingPatience;
 use rme_ask_client::{
-    Answer, ClientError, JobOutcome, PendingJob, Request, WorkerStance, attached_worker,
-    job_outcome, last_receipt, owner_answer, pending_job, withdrawn_number,
+    ClientError, ClientRequest, ReportedJob, ReportedOutcome, ReportedStance, ServerAnswer,
+    attached_worker, job_outcome, last_receipt, owner_answer, pending_job, withdrawn_number,
 };
 use rme_cli_options::FinishTask;
 use rme_line_io::{Sink, Source};
@@ -20,25 +23,25 @@ impl<R: Source + Drop, W: Sink + Drop, O: Sink + Drop, E: Sink + Drop> Dialogue<
         task: FinishTask,
     ) -> Result<AskEnd, AskFault> {
         let attach = if task.takes_over {
-            Request::TakeOver(task.worker)
+            ClientRequest::TakeOver(task.worker)
         } else {
-            Request::Attach(task.worker)
+            ClientRequest::Attach(task.worker)
         };
         let Some(value) = self.accepted(attach)? else {
             return Ok(AskEnd::Refused);
         };
         let ended = match attached_worker(&value)?.stance {
-            WorkerStance::Ready => self.show_last(task.worker)?,
+            ReportedStance::Ready => self.show_last(task.worker)?,
             _ => self.finish_pending(threads, task)?,
         };
         // The end of the connection lets the worker go too.
-        let _ = self.talk.ask(Request::Detach);
+        let _ = self.talk.ask(ClientRequest::Detach);
         Ok(ended)
     }
 
     /// Prints that a worker has no pending job, with its last receipt.
     fn show_last(&mut self, worker: u32) -> Result<AskEnd, AskFault> {
-        let Some(value) = self.accepted(Request::Last)? else {
+        let Some(value) = self.accepted(ClientRequest::Last)? else {
             return Ok(AskEnd::Refused);
         };
         if self.console.is_json() {
@@ -63,7 +66,7 @@ impl<R: Source + Drop, W: Sink + Drop, O: Sink + Drop, E: Sink + Drop> Dialogue<
         threads: &P,
         task: FinishTask,
     ) -> Result<AskEnd, AskFault> {
-        let Some(value) = self.accepted(Request::Pending)? else {
+        let Some(value) = self.accepted(ClientRequest::Pending)? else {
             return Ok(AskEnd::Refused);
         };
         let job = pending_job(self.alloc, &value)?;
@@ -73,10 +76,10 @@ impl<R: Source + Drop, W: Sink + Drop, O: Sink + Drop, E: Sink + Drop> Dialogue<
             let text = job_text(self.alloc, task.worker, &job)?;
             self.console.print(text.as_str())?;
         }
-        if task.withdraws && job.stance == WorkerStance::Climb {
+        if task.withdraws && job.stance == ReportedStance::Climb {
             return self.withdraw(task.worker);
         }
-        let patience = Patience::of(task.seconds);
+        let patience = RemainingPatience::of(task.seconds);
         let attempt = Attempt {
             task,
             job,
@@ -87,7 +90,7 @@ impl<R: Source + Drop, W: Sink + Drop, O: Sink + Drop, E: Sink + Drop> Dialogue<
 
     /// Withdraws the job of the attached worker.
     fn withdraw(&mut self, worker: u32) -> Result<AskEnd, AskFault> {
-        let Some(value) = self.accepted(Request::Withdraw)? else {
+        let Some(value) = self.accepted(ClientRequest::Withdraw)? else {
             return Ok(AskEnd::Refused);
         };
         if self.console.is_json() {
@@ -106,13 +109,12 @@ impl<R: Source + Drop, W: Sink + Drop, O: Sink + Drop, E: Sink + Drop> Dialogue<
     fn resume<P: Wait>(&mut self, threads: &P, mut attempt: Attempt) -> Result<AskEnd, AskFault> {
         let mut is_told = false;
         for _ in threads.forever() {
-            let round = attempt.patience.next_round();
-            let Some(value) = self.accepted(Request::Resume(round))? else {
+            let (round, is_last) = begin_round(&mut attempt.patience);
+            let Some(value) = self.accepted(ClientRequest::Resume(round))? else {
                 return Ok(AskEnd::Refused);
             };
             let outcome = job_outcome(self.alloc, &value)?;
-            let is_over = attempt.patience.is_over();
-            if !matches!(outcome, JobOutcome::Waiting) || is_over {
+            if !matches!(outcome, ReportedOutcome::Waiting) || is_last {
                 return self.show_outcome(&attempt, outcome);
             }
             if !is_told {
@@ -124,23 +126,27 @@ impl<R: Source + Drop, W: Sink + Drop, O: Sink + Drop, E: Sink + Drop> Dialogue<
     }
 
     /// Prints the outcome of the pending job.
-    fn show_outcome(&mut self, attempt: &Attempt, outcome: JobOutcome) -> Result<AskEnd, AskFault> {
+    fn show_outcome(
+        &mut self,
+        attempt: &Attempt,
+        outcome: ReportedOutcome,
+    ) -> Result<AskEnd, AskFault> {
         if self.console.is_json() {
             self.print_answer()?;
         }
         match outcome {
-            JobOutcome::Receipt(receipt) => {
+            ReportedOutcome::Receipt(receipt) => {
                 if !self.console.is_json() {
                     let text = format!(in self.alloc; "finished: {receipt}\n")?;
                     self.console.print(text.as_str())?;
                 }
                 Ok(AskEnd::Done)
             }
-            JobOutcome::Waiting => {
+            ReportedOutcome::Waiting => {
                 self.tell_waiting(attempt)?;
                 Ok(AskEnd::Waits)
             }
-            JobOutcome::Withdrawn | JobOutcome::Fell => {
+            ReportedOutcome::Withdrawn | ReportedOutcome::Fell => {
                 self.console.tell("rme: the job was not finished: the server ended it otherwise\n");
                 Ok(AskEnd::Failed)
             }
@@ -158,9 +164,9 @@ impl<R: Source + Drop, W: Sink + Drop, O: Sink + Drop, E: Sink + Drop> Dialogue<
 
     /// The owner of a lock; `None` if it is free, or if the server has no look-ups.
     fn owner_of(&mut self, lock: &str) -> Result<Option<u64>, ClientError> {
-        match self.talk.ask(Request::Owner(lock))? {
-            Answer::Accepted(value) => owner_answer(&value),
-            Answer::Refused(_) => Ok(None),
+        match self.talk.ask(ClientRequest::Owner(lock))? {
+            ServerAnswer::Accepted(value) => owner_answer(&value),
+            ServerAnswer::Refused(_) => Ok(None),
         }
     }
 }
@@ -169,20 +175,31 @@ impl<R: Source + Drop, W: Sink + Drop, O: Sink + Drop, E: Sink + Drop> Dialogue<
 #[derive(Drop)]
 struct Attempt {
     task: FinishTask,
-    job: PendingJob,
-    patience: Patience,
+    job: ReportedJob,
+    patience: RemainingPatience,
+}
+
+/// The milliseconds of the next round of a wait, and whether it is the last one. Each round leaves less time, if a time
+/// is given.
+fn begin_round(patience: &mut RemainingPatience) -> (u32, bool)
+    ensures less { (left : ℕ) → milliseconds_left patience.old ≡ Some (left + 1)
+        → (rest : ℕ) × (milliseconds_left patience.new ≡ Some rest) × (rest < left + 1) }
+    ensures last { IsTrue result.1 ↔ (milliseconds_left patience.new ≡ Some 0) }
+{
+    let round = patience.next_round();
+    (round, patience.is_over())
 }
 
 /// The text of a pending job.
-fn job_text(alloc: Global, worker: u32, job: &PendingJob) -> Result<String, AllocError> {
-    let PendingJob {
+fn job_text(alloc: Global, worker: u32, job: &ReportedJob) -> Result<String, AllocError> {
+    let ReportedJob {
         lock,
         number,
         script,
         stance,
     } = job;
     let at = match stance {
-        WorkerStance::Held => "is inside",
+        ReportedStance::Held => "is inside",
         _ => "waits for",
     };
     format!(in alloc; "worker {worker} {at} lock {lock} with job {number}, script {script}\n")
@@ -195,7 +212,7 @@ fn waiting_text(
     owner: Option<u64>,
 ) -> Result<String, AllocError> {
     let worker = attempt.task.worker;
-    let PendingJob {
+    let ReportedJob {
         lock,
         number,
         script: _,

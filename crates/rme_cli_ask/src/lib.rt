@@ -3,9 +3,9 @@
 //! It looks at a server with a state, finishes the pending job of a worker by hand, or sends the lines of its
 //! standard input. The crate stands on rme_ask_client, whose conversations it has, on rme_line_io, which cuts and
 //! writes lines, on rme_cli_options for the task, and on rme_cli_messages for faults and for the explanations of
-//! refusals. Its one call is `run_ask`. Its contracts: a table has a row for each lock and each worker of the answer
-//! (`specs/Tables.antt`, `specs/StatusRows.antt`, `specs/TopRows.antt`), the exit status is that of the end
-//! (`specs/Ends.antt`). Begin with `run.rt`, then `finish.rt`.
+//! refusals. Its one call is `run_ask`. Its contracts: a look-up shows the tables of what the answer says
+//! (`specs/LookUps.antt`), with a row for each lock and each worker (`specs/StatusRows.antt`, `specs/TopRows.antt`), and
+//! the exit status is 0 exactly if what was asked for was done. Begin with `run.rt`, then `finish.rt`.
 #![tactic(auto)]
 
 mod age;

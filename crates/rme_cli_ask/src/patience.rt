@@ -6,23 +6,23 @@ const ROUND: u32 = 5_000;
 
 /// The milliseconds to wait that are left, or as long as it takes.
 #[derive(Clone, Copy)]
-pub(crate) struct Patience {
+pub(crate) struct RemainingPatience {
     left: Option<u64>,
 }
 
-impl Patience {
+impl RemainingPatience {
     ghost use Rattle.std.specs.Prelude.{◌≡◌, ◌≤◌, ◌↔◌, IsTrue};
     ghost use Rattle.rme_cli_ask.specs.Waits.{milliseconds, milliseconds_after, milliseconds_left, round_of};
 
     /// This number of seconds, or as long as it takes.
-    pub(crate) fn of(seconds: Option<u32>) -> Patience
+    pub(crate) fn of(seconds: Option<u32>) -> RemainingPatience
         ensures { milliseconds_left result ≡ milliseconds seconds }
     {
         let left = match seconds {
             Some(seconds) => Some(u64::from(seconds) * 1_000),
             None => None,
         };
-        Patience { left }
+        RemainingPatience { left }
     }
 
     /// The milliseconds of the next round, which are no longer left.

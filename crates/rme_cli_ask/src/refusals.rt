@@ -2,7 +2,7 @@
 
 use crate::ask_end::AskFault;
 use crate::dialogue::Dialogue;
-use rme_ask_client::{Answer, RefusedAnswer, Request};
+use rme_ask_client::{ClientRequest, RefusedAnswer, ServerAnswer};
 use rme_cli_messages::{escape_controls, refusal_advice, refusal_of, refusal_when};
 use rme_line_io::{Sink, Source};
 use serde_json::Value;
@@ -17,10 +17,13 @@ const TAKEN: u64 = 18;
 impl<R: Source + Drop, W: Sink + Drop, O: Sink + Drop, E: Sink + Drop> Dialogue<R, W, O, E> {
     /// Sends a request, and answers what was accepted; `None` if it was refused, which is explained on the standard
     /// error.
-    pub(crate) fn accepted(&mut self, request: Request<'_>) -> Result<Option<Value>, AskFault> {
+    pub(crate) fn accepted(
+        &mut self,
+        request: ClientRequest<'_>,
+    ) -> Result<Option<Value>, AskFault> {
         match self.talk.ask(request)? {
-            Answer::Accepted(value) => Ok(Some(value)),
-            Answer::Refused(refused) => {
+            ServerAnswer::Accepted(value) => Ok(Some(value)),
+            ServerAnswer::Refused(refused) => {
                 if self.console.is_json() {
                     self.print_answer()?;
                 }
@@ -35,7 +38,7 @@ impl<R: Source + Drop, W: Sink + Drop, O: Sink + Drop, E: Sink + Drop> Dialogue<
 /// The text of a refusal of this request.
 fn refusal_text(
     alloc: Global,
-    request: Request<'_>,
+    request: ClientRequest<'_>,
     refused: &RefusedAnswer,
 ) -> Result<String, AllocError> {
     let mut text = String::new(alloc);
@@ -72,15 +75,16 @@ fn push_explanation(
 }
 
 /// What the explanation of a refusal does not say of this request.
-fn hint(request: Request<'_>, code: u64) -> Option<&'static str> {
+fn hint(request: ClientRequest<'_>, code: u64) -> Option<&'static str> {
     match request {
-        Request::Status | Request::Owner(_) | Request::Cells(_) if code == BAD_LINE => Some(
+        ClientRequest::Status | ClientRequest::Owner(_) | ClientRequest::Cells(_)
+            if code == BAD_LINE => Some(
             "A server without a state has no look-ups: only `rme serve --state FILE` has them.",
         ),
-        Request::Pending if code == BAD_LINE => Some(
+        ClientRequest::Pending if code == BAD_LINE => Some(
             "The server is of an earlier version, which has no order `pending`.",
         ),
-        Request::Attach(_) if code == TAKEN => Some(
+        ClientRequest::Attach(_) if code == TAKEN => Some(
             "Where that session's client will not come back, --take ends the session and takes the worker.",
         ),
         _ => None,

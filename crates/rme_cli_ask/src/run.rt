@@ -1,11 +1,14 @@
 //! The command itself.
 
+ghost use Rattle.std.specs.Prelude.{◌≡◌, ◌↔◌};
+ghost use Rattle.rme_cli_ask.specs.declared.ask_end.AskEnd.TheVariants.{Done};
+
 use crate::ask_end::{AskEnd, AskFault};
 use crate::connect::connect;
 use crate::console::Console;
 use crate::dialogue::Dialogue;
 use crate::top::TopView;
-use rme_ask_client::{ClientError, Conversation, Request};
+use rme_ask_client::{ClientError, ClientRequest, Conversation};
 use rme_cli_messages::CliFault;
 use rme_cli_options::{AskRequest, AskTask};
 use rme_line_io::{Sink, Source};
@@ -32,7 +35,14 @@ pub fn run_ask<R: Wait>(rt: &HostRuntime, threads: &R, task: AskTask) -> Result<
         console,
     };
     let ended = perform(rt, threads, &mut dialogue, request);
-    Ok(end_of(rt, &mut dialogue.console, ended)?.status())
+    Ok(exit_status(end_of(rt, &mut dialogue.console, ended)?))
+}
+
+/// The exit status of the program: 0 exactly if what was asked for was done.
+fn exit_status(end: AskEnd) -> u8
+    ensures { (result ≡ 0) ↔ (end ≡ Done) }
+{
+    end.status()
 }
 
 /// Does what is asked.
@@ -44,10 +54,10 @@ fn perform<P: Wait, R: Source + Drop, W: Sink + Drop, O: Sink + Drop, E: Sink + 
 ) -> Result<AskEnd, AskFault> {
     match request {
         AskRequest::Lines => dialogue.relay_lines(rt.stdin()),
-        AskRequest::Status => dialogue.look_up(Request::Status),
-        AskRequest::Ping => dialogue.look_up(Request::Ping),
-        AskRequest::Owner(lock) => dialogue.look_up(Request::Owner(lock.as_str())),
-        AskRequest::Cells(lock) => dialogue.look_up(Request::Cells(lock.as_str())),
+        AskRequest::Status => dialogue.look_up(ClientRequest::Status),
+        AskRequest::Ping => dialogue.look_up(ClientRequest::Ping),
+        AskRequest::Owner(lock) => dialogue.look_up(ClientRequest::Owner(lock.as_str())),
+        AskRequest::Cells(lock) => dialogue.look_up(ClientRequest::Cells(lock.as_str())),
         AskRequest::Finish(task) => dialogue.finish(threads, task),
         AskRequest::Top(count) => {
             let view = TopView {

@@ -2,13 +2,13 @@
 
 ghost use Rattle.std.specs.Prelude.{◌≡◌, ◌++◌, IfOk, OnOk, count_by, string_bytes};
 ghost use Rattle.std.specs.List.{flat_map};
-ghost use Rattle.rme_ask_client.specs.JobAnswers.{stance_word};
+ghost use Rattle.rme_ask_client.specs.JobAnswers.{reported_stance_word};
 ghost use Rattle.rme_cli_ask.specs.StatusRows as spec;
 
 use crate::age::Age;
 use crate::rows::{RowOf, rows_of, rows_of_lock};
 use crate::table::push_table;
-use rme_ask_client::{CellsAnswer, LockStatus, ServerStatus, WorkerStance, WorkerStatus};
+use rme_ask_client::{CellsAnswer, ReportedLock, ReportedStance, ReportedWorker, ServerStatus};
 use rme_cli_messages::escape_controls;
 use std::alloc::{AllocError, Global};
 
@@ -36,7 +36,7 @@ pub(crate) fn owner_rows(
 ) -> Result<Vec<Vec<String>>, AllocError>
     ensures { IfOk result (λ rows. spec.rows_view rows.items ≡ spec.owner_rows lock.now owner) }
 {
-    rows_of_lock(alloc, lock, "OWNER", owner_text(alloc, owner)?)
+    rows_of_lock(alloc, lock, "OWNER", owner_cell(alloc, owner)?)
 }
 
 /// The rows of an answer to `cells`.
@@ -47,7 +47,7 @@ pub(crate) fn cells_rows(
 ) -> Result<Vec<Vec<String>>, AllocError>
     ensures { IfOk result (λ rows. spec.rows_view rows.items ≡ spec.cells_rows lock.now answer.now) }
 {
-    let cells = cells_text(alloc, answer.cells.as_slice(), answer.settled)?;
+    let cells = cell_list_text(alloc, answer.cells.as_slice(), answer.settled)?;
     rows_of_lock(alloc, lock, "CELLS", cells)
 }
 
@@ -63,7 +63,7 @@ fn lock_rows(alloc: Global, status: &ServerStatus) -> Result<Vec<Vec<String>>, A
 }
 
 /// The rows of workers: a header, and a row for each worker.
-fn worker_rows(alloc: Global, workers: &[WorkerStatus]) -> Result<Vec<Vec<String>>, AllocError>
+fn worker_rows(alloc: Global, workers: &[ReportedWorker]) -> Result<Vec<Vec<String>>, AllocError>
     ensures { IfOk result (λ rows. spec.rows_view rows.items ≡ spec.worker_rows workers.now) }
 {
     let titles = [
@@ -82,24 +82,24 @@ fn worker_rows(alloc: Global, workers: &[WorkerStatus]) -> Result<Vec<Vec<String
 /// Locks, beside the workers of their server.
 #[derive(Drop)]
 struct LockView<'a> {
-    workers: &'a [WorkerStatus],
+    workers: &'a [ReportedWorker],
 }
 
-impl<'a> RowOf<LockStatus> for LockView<'a> {
-    ghost cells_of = { λ view _ lock. spec.lock_row view.workers.now lock };
+impl<'a> RowOf<ReportedLock> for LockView<'a> {
+    ghost cells_of = { λ view _ lock. spec.lock_table_row view.workers.now lock };
 
     fn row(
         &self,
         alloc: Global,
         _number: usize,
-        lock: &LockStatus,
+        lock: &ReportedLock,
     ) -> Result<Vec<String>, AllocError> {
         let sections = lock.sections;
         Ok(vec![in alloc;
             String::from_str(alloc, lock.name.as_str())?,
-            owner_text(alloc, lock.owner)?,
+            owner_cell(alloc, lock.owner)?,
             String::from_str(alloc, owner_state(lock.owner, self.workers))?,
-            cells_text(alloc, lock.cells.as_slice(), lock.settled)?,
+            cell_list_text(alloc, lock.cells.as_slice(), lock.settled)?,
             format!(in alloc; "{sections}")?,
         ]?)
     }
@@ -109,14 +109,14 @@ impl<'a> RowOf<LockStatus> for LockView<'a> {
 #[derive(Drop)]
 struct WorkerView;
 
-impl RowOf<WorkerStatus> for WorkerView {
+impl RowOf<ReportedWorker> for WorkerView {
     ghost cells_of = { λ _ number worker. spec.worker_row number worker };
 
     fn row(
         &self,
         alloc: Global,
         number: usize,
-        worker: &WorkerStatus,
+        worker: &ReportedWorker,
     ) -> Result<Vec<String>, AllocError> {
         let job = worker.number;
         let session = if worker.attached { "yes" } else { "none" };
@@ -127,7 +127,7 @@ impl RowOf<WorkerStatus> for WorkerView {
         Ok(vec![in alloc;
             format!(in alloc; "{number}")?,
             String::from_str(alloc, session)?,
-            String::from_str(alloc, stance_word(worker.stance))?,
+            String::from_str(alloc, reported_stance_word(worker.stance))?,
             String::from_str(alloc, lock)?,
             format!(in alloc; "{job}")?,
             number_or(alloc, worker.blocked_by, NOTHING)?,
@@ -173,14 +173,14 @@ fn client_text(alloc: Global, name: &Option<String>) -> Result<String, AllocErro
 }
 
 /// The number of an owner, or `nobody`.
-pub(crate) fn owner_text(alloc: Global, owner: Option<u64>) -> Result<String, AllocError>
-    ensures { IfOk result (λ text. string_bytes text ≡ spec.owner_text owner) }
+pub(crate) fn owner_cell(alloc: Global, owner: Option<u64>) -> Result<String, AllocError>
+    ensures { IfOk result (λ text. string_bytes text ≡ spec.owner_cell owner) }
 {
     number_or(alloc, owner, "nobody")
 }
 
 /// Whether a session has the owner of a lock.
-pub(crate) fn owner_state(owner: Option<u64>, workers: &[WorkerStatus]) -> &'static str
+pub(crate) fn owner_state(owner: Option<u64>, workers: &[ReportedWorker]) -> &'static str
     ensures { result.now ≡ spec.owner_state workers.now owner }
 {
     let Some(worker) = owner else {
@@ -194,7 +194,7 @@ pub(crate) fn owner_state(owner: Option<u64>, workers: &[WorkerStatus]) -> &'sta
 }
 
 /// Whether a session has the worker of this number.
-fn has_session(workers: &[WorkerStatus], number: u64) -> bool
+fn has_session(workers: &[ReportedWorker], number: u64) -> bool
     ensures { result ≡ spec.has_session workers.now number }
 {
     match workers.get(number as usize) {
@@ -204,7 +204,7 @@ fn has_session(workers: &[WorkerStatus], number: u64) -> bool
 }
 
 /// The number of workers that wait for a lock.
-pub(crate) fn waiting_for(workers: &[WorkerStatus], lock: &str) -> usize
+pub(crate) fn waiting_for(workers: &[ReportedWorker], lock: &str) -> usize
     ensures { result ≡ count_by (spec.waits_for lock.now) workers.now }
 {
     workers
@@ -214,21 +214,21 @@ pub(crate) fn waiting_for(workers: &[WorkerStatus], lock: &str) -> usize
 }
 
 /// Whether a worker waits for a lock.
-fn waits_for(worker: &WorkerStatus, lock: &str) -> bool
+fn waits_for(worker: &ReportedWorker, lock: &str) -> bool
     ensures { result ≡ spec.waits_for lock.now worker.now }
 {
     let Some(name) = &worker.lock else {
         return false;
     };
-    if worker.stance != WorkerStance::Climb {
+    if worker.stance != ReportedStance::Climb {
         return false;
     }
     name.as_str() == lock
 }
 
 /// The values of cells, and whether a section is half done.
-fn cells_text(alloc: Global, cells: &[u64], settled: bool) -> Result<String, AllocError>
-    ensures { IfOk result (λ text. string_bytes text ≡ spec.cells_text cells.now settled) }
+fn cell_list_text(alloc: Global, cells: &[u64], settled: bool) -> Result<String, AllocError>
+    ensures { IfOk result (λ text. string_bytes text ≡ spec.cell_list_text cells.now settled) }
 {
     let mut text = String::new(alloc);
     push_cells(&mut text, cells)?;
@@ -240,7 +240,7 @@ fn cells_text(alloc: Global, cells: &[u64], settled: bool) -> Result<String, All
 
 /// Appends numbers, separated by commas.
 fn push_cells(out: &mut String, cells: &[u64]) -> Result<(), AllocError>
-    ensures { OnOk result (string_bytes out.new ≡ string_bytes out.old ++ spec.numbers_text cells.now) }
+    ensures { OnOk result (string_bytes out.new ≡ string_bytes out.old ++ spec.number_list_text cells.now) }
 {
     match cells.split_first() {
         Some((first, others)) => {
@@ -262,12 +262,12 @@ fn push_others(out: &mut String, cells: &[u64]) -> Result<(), AllocError>
 }
 
 /// The word of a worker's stance.
-fn stance_word(stance: WorkerStance) -> &'static str
-    ensures { result.now ≡ stance_word stance }
+fn reported_stance_word(stance: ReportedStance) -> &'static str
+    ensures { result.now ≡ reported_stance_word stance }
 {
     match stance {
-        WorkerStance::Ready => "ready",
-        WorkerStance::Climb => "climb",
-        WorkerStance::Held => "held",
+        ReportedStance::Ready => "ready",
+        ReportedStance::Climb => "climb",
+        ReportedStance::Held => "held",
     }
 }

@@ -23,7 +23,7 @@ pub(crate) fn push_table(out: &mut String, rows: &[Vec<String>]) -> Result<(), A
 /// Appends the cells of a row of this table.
 fn push_row(out: &mut String, rows: &[Vec<String>], cells: &[String]) -> Result<(), AllocError>
     ensures { OnOk result (string_bytes out.new ≡ string_bytes out.old
-        ++ spec.row_text (spec.rows_view rows.now) 0 (spec.cells_view cells.now)) }
+        ++ spec.table_row_text (spec.rows_view rows.now) 0 (spec.cells_view cells.now)) }
 {
     for (column, cell) in cells.iter().enumerate() {
         if column + 1 < cells.len() {

@@ -1,14 +1,15 @@
 //! The locks, once a second.
 
-ghost use Rattle.std.specs.Prelude.{◌≡◌, IfOk};
+ghost use Rattle.std.specs.Prelude.{◌≡◌, ◌++◌, IfOk, OnOk, string_bytes};
+ghost use Rattle.rme_cli_ask.specs.Tables.{table_text};
 ghost use Rattle.rme_cli_ask.specs.TopRows as spec;
 
 use crate::ask_end::{AskEnd, AskFault};
 use crate::dialogue::Dialogue;
 use crate::rows::{RowOf, rows_of};
-use crate::status_rows::{NOTHING, number_or, owner_state, owner_text, since_text, waiting_for};
+use crate::status_rows::{NOTHING, number_or, owner_cell, owner_state, since_text, waiting_for};
 use crate::table::push_table;
-use rme_ask_client::{LockStatus, Request, ServerStatus, WorkerStatus, server_status};
+use rme_ask_client::{ClientRequest, ReportedLock, ReportedWorker, ServerStatus, server_status};
 use rme_line_io::{Sink, Source};
 use std::alloc::{AllocError, Global};
 use std::sync::Wait;
@@ -46,7 +47,7 @@ impl<R: Source + Drop, W: Sink + Drop, O: Sink + Drop, E: Sink + Drop> Dialogue<
         let mut last = None;
         let mut made: u32 = 0;
         for _ in threads.forever() {
-            let Some(value) = self.accepted(Request::Status)? else {
+            let Some(value) = self.accepted(ClientRequest::Status)? else {
                 return Ok(AskEnd::Refused);
             };
             if self.console.is_json() {
@@ -83,17 +84,35 @@ fn sample_text(
     } else if last.is_some() {
         text.push_str("\n")?;
     }
-    let rows = match last {
-        Some(last) => top_rows(
-            alloc,
-            &sample.status,
-            last.status.locks.as_slice(),
-            millis_between(last.at, sample.at),
-        )?,
-        None => top_rows(alloc, &sample.status, &[], None)?,
-    };
-    push_table(&mut text, rows.as_slice())?;
+    match last {
+        Some(last) => {
+            let millis = millis_between(last.at, sample.at);
+            push_top(
+                &mut text,
+                alloc,
+                &sample.status,
+                last.status.locks.as_slice(),
+                millis,
+            )?;
+        }
+        None => push_top(&mut text, alloc, &sample.status, &[], None)?,
+    }
     Ok(text)
+}
+
+/// Appends the table of the locks, with the jobs a second since they were as before, this number of milliseconds ago.
+fn push_top(
+    out: &mut String,
+    alloc: Global,
+    status: &ServerStatus,
+    before: &[ReportedLock],
+    millis: Option<u64>,
+) -> Result<(), AllocError>
+    ensures { OnOk result (string_bytes out.new ≡ string_bytes out.old
+        ++ table_text (spec.top_rows status.now before.now millis)) }
+{
+    let rows = top_rows(alloc, status, before, millis)?;
+    push_table(out, rows.as_slice())
 }
 
 /// The milliseconds from one instant to another.
@@ -107,7 +126,7 @@ fn millis_between(from: Option<Instant>, to: Option<Instant>) -> Option<u64> {
 fn top_rows(
     alloc: Global,
     status: &ServerStatus,
-    before: &[LockStatus],
+    before: &[ReportedLock],
     millis: Option<u64>,
 ) -> Result<Vec<Vec<String>>, AllocError>
     ensures { IfOk result (λ rows. spec.rows_view rows.items ≡ spec.top_rows status.now before.now millis) }
@@ -124,24 +143,24 @@ fn top_rows(
 /// Locks, beside the workers of their server, and the same locks some milliseconds ago.
 #[derive(Drop)]
 struct TopLocks<'a> {
-    workers: &'a [WorkerStatus],
-    before: &'a [LockStatus],
+    workers: &'a [ReportedWorker],
+    before: &'a [ReportedLock],
     millis: Option<u64>,
 }
 
-impl<'a> RowOf<LockStatus> for TopLocks<'a> {
+impl<'a> RowOf<ReportedLock> for TopLocks<'a> {
     ghost cells_of = { λ view number lock. spec.top_row view.workers.now view.before.now view.millis number lock };
 
     fn row(
         &self,
         alloc: Global,
         number: usize,
-        lock: &LockStatus,
+        lock: &ReportedLock,
     ) -> Result<Vec<String>, AllocError> {
         let waiting = waiting_for(self.workers, lock.name.as_str());
         Ok(vec![in alloc;
             String::from_str(alloc, lock.name.as_str())?,
-            owner_text(alloc, lock.owner)?,
+            owner_cell(alloc, lock.owner)?,
             String::from_str(alloc, owner_state(lock.owner, self.workers))?,
             since_text(alloc, owner_seconds(lock.owner, self.workers))?,
             format!(in alloc; "{waiting}")?,
@@ -152,7 +171,7 @@ impl<'a> RowOf<LockStatus> for TopLocks<'a> {
 
 impl<'a> TopLocks<'a> {
     /// The jobs a second of a lock since its earlier status; `None` without an earlier status, or without a clock.
-    fn rate(&self, number: usize, lock: &LockStatus) -> Option<u64>
+    fn rate(&self, number: usize, lock: &ReportedLock) -> Option<u64>
         ensures { result ≡ spec.lock_rate self.now.before.now self.now.millis number lock.now }
     {
         let earlier = self.before.get(number)?;
@@ -161,7 +180,7 @@ impl<'a> TopLocks<'a> {
 }
 
 /// The seconds since the stance of an owner changed, where the server tells them.
-fn owner_seconds(owner: Option<u64>, workers: &[WorkerStatus]) -> Option<u64>
+fn owner_seconds(owner: Option<u64>, workers: &[ReportedWorker]) -> Option<u64>
     ensures { result ≡ spec.owner_seconds workers.now owner }
 {
     workers.get(owner? as usize)?.seconds

@@ -2,7 +2,7 @@
 use Rattle.std.specs.Prelude.{ℕ, List, ◌++◌, codes, decimal, Option, Some, None}
 use Rattle.rme_session_server.specs.declared.session_event.SessionEvent.{SessionEvent}
 use Rattle.rme_session_server.specs.declared.session_event.SessionEvent.TheVariants.{Attached, TakesOver, Detached, Ended, Withdrawn, Checkpoint}
-use Rattle.rme_cli_listen.specs.declared.event_line.EventLine.{EventLine}
+use Rattle.rme_cli_listen.specs.declared.event_line.SessionEventLine.{SessionEventLine}
 use Rattle.rme_cli_listen.specs.declared.event_line.EventOrigin.{EventOrigin}
 
 abbrev pub connection_text : Option ℕ → List ℕ
@@ -20,5 +20,5 @@ event_sentence by (Ended worker) = by ++ (codes " ended, worker " ++ (decimal wo
 event_sentence by (Withdrawn worker) = codes "withdrew the job of worker " ++ decimal worker
 event_sentence by (Checkpoint epoch) = codes "checkpoint, epoch " ++ decimal epoch
 
-abbrev pub event_text : EventLine → Option (List ℕ)
-event_text line = Some (event_sentence (connection_text line.connection) line.event)
+abbrev pub session_event_text : SessionEventLine → Option (List ℕ)
+session_event_text line = Some (event_sentence (connection_text line.connection) line.event)

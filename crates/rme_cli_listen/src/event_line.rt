@@ -5,15 +5,15 @@ use std::fmt;
 
 /// An event in the course of the session of this connection, or at the start of the server. It is shown as one sentence.
 #[derive(Clone, Copy)]
-pub struct EventLine {
+pub struct SessionEventLine {
     pub connection: Option<u64>,
     pub event: SessionEvent,
 }
 
-impl fmt::Display for EventLine {
-    ghost use Rattle.rme_cli_listen.specs.EventTexts.{event_text};
+impl fmt::Display for SessionEventLine {
+    ghost use Rattle.rme_cli_listen.specs.EventTexts.{session_event_text};
 
-    ghost output = { λ line. event_text line };
+    ghost output = { λ line. session_event_text line };
 
     fn fmt<W: fmt::Write>(&self, f: &mut fmt::Formatter<W>) -> fmt::Result {
         let by = EventOrigin(self.connection);

@@ -1,11 +1,15 @@
 //! Reporting faults of connections, and what happens to workers, on the standard error.
 
-use crate::event_line::EventLine;
+ghost use Rattle.std.specs.Prelude.{◌≡◌, ◌++◌, IfOk, codes, string_bytes};
+ghost use Rattle.rme_cli_listen.specs.EventTexts.{connection_text, event_sentence};
+
+use crate::event_line::SessionEventLine;
 use jiff::Timestamp;
 use rme_cli_messages::{MessageLimit, RepeatCount, Stderr};
 use rme_cli_options::ServerLog;
 use rme_line_diagnose::Reason;
 use rme_session_server::{ServerObserver, SessionEvent};
+use std::alloc::{AllocError, Global};
 use std::sync::atomic::{AtomicU64, Ordering};
 use std::time::Duration;
 use std::{io, thread};
@@ -101,14 +105,22 @@ impl ServerObserver for StderrObserver<'_> {
         if self.log == ServerLog::Off {
             return;
         }
-        let line = EventLine { connection, event };
+        let line = SessionEventLine { connection, event };
         let text = match Timestamp::now(self.rt) {
             Ok(time) => format!(in self.rt.alloc(); "rme: {time:.3} {line}\n"),
             // A clock that can't be read costs the line its time.
-            Err(_) => format!(in self.rt.alloc(); "rme: {line}\n"),
+            Err(_) => line_without_time(self.rt.alloc(), line),
         };
         self.stderr.tell(text);
     }
 
     fn second_passed(&self) {}
+}
+
+/// The line of an event in the log, without its time.
+fn line_without_time(alloc: Global, line: SessionEventLine) -> Result<String, AllocError>
+    ensures { IfOk result (λ text. string_bytes text
+        ≡ codes "rme: " ++ (event_sentence (connection_text line.connection) line.event ++ codes "\n")) }
+{
+    format!(in alloc; "rme: {line}\n")
 }

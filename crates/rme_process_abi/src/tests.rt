@@ -1,3 +1,9 @@
+ghost use Rattle.std.specs.Prelude.{◌≡◌, ◌↔◌, ◌∷◌, List, take};
+ghost use Rattle.rme_program.specs.Steps.{private_action};
+ghost use Rattle.rme_process_core.specs.Batches.{ActionMatches, batch_actions};
+ghost use Rattle.rme_process_core.specs.Calls.{AnswersBatch};
+ghost use Rattle.rme_process_core.specs.Folds.{ValuesAccepted};
+ghost use Rattle.rme_process_core.specs.declared.flat.FlatAction.{FlatAction};
 ghost use Rattle.rme_process_abi.specs.Handles.{IsLiveHandle};
 
 use crate::exports::{
@@ -122,17 +128,51 @@ fn kinds(host: &TestCaller) -> (u32, u32) {
     (host.outcome.notes[0].kind, host.outcome.notes[1].kind)
 }
 
+/// Asks for the worker's next own steps. The first action is the operation of the next one, and no other batch is told
+/// while this one is outstanding.
+fn ask(rt: &HostRuntime, handle: &mut Handle, until: u32, batch: &mut Batch) -> u32
+    requires { IsLiveHandle handle.old }
+    ensures live { IsLiveHandle handle.new }
+    ensures next { result ≡ 0 → (action : FlatAction) (others : List FlatAction)
+        → batch_actions batch.new ≡ action ∷ others
+        → ActionMatches handle.old.value.shape action
+        (private_action handle.old.value.shape handle.old.value.private) }
+{
+    let refusal = rme_core_next(rt.alloc(), handle, until, batch);
+    if refusal == 0 {
+        let again = rme_core_next(rt.alloc(), handle, until, batch);
+        prove!(again == BATCH_OUT);
+    }
+    refusal
+}
+
+/// Gives the values of the first `count` actions. They are taken exactly if each is one that its step may find.
+fn give(
+    rt: &HostRuntime,
+    handle: &mut Handle,
+    batch: &Batch,
+    count: u32,
+    outcome: &mut BatchOutcome,
+) -> u32
+    requires { IsLiveHandle handle.old }
+    ensures live { IsLiveHandle handle.new }
+    ensures exact { AnswersBatch handle.old.value count
+        → (result ≡ 0) ↔ ValuesAccepted handle.old.value.shape handle.old.value.private (take count batch.now.values) }
+{
+    rme_core_after(rt.alloc(), handle, batch, count, outcome)
+}
+
 /// Has a worker make its next own steps on the words.
 fn step(rt: &HostRuntime, handle: &mut Handle, until: u32, host: &mut TestCaller) -> u32
     requires { IsLiveHandle handle.old }
     ensures { IsLiveHandle handle.new }
 {
-    let refusal = rme_core_next(rt.alloc(), handle, until, &mut host.batch);
+    let refusal = ask(rt, handle, until, &mut host.batch);
     if refusal != 0 {
         return refusal;
     }
     let made = make(&mut host.words, &mut host.batch);
-    rme_core_after(rt.alloc(), handle, &host.batch, made, &mut host.outcome)
+    give(rt, handle, &host.batch, made, &mut host.outcome)
 }
 
 #[test]

@@ -7,3 +7,4 @@ mod Led
 mod Folding
 mod Jumping
 pub mod Processes
+pub mod Damage

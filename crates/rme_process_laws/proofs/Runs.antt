@@ -30,7 +30,7 @@ use Rattle.rme_process_laws.specs.OneWorld.{AreAccepted, NoDamageLaw, OneWorldLa
 use Rattle.rme_process_laws.specs.ProcessRuns.{FileState, IsNewFile, ProcessMove, ProcessRun, move_events, run_events}
 use Rattle.rme_process_laws.proofs.Happenings.{Happens, crash_happens}
 use Rattle.rme_process_laws.proofs.Moves.{IsProcess, MovesLead, ShowsFile, move_leads}
-use Rattle.rme_process_laws.proofs.Values.{accepted_undamaged}
+use Rattle.rme_process_core.proofs.Damage.{accepted_undamaged}
 
 -- Events, and then others.
 then_others : (old mid new : WorldView) (events others : List Event) (answers more : List Answer) → EventListContract old events answers mid → EventListContract mid others more new

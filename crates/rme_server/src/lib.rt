@@ -8,14 +8,12 @@
 #![tactic(auto)]
 
 mod service_backend;
-#[cfg(test)]
-mod tests;
 mod worker_choice;
 
 pub use rme_line_io::{LineReader, ServeFault};
 pub use rme_session_server::{
     AnswerError, AttemptError, Backend, Buffers, Client, CloseHandle, Closer, Connection,
-    Departure, FirstReply, Listener, LocalClient, NoCloseHandle, OrderAttempts, OrderRun,
+    FirstReply, Listener, LocalClient, NoCloseHandle, OrderAttempts, OrderRun, ReleaseCause,
     ServerLimits, ServerObserver, SessionEvent, SessionRegistry, WorkerClaim, serve, session,
 };
 pub use rme_session_threads::{CrashPlan, Holding, PlannedCrash, Slots, Stand, TakenWorker, obey};

@@ -9,8 +9,8 @@ use rme_session_protocol::{
     merge_replies, order_patience, retry_order, with_tries,
 };
 use rme_session_server::{
-    AnswerError, AttemptError, Backend, Buffers, Client, CloseHandle, Departure, FirstReply,
-    OrderAttempts, OrderRequest, OrderRun, SessionRegistry, is_take_over,
+    AnswerError, AttemptError, Backend, Buffers, Client, CloseHandle, FirstReply, OrderAttempts,
+    OrderRequest, OrderRun, ReleaseCause, SessionRegistry, is_take_over,
 };
 use rme_session_threads::{Holding, Slots, Stand, obey};
 use rme_table::{Service, Tag};
@@ -104,7 +104,7 @@ impl<K: Tag, H: CloseHandle> Backend for ServiceBackend<'_, K, H> {
         stand: Stand,
         client: &C,
     ) -> Result<(), AttemptError> {
-        self.release(rt, stand, client, Departure::SessionEnd);
+        self.release(rt, stand, client, ReleaseCause::SessionEnd);
         Ok(())
     }
 }

@@ -5,7 +5,7 @@ ghost use Rattle.rme_server.specs.ServiceChoices.{IsChosenReply};
 
 use crate::service_backend::ServiceBackend;
 use rme_session_protocol::{Attachment, Order, SessionReply, SessionStance, WorkerChoice};
-use rme_session_server::{Client, CloseHandle, Departure};
+use rme_session_server::{Client, CloseHandle, ReleaseCause};
 use rme_session_threads::{Holding, Stand, detach_session};
 use rme_table::Tag;
 use rme_words::Refusal;
@@ -103,7 +103,7 @@ impl<K: Tag, H: CloseHandle> ServiceBackend<'_, K, H> {
         if is_chosen_reply(choice, &reply) {
             return Some((stand, reply));
         }
-        self.release(rt, stand, client, Departure::Detach);
+        self.release(rt, stand, client, ReleaseCause::Detach);
         None
     }
 
@@ -113,7 +113,7 @@ impl<K: Tag, H: CloseHandle> ServiceBackend<'_, K, H> {
         rt: &R,
         stand: Stand,
         client: &C,
-        how: Departure,
+        how: ReleaseCause,
     )
         requires ours { IsValidHolding K.ident self.now.slots.now stand.value }
     {

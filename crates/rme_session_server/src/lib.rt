@@ -21,8 +21,6 @@ mod server;
 mod session_event;
 mod session_loop;
 mod session_registry;
-#[cfg(test)]
-mod tests;
 mod wait_backoff;
 mod wait_queue;
 
@@ -36,4 +34,4 @@ pub use order_run::OrderRun;
 pub use server::{ServerLimits, ServerObserver, serve};
 pub use session_event::SessionEvent;
 pub use session_loop::session;
-pub use session_registry::{Departure, SessionRegistry, WorkerClaim, is_take_over};
+pub use session_registry::{ReleaseCause, SessionRegistry, WorkerClaim, is_take_over};

@@ -23,7 +23,7 @@ pub struct WorkerClaim<'a, H: CloseHandle> {
 
 /// How a session lost its worker.
 #[derive(Clone, Copy, Debug, PartialEq, Eq)]
-pub enum Departure {
+pub enum ReleaseCause {
     /// It let the worker go, and goes on.
     Detach,
     /// It ended.
@@ -37,7 +37,7 @@ impl<H: CloseHandle> WorkerClaim<'_, H> {
             return;
         }
         if !has {
-            self.release(client, Departure::Detach);
+            self.release(client, ReleaseCause::Detach);
             return;
         }
         let mut claim = self;
@@ -46,12 +46,12 @@ impl<H: CloseHandle> WorkerClaim<'_, H> {
     }
 
     /// Updates the claim when the client's session has lost the worker.
-    pub fn release<C: Client<Handle = H>>(self, client: &C, how: Departure) {
+    pub fn release<C: Client<Handle = H>>(self, client: &C, how: ReleaseCause) {
         let mut claim = self;
         *claim.handle = None;
         client.observe(match how {
-            Departure::Detach => SessionEvent::Detached(claim.worker),
-            Departure::SessionEnd => SessionEvent::Ended(claim.worker),
+            ReleaseCause::Detach => SessionEvent::Detached(claim.worker),
+            ReleaseCause::SessionEnd => SessionEvent::Ended(claim.worker),
         });
     }
 

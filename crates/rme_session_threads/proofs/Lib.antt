@@ -6,3 +6,4 @@ pub mod Showing
 pub mod Telling
 pub mod Working
 mod Ordering
+pub mod Taking

@@ -22,6 +22,3 @@ pub use rme_session_protocol::PlannedCrash;
 pub use slots::Slots;
 pub use stand::{Holding, Stand};
 pub use worker_slot::TakenWorker;
-
-#[cfg(test)]
-mod tests;

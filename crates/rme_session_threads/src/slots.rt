@@ -4,7 +4,7 @@ ghost use Rattle.std.specs.Prelude.{◌≡◌, ◌≤◌, [], length, vec_capaci
 ghost use Rattle.rme_service_steps.specs.Closing.{SeatsAreOfService};
 ghost use Rattle.rme_session_threads.specs.WorkerSlots.{AreDownsInPlace, AreDownsInOrder};
 
-use crate::worker_slot::{TakenWorker, WorkerSlot};
+use crate::worker_slot::{TakenWorker, WorkerSlot, begin_life};
 use rme_table::{Down, OwnedDown, Tag};
 use rme_words::Refusal;
 use std::alloc::Global;
@@ -66,7 +66,7 @@ impl<K: Tag> Slots<K> {
         let Some(slot) = self.slots.get(worker as usize) else {
             return Err(Refusal::NoWorker);
         };
-        slot.lock(rt).take(worker, after)
+        begin_life(&mut *slot.lock(rt), worker, after)
     }
 
     /// Puts a Down into its worker's slot, which exists.

@@ -1,7 +1,8 @@
 //! The slot of one worker: its Down, unless a session has the worker, and the number of the worker's restarts.
 
-ghost use Rattle.std.specs.Prelude.{IsTrue, IsFalse};
-ghost use Rattle.rme_session_threads.specs.Lives.{IsInTime, IsLate};
+ghost use Rattle.std.specs.Prelude.{◌<◌, ℕ, IsFalse, IsOk, IsTrue};
+ghost use Rattle.rme_session_threads.specs.Lives.{EndsEarlierLives, IsInTime, IsLate};
+ghost use Rattle.rme_session_threads.specs.WorkerSlots.{SlotTake};
 
 use rme_table::{Down, OwnedDown, Tag};
 use rme_words::Refusal;
@@ -93,6 +94,19 @@ impl<K: Tag> WorkerSlot<K> {
         }
         Some(down)
     }
+}
+
+/// Takes the worker's Down out of its slot, which is one of any number of slots. That ends every life that a client was
+/// told before: an attachment after it is late.
+pub(crate) fn begin_life<K: Tag>(
+    slot: &mut WorkerSlot<K>,
+    worker: u32,
+    after: Option<u64>,
+) -> Result<TakenWorker, Refusal>
+    ensures take { (count : ℕ) → worker < count → SlotTake K.ident count worker after result }
+    ensures ends { IsOk result → EndsEarlierLives slot.old.life slot.new.life }
+{
+    slot.take(worker, after)
 }
 
 /// Whether a worker with this number of restarts was restarted since the life `after`, if one is given.

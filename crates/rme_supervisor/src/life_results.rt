@@ -7,7 +7,7 @@ ghost use Rattle.rme_supervisor.specs.LifeResults.{ResultsFollowPlans, ResultsAr
 use crate::end::End;
 use crate::run_tag::RunTag;
 use crate::slots::LockedSlot;
-use crate::worker_slot::WorkerSlot;
+use crate::worker_slot::SupervisedWorker;
 use rme_table::{Down, OwnedDown};
 use rme_words::NoMemory;
 use std::alloc::Global;
@@ -42,7 +42,7 @@ impl LifeResults {
     }
 
     /// Adds the contents of a slot. A worker without an end had no thread for its next life.
-    fn push<K: RunTag>(&mut self, berth: WorkerSlot<K>)
+    fn push<K: RunTag>(&mut self, berth: SupervisedWorker<K>)
         requires room { ResultsHaveRoom 1 self.old }
         requires settled { ResultsFollowPlans K.Tag.ident K.run self.old }
         ensures room { (count : ℕ) → ResultsHaveRoom (1 + count) self.old → ResultsHaveRoom count self.new }
@@ -51,7 +51,7 @@ impl LifeResults {
         ensures end { self.new.ends.items ≡ self.old.ends.items ++ unwrap_or berth.end NoStart ∷ [] }
         ensures lives { self.new.lives.items ≡ self.old.lives.items ++ berth.lives ∷ [] }
     {
-        let WorkerSlot { kept, past, end } = berth;
+        let SupervisedWorker { kept, past, end } = berth;
         let OwnedDown { down, of: _ } = kept;
         self.downs.push_reserved(down);
         self.ends.push_reserved(end.unwrap_or(End::NoStart));

@@ -6,13 +6,13 @@ ghost use Rattle.rme_supervisor.specs.WorkerSlots.{AreDownsAtCall, IsLifeContext
 
 use crate::life::LifeContext;
 use crate::run_tag::RunTag;
-use crate::worker_slot::WorkerSlot;
+use crate::worker_slot::SupervisedWorker;
 use rme_table::{Down, Gate, OwnedDown};
 use std::marker::PhantomData;
 use std::sync::{Mutex, Wait};
 
 /// A worker's slot: empty while a life has the worker.
-pub(crate) type LockedSlot<K> = Mutex<Option<WorkerSlot<K>>>;
+pub(crate) type LockedSlot<K> = Mutex<Option<SupervisedWorker<K>>>;
 
 /// Puts each worker into a slot of its own, before its first life.
 pub(crate) fn fill<K: RunTag>(downs: Vec<Down>, mut slots: Vec<LockedSlot<K>>) -> Vec<LockedSlot<K>>
@@ -27,7 +27,7 @@ pub(crate) fn fill<K: RunTag>(downs: Vec<Down>, mut slots: Vec<LockedSlot<K>>) -
             down,
             of: PhantomData,
         };
-        slots.push_reserved(Mutex::new(Some(WorkerSlot::new(kept))));
+        slots.push_reserved(Mutex::new(Some(SupervisedWorker::new(kept))));
     }
     slots
 }

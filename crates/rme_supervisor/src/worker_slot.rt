@@ -23,13 +23,13 @@ pub(crate) struct LifeTotals {
 
 /// A worker between two lives, and the end of its lives, if any.
 #[derive(Drop)]
-pub(crate) struct WorkerSlot<K: RunTag> {
+pub(crate) struct SupervisedWorker<K: RunTag> {
     pub kept: OwnedDown<K>,
     pub past: LifeTotals,
     pub end: Option<End>,
 }
 
-impl<K: RunTag> Model for WorkerSlot<K> {
+impl<K: RunTag> Model for SupervisedWorker<K> {
     ghost use Rattle.rme_supervisor.specs.WorkerSlots.{WorkerSlotView, SlotFollowsPlan};
 
     ghost Value = { WorkerSlotView };
@@ -46,12 +46,12 @@ impl<K: RunTag> Model for WorkerSlot<K> {
         (record { stand = berth.kept.down; end = berth.end; blocked = berth.past.blocked; lives = berth.past.lives }) };
 }
 
-impl<K: RunTag> WorkerSlot<K> {
+impl<K: RunTag> SupervisedWorker<K> {
     ghost use Rattle.std.specs.Prelude.{◌≡◌, ◌+◌, ◌<◌, ◌≤◌, ◌↔◌, slice_get, IsTrue, Some, None};
     ghost use Rattle.rme_supervisor.specs.WorkerSlots.{WorkerSlotView, IsLifeContext, life_terms, MayLiveAgain};
 
     /// A worker before its first life.
-    pub(crate) fn new(kept: OwnedDown<K>) -> WorkerSlot<K>
+    pub(crate) fn new(kept: OwnedDown<K>) -> SupervisedWorker<K>
         requires given { slice_get K.run.given kept.down.part.worker ≡ Some kept.down }
         ensures { result ≡ record { stand = kept.down; end = None; blocked = 0; lives = 0 } }
     {
@@ -59,7 +59,7 @@ impl<K: RunTag> WorkerSlot<K> {
             blocked: 0,
             lives: 0,
         };
-        WorkerSlot {
+        SupervisedWorker {
             kept,
             past,
             end: None,
@@ -85,7 +85,7 @@ impl<K: RunTag> WorkerSlot<K> {
         self,
         rt: &R,
         orders: &LifeContext<'_, G>,
-    ) -> WorkerSlot<K>
+    ) -> SupervisedWorker<K>
         requires orders { IsLifeContext K.Tag.ident K.run self.stand.part.worker
             (life_terms orders.now.service.now orders.now.rounds orders.now.plan.now
             (G.answered orders.now.gate.now) G.lets_all) }
@@ -95,7 +95,7 @@ impl<K: RunTag> WorkerSlot<K> {
         ensures again { MayLiveAgain orders.now.plan.now result.lives result.end }
     {
         let most = orders.plan.lives;
-        let WorkerSlot { kept, past, end: _ } = self;
+        let SupervisedWorker { kept, past, end: _ } = self;
         let OwnedDown { down, of } = kept;
         let mut trail = LifeCounters {
             falls: FallCountdown::next(orders.plan.falls.as_slice(), past.lives),
@@ -114,7 +114,7 @@ impl<K: RunTag> WorkerSlot<K> {
             LifeStop::Fell(down) => (down, end_after(past.lives, most)),
         };
         let kept = OwnedDown { down, of };
-        WorkerSlot { kept, past, end }
+        SupervisedWorker { kept, past, end }
     }
 }
 

@@ -17,7 +17,7 @@ pub returns-in_err-of_item-clause-unsaid : goal.returns-in_err-of_item-clause-un
 returns-in_err-of_item-clause-unsaid g c =
     let none : NoneSaidUnless (spec.ListSays c.args.name.now g.T.ListItem.Says) (view c.args.value.now) c.in_err-of_item.field-0.0 =
     λ not_memory values says.
-    let same : spec.items_view says.0 ≡ spec.items_view c.in_ok-item-items.item-items.now =
+    let same : spec.list_view says.0 ≡ spec.list_view c.in_ok-item-items.item-items.now =
     ap (λ (found : Option Items). unwrap_or found no_items) (sym says.1 ∙ c.in_ok-item-items.ensures.found) in
     none_said_by_list g.T.ListItem.Says c.in_ok-item-items.item-items.now says.0 c.loop-item.item-index c.item-item.result values
     c.loop-item-test.true c.item-item.is (c.in_err-of_item.ensures.unsaid not_memory) same says.2 in
