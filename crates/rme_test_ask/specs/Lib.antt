@@ -1,0 +1,2 @@
+-- The answers to requests.
+pub mod Answers
