@@ -1,0 +1,25 @@
+//! Recovery accepts the file at each moment.
+
+use crate::found::{Found, is_or};
+use crate::run::Run;
+use rme_durable_format::{RecoveryProgress, whole_lines};
+use rme_durable_recovery::recover;
+
+/// Tells nobody.
+struct NoProgress;
+
+impl RecoveryProgress for NoProgress {
+    fn read(&self, _lines: u64) {}
+}
+
+/// Checks that recovery accepts the whole lines that the file has now.
+pub fn check_recovery(run: &Run<'_>) -> Found {
+    let Ok(bytes) = run.disk.copy() else {
+        return Err("no memory");
+    };
+    let recovered = recover(run.alloc, whole_lines(bytes.as_slice()), &NoProgress);
+    is_or(
+        recovered.is_ok(),
+        "recovery refuses the file of a living server",
+    )
+}
