@@ -36,7 +36,8 @@ SECONDS = {
     "rme_service_steps": 60, "rme_service_phases": 100, "rme_table": 135, "rme_supervisor": 140,
     "rme_session_threads": 140, "rme_session_server": 150, "rme_server": 65, "rme_line_engine": 88,
     "rme_draw_history": 70, "rme_cli_lines": 80, "rme_cli_run": 49, "rme_session_world": 95, "rme_durable_log": 65,
-    "rme_durable_format": 160, "rme_durable_checkpoint": 190, "rme_durable_recovery": 60, "rme_durable_server": 210,
+    "rme_durable_format": 160, "rme_durable_epochs": 120, "rme_durable_checkpoint": 110, "rme_durable_recovery": 60, "rme_durable_lookups": 90,
+    "rme_durable_server": 150,
     "rme_process_file": 90, "rme_durable_file": 120, "rme_cli_listen": 70, "rme_cli_look": 150, "rme_cli_durable": 150, "rme_cli_state": 200,
     "rme_cli_commands": 250, "rme_cli": 300,
 }  # fmt: skip
@@ -45,7 +46,7 @@ SECONDS = {
 BUSY, OF_CHAIN = 2.7, 0.8
 LAST_LINES = 40  # of a log, where a crate failed
 # What a program is run with once it is built, on no input; any other is asked for its version.
-FIRST_WORDS = {"rme_cli_run": "run"}
+FIRST_WORDS = {"rme_cli_run": "run", "rme_faults": "1"}
 running = set()
 
 

@@ -1,9 +1,10 @@
-"""Files of a kept state with a byte changed, and what may be said of each: by `rme run`, and by the header's form."""
+"""Files of a kept state with a byte changed, and what may be said of each: by its sums, by `rme run` and by its header's form."""
 
 import json
 
 from lib.kept import whole_lines
 from lib.programs import run
+from lib.sums import is_sealed, line_in_file, start_of
 
 
 MOST = 2**53
@@ -47,7 +48,9 @@ def header_fits(line, opening):
     except ValueError:
         return None
     keys = {"epoch", "last", "numbers", "places", "rme", "version"}
-    if not isinstance(header, dict) or set(header) - {"lives"} != keys or (header["rme"], header["version"]) != ("kept", 1):
+    if not isinstance(header, dict) or set(header) - {"lives"} != keys or header["rme"] != "kept":
+        return None
+    if type(header["version"]) is not int or header["version"] not in (1, 2):
         return None
     workers, locks = opened_by(opening)
     last, numbers, places = lists = [header[name] for name in ("last", "numbers", "places")]
@@ -66,7 +69,11 @@ def header_fits(line, opening):
 
 
 def verdicts_on(held):
-    """What `rme look --check` may say of a file with these bytes: by `rme run`, and by the form of the header."""
+    """What `rme look --check` may say of a file with these bytes: by its sums where it has them, by `rme run`, and by the form of
+    the header."""
+    start = start_of(held) if is_sealed(held) else None
+    if start and start.changed:
+        return start.verdicts
     header, *lines = whole_lines(held) or [b""]
     fits = header_fits(header, lines[0] if lines else b"")
     if fits is None:
@@ -74,8 +81,15 @@ def verdicts_on(held):
     if not lines:
         return {b"no 2\n"}
     answers = run(["run"], b"".join(lines)).stdout.splitlines()
-    refused = [b"no %d\n" % number for number, answer in enumerate(answers, 2) if b'"code"' in answer]
-    return {*(refused[:1] or ([b"yes\n"] if fits else [])), *([] if fits else [b"no 1\n"])}
+    refused = [line_in_file(held, number) for number, answer in enumerate(answers, 2) if b'"code"' in answer]
+    good = start.verdicts if start else {b"yes\n"}
+    said = [b"no %d\n" % number for number in refused[:1]] or (good if fits else [])
+    return {*said, *([] if fits else [b"no 1\n"])}
+
+
+def is_verdict(ended, wanted):
+    """Whether `rme look --check` ended with one of these verdicts."""
+    return ended[1] in wanted and (ended[0], ended[2]) == (0 if ended[1].startswith(b"yes") else 1, b"")
 
 
 def changes_of(held, numbers):

@@ -6,6 +6,7 @@ import re
 import subprocess
 import time
 
+from lib import sums
 from lib.programs import ends_with, run
 from lib.servers import Server, line_of
 
@@ -13,6 +14,9 @@ LOCKS = ("bank", "shop")
 
 # What may stand behind the last newline of a file where its server was killed: all of it is cut off.
 TORN = (b"{", b'{"do":"crash","worker":0}', b'{"do":"walk","max":1', b"\0" * 4096, b"x" * 70_000, bytes(range(11, 256)))
+# And behind the last sum line.
+CRASH = b'{"do":"crash","worker":0}\n'
+UNSEALED = (*TORN, CRASH, CRASH + b'{"kept":1,"seq":', b'{"kept":1,"seq":9,"sum":"00000000"}\n')
 
 
 def state_words(path, *locks, **options):
@@ -63,17 +67,27 @@ def written(path, held):
     return path
 
 
+CUT_OFF = rb"rme: \d+ bytes at the end of .* were never known to be with the disk, and are cut off\n"
+
+
 def without_count(told):
-    """What is on the standard error behind the line that tells how many lines were read."""
-    return re.sub(rb"\A(rme: \d+ lines are read\n)*rme: \d+ lines read in \d+ ms\n", b"", told)
+    """What is on the standard error behind the lines that tell how many lines were read, and how many bytes are cut off."""
+    return re.sub(rb"\A(rme: \d+ lines are read\n|rme: \d+ lines read in \d+ ms\n|%s)*" % CUT_OFF, b"", told)
+
+
+def bad_state(path, held, line):
+    """What a start says of a file with these bytes that it refuses at this line: by the sums, or by the line."""
+    is_changed = sums.is_sealed(held) and sums.start_of(held).changed
+    why = f"what was written up to line {line} has changed since" if is_changed else f"line {line}"
+    return f"fault: bad state\n  {path}: {why}\n".encode()
 
 
 # ---- what a file says
 
 
 def whole_lines(held):
-    """The whole lines of a file's bytes, each with its newline. What stands behind the last newline is torn."""
-    return [line + b"\n" for line in held.split(b"\n")[:-1]]
+    """The lines that a start takes of a file's bytes, each with its newline, without sum lines."""
+    return [line + b"\n" for line in sums.payload_of(held).split(b"\n")[:-1]]
 
 
 def answers_to(lines):
@@ -185,9 +199,14 @@ def first_header(opening):
     return {"epoch": 0, **lists, "places": [0] * len(opening["locks"])}
 
 
+def header_of(held):
+    """The first line of a file."""
+    return json.loads(held[: held.index(b"\n")])
+
+
 def epoch_of(held):
     """How often a file was renewed."""
-    return json.loads(held[: held.index(b"\n")])["epoch"]
+    return header_of(held)["epoch"]
 
 
 def lives_of(held):

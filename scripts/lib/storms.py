@@ -10,10 +10,11 @@ import sys
 import threading
 import time
 
-from lib.kept import TORN, answers_to, epoch_of, faults_of, kill, look, looked, read, state_words, status_in, whole_lines
+from lib.kept import UNSEALED, answers_to, epoch_of, faults_of, kill, look, looked, read, state_words, status_in, whole_lines
 from lib.orders import without_seconds
 from lib.programs import TOP, built
 from lib.servers import HOST, Server, line_of
+from lib.sums import whole
 
 sys.path.insert(0, os.path.join(TOP, "clients", "python"))
 from rme_client import Done, Observer, Overtaken, Worker  # noqa: E402
@@ -48,7 +49,7 @@ class Storm:
         self.port = free_port()
         self.receipts = [[] for _ in range(self.WORKERS)]  # of each client, with the lock and the amount of its job
         self.inside = {}
-        self.kept = b""  # the whole lines of the file when a server was killed last
+        self.kept = b""  # the whole writes of the file when a server was killed last
         self.unmade = []  # what servers left that were killed while they made the file
         self.wrong, self.kills, self.torn, self.epoch, self.over = [], 0, 0, 0, threading.Event()
 
@@ -113,7 +114,8 @@ class Storm:
             return
         self.wait_for_jobs(self.numbers.randrange(100) if listens else 0)
         # Meanwhile the server writes, so that the time of a look must not make the next one longer.
-        if listens and len(self.kept) < 200_000 and (ran := look(self.state, "--check")).stdout != b"yes\n":
+        # The last write may be half there.
+        if listens and len(self.kept) < 200_000 and not (ran := look(self.state, "--check")).stdout.startswith(b"yes"):
             self.wrong.append(("look at a file that grows", ran))
         way = self.numbers.choice((signal.SIGKILL, signal.SIGKILL, signal.SIGKILL, signal.SIGTERM))
         server.send_signal(way)
@@ -131,7 +133,7 @@ class Storm:
         time.sleep(0.02 * self.numbers.random() ** 2)
 
     def look_at_file(self):
-        """What was in the file stays there until it is renewed. Then bytes of a line that was not finished are appended, or
+        """What was in the file stays there until it is renewed. Then bytes of a write that was not finished are appended, or
         none."""
         answered = [len(receipts) for receipts in self.receipts]
         if not self.kept:
@@ -143,13 +145,13 @@ class Storm:
         is_renewed = self.kept and epoch_of(held) > epoch_of(self.kept)
         if not is_renewed and not held.startswith(self.kept):
             self.wrong.append("a line that was kept is not there any more")
-        self.kept = held[: held.rfind(b"\n") + 1]
+        self.kept = whole(held)
         self.torn += len(self.kept) < len(held)
         if self.renews:
             self.look_at_numbers(answered)
         if self.numbers.random() < 0.5:
             with open(self.state, "ab") as file:
-                file.write(self.numbers.choice(TORN))
+                file.write(self.numbers.choice(UNSEALED))
             self.torn += 1
 
     def look_at_numbers(self, answered):

@@ -276,8 +276,9 @@ def end_of_state(shim, folder, held, wanted, number):
     jobs = 3 + sum(b'"receipt"' in answer for answer in answers[:same])
     sent = jobs + (len(rest) == 1 and ORDERS[same]["do"] in ("submit", "enter", "commit"))
     good = len(rest) <= 1 and (not rest or not rest[0] or rest[0] in MAY_REFUSE)
-    # What was done and could not be written down ends the server.
-    is_over = status == 4 and told.count(b"fault: no memory\n") == 1
+    # What was done and could not be written down ends the server: there was no memory for its lines, or for its write.
+    whys = (b"fault: no memory\n", b" can't be written: no memory\n")
+    is_over = status == 4 and sum(map(told.count, whys)) == 1
     if not (is_over or status == -signal.SIGKILL) or not good or not next_start(path, jobs, sent):
         return is_refused, f"growth {number}: {status}, {told!r}, {rest}"
     if is_over:

@@ -152,4 +152,5 @@ def part():
         soak(float(WORDS[1]))
     else:
         groups = try_names, try_example, try_calls, try_older, try_lives, try_points, try_handover, try_storms, try_sanitized
+        libraries()  # What is not proved and built yet takes none of the minutes.
         main_in_folders(*groups, minutes=4)

@@ -470,9 +470,10 @@ with Worker(sys.argv[1], int(sys.argv[2])) as worker:
         except Done:
             pass
 """
-# A signal's handler raises at any moment of a job: each that counts had its block, and the worker is given back.
+# A signal's handler raises at any moment of a job: each that counts had its block, and the worker is given back. The alarm comes
+# within a time and a half of what a job takes on this machine.
 INTERRUPTED = """
-import random, signal, sys
+import random, signal, statistics, sys, time
 from rme_shared import Worker, living
 
 def interrupt(*_):
@@ -483,7 +484,7 @@ def job(path):
     global armed
     try:
         armed = True
-        signal.setitimer(signal.ITIMER_REAL, random.uniform(5e-6, 6e-4))
+        signal.setitimer(signal.ITIMER_REAL, random.uniform(0.01, 1.5) * usual)
         with Worker(path, 0) as worker, worker.inside("bank", [("add", 0, 1)]) as held:
             noted.add(held.number)
         armed = False
@@ -492,8 +493,14 @@ def job(path):
         armed = False
         return 1
 
-armed, noted, interrupts = False, set(), 0
+def seconds():
+    began = time.perf_counter()
+    job(sys.argv[1])
+    return time.perf_counter() - began
+
+armed, noted, interrupts, usual = False, set(), 0, 1000
 signal.signal(signal.SIGALRM, interrupt)
+usual = statistics.median(seconds() for _ in range(101))
 for _ in range(2000):
     interrupts += job(sys.argv[1])
     if living(sys.argv[1]):

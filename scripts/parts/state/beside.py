@@ -13,6 +13,7 @@ from lib.checks import check, main_in_folders, note, same
 from lib.kept import LOCKS, faults_of, kill, looked, read, serve, status_in, status_of, whole_lines, written
 from lib.orders import RESUME, STATUS, attach, job, without_seconds
 from lib.servers import Server
+from lib.sums import resealed
 from rows.reading import Serve, all_rows, asks, cuts_of, items_of, of_cut, text_of
 from rows.sessions import turns_of, words_of
 
@@ -150,7 +151,7 @@ def try_beside(folder):
     lines, wrong, numbers = whole_lines(held), [], random.Random(SEED)
     front = os.path.join(folder, "front")
     for count in sorted(numbers.sample(range(2, len(lines) + 1), 40)):
-        written(front, b"".join(lines[:count]))
+        written(front, resealed(b"".join(lines[:count])))
         wrong += [(count, looked(front))] * (looked(front) != status_of(lines[1:count]))
     check(f"look at fronts of its {len(lines)} lines, beside `rme run`", not wrong, wrong[:2])
 

@@ -1,7 +1,7 @@
 """files [SEED]: the file of a state.
 
-What the file says, with each byte changed, and cut at each. What can't be served: files that are none, words that
-contradict, two servers.
+What the file says, with each byte of its lines changed and the sums made right, and without sums cut at each. What can't be
+served: files that are none, words that contradict, two servers.
 """
 
 import concurrent.futures
@@ -15,11 +15,12 @@ import subprocess
 import sys
 
 from lib.checks import check, main_in_folders, note, same
-from lib.damage import changes_of, verdicts_on
-from lib.kept import LOCKS, TORN, end_of, faults_of, kill, look, looked, read, serve, state_words, status_of
+from lib.damage import changes_of, is_verdict, verdicts_on
+from lib.kept import LOCKS, TORN, bad_state, end_of, faults_of, kill, look, looked, read, serve, state_words, status_of
 from lib.kept import whole_lines, without_count, written
 from lib.orders import COMMIT, DETACH, LAST, ONE, RESUME, STATUS, WITHDRAW, attach, job, text, without_seconds
 from lib.programs import built, ends_with, run
+from lib.sums import first_version, mended, resealed, sealed, writes_of
 
 SEED = int(sys.argv[1]) if len(sys.argv) > 1 else random.randrange(10**6)
 HEADER = '{"epoch":1,"last":[null],"numbers":[0],"places":[-3],"rme":"kept","version":1}\n'
@@ -31,13 +32,21 @@ NO_LATER_LINES = (
 
 
 def try_no_lines(folder):
-    """Lines that no file holds, each refused by its number; and a file that holds two."""
+    """Lines that no file holds, each refused by its number; and a file that holds two. Without sums, and with them."""
     path = os.path.join(folder, "state")
-    for lines, number in (*NO_FIRST_LINES, *((HEADER + OPENING + line, 3) for line in NO_LATER_LINES)):
+    later = [(HEADER + OPENING + line, 3) for line in NO_LATER_LINES]
+    for lines, number in (*NO_FIRST_LINES, *later):
         ended = ends_with(look(written(path, lines.encode()), "--check"))
         same(f"refused by its number: {lines!r}", ended, (1, b"no %d\n" % number, b""))
-    ended = ends_with(look(written(path, (HEADER + OPENING).encode()), "--check"))
-    same("two lines are a file", ended, (0, b"yes\n", b""))
+    for lines, number in later:
+        ended = ends_with(look(written(path, resealed(lines.encode())), "--check"))
+        same(f"with its sum, refused by its number: {lines!r}", ended, (1, b"no %d\n" % number, b""))
+    front = resealed((HEADER + OPENING).encode())
+    for line in NO_LATER_LINES:
+        ended = ends_with(look(written(path, front + sealed(line.encode(), 1, 2)), "--check"))
+        same(f"in the second write, refused by its number in the file: {line!r}", ended, (1, b"no 4\n", b""))
+    for held in ((HEADER + OPENING).encode(), front):
+        same("two lines are a file", ends_with(look(written(path, held), "--check")), (0, b"yes\n", b""))
 
 
 # ---- the file
@@ -66,10 +75,10 @@ def try_file(folder):
     """What a new file has, and what is added to it."""
     path = os.path.join(folder, "usual")
     server = serve(path, "bank")
-    header = text(epoch=0, last=[None] * 8, lives=[0] * 8, numbers=[0] * 8, places=[0], rme="kept", version=1)
+    header = text(epoch=0, last=[None] * 8, lives=[0] * 8, numbers=[0] * 8, places=[0], rme="kept", version=2)
     opening = text(cells=1, do="open", jobs=10_000, locks=["bank"], workers=9)
-    crashes = [text(do="crash", worker=worker) for worker in range(9)]
-    wanted = b"".join(line + b"\n" for line in (header, opening, *crashes))
+    crashes = b"".join(text(do="crash", worker=worker) + b"\n" for worker in range(9))
+    wanted = sealed(header + b"\n" + opening + b"\n", 0, 1) + sealed(crashes, 1, 2)
     same("a new file of the usual sizes", read(path), wanted)
     mode = os.lstat(path).st_mode
     same("a file for its user alone", (stat.S_ISREG(mode), stat.S_IMODE(mode)), (True, 0o600))
@@ -96,7 +105,7 @@ def looked_at(path, held):
     ended = ends_with(look(written(path, held), "--check"))
     stays = read(path) == held
     os.remove(path)
-    return ended if stays else "another file"
+    return ended if stays else (None, b"another file", b"")
 
 
 def each_beside(calls):
@@ -105,37 +114,46 @@ def each_beside(calls):
         return list(pool.map(lambda call: call(), calls))
 
 
+def changes_in_lines(held, numbers):
+    """A file with each byte of its lines changed, and the sums made right."""
+    of_sums = {at for write in writes_of(held) for at in range(write.end - len(write.sum_line), write.end)}
+    for at, damaged in changes_of(held, numbers):
+        if at not in of_sums:
+            yield at, damaged[at], mended(damaged)
+
+
 def try_damage(folder):
-    """A file with a byte changed is read, or refused by the first line that `rme run` refuses, and stays as it is."""
+    """A file with a byte of its lines changed, and right sums, is read, or refused by the first line that `rme run` refuses, and
+    stays as it is; so is a file without sums."""
     numbers, held = random.Random(SEED), made_by(os.path.join(folder, "small"))
+    old = first_version(held)
+    cases = [*changes_in_lines(held, numbers), *((at, changed[at], changed) for at, changed in changes_of(old, numbers))]
 
     def changed(case):
-        at, damaged = case
-        ended, wanted = looked_at(os.path.join(folder, f"damaged-{at}-{damaged[at]}"), damaged), verdicts_on(damaged)
-        said = ended[1]
-        holds = said in wanted and ended == (0 if said == b"yes\n" else 1, said, b"")
-        return (at, damaged, said), holds, (at, damaged[at], ended, wanted)
+        at, byte, damaged = case
+        ended, wanted = looked_at(os.path.join(folder, f"damaged-{at}-{byte}-{len(damaged)}"), damaged), verdicts_on(damaged)
+        return damaged, ended[1], is_verdict(ended, wanted), (at, byte, ended, wanted)
 
-    told = each_beside([lambda case=case: changed(case) for case in changes_of(held, numbers)])
-    wrong = [why for _, holds, why in told if not holds]
-    refused = [case for case, _, _ in told if case[2] != b"yes\n"]
+    told = each_beside([lambda case=case: changed(case) for case in cases])
+    wrong = [why for _, _, holds, why in told if not holds]
+    refused = [(damaged, said) for damaged, said, _, _ in told if said.startswith(b"no ")]
     name = f"{len(told)} files of {len(held)} bytes with one changed, of which {len(refused)} are refused"
-    check(name, not wrong and len(refused) > len(held) // 2, wrong[:3])
-    for at, damaged, said in numbers.sample(refused, 8):
+    check(name, not wrong and len(refused) > len(told) // 2, wrong[:3])
+    for damaged, said in numbers.sample(refused, 8):
         start_refused(os.path.join(folder, "refused"), damaged + numbers.choice((b"", b"torn")), int(said.split()[1]))
 
 
 def start_refused(path, held, line):
     """A server ends at this line of the file, which stays as it is, and so does the torn piece behind it."""
     ended = end_of(state_words(written(path, held), port=0))
-    wanted = 2, b"", f"fault: bad state\n  {path}: line {line}\n".encode()
+    wanted = 2, b"", bad_state(path, held, line)
     check(f"a file that is refused at line {line}", (ended, read(path)) == (wanted, held), ended)
     same(f"and look says so too: line {line}", ends_with(look(path)), wanted)
 
 
 def try_cuts(folder):
-    """A file that is cut at each length: what is left of a line is no line, and what is before it stands."""
-    held, numbers = made_by(os.path.join(folder, "whole")), random.Random(SEED)
+    """A file without sums that is cut at each length: what is left of a line is no line, and what is before it stands."""
+    held, numbers = first_version(made_by(os.path.join(folder, "whole"))), random.Random(SEED)
 
     def cut(length):
         wanted = {0: b"no 1\n", 1: b"no 2\n"}.get(held[:length].count(b"\n"), b"yes\n")
@@ -148,7 +166,9 @@ def try_cuts(folder):
     wrong = []
     path = os.path.join(folder, "cut")
     for count in range(2, len(lines) + 1):
-        wrong += [count] * (looked(written(path, b"".join(lines[:count]))) != status_of(lines[1:count]))
+        front = b"".join(lines[:count])
+        for form in (bytes, resealed):
+            wrong += [count] * (looked(written(path, form(front))) != status_of(lines[1:count]))
     check("what it says after each line, beside `rme run`", not wrong, wrong)
     for _ in range(6):
         start_cut(path, held[: numbers.randrange(len(lines[0] + lines[1]), len(held))] + numbers.choice(TORN))
@@ -224,7 +244,7 @@ def try_places(folder):
     for path in (*list(there.values())[1:], "/dev/null"):
         why = f"bad arguments\n  --state {path}: it is there, and is no regular file"
         refused(os.path.basename(path), path, why, "bank")
-    lines = whole_lines(read(there["file"]))
+    lines = whole_lines(first_version(read(there["file"])))
     others = {"empty": b"", "text": b"hello\n", "no line": b"hello", "run": b"".join(lines[1:]), "bytes": b"\0\n" * 99}
     for name, held in others.items():
         path = written(os.path.join(folder, f"other-{name}"), held)

@@ -204,8 +204,9 @@ def refused_end(path, shim, number):
     if goes_on and end[2] in (b"", b"rme: a connection is closed, since it can't have a thread\n"):
         return "went on"
     # What it can't write down may be the end of the session that asked whether it is there.
-    # And it may be killed while it ends.
-    if end[1:] == (b"", b"fault: no memory\n") and (end[0] == 4 or goes_on) and server.port:
+    # And it may be killed while it ends. There was no memory for its lines, or for their write.
+    whys = (b"fault: no memory\n", f"fault: the state {path} can't be written: no memory\n".encode())
+    if not end[1] and end[2] in whys and (end[0] == 4 or goes_on) and server.port:
         return "ended with status 4"
     if end == (5, b"", b"fault: no memory\n") and not server.port:
         return "did not begin"

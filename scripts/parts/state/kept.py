@@ -179,7 +179,8 @@ def calls_of(folder, sync):
     session.ask_all(attach(0), *(job("submit", "bank", number, *ONE) for number in (1, 2, 3)))
     kill(server)
     synced = rb"sync(\(\d+\)| resumed>\)) *= 0"
-    marks = {"written": rb'{\\"do\\":\\"submit', "synced": synced, "answered": rb'\\"receipt'}
+    # The lines and their sum line by one call.
+    marks = {"written": rb'{\\"do\\":\\"submit.*\\"sum\\":', "synced": synced, "answered": rb'\\"receipt'}
     calls = [name for line in lines_traced(log) for name, mark in marks.items() if re.search(mark, line)]
     return calls[calls.index("written") :] if "written" in calls else calls
 

@@ -18,13 +18,15 @@ import threading
 import time
 
 from lib.checks import check, main_in_folders, note, same, skip
-from lib.damage import changes_of, verdicts_on
-from lib.kept import epoch_of, faults_of, kill, lives_of, look, looked, read, serve, state_words, status_in, whole_lines, written
+from lib.damage import changes_of, is_verdict, verdicts_on
+from lib.kept import epoch_of, faults_of, header_of, kill, lives_of, look, looked, read, serve, state_words, status_in
+from lib.kept import whole_lines, written
 from lib.orders import COMMIT, DETACH, LAST, ONE, RESUME, STATUS, WITHDRAW
 from lib.orders import attach, job, lock_status, receipt, stands, status_bytes, text, worker_status
 from lib.programs import built, ends_with, has_strace, lines_traced, run
 from lib.servers import Server, line_of
 from lib.storms import Storm
+from lib.sums import first_version, mended, writes_of
 
 SEED = int(sys.argv[1]) if len(sys.argv) > 1 else random.randrange(10**6)
 KILLS = 25
@@ -102,7 +104,7 @@ def try_one_worker(folder):
     locks = [lock_status("bank", [10], sections=10), lock_status("shop", [5], sections=1)]
     workers = [worker_status(True, "ready", 10), worker_status(True, "ready", 1)]
     same("what all is at", status_bytes(idle.ask(STATUS)), text(epoch=epochs[-1], locks=locks, ok="status", workers=workers))
-    header = json.loads(whole_lines(read(path))[0])
+    header = header_of(read(path))
     told = header["epoch"], header["numbers"][1], header["last"][1]
     same("what the header says of the other", told, (epochs[-1], 1, first))
     is_run("one worker", path)
@@ -153,7 +155,7 @@ def try_withdrawn(folder):
             busy = Busy(server, 3, "shop", busy.made)
         else:
             same("it is renewed", busy.renew(path, 2 if turn == "after one renewal" else 1), [])
-    last = json.loads(whole_lines(read(path))[0])["last"]
+    last = header_of(read(path))["last"]
     same("what the header says", last[1:3], [{"withdrawn": True}] * 2)
     told = one.ask(job("submit", "bank", 2, *ONE)), two.ask(job("submit", "bank", 3, *ONE))
     wanted = [receipt(1, 2, "bank", 2, 3), receipt(2, 3, "bank", 3, 4)]
@@ -380,10 +382,10 @@ def try_small(folder):
             wrong += busy.make()
         sizes.append(len(read(path)))
     check("80 renewals", not wrong, wrong[:2])
-    lines = whole_lines(read(path))
-    longest = max(len(line) for line in lines[2:])
-    # A job of a session that does nothing else is two lines, one by which it is handed in and one by which it is done.
-    bound = max(begins) + sections * 2 * longest
+    writes = writes_of(read(path))[1:]
+    longest = max(len(write.bytes) for write in writes)
+    # A job of a session that does nothing else is one write: a line by which it is handed in, and one by which it is done.
+    bound = max(begins) + sections * longest
     check(f"a file of {max(sizes)} bytes, which may have {bound}", max(sizes) <= bound, (sizes[-5:], begins[-5:]))
     check("what it begins with grows by the digits of its numbers alone", max(begins) <= min(begins) + 200, begins)
     check(f"memory from {memory[9]} to {memory[-1]} KiB", max(memory[10:]) <= memory[9] + 512, memory)
@@ -397,8 +399,7 @@ def try_large(folder):
     opening = whole_lines(read(path))[1]
     last = receipt(0, number, "bank", place - 1, 5)
     header = {"epoch": 7, "last": [last, {"withdrawn": True}], "numbers": [number, 2**52], "places": [place]}
-    line = json.dumps({**header, "rme": "kept", "version": 1}, sort_keys=True, separators=(",", ":")).encode()
-    written(path, line + b"\n" + opening)
+    written(path, text(**header, rme="kept", version=1) + b"\n" + opening)
     server = serve(path, sections=1000)
     busy, other = Busy(server, 0, "bank"), server.session()
     same("the last number is told", busy.session.ask(LAST), text(last=last, ok="last"))
@@ -454,10 +455,10 @@ def try_lives(folder):
         server.session().ask_all(attach(0), DETACH)
     other, busy = server.session(), Busy(server, 2, "a")
     other.ask(attach(1))
-    told = lives_of(whole_lines(read(path))[0]), lives_of(read(path))
+    told = header_of(read(path))["lives"], lives_of(read(path))
     same("each attachment is one life", told, ([0, 0, 0], [3, 1, 1]))
     same("it is renewed", busy.renew(path, 2), [])
-    told = lives_of(whole_lines(read(path))[0]), lives_of(read(path))
+    told = header_of(read(path))["lives"], lives_of(read(path))
     same("lives are not changed by it", told, ([3, 1, 1], [3, 1, 1]))
     kill(server)
     server = serve(path)
@@ -465,7 +466,7 @@ def try_lives(folder):
     server.session().ask_all(attach(0), DETACH)
     busy = Busy(server, 2, "a", made=busy.made)
     same("it is renewed again", busy.renew(path), [])
-    same("they go on", lives_of(whole_lines(read(path))[0]), [4, 1, 2])
+    same("they go on", header_of(read(path))["lives"], [4, 1, 2])
     told = server.session().ask_all(*({**attach(1), "after": life} for life in (0, 1)), job("enter", "a", 1, *ONE), COMMIT)
     found = told[:2], json.loads(told[2]).get("life")
     same("and sessions are told them", found, ([text(code=26, error="Overtaken"), stands("ready", 0)], 2))
@@ -486,13 +487,14 @@ def try_header(folder):
     held = read(path)
     end, damaged = held.index(b"\n"), os.path.join(folder, "damaged")
     wrong, count, refused = [], 0, 0
-    for at, changed in changes_of(held[: end + 1], numbers):
-        changed += held[end + 1 :]
-        ended, wanted = ends_with(look(written(damaged, changed), "--check")), verdicts_on(changed)
-        said = ended[1]
-        holds = said in wanted and ended == (0 if said == b"yes\n" else 1, said, b"")
-        wrong += [(at, changed[: end + 1], ended, wanted)] * (not holds)
-        count, refused = count + 1, refused + (said != b"yes\n")
+    for form in (mended, first_version):  # with right sums, and without sums
+        old = form(held)
+        for at, changed in changes_of(old[: end + 1], numbers):
+            changed += old[end + 1 :]
+            changed = mended(changed) if form is mended else changed
+            ended, wanted = ends_with(look(written(damaged, changed), "--check")), verdicts_on(changed)
+            wrong += [(at, changed[: end + 1], ended, wanted)] * (not is_verdict(ended, wanted))
+            count, refused = count + 1, refused + (ended[1] != b"yes\n")
     name = f"{count} headers with a byte changed, of which {refused} are refused"
     check(name, not wrong and refused > count // 2, wrong[:2])
     header, rest = json.loads(held[:end]), held[end + 1 :]
@@ -513,9 +515,9 @@ def try_header(folder):
         "a life below 0": {"lives": [0, -1, 0]},
         "a number that is none": {"numbers": [1.0, *header["numbers"][1:]]},
     }.items():
-        line = json.dumps({**header, **changes}, sort_keys=True, separators=(",", ":")).encode() + b"\n"
-        same(f"refused: {name}", ends_with(look(written(damaged, line + rest), "--check")), (1, b"no 1\n", b""))
-        same(f"and the model says so: {name}", verdicts_on(line + rest), {b"no 1\n"})
+        changed = mended(text(**{**header, **changes}) + b"\n" + rest)
+        same(f"refused: {name}", ends_with(look(written(damaged, changed), "--check")), (1, b"no 1\n", b""))
+        same(f"and the model says so: {name}", verdicts_on(changed), {b"no 1\n"})
 
 
 def try_owner(folder):

@@ -17,9 +17,10 @@ import time
 from lib.checks import check, main_in_folders, same
 from lib.full import own_end, rest_of, told_of
 from lib.kept import kill, look, read, serve, state_words, whole_lines, without_count, written
-from lib.orders import ONE, attach, job
+from lib.orders import ONE, attach, job, text
 from lib.programs import ends_with, run
 from lib.servers import HOST, Server, line_of
+from lib.sums import first_version, resealed
 
 TOO_MANY = b'{"code":14,"error":"TooManyJobs"}'
 BEHIND = b'{"do":"walk","max":1'  # a torn line
@@ -105,15 +106,19 @@ def try_header(folder):
     numbers = {**header, "epoch": 1, "numbers": [2**53 - 1] + header["numbers"][1:], "last": [last] + header["last"][1:]}
     places = {**header, "epoch": 1, "places": [2**53 - 1]}
     for name, bad in {"numbers": numbers, "places": places}.items():
-        first = json.dumps(bad, sort_keys=True, separators=(",", ":")).encode() + b"\n"
-        for ending, torn in {"a torn end": BEHIND, "no torn end": b"", "a bad line": b"{}\n"}.items():
-            written(path, first + b"".join(lines) + torn)
+        first = text(**bad) + b"\n" + b"".join(lines)
+        for ending, held in {
+            "a torn end": resealed(first) + BEHIND,
+            "no torn end": resealed(first),
+            "a bad line": resealed(first + b"{}\n"),
+            "no sums, and a torn end": first_version(resealed(first)) + BEHIND,
+        }.items():
+            written(path, held)
             refused(f"{name}, {ending}", path, f"bad state\n  {path}: line 1")
             same(f"look says so: {name}, {ending}", ends_with(look(path, "--check")), (1, b"no 1\n", b""))
     # A header that no world of line 2 has, before a bad line.
     two = {**header, "numbers": header["numbers"] + [0]}
-    first = json.dumps(two, sort_keys=True, separators=(",", ":")).encode() + b"\n"
-    written(path, first + b"".join(lines) + b"{}\n")
+    written(path, resealed(text(**two) + b"\n" + b"".join(lines) + b"{}\n"))
     refused("a header of another world, and a bad line", path, f"bad state\n  {path}: line 1")
     same("look says so", ends_with(look(path, "--check")), (1, b"no 1\n", b""))
 
@@ -152,8 +157,8 @@ def try_messages(folder):
     held = made(path, "bank", "shop")
     why = f"bad arguments\n  LOCK: the state {path} has other locks: bank shop"
     refused("other locks", path, why, "mill")
-    written(path, held.replace(b'"version":1}', b'"version":2}', 1))
-    why = f"bad state\n  {path}: it is of version 2, and this program reads version 1"
+    written(path, held.replace(b'"version":2}', b'"version":3}', 1))
+    why = f"bad state\n  {path}: it is of version 3, and this program reads versions 1 and 2"
     refused("another version", path, why)
     same("look says so", ends_with(look(path)), (2, b"", f"fault: {why}\n".encode()))
     path = written(os.path.join(folder, "processes"), b"rmewords" + bytes(8184))
