@@ -342,8 +342,10 @@ with the owner, or nobody; what the cells hold, which is not settled while the l
 has the worker; what the worker is at, with its last number; and the worker that it waits for. A worker that is
 down, is ready and holds nothing is left out without --all. A line at the end for each worker that is down and
 holds something says whom it keeps waiting, and how to go on. --json prints it all as the answer to the order
-`status`. --check prints yes, or `no LINE` for the first line that a server would not accept. A last piece
-without its newline, which a server cuts off, is left out.
+`status`. An end that was never known to be with the disk, which a server cuts off, is left out.
+
+--check prints yes; or `yes, up to line L: N bytes behind it were never known to be with the disk`; or `no L` for
+the first line that a server would not accept, or at which a write ends that was with the disk and has changed.
 
 Of a file that `rme_create` made for processes it prints the same tables, with the process of each worker in
 place of the session (`living` where another user has it, `dead` for a worker with a job and no process), and
