@@ -70,7 +70,7 @@ impl CountedJobs {
         }
     }
 
-    /// The cells that the jobs leave, of which the lock has so many; `None` if one is not known.
+    /// The cells that the jobs leave in a lock with this number of cells; `None` if a job is not known.
     pub fn fold(&self, alloc: Global, count: u32, places: u64) -> Option<CellFold> {
         let mut cells = vec![in alloc; 0u64; count as usize].ok()?;
         let mut are_replies = true;

@@ -31,7 +31,7 @@ pub struct Disk<'a> {
     is_start: Cell<bool>,
     /// Whether a start lets the state grow. Then a replacement is never unsure: its sizes are seen before any line.
     is_growing: Cell<bool>,
-    /// One in so many calls fails; none, if it is 0.
+    /// One in this number of calls fails; at 0 none does.
     odds: Cell<u32>,
     /// The process is dead: nothing that it still calls has an effect.
     is_dead: Cell<bool>,
@@ -75,7 +75,7 @@ impl<'a> Disk<'a> {
         }
     }
 
-    /// From now on one in so many calls fails.
+    /// From now on one in this number of calls fails.
     pub fn set_odds(&self, odds: u32) {
         self.odds.set(odds);
     }

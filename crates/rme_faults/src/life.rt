@@ -174,7 +174,7 @@ fn learn_sizes(
     Ok(())
 }
 
-/// The names of so many locks.
+/// The names of this number of locks.
 pub fn lock_names(alloc: Global, count: u32) -> Result<Names, CliFault> {
     let mut texts = Vec::new(alloc);
     for lock in 0..count {

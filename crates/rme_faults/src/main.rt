@@ -1,7 +1,7 @@
 //! A simulator of faults: the durable server, with many sessions, over a disk in memory that fails and loses what was
 //! not synced, and a server that crashes at any moment. Everything is drawn from a seed and done by one thread.
 //!
-//! `rme_faults SEED COUNT` runs the simulations of so many seeds, and prints what it counted and a line
+//! `rme_faults SEED COUNT` runs the simulations of COUNT seeds, and prints what it counted and a line
 //! `FAILED seed N step K: what` for each that failed; `rme_faults N 1 --trace` prints the schedule of one. After each
 //! answer, and over each restart, the answers are checked against a model that knows nothing of the server but its
 //! answers. Begin with `simulation.rt`, then `steps.rt` and `model.rt`; `disk.rt` has the faults.

@@ -7,7 +7,7 @@ use crate::request::{AttachRequest, NumberedJob, SimulatedRequest, SimulatedSubm
 use crate::view::{KnownWorker, SeenPendingJob, Standing};
 use std::alloc::{AllocError, Global};
 
-/// What is known of a server, from its answers alone.
+/// What the answers so far tell of a server.
 #[derive(Drop)]
 pub struct Model {
     pub alloc: Global,
@@ -38,7 +38,7 @@ fn expects(answer: &SeenAnswer, number: u64) -> Found {
 }
 
 impl Model {
-    /// A server of which nothing was told yet.
+    /// The model of a server that has not answered yet.
     pub fn new(alloc: Global, withdraws: bool) -> Model {
         Model {
             alloc,
@@ -50,7 +50,7 @@ impl Model {
         }
     }
 
-    /// The server has at least so many workers, locks and cells.
+    /// The server has at least these numbers of workers, locks and cells.
     pub fn grow(&mut self, workers: u32, locks: u32, cells: u32) -> Result<(), AllocError> {
         self.cells = self.cells.max(cells);
         for _ in self.workers.len()..workers as usize {
@@ -72,7 +72,7 @@ impl Model {
         u32::try_from(self.locks.len()).unwrap_or(u32::MAX)
     }
 
-    /// The view of a worker; that of a new one, if there is none.
+    /// The view of a worker; for a number of no worker that of a new one.
     pub fn view(&self, worker: u32) -> KnownWorker {
         match self.workers.get(worker as usize) {
             Some(view) => *view,

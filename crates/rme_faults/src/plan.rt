@@ -39,9 +39,9 @@ pub struct Plan {
     pub syncs: bool,
     /// Whether jobs are withdrawn that wait without a session.
     pub withdraws: bool,
-    /// One in so many calls of the disk fails; none, if it is 0.
+    /// One in this number of calls of the disk fails; at 0 none does.
     pub odds: u32,
-    /// One in so many steps is a crash of the server.
+    /// One in this number of steps is a crash of the server.
     pub crash_odds: u32,
 }
 

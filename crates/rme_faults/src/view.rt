@@ -1,4 +1,4 @@
-//! What is known of a worker from the answers alone.
+//! What the answers so far tell of a worker.
 
 use crate::answer::SeenReceipt;
 use crate::request::{NumberedJob, SimulatedRequest};
@@ -69,7 +69,7 @@ impl KnownWorker {
         self.pending
     }
 
-    /// The number of that job; 0 if there is none.
+    /// The number of that job; 0 before the first job.
     pub fn pending_number(&self) -> u64 {
         match self.pending {
             Some(pending) => pending.job.number,

@@ -8,7 +8,7 @@ use std::env;
 /// The most words behind the seed and the count.
 const MOST_WORDS: usize = 16;
 
-/// What the words ask for: simulations of so many seeds.
+/// What the words ask for: simulations of this number of seeds.
 #[derive(Clone, Copy)]
 pub struct Task {
     pub first: u64,
