@@ -94,7 +94,7 @@ pub fn server_status(alloc: Global, value: &Value) -> Result<ServerStatus, Clien
 }
 
 /// A value that an item of a list in an answer gives.
-trait ListItem: Drop + Sized {
+pub(crate) trait ListItem: Drop + Sized {
     /// The item gives this value.
     ghost Says: { Data → Self → Type 0 };
 
@@ -146,7 +146,7 @@ impl ListItem for ReportedWorker {
 }
 
 /// The values of the items of the list of this name.
-fn list_of<T: ListItem>(
+pub(crate) fn list_of<T: ListItem>(
     alloc: Global,
     value: &Value,
     name: &'static str,

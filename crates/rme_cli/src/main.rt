@@ -11,6 +11,7 @@ use rme_cli_lines::perform_lines;
 use rme_cli_look::run_look;
 use rme_cli_messages::CliFault;
 use rme_cli_options::{CliTask, ParsedCommandLine, finish_process, read_words};
+use rme_cli_spaces::run_serve_spaces;
 use std::process::ExitCode;
 use std::sync::Wait;
 use std::thread::Threads;
@@ -45,6 +46,7 @@ fn perform<R: Threads + Wait + Clock + Sync>(
         CliTask::Threads(task) => run_threads(rt, threads, &task),
         CliTask::Serve(task) => run_serve(rt, threads, task),
         CliTask::ServeDurable(task) => run_serve_durable(rt, threads, task),
+        CliTask::ServeSpaces(task) => run_serve_spaces(rt, threads, task),
         CliTask::Look(task) => run_look(rt, task),
         CliTask::Ask(task) => run_ask(rt, threads, task),
     }

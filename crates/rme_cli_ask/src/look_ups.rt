@@ -1,11 +1,11 @@
-//! The look-ups: one request, and its answer as tables or as it came.
+//! Look-ups and what is done to a space: one request, and its answer as tables and sentences or as it came.
 
-ghost use Rattle.std.specs.Prelude.{◌≢◌, IfErr, IfOk, string_bytes};
+ghost use Rattle.std.specs.Prelude.{◌≡◌, ◌≢◌, IfErr, IfOk, string_bytes};
 ghost use Rattle.serde_json.specs.View.{view};
 ghost use Rattle.rme_ask_client.specs.Members.{NoneSaidUnless};
 ghost use Rattle.rme_ask_client.specs.StatusAnswers.{CellsSay, OwnerSays, StatusSays};
 ghost use Rattle.rme_ask_client.specs.declared.client_error.ClientError.TheVariants.{NoMemory};
-ghost use Rattle.rme_cli_ask.specs.LookUps.{LacksAnswer, ShowsAnswer, ShowsCells, ShowsOwner, ShowsStatus};
+ghost use Rattle.rme_cli_ask.specs.LookUps.{LacksAnswer, ShowsAnswer, ShowsCells, ShowsOwner, ShowsStatus, space_sentence};
 
 use crate::ask_end::{AskEnd, AskFault};
 use crate::dialogue::Dialogue;
@@ -18,7 +18,7 @@ use std::alloc::Global;
 
 impl<R: Source + Drop, W: Sink + Drop, O: Sink + Drop, E: Sink + Drop> Dialogue<R, W, O, E> {
     /// Sends a request, and prints its answer.
-    pub(crate) fn look_up(&mut self, request: ClientRequest<'_>) -> Result<AskEnd, AskFault> {
+    pub(crate) fn ask_and_show(&mut self, request: ClientRequest<'_>) -> Result<AskEnd, AskFault> {
         let Some(value) = self.accepted(request)? else {
             return Ok(AskEnd::Refused);
         };
@@ -32,7 +32,7 @@ impl<R: Source + Drop, W: Sink + Drop, O: Sink + Drop, E: Sink + Drop> Dialogue<
     }
 }
 
-/// The answer to a look-up, for people: tables of what it says. An error if it does not say that.
+/// The answer to a request, for people: tables of what it says, or a sentence. An error if it does not say that.
 fn answer_text(
     alloc: Global,
     request: ClientRequest<'_>,
@@ -45,8 +45,18 @@ fn answer_text(
         ClientRequest::Status => status_answer_text(alloc, value),
         ClientRequest::Owner(lock) => owner_answer_text(alloc, lock, value),
         ClientRequest::Cells(lock) => cells_answer_text(alloc, lock, value),
+        ClientRequest::CreateSpace(space) => space_text(alloc, space.name, "is there"),
+        ClientRequest::DropSpace(space) => space_text(alloc, space, "is gone"),
         _ => Ok(String::from_str(alloc, "the server answers\n")?),
     }
+}
+
+/// What became of a space.
+fn space_text(alloc: Global, space: &str, what: &str) -> Result<String, ClientError>
+    ensures said { IfOk result (λ text. string_bytes text ≡ space_sentence space.now what.now) }
+    ensures memory { IfErr result (λ error. error ≡ NoMemory) }
+{
+    Ok(format!(in alloc; "space {space} {what}\n")?)
 }
 
 /// The tables of locks and workers of an answer to `status`.

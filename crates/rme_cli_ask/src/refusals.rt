@@ -11,6 +11,15 @@ use std::alloc::{AllocError, Global};
 /// The number of `BadLine`.
 const BAD_LINE: u64 = 1;
 
+/// The number of `BadShape`.
+const BAD_SHAPE: u64 = 5;
+
+/// The number of `Busy`.
+const BUSY: u64 = 9;
+
+/// The number of `NoSpace`.
+const NO_SPACE: u64 = 23;
+
 /// The number of `Taken`.
 const TAKEN: u64 = 18;
 
@@ -81,11 +90,36 @@ fn hint(request: ClientRequest<'_>, code: u64) -> Option<&'static str> {
             if code == BAD_LINE => Some(
             "A server without a state has no look-ups: only `rme serve --state FILE` has them.",
         ),
+        ClientRequest::Status
+        | ClientRequest::Owner(_)
+        | ClientRequest::Cells(_)
+        | ClientRequest::Attach(_)
+        | ClientRequest::TakeOver(_)
+            if code == NO_SPACE => Some("--space NAME says in which space it is asked."),
+        ClientRequest::UseSpace(_)
+        | ClientRequest::CreateSpace(_)
+        | ClientRequest::DropSpace(_)
+        | ClientRequest::Spaces(_) => space_hint(request, code),
         ClientRequest::Pending if code == BAD_LINE => Some(
             "The server is of an earlier version, which has no order `pending`.",
         ),
         ClientRequest::Attach(_) if code == TAKEN => Some(
             "Where that session's client will not come back, --take ends the session and takes the worker.",
+        ),
+        _ => None,
+    }
+}
+
+/// The same of a request about spaces.
+fn space_hint(request: ClientRequest<'_>, code: u64) -> Option<&'static str> {
+    match (request, code) {
+        (_, BAD_LINE) => Some("Only a server with `rme serve --spaces DIR` has spaces."),
+        (ClientRequest::CreateSpace(_), BAD_SHAPE) => Some(
+            "The name of a space has 1 to 64 of a-z 0-9 _ and -; it has 1 to 255 workers, and 1 to 16 locks of 1 to 16 cells.",
+        ),
+        (_, BAD_SHAPE) => Some("The name of a space has 1 to 64 of a-z 0-9 _ and -."),
+        (ClientRequest::DropSpace(_), BUSY) => Some(
+            "A session uses the space, or a job is pending in it: `rme ask --space NAME status` shows its workers.",
         ),
         _ => None,
     }

@@ -8,9 +8,11 @@ ghost use Rattle.rme_cli_commands.specs.FinalReports.{FinalReportSays};
 use crate::final_report::{FinalReport, end_with, report_service};
 use log::sink::Console;
 use log::{Level, Logged, info};
-use rme_cli_listen::{BoundAddresses, StderrObserver, listen};
+use rme_cli_keys::{KeysFile, keyed, open_keys};
+use rme_cli_listen::{BoundServer, StderrObserver, listen};
 use rme_cli_messages::{CliFault, why_not_locks, why_not_sizes};
 use rme_cli_options::{Diagnostics, ServeTask, ServerLog};
+use rme_line_diagnose::SessionWords;
 use rme_server::{Listener, ServeFault, ServerLimits, SessionRegistry, Slots, serve};
 use rme_table::{CountRoom, Down, Service, Tag};
 use rme_wire::{GivenNames, Names};
@@ -29,13 +31,11 @@ pub fn run_serve<R: Threads + Wait + Clock + Sync>(
 ) -> Result<u8, CliFault> {
     let why = why_not_locks(rt.alloc(), &task.locks)?;
     let shape = shape_of(&task);
+    let limits = limits_of(&task);
     let ServeTask {
         places,
-        connections,
-        at_once,
-        idle,
-        diagnostics,
         log,
+        keys,
         locks,
         ..
     } = task;
@@ -45,22 +45,40 @@ pub fn run_serve<R: Threads + Wait + Clock + Sync>(
     }
     let shape = shape?;
     let names = locks.names(rt.alloc())?;
-    let (listeners, addresses) = listen(rt, places)?;
+    let keys = match open_keys(rt, keys) {
+        Ok(keys) => keys,
+        Err(refused) => return Ok(refused.status()),
+    };
+    let connections = limits.connections;
+    let (listeners, bound) = listen(rt, places, limits)?;
     let host = ServeContext {
         rt,
-        addresses,
-        limits: ServerLimits {
-            connections,
-            at_once,
-            idle,
-            tells_why: diagnostics == Diagnostics::Why,
-        },
+        bound,
+        connections,
         log,
+        keys,
         names: &names,
     };
     let ended = serve_workers(threads, &host, listeners, shape);
-    host.addresses.clear(rt);
+    host.bound.addresses.clear(rt);
     ended
+}
+
+/// The limits of the requested server.
+fn limits_of(task: &ServeTask) -> ServerLimits {
+    ServerLimits {
+        connections: task.connections,
+        at_once: task.at_once,
+        idle: task.idle,
+        tells_why: match task.diagnostics {
+            Diagnostics::Why => Some(SessionWords {
+                has_look_ups: false,
+                has_secrets: task.keys.is_some(),
+                has_spaces: false,
+            }),
+            Diagnostics::Nothing => None,
+        },
+    }
 }
 
 /// The shape of the requested service.
@@ -76,13 +94,15 @@ fn shape_of(task: &ServeTask) -> Result<Shape, CliFault> {
     }
 }
 
-/// The addresses of a server, its limits, its log, and the names of the locks.
+/// A server's addresses and acceptor, the number of connections that it serves if there is a limit, its log, its keys
+/// if it has some, and the names of the locks.
 #[derive(Drop)]
 struct ServeContext<'a> {
     rt: &'a HostRuntime,
-    addresses: BoundAddresses,
-    limits: ServerLimits,
+    bound: BoundServer,
+    connections: Option<u32>,
     log: ServerLog,
+    keys: Option<KeysFile<'a>>,
     names: &'a Names,
 }
 
@@ -96,13 +116,13 @@ fn serve_workers<R: Threads + Wait + Clock + Sync>(
     let (service, downs) = Service::new(host.rt.alloc(), shape)?;
     let room = service.room_for_counts()?;
     let closing = FinalReport::with_room(host.rt.alloc())?;
-    host.addresses.print(host.rt)?;
+    host.bound.addresses.print(host.rt)?;
     let (downs, served) = serve_all::<Brand, R>(threads, host, listeners, &service, downs)?;
-    log_served(host.rt, host.limits.connections.unwrap_or(0));
+    log_served(host.rt, host.connections.unwrap_or(0));
     let status = close(host, service, downs, room, closing)?;
     match served {
         Ok(()) => Ok(status),
-        Err(fault) => Err(CliFault::of_serving(fault, host.addresses.text(host.rt.alloc())?)),
+        Err(fault) => Err(CliFault::of_serving(fault, host.bound.addresses.text(host.rt.alloc())?)),
     }
 }
 
@@ -130,11 +150,11 @@ fn close(
 
 /// Serves these workers, all of the service, to the sessions of the connections; gives back those that are present at
 /// the end, with the server's fault, if any.
-fn serve_all<K: Tag + Send + Sync, R: Threads + Wait + Clock + Sync>(
+fn serve_all<'s, K: Tag + Send + Sync, R: Threads + Wait + Clock + Sync>(
     threads: &R,
-    host: &ServeContext<'_>,
+    host: &'s ServeContext<'s>,
     listeners: (Listener, Option<Listener>),
-    service: &Service,
+    service: &'s Service,
     downs: Vec<Down>,
 ) -> Result<(Vec<Down>, Result<(), ServeFault>), CliFault>
     requires named { service.now ≡ K.ident }
@@ -155,6 +175,22 @@ fn serve_all<K: Tag + Send + Sync, R: Threads + Wait + Clock + Sync>(
         registry: &registry,
     };
     let complaints = StderrObserver::new(host.rt, host.log);
-    let served = serve(threads, listeners, host.limits, &complaints, &shared);
+    let workers = service.shape().workers();
+    let served = match keyed(&host.keys, &shared, workers) {
+        Some(keyed) => serve(
+            threads,
+            listeners,
+            &host.bound.acceptor,
+            &complaints,
+            &keyed,
+        ),
+        None => serve(
+            threads,
+            listeners,
+            &host.bound.acceptor,
+            &complaints,
+            &shared,
+        ),
+    };
     Ok((slots.into_downs_in(threads, room), served))
 }

@@ -1,12 +1,16 @@
 //! `rme serve --state`: the durable server.
 //!
-//! A start first decides everything, then listens, and only then writes (`serve_durable.rt`): it reads the file or
-//! plans a new one, or what is to be added to it (`requested_state.rt`), binds its addresses, and opens the log. The crate stands on rme_durable_server and the crates below
-//! it, on rme_durable_file for the file, on rme_cli_listen for the addresses, and on rme_cli_options and
+//! A start first decides everything, then listens, and only then writes (`serve_durable.rt`): it reads the keys, if
+//! there are some, and the file, or plans a new one, or what is to be added to it (`requested_state.rt`), binds its
+//! addresses, and opens the log. The crate stands on rme_durable_server and the crates below it, on rme_durable_file
+//! for the file, on rme_cli_keys for the keys, on rme_cli_listen for the addresses, and on rme_cli_options and
 //! rme_cli_messages.
 #![tactic(auto)]
 
+mod opened_log;
 mod requested_state;
 mod serve_durable;
 
+pub use opened_log::{LoggedState, logged_state};
+pub use requested_state::usual_lines;
 pub use serve_durable::run_serve_durable;

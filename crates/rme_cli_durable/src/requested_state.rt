@@ -6,7 +6,7 @@ use rme_durable_format::{LogHeader, RecoveredLog, push_header};
 use rme_durable_lookups::clients_of;
 use rme_line_text::{lock_name, push_opening};
 use rme_wire::{GivenNames, Names};
-use rme_words::Shape;
+use rme_words::{NoMemory, Shape};
 use std::alloc::{AllocError, Global};
 
 /// The default number of workers, besides the checkpoint worker.
@@ -50,6 +50,25 @@ pub(crate) fn first_lines(rt: &HostRuntime, asked: &ServerConfig) -> Result<Stri
     let names = names_of(alloc, &asked.locks)?;
     let shape = new_shape(asked, names.len())?;
     Ok(lines_of(alloc, &names, shape)?)
+}
+
+/// The lines of a new state with these locks and sizes, and the usual number of jobs. `None` if a state cannot have them.
+pub fn usual_lines(
+    alloc: Global,
+    locks: &[String],
+    workers: u32,
+    cells: u32,
+) -> Result<Option<String>, NoMemory> {
+    let names = GivenNames::of(copies(alloc, locks)?);
+    if !names.are_names() {
+        return Ok(None);
+    }
+    let names = names.names(alloc)?;
+    let jobs = jobs_for(USUAL_JOBS, names.len(), cells);
+    match Shape::new(workers.saturating_add(1), names.len(), cells, jobs) {
+        Ok(shape) => Ok(Some(lines_of(alloc, &names, shape)?)),
+        Err(_) => Ok(None),
+    }
 }
 
 /// The names of the locks of a new state.

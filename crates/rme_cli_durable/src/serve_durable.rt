@@ -3,24 +3,24 @@
 ghost use Rattle.std.specs.Prelude.{◌≡◌, [], IfOk, true};
 ghost use Rattle.rme_durable_server.specs.ServerHistories.{server_state};
 
+use crate::opened_log::{LoggedState, logged_state};
 use crate::requested_state::{Growth, ServerConfig, first_lines, growth_of};
-use rme_cli_listen::{BoundAddresses, StderrObserver, listen};
+use rme_cli_keys::{KeysFile, keyed, open_keys};
+use rme_cli_listen::{BoundServer, StderrObserver, listen};
 use rme_cli_messages::{BadArgument, CliFault, Stderr, escape_controls};
 use rme_cli_options::{
     Diagnostics, DurableServeTask, ListenAddresses, ServerLog, SyncPolicy, WaitingPolicy,
 };
-use rme_durable_epochs::EpochExecutor;
 use rme_durable_file::{
     OpenedState, RecoveredFile, StateFile, StateName, SystemFile, check_replaceable, make_state,
     open_state_file,
 };
-use rme_durable_log::{NotDurable, OpenLog};
+use rme_durable_log::NotDurable;
+use rme_durable_lookups::clients_of;
 use rme_durable_server::{DurableServer, ServerSetting, ServerTag, WaitingJobs};
-use rme_line_diagnose::Reason;
-use rme_session_server::{
-    Backend, Closer, Listener, ServerLimits, ServerObserver, SessionEvent, serve,
-};
-use rme_wire::Names;
+use rme_line_diagnose::{Reason, SessionWords};
+use rme_session_loop::{Backend, SessionEvent};
+use rme_session_server::{Closer, Listener, ServerLimits, ServerObserver, serve};
 use std::io;
 use std::marker::Brand;
 use std::sync::Wait;
@@ -40,36 +40,43 @@ pub fn run_serve_durable<R: Threads + Wait + Clock + Sync>(
     let limits = limits_of(&task);
     let setting = setting_of(&task);
     let log = task.log;
-    let (asked, places) = split_task(task);
+    let (asked, places, keys) = split_task(task);
+    let keys = match open_keys(rt, keys) {
+        Ok(keys) => keys,
+        Err(refused) => return Ok(refused.status()),
+    };
     let name = StateName::new(String::from_str(rt.alloc(), asked.path.as_str())?);
     let planned = plan_start(rt, &asked, &name)?;
-    let (listeners, addresses) = listen(rt, places)?;
+    let (listeners, bound) = listen(rt, places, limits)?;
     let site = DurableServeContext {
         rt,
-        addresses,
-        limits,
+        bound,
         log,
+        keys,
         name: &name,
         setting,
     };
     let served = match open_or_create(rt, &asked, &name, planned) {
-        Ok(opened) => serve_logged::<Brand, R>(threads, &site, listeners, logged_state(opened)),
+        Ok(opened) => {
+            let state = logged_state(opened);
+            serve_logged::<Brand, R>(threads, &site, listeners, state)
+        }
         Err(fault) => {
             name.tell(rt, &Stderr::new(rt));
             Err(fault)
         }
     };
-    site.addresses.clear(rt);
+    site.bound.addresses.clear(rt);
     served
 }
 
-/// The addresses of a durable server, its limits, its log, and its file.
+/// A durable server's addresses and acceptor, its log, its keys if it has some, and its file.
 #[derive(Drop)]
 struct DurableServeContext<'a> {
     rt: &'a HostRuntime,
-    addresses: BoundAddresses,
-    limits: ServerLimits,
+    bound: BoundServer,
     log: ServerLog,
+    keys: Option<KeysFile<'a>>,
     name: &'a StateName,
     setting: ServerSetting,
 }
@@ -81,27 +88,6 @@ enum StartPlan<'a> {
     GoOn(RecoveredFile<'a, SystemFile<'a>>, Option<Growth>),
     /// Create a file with these lines.
     Make(String),
-}
-
-/// A state with the log that is opened over its file.
-#[derive(Drop)]
-struct LoggedState<'a> {
-    names: Names,
-    executor: EpochExecutor,
-    log: OpenLog<StateFile<'a, SystemFile<'a>>>,
-}
-
-/// A state with a log over its file.
-fn logged_state<'a>(opened: OpenedState<'a, SystemFile<'a>>) -> LoggedState<'a>
-    requires works { opened.file.works ≡ true }
-    ensures names { result.names ≡ opened.entry.names }
-    ensures executor { result.executor ≡ opened.entry.executor }
-{
-    LoggedState {
-        names: opened.names,
-        executor: opened.executor,
-        log: OpenLog::new(opened.file),
-    }
 }
 
 /// Serves a state on these listeners, with a tag for its log and its opening.
@@ -122,6 +108,7 @@ fn serve_logged<J: ServerTag + Send + Sync, R: Threads + Wait + Clock + Sync>(
         log,
     } = state;
     let alloc = site.rt.alloc();
+    let workers = clients_of(executor.executor().world());
     let kept = DurableServer::<StateFile<'_, SystemFile<'_>>, Closer, J>::new(
         alloc,
         names,
@@ -129,8 +116,8 @@ fn serve_logged<J: ServerTag + Send + Sync, R: Threads + Wait + Clock + Sync>(
         site.setting,
         log,
     )?;
-    site.addresses.print(site.rt)?;
-    serve_durable_state(threads, site, listeners, &kept)
+    site.bound.addresses.print(site.rt)?;
+    serve_durable_state(threads, site, listeners, &kept, workers)
 }
 
 /// The limits of the server.
@@ -139,7 +126,14 @@ fn limits_of(task: &DurableServeTask) -> ServerLimits {
         connections: None,
         at_once: task.at_once,
         idle: task.idle,
-        tells_why: task.diagnostics == Diagnostics::Why,
+        tells_why: match task.diagnostics {
+            Diagnostics::Why => Some(SessionWords {
+                has_look_ups: true,
+                has_secrets: task.keys.is_some(),
+                has_spaces: false,
+            }),
+            Diagnostics::Nothing => None,
+        },
     }
 }
 
@@ -154,8 +148,8 @@ fn setting_of(task: &DurableServeTask) -> ServerSetting {
     }
 }
 
-/// The requested state, and the addresses.
-fn split_task(task: DurableServeTask) -> (ServerConfig, ListenAddresses) {
+/// The requested state, the addresses, and the file of the keys.
+fn split_task(task: DurableServeTask) -> (ServerConfig, ListenAddresses, Option<String>) {
     let DurableServeTask {
         state,
         workers,
@@ -163,6 +157,7 @@ fn split_task(task: DurableServeTask) -> (ServerConfig, ListenAddresses) {
         jobs,
         places,
         sync,
+        keys,
         locks,
         ..
     } = task;
@@ -174,16 +169,17 @@ fn split_task(task: DurableServeTask) -> (ServerConfig, ListenAddresses) {
         locks,
         syncs: sync == SyncPolicy::Always,
     };
-    (asked, places)
+    (asked, places, keys)
 }
 
-/// Serves a durable state on these listeners, once no job waits without a session if such jobs are withdrawn. If an
+/// Serves a durable state of this number of workers on these listeners, once no job waits without a session if such jobs are withdrawn. If an
 /// event cannot be logged, this is reported at the end.
 fn serve_durable_state<'f, J: ServerTag + Send + Sync, R: Threads + Wait + Clock + Sync>(
     threads: &R,
     site: &DurableServeContext<'_>,
     listeners: (Listener, Option<Listener>),
     kept: &DurableServer<StateFile<'f, SystemFile<'f>>, Closer, J>,
+    workers: u32,
 ) -> Result<u8, CliFault> {
     let complaints = StderrObserver::new(site.rt, site.log);
     let observer = StateObserver {
@@ -193,7 +189,10 @@ fn serve_durable_state<'f, J: ServerTag + Send + Sync, R: Threads + Wait + Clock
         kept,
     };
     let served = match kept.withdraw_waiting_jobs(threads, &observer) {
-        Ok(()) => serve(threads, listeners, site.limits, &observer, kept),
+        Ok(()) => match keyed(&site.keys, kept, workers) {
+            Some(keyed) => serve(threads, listeners, &site.bound.acceptor, &observer, &keyed),
+            None => serve(threads, listeners, &site.bound.acceptor, &observer, kept),
+        },
         Err(NotDurable) => Ok(()),
     };
     site.name.tell(site.rt, complaints.stderr());
@@ -202,7 +201,7 @@ fn serve_durable_state<'f, J: ServerTag + Send + Sync, R: Threads + Wait + Clock
     }
     match served {
         Ok(()) => Ok(0),
-        Err(fault) => Err(CliFault::of_serving(fault, site.addresses.text(site.rt.alloc())?)),
+        Err(fault) => Err(CliFault::of_serving(fault, site.bound.addresses.text(site.rt.alloc())?)),
     }
 }
 

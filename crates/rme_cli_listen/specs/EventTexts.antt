@@ -1,7 +1,7 @@
 -- The text of each event in the log of a server.
 use Rattle.std.specs.Prelude.{ℕ, List, ◌++◌, codes, decimal, Option, Some, None}
-use Rattle.rme_session_server.specs.declared.session_event.SessionEvent.{SessionEvent}
-use Rattle.rme_session_server.specs.declared.session_event.SessionEvent.TheVariants.{Attached, TakesOver, Detached, Ended, Withdrawn, Checkpoint}
+use Rattle.rme_session_loop.specs.declared.session_event.SessionEvent.{SessionEvent}
+use Rattle.rme_session_loop.specs.declared.session_event.SessionEvent.TheVariants.{Attached, TakesOver, Detached, Ended, Withdrawn, Checkpoint}
 use Rattle.rme_cli_listen.specs.declared.event_line.SessionEventLine.{SessionEventLine}
 use Rattle.rme_cli_listen.specs.declared.event_line.EventOrigin.{EventOrigin}
 

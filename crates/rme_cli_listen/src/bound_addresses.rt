@@ -3,11 +3,12 @@
 use crate::socket::{SocketFile, listen_at, remove};
 use rme_cli_messages::{CliFault, escape_controls};
 use rme_cli_options::ListenAddresses;
-use rme_session_server::Listener;
+use rme_session_server::{Acceptor, Listener, ServerLimits};
 use std::alloc::{AllocError, Global};
 use std::io;
 use std::io::ErrorKind;
 use std::net::{Ipv4Addr, TcpListener};
+use std::sync::Arc;
 
 /// The addresses at which a server can be reached.
 #[derive(Drop)]
@@ -57,8 +58,37 @@ impl BoundAddresses {
     }
 }
 
-/// Listens on the requested addresses.
+/// The addresses of a server that listens, and the acceptor of its listeners.
+#[derive(Drop)]
+pub struct BoundServer {
+    pub addresses: BoundAddresses,
+    pub acceptor: Arc<Acceptor>,
+}
+
+/// Listens on the requested addresses, for a server with these limits. After an error the server has no file.
 pub fn listen(
+    rt: &HostRuntime,
+    places: ListenAddresses,
+    limits: ServerLimits,
+) -> Result<((Listener, Option<Listener>), BoundServer), CliFault> {
+    let (listeners, addresses) = bind_all(rt, places)?;
+    match Acceptor::new(rt.alloc(), &listeners, limits) {
+        Ok(acceptor) => {
+            let bound = BoundServer {
+                addresses,
+                acceptor,
+            };
+            Ok((listeners, bound))
+        }
+        Err(fault) => {
+            addresses.clear(rt);
+            Err(CliFault::of_serving(fault, addresses.text(rt.alloc())?))
+        }
+    }
+}
+
+/// Listens on the requested addresses.
+fn bind_all(
     rt: &HostRuntime,
     places: ListenAddresses,
 ) -> Result<((Listener, Option<Listener>), BoundAddresses), CliFault> {

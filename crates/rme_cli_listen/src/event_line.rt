@@ -1,6 +1,6 @@
 //! The line of an event in the log of a server.
 
-use rme_session_server::SessionEvent;
+use rme_session_loop::SessionEvent;
 use std::fmt;
 
 /// An event in the course of the session of this connection, or at the start of the server. It is shown as one sentence.

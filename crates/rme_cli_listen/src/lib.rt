@@ -12,5 +12,5 @@ mod event_line;
 mod socket;
 mod stderr_observer;
 
-pub use bound_addresses::{BoundAddresses, listen};
+pub use bound_addresses::{BoundAddresses, BoundServer, listen};
 pub use stderr_observer::StderrObserver;

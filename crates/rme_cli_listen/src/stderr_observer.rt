@@ -8,7 +8,8 @@ use jiff::Timestamp;
 use rme_cli_messages::{MessageLimit, RepeatCount, Stderr};
 use rme_cli_options::ServerLog;
 use rme_line_diagnose::Reason;
-use rme_session_server::{ServerObserver, SessionEvent};
+use rme_session_loop::SessionEvent;
+use rme_session_server::ServerObserver;
 use std::alloc::{AllocError, Global};
 use std::sync::atomic::{AtomicU64, Ordering};
 use std::time::Duration;
@@ -70,6 +71,22 @@ impl<'a> StderrObserver<'a> {
 
     pub fn stderr(&self) -> &Stderr<'a> {
         &self.stderr
+    }
+
+    /// The session of this connection uses this space from now on. If there is a log, that has a line there, so that the
+    /// later lines of the connection tell of the workers of this space.
+    pub fn space_used(&self, connection: u64, space: &str) {
+        if self.log == ServerLog::Off {
+            return;
+        }
+        let alloc = self.rt.alloc();
+        let text = match Timestamp::now(self.rt) {
+            Ok(time) => format!(in alloc;
+                "rme: {time:.3} connection {connection} uses space {space}\n"
+            ),
+            Err(_) => format!(in alloc; "rme: connection {connection} uses space {space}\n"),
+        };
+        self.stderr.tell(text);
     }
 }
 

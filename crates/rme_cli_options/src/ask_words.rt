@@ -2,8 +2,8 @@
 
 use crate::commands::command;
 use crate::help_texts;
-use crate::parsing::{USUAL_PORT, text_of};
-use crate::tasks::{AnswerForm, AskRequest, AskTask, FinishTask, ServerAddress};
+use crate::parsing::{USUAL_PORT, text_of, texts_of};
+use crate::tasks::{AnswerForm, AskRequest, AskTask, CreateTask, FinishTask, ServerAddress};
 use clap::error::ErrorKind;
 use clap::{ArgMatches, Error};
 use std::alloc::{AllocError, Global};
@@ -17,6 +17,8 @@ pub(crate) fn ask_task(alloc: Global, found: &ArgMatches<'_>) -> Result<AskTask,
     };
     Ok(AskTask {
         server: server_address(alloc, found)?,
+        key_file: text_of(alloc, found, "key-file")?,
+        space: text_of(alloc, found, "space")?,
         request: ask_request(alloc, found)?,
         form,
     })
@@ -36,22 +38,51 @@ fn server_address(alloc: Global, found: &ArgMatches<'_>) -> Result<ServerAddress
 /// What the server is asked.
 fn ask_request(alloc: Global, found: &ArgMatches<'_>) -> Result<AskRequest, Error> {
     let word = found.get_str("WORD");
-    if word != Some("finish") && has_finish_option(found) {
-        return Err(wrong(alloc, help_texts::finish_options_alone())?);
-    }
-    if word != Some("top") && found.contains_id("count") {
-        return Err(wrong(alloc, help_texts::count_option_alone())?);
+    if let Some(mistake) = misplaced_option(word, found) {
+        return Err(wrong(alloc, mistake)?);
     }
     match (word, text_of(alloc, found, "NAME")?) {
         (None, None) => Ok(AskRequest::Lines),
         (Some("status"), None) => Ok(AskRequest::Status),
         (Some("ping"), None) => Ok(AskRequest::Ping),
         (Some("top"), None) => Ok(AskRequest::Top(found.get_one("count"))),
-        (Some("owner"), Some(lock)) => Ok(AskRequest::Owner(lock)),
-        (Some("cells"), Some(lock)) => Ok(AskRequest::Cells(lock)),
-        (Some("finish"), Some(worker)) => finish_request(alloc, found, worker.as_str()),
+        (Some("spaces"), None) => Ok(AskRequest::Spaces),
+        (Some(word), Some(name)) => request_on(alloc, found, word, name),
         _ => Err(wrong(alloc, help_texts::ask_words_wanted())?),
     }
+}
+
+/// What the server is asked by a word that takes a name.
+fn request_on(
+    alloc: Global,
+    found: &ArgMatches<'_>,
+    word: &str,
+    name: String,
+) -> Result<AskRequest, Error> {
+    match word {
+        "owner" => Ok(AskRequest::Owner(name)),
+        "cells" => Ok(AskRequest::Cells(name)),
+        "finish" => finish_request(alloc, found, name.as_str()),
+        "drop" => Ok(AskRequest::DropSpace(name)),
+        "create" if found.contains_id("LOCK") => {
+            Ok(AskRequest::CreateSpace(create_task(alloc, found, name)?))
+        }
+        _ => Err(wrong(alloc, help_texts::ask_words_wanted())?),
+    }
+}
+
+/// The request to create the space of this name.
+fn create_task(
+    alloc: Global,
+    found: &ArgMatches<'_>,
+    space: String,
+) -> Result<CreateTask, AllocError> {
+    Ok(CreateTask {
+        space,
+        locks: texts_of(alloc, found, "LOCK")?,
+        workers: found.get_one("workers"),
+        cells: found.get_one("cells"),
+    })
 }
 
 /// The request to finish the job of the worker of this word.
@@ -69,6 +100,26 @@ fn finish_request(
         seconds: found.get_one("wait"),
         withdraws: found.get_flag("withdraw"),
     }))
+}
+
+/// What is wrong if the words after `ask` have an option or locks that go with another word.
+fn misplaced_option<'a>(word: Option<&str>, found: &ArgMatches<'_>) -> Option<&'a str> {
+    if word != Some("finish") && has_finish_option(found) {
+        return Some(help_texts::finish_options_alone());
+    }
+    if word != Some("top") && found.contains_id("count") {
+        return Some(help_texts::count_option_alone());
+    }
+    if word == Some("create") {
+        return None;
+    }
+    if found.contains_id("workers") || found.contains_id("cells") {
+        return Some(help_texts::create_options_alone());
+    }
+    if found.contains_id("LOCK") {
+        return Some(help_texts::ask_words_wanted());
+    }
+    None
 }
 
 /// Whether an option was given that only `finish` has.

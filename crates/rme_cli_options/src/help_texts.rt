@@ -203,7 +203,15 @@ pub fn serve_about<'a>() -> &'a str {
 
 /// The text for a `serve` whose required arguments are missing.
 pub fn shortest_start<'a>() -> &'a str {
-    "the shortest start is `rme serve --state FILE bank`; without --state a server needs --workers, --cells, --jobs, --port or --socket, and the names of its locks"
+    "the shortest start is `rme serve --state FILE bank`; without --state or --spaces a server needs --workers, --cells, --jobs, --port or --socket, and the names of its locks"
+}
+
+pub fn spaces_option_alone<'a>() -> &'a str {
+    "--close-after is an option of --spaces"
+}
+
+pub fn state_options_alone<'a>() -> &'a str {
+    "--sync, --waiting and --sections are options of --state and --spaces"
 }
 
 pub fn serve_lines<'a>() -> &'a str {
@@ -267,6 +275,14 @@ worker that a session lets go, or whose session ends, falls; whoever attaches it
 and with --state `withdrew the job of worker 3` and `checkpoint, epoch 4`. Connections count from 1; the lines of
 one worker stand in their order.
 
+With --keys FILE a session begins with {\"do\":\"hello\",\"secret\":TEXT}, answered {\"name\":NAME,\"ok\":\"hello\"}.
+Before it every other line is refused, 25; a wrong secret is refused after a second, and ends the session. Each
+line of FILE is NAME SHA256 WORKERS [SPACES], and # begins a comment: a name, the SHA-256 of the secret in
+hexadecimal, and the workers that may be attached, as 0-3,7, or * for all, or - for none, which leaves
+look-ups. To attach another one is refused, 25; \"any\" asks for a key to all workers. FILE is read again
+when it has changed and a session begins; one with an error leaves the keys as they were. A FILE that other
+users can read or write is refused, status 2. scripts/new-key makes a secret and its line.
+
 The file of a --socket is made with mode 0600. One that no server listens on is replaced; one that is listened on,
 and whatever else is there, is refused. It is removed at the end, but not after a signal.
 
@@ -311,12 +327,33 @@ without its newline is cut off at the start. A line that is none or is refused e
 state` and its number, and leaves FILE as it was. So does each start that is refused. A server whose FILE is
 removed, renamed or replaced ends with status 4 within a second or two.
 
+With --spaces DIR it serves spaces, as many as there are users. Each is a state of its own in DIR/NAME.state, a FILE
+as above, with workers and locks of its own. NAME has 1 to 64 of a-z 0-9 _ -. A session begins in no space, and is
+refused, 23, what needs one. Its further lines:
+
+  {\"do\":\"create\",\"space\":NAME,\"locks\":[NAME,..]}
+                                 creates a space, with \"workers\":N (8 without it) and \"cells\":N (1):
+                                 {\"ok\":\"create\"}, also where it is there just so; 24 where it differs
+  {\"do\":\"use\",\"space\":NAME}    works in a space: {\"ok\":\"use\"}; from then on all is as with --state. 9 where
+                                 the session has a worker, 23 where there is no such space
+  {\"do\":\"spaces\"}               the names, at most 1000, with \"after\":NAME those behind it:
+                                 {\"more\":false,\"ok\":\"spaces\",\"spaces\":[NAME,..]}
+  {\"do\":\"drop\",\"space\":NAME}   removes a space, with all that it holds: {\"ok\":\"drop\"}; 9 where a
+                                 session uses it, or a job is pending in it
+
+A space is opened when it is first used, and closed after --close-after seconds without a session. --sync, --waiting
+and --sections hold for each. Where the file of one can't be written, its sessions end, and all others go on. One
+whose file can't be read or is no state is refused, 23; the standard error says why.
+
+With --keys, SPACES names the spaces of a key, with commas between, as team-7,shop-*, or * for all, which it has also
+without the word. A + in front of the word lets the key create and drop them too. Other spaces are refused, 25.
+
 Status: 0 after the closing lines, 1 with none of them where a worker was not given back, 2 for words that
 are refused (also 0 or more than 256 workers, 16 locks, 16 cells or 1000000 jobs, and a name that is none
-or stands twice; a socket that is listened on, and another file in its place; a FILE that another server
-has, that is no state, or that the words contradict), 3 where FILE can't be read, 4 where writing failed, FILE
-included, 5 where memory ran out, 6 where it can't listen on the port or the socket. After the closing lines
-it is 5, 6 or 7 where a connection found no memory, could not be accepted or had no thread."
+or stands twice; a socket that is listened on, and another file in its place; a FILE or DIR that another
+server has, and a FILE that is no state, or that the words contradict), 3 where FILE or DIR can't be read, 4 where
+writing failed, FILE included, 5 where memory ran out, 6 where it can't listen on the port or the socket. After
+the closing lines it is 5, 6 or 7 where a connection found no memory, could not be accepted or had no thread."
 }
 
 pub fn look_about<'a>() -> &'a str {
@@ -358,11 +395,11 @@ reading failed, 4 where writing failed, 5 where memory ran out."
 }
 
 pub fn ask_about<'a>() -> &'a str {
-    "Asks a server: a look at it, a worker's job finished by hand, or lines as they are"
+    "Asks a server: a look at it, a worker's job finished by hand, its spaces, or lines as they are"
 }
 
 pub fn ask_words_wanted<'a>() -> &'a str {
-    "status, ping and top take no NAME, owner and cells a lock's, and finish a worker's number"
+    "what is asked is status, ping, top, spaces, owner LOCK, cells LOCK, finish WORKER, create NAME LOCK.. or drop NAME"
 }
 
 pub fn worker_wanted<'a>() -> &'a str {
@@ -377,27 +414,37 @@ pub fn count_option_alone<'a>() -> &'a str {
     "--count is an option of top"
 }
 
+pub fn create_options_alone<'a>() -> &'a str {
+    "--workers and --cells are options of create"
+}
+
 pub fn ask_lines<'a>() -> &'a str {
     "\
-  rme ask status                 each lock and each worker, of a server with a state, as
+What is asked:
+
+  rme ask status                 each lock and each worker, of a server with a state
   rme ask owner LOCK             who owns the lock, or nobody
   rme ask cells LOCK             what its cells hold, with `unsettled` behind while it is owned
   rme ask ping                   whether the server answers
   rme ask top                    the locks, once a second, until it is interrupted
   rme ask finish WORKER          finishes the job of a worker whose client will not come back
+  rme ask create NAME LOCK..     creates a space with these locks, of a server with spaces
+  rme ask drop NAME              drops a space, with all that it holds
+  rme ask spaces                 the names of all spaces, one a line
   rme ask <LINES                 sends each line, and prints each answer
 
 The table of `status`, in which worker 0 died inside its lock:
 
-  LOCK  OWNER  STATE  CELLS  SECTIONS
-  bank  0      DEAD   5      1
+  LOCK  OWNER  STATE  CELLS        SECTIONS
+  bank  0      DEAD   5 unsettled  1
 
-  WORKER  SESSION  STANCE  LOCK  JOB  BLOCKED BY
-  0       none     held    bank  2    -
-  1       yes      climb   bank  1    0
+  WORKER  SESSION  STANCE  LOCK  JOB  BLOCKED BY  SINCE  AS
+  0       none     held    bank  2    -           3m12s  -
+  1       yes      climb   bank  1    0           12s    host7:cron
 
-`held` in the place of DEAD says that a session has the owner. --json prints the server's line as it came. Who
-waits for a lock whose owner is dead waits until somebody finishes the owner's job:
+`held` in the place of DEAD says that a session has the owner. SINCE is how long the stance is as it is, and AS the
+name that the client gave. --json prints the server's line as it came. Who waits for a lock whose owner is dead
+waits until somebody finishes the owner's job:
 
   rme ask finish 0
 
@@ -407,10 +454,19 @@ worker (18 Taken) unless --take ends its session. --withdraw gives up a job that
 nothing any more; one that is inside its lock is finished all the same. After --wait it lets the worker go, and
 the job is still pending. Without a pending job it says so, with the last receipt.
 
-A server without a state has no look-ups: it refuses status, owner, cells and top.
+A server without a state has no look-ups: it refuses status, owner, cells and top. One with spaces takes these, and
+finish, in a space alone, which --space names, and else refuses them (23 NoSpace):
+
+  rme ask create team-7 bank --workers 20
+  rme ask --space team-7 status
+
+With --space all is asked in that space, lines too. The name of a space has 1 to 64 of a-z 0-9 _ -. One that is there
+with the same workers, cells and locks is created again without a change; with others it is refused (24
+SpaceDiffers). One that a session uses, or in which a job is pending, is not dropped (9 Busy). A key creates and drops
+only where its SPACES begin with + (25 NotAllowed).
 
 Status: 0; 1 where the server refused, which is explained on the standard error, ended the session or answered
 what is no answer, and where a job still waits after --wait; 2 for words that are refused; 3 where the
-standard input can't be read, 4 where writing failed, 5 where memory ran out, 6 where no server listens. Of
-lines the answers say what was refused, and the status is 0 at the end of the input."
+standard input or the file of --key-file can't be read, 4 where writing failed, 5 where memory ran out, 6 where
+no server listens. Of lines the answers say what was refused, and the status is 0 at the end of the input."
 }

@@ -5,7 +5,7 @@ use crate::commands::command;
 use crate::help_texts;
 use crate::tasks::{
     CliTask, Diagnostics, DurableServeTask, LineTask, ListenAddresses, LookTask, OutputFormat,
-    RunImages, ServeTask, ServerLog, SyncPolicy, ThreadsTask, WaitingPolicy,
+    RunImages, ServeTask, ServerLog, SpacesServeTask, SyncPolicy, ThreadsTask, WaitingPolicy,
 };
 use clap::error::ErrorKind;
 use clap::{ArgMatches, Error};
@@ -19,6 +19,9 @@ const AT_ONCE: u32 = 1000;
 
 /// The default number of finished jobs between two checkpoints of a state's file.
 const USUAL_SECTIONS: u32 = 100_000;
+
+/// The default number of seconds without a session after which a space is closed.
+const CLOSE_AFTER: u32 = 300;
 
 /// The task of the words, the first of which is the program's own name.
 ///
@@ -63,10 +66,35 @@ fn service_task(alloc: Global, found: &ArgMatches<'_>) -> Result<Option<CliTask>
     let Some(serve) = found.subcommand_matches("serve") else {
         return Ok(None);
     };
-    match text_of(alloc, serve, "state")? {
-        None => Ok(Some(CliTask::Serve(serve_task(alloc, serve)?))),
-        Some(state) => Ok(Some(CliTask::ServeDurable(durable_serve_task(alloc, serve, state)?))),
+    Ok(Some(any_serve_task(alloc, serve)?))
+}
+
+/// The task of the words after `serve`: for a folder of spaces, for a state, or for neither.
+fn any_serve_task(alloc: Global, found: &ArgMatches<'_>) -> Result<CliTask, Error> {
+    if let Some(mistake) = misplaced_option(found) {
+        return Err(command(alloc)?.error(ErrorKind::ArgumentConflict, mistake)?);
     }
+    if let Some(folder) = text_of(alloc, found, "spaces")? {
+        return Ok(CliTask::ServeSpaces(spaces_serve_task(alloc, found, folder)?));
+    }
+    match text_of(alloc, found, "state")? {
+        None => Ok(CliTask::Serve(serve_task(alloc, found)?)),
+        Some(state) => Ok(CliTask::ServeDurable(durable_serve_task(alloc, found, state)?)),
+    }
+}
+
+/// What is wrong if the words after `serve` have an option that goes only with one that they do not have.
+fn misplaced_option<'a>(found: &ArgMatches<'_>) -> Option<&'a str> {
+    let has_spaces = found.contains_id("spaces");
+    if found.contains_id("close-after") && !has_spaces {
+        return Some(help_texts::spaces_option_alone());
+    }
+    let keeps = has_spaces || found.contains_id("state");
+    let of_states = ["sync", "waiting", "sections"];
+    if !keeps && of_states.iter().any(|option| found.contains_id(option)) {
+        return Some(help_texts::state_options_alone());
+    }
+    None
 }
 
 /// The task of the words after `look`.
@@ -127,7 +155,7 @@ fn server_log_of(found: &ArgMatches<'_>) -> ServerLog {
 }
 
 /// The texts of an argument, in order.
-fn texts_of(
+pub(crate) fn texts_of(
     alloc: Global,
     found: &ArgMatches<'_>,
     argument: &str,
@@ -167,8 +195,8 @@ fn threads_task(alloc: Global, found: &ArgMatches<'_>) -> Result<ThreadsTask, Er
     })
 }
 
-/// The addresses of the words after `serve`, with this default port. A port is required if there is no socket and no
-/// state.
+/// The addresses of the words after `serve`, with this default port. A port is required if there is no socket, no
+/// state and no folder of spaces.
 fn listen_addresses_of(
     alloc: Global,
     found: &ArgMatches<'_>,
@@ -195,6 +223,7 @@ fn serve_task(alloc: Global, found: &ArgMatches<'_>) -> Result<ServeTask, AllocE
         idle: found.get_one("idle"),
         diagnostics: diagnostics_of(found),
         log: server_log_of(found),
+        keys: text_of(alloc, found, "keys")?,
         locks: texts_of(alloc, found, "LOCK")?,
     })
 }
@@ -218,7 +247,29 @@ fn durable_serve_task(
         waiting: waiting_policy_of(found),
         diagnostics: diagnostics_of(found),
         log: server_log_of(found),
+        keys: text_of(alloc, found, "keys")?,
         locks: texts_of(alloc, found, "LOCK")?,
+    })
+}
+
+/// The task of the words after `serve` with a folder of spaces.
+fn spaces_serve_task(
+    alloc: Global,
+    found: &ArgMatches<'_>,
+    folder: String,
+) -> Result<SpacesServeTask, AllocError> {
+    Ok(SpacesServeTask {
+        folder,
+        close_after: found.get_one("close-after").unwrap_or(CLOSE_AFTER),
+        places: listen_addresses_of(alloc, found, USUAL_PORT)?,
+        at_once: found.get_one("at-once").unwrap_or(AT_ONCE),
+        idle: found.get_one("idle"),
+        sync: sync_policy_of(found),
+        waiting: waiting_policy_of(found),
+        sections: found.get_one("sections").unwrap_or(USUAL_SECTIONS),
+        keys: text_of(alloc, found, "keys")?,
+        log: server_log_of(found),
+        diagnostics: diagnostics_of(found),
     })
 }
 

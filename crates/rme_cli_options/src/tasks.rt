@@ -13,6 +13,8 @@ pub enum CliTask {
     Serve(ServeTask),
     /// Serve workers of a world that is logged to a file.
     ServeDurable(DurableServeTask),
+    /// Serve the spaces of a folder, each of which is a state of its own.
+    ServeSpaces(SpacesServeTask),
     /// Look at a file of a durable world.
     Look(LookTask),
     /// Ask a server.
@@ -95,6 +97,8 @@ pub struct ServeTask {
     pub idle: Option<u32>,
     pub diagnostics: Diagnostics,
     pub log: ServerLog,
+    /// The file of its keys, if its sessions need one.
+    pub keys: Option<String>,
     /// The words for the names of its locks.
     pub locks: Vec<String>,
 }
@@ -136,8 +140,32 @@ pub struct DurableServeTask {
     pub waiting: WaitingPolicy,
     pub diagnostics: Diagnostics,
     pub log: ServerLog,
+    /// The file of its keys, if its sessions need one.
+    pub keys: Option<String>,
     /// The words for the names of its locks; if there are none, those of the state.
     pub locks: Vec<String>,
+}
+
+/// The request of `rme serve --spaces`. Its policies and `sections` hold for each space.
+#[derive(Drop)]
+pub struct SpacesServeTask {
+    /// The folder with the files of the spaces.
+    pub folder: String,
+    /// The number of seconds without a session after which a space is closed, at least 1.
+    pub close_after: u32,
+    pub places: ListenAddresses,
+    /// The greatest number of sessions at a time, over all spaces.
+    pub at_once: u32,
+    /// The number of seconds of silence that end a session, if any.
+    pub idle: Option<u32>,
+    pub sync: SyncPolicy,
+    pub waiting: WaitingPolicy,
+    /// The number of finished jobs after which a space's file is replaced by a checkpoint.
+    pub sections: u32,
+    /// The file of its keys, if its sessions need one.
+    pub keys: Option<String>,
+    pub log: ServerLog,
+    pub diagnostics: Diagnostics,
 }
 
 /// The request of `rme look`.
@@ -165,6 +193,10 @@ pub enum OutputFormat {
 #[derive(Drop)]
 pub struct AskTask {
     pub server: ServerAddress,
+    /// The file with the secret of the client's key, if it has one.
+    pub key_file: Option<String>,
+    /// The space in which it asks, if one was named.
+    pub space: Option<String>,
     pub request: AskRequest,
     pub form: AnswerForm,
 }
@@ -200,6 +232,24 @@ pub enum AskRequest {
     Finish(FinishTask),
     /// The locks, once a second: this number of times, or until it is interrupted.
     Top(Option<u32>),
+    /// Create a space.
+    CreateSpace(CreateTask),
+    /// Drop the space of this name, and all that it holds.
+    DropSpace(String),
+    /// The names of all spaces.
+    Spaces,
+}
+
+/// The request to create a space. A size that is not given is the server's default.
+#[derive(Drop)]
+pub struct CreateTask {
+    /// The word for its name.
+    pub space: String,
+    /// The words for the names of its locks, at least one.
+    pub locks: Vec<String>,
+    pub workers: Option<u32>,
+    /// The number of cells of each lock.
+    pub cells: Option<u32>,
 }
 
 /// The request to finish the pending job of a worker.

@@ -71,7 +71,6 @@ pub fn entry_lines(cells: &Row) -> u64 {
 }
 
 /// Puts a finished section: a dot on its lock's bar, and the text below.
-#[tactic(auto, using(crate::proofs::Putting::puts_more))]
 pub fn put_finish<W: Sink>(
     page: &mut Page,
     writer: &mut W,
@@ -101,7 +100,6 @@ pub fn put_finish<W: Sink>(
 }
 
 /// Puts the place of a finished section, its worker and number, and its reply.
-#[tactic(auto, using(crate::proofs::Putting::puts_more))]
 fn put_receipt<W: Sink>(page: &mut Page, writer: &mut W, first: Point, finish: &Finish)
     ensures { SomeTextPut W.contents W.took page.old writer.old page.new writer.new }
 {
@@ -130,7 +128,6 @@ fn put_receipt<W: Sink>(page: &mut Page, writer: &mut W, first: Point, finish: &
 }
 
 /// Puts a line of an entry's text: a word and a number.
-#[tactic(auto, using(crate::proofs::Putting::puts_more))]
 fn put_line<W: Sink>(page: &mut Page, writer: &mut W, at: Point, word: &'static str, number: u64)
     ensures { SomeTextPut W.contents W.took page.old writer.old page.new writer.new }
 {
@@ -155,7 +152,6 @@ fn put_opening<W: Sink>(page: &mut Page, writer: &mut W, at: Point)
 }
 
 /// Puts the values of the cells, in as many lines as they need.
-#[tactic(auto, using(crate::proofs::Putting::puts_more))]
 fn put_cells<W: Sink>(page: &mut Page, writer: &mut W, first: Point, cells: &Row)
     ensures { SomeTextPut W.contents W.took page.old writer.old page.new writer.new }
 {
@@ -172,7 +168,6 @@ fn put_cells<W: Sink>(page: &mut Page, writer: &mut W, first: Point, cells: &Row
 }
 
 /// Puts the value of a cell, in a new line if it begins one.
-#[tactic(auto, using(crate::proofs::Putting::puts_more))]
 fn put_cell<W: Sink>(page: &mut Page, writer: &mut W, at: Point, is_new: bool, value: u64)
     ensures { SomeTextPut W.contents W.took page.old writer.old page.new writer.new }
 {

@@ -36,7 +36,6 @@ impl Page {
     }
 
     /// Appends pieces.
-    #[tactic(auto, using(crate::proofs::Putting::puts_more, crate::proofs::Putting::puts_none))]
     pub fn put<W: Sink>(&mut self, writer: &mut W, pieces: &[Piece])
         ensures { SomeTextPut W.contents W.took self.old writer.old self.new writer.new }
     {

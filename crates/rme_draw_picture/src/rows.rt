@@ -68,7 +68,6 @@ struct BarTexts<'a> {
 }
 
 /// Puts a bar with its texts.
-#[tactic(auto, using(crate::proofs::Putting::puts_more))]
 fn put_bar<W: Sink>(page: &mut Page, writer: &mut W, sheet: &Sheet, bar: Bar, texts: BarTexts)
     ensures { SomeTextPut W.contents W.took page.old writer.old page.new writer.new }
 {
@@ -116,7 +115,6 @@ fn put_box<W: Sink>(page: &mut Page, writer: &mut W, bar: Bar, at: Point, width:
 }
 
 /// Puts a text into a bar.
-#[tactic(auto, using(crate::proofs::Putting::puts_more))]
 fn put_centred<W: Sink>(page: &mut Page, writer: &mut W, middle: Point, text: &[Piece])
     ensures { SomeTextPut W.contents W.took page.old writer.old page.new writer.new }
 {
@@ -282,7 +280,6 @@ pub fn lock_waited_for<'a>(drawing: &'a Drawing, stay: &DrawnStay) -> &'a str {
 }
 
 /// Puts an event of a worker: a sign on its bar, and the words below.
-#[tactic(auto, using(crate::proofs::Putting::puts_more))]
 pub fn put_mark<W: Sink>(page: &mut Page, writer: &mut W, sheet: &Sheet, strip: &Strip, mark: &Mark)
     ensures { SomeTextPut W.contents W.took page.old writer.old page.new writer.new }
 {

@@ -46,7 +46,6 @@ pub fn put_svg<W: Sink>(
 }
 
 /// Puts a picture with its strips.
-#[tactic(auto, using(crate::proofs::Putting::puts_more))]
 fn put_picture<W: Sink>(
     page: &mut Page,
     writer: &mut W,
@@ -85,7 +84,6 @@ fn put_strip<W: Sink>(
 }
 
 /// Begins a strip after `before` others; the first one is begun with the picture.
-#[tactic(auto, using(crate::proofs::Putting::puts_more, crate::proofs::Putting::puts_none))]
 fn put_group<W: Sink>(page: &mut Page, writer: &mut W, sheet: &Sheet, before: u64)
     ensures { SomeTextPut W.contents W.took page.old writer.old page.new writer.new }
 {
@@ -178,7 +176,6 @@ fn plural_of(count: u64) -> &'static str {
 }
 
 /// Puts the colours of the phases.
-#[tactic(auto, using(crate::proofs::Putting::puts_more, crate::proofs::Putting::puts_none))]
 fn put_legend<W: Sink>(page: &mut Page, writer: &mut W)
     ensures { SomeTextPut W.contents W.took page.old writer.old page.new writer.new }
 {
@@ -219,7 +216,6 @@ fn signs() -> &'static str {
 }
 
 /// Puts a line for each column of a strip, with the number of the transcript's line.
-#[tactic(auto, using(crate::proofs::Putting::puts_more))]
 fn put_columns<W: Sink>(page: &mut Page, writer: &mut W, sheet: &Sheet, strip: &Strip)
     ensures { SomeTextPut W.contents W.took page.old writer.old page.new writer.new }
 {
@@ -252,7 +248,6 @@ fn put_column<W: Sink>(page: &mut Page, writer: &mut W, sheet: &Sheet, x: u64, l
 }
 
 /// Puts the names of the workers' rows of a strip.
-#[tactic(auto, using(crate::proofs::Putting::puts_more, crate::proofs::Putting::puts_none))]
 fn put_workers<W: Sink>(
     page: &mut Page,
     writer: &mut W,
@@ -274,7 +269,6 @@ fn put_workers<W: Sink>(
 }
 
 /// Puts the names of the locks' rows of a strip.
-#[tactic(auto, using(crate::proofs::Putting::puts_more, crate::proofs::Putting::puts_none))]
 fn put_locks<W: Sink>(
     page: &mut Page,
     writer: &mut W,
@@ -302,7 +296,6 @@ struct RowExtent {
 }
 
 /// Puts the name of a row, at its left end and again along it, where there is room.
-#[tactic(auto, using(crate::proofs::Putting::puts_more))]
 fn put_name<W: Sink>(page: &mut Page, writer: &mut W, sheet: &Sheet, row: RowExtent, name: &[Piece])
     ensures { SomeTextPut W.contents W.took page.old writer.old page.new writer.new }
 {
@@ -310,14 +303,14 @@ fn put_name<W: Sink>(page: &mut Page, writer: &mut W, sheet: &Sheet, row: RowExt
     let y = row.top.saturating_add(8);
     for again in 1..(row.columns / NAMES_EVERY).saturating_add(1) {
         let column = again.saturating_mul(NAMES_EVERY);
-        if sheet.has_room_for_name(name, column) {
-            let x = sheet.x(column);
-            put_name_again(page, writer, Point { x, y }, name);
+        if !sheet.has_room_for_name(name, column) {
+            continue;
         }
+        let x = sheet.x(column);
+        put_name_again(page, writer, Point { x, y }, name);
     }
 }
 
-#[tactic(auto, using(crate::proofs::Putting::puts_more))]
 fn put_first_name<W: Sink>(page: &mut Page, writer: &mut W, base: u64, name: &[Piece])
     ensures { SomeTextPut W.contents W.took page.old writer.old page.new writer.new }
 {
@@ -333,7 +326,6 @@ fn put_first_name<W: Sink>(page: &mut Page, writer: &mut W, base: u64, name: &[P
     page.put(writer, &[Text("</text>\n")]);
 }
 
-#[tactic(auto, using(crate::proofs::Putting::puts_more))]
 fn put_name_again<W: Sink>(page: &mut Page, writer: &mut W, at: Point, name: &[Piece])
     ensures { SomeTextPut W.contents W.took page.old writer.old page.new writer.new }
 {
@@ -352,7 +344,6 @@ fn put_name_again<W: Sink>(page: &mut Page, writer: &mut W, at: Point, name: &[P
 }
 
 /// Puts the rows of a strip.
-#[tactic(auto, using(crate::proofs::Putting::puts_more))]
 fn put_rows<W: Sink>(
     page: &mut Page,
     writer: &mut W,
@@ -368,7 +359,6 @@ fn put_rows<W: Sink>(
     put_finishes(page, writer, sheet, drawing, strip);
 }
 
-#[tactic(auto, using(crate::proofs::Putting::puts_more, crate::proofs::Putting::puts_none))]
 fn put_stays<W: Sink>(
     page: &mut Page,
     writer: &mut W,
@@ -379,17 +369,17 @@ fn put_stays<W: Sink>(
     ensures { SomeTextPut W.contents W.took page.old writer.old page.new writer.new }
 {
     for index in &strip.stays {
-        if let Some(stay) = drawing.stays.get(*index) {
-            let named = NamedStay {
-                stay: *stay,
-                lock: lock_waited_for(drawing, stay),
-            };
-            put_stay(page, writer, sheet, strip, named);
-        }
+        let Some(stay) = drawing.stays.get(*index) else {
+            continue;
+        };
+        let named = NamedStay {
+            stay: *stay,
+            lock: lock_waited_for(drawing, stay),
+        };
+        put_stay(page, writer, sheet, strip, named);
     }
 }
 
-#[tactic(auto, using(crate::proofs::Putting::puts_more, crate::proofs::Putting::puts_none))]
 fn put_holds<W: Sink>(
     page: &mut Page,
     writer: &mut W,
@@ -400,13 +390,13 @@ fn put_holds<W: Sink>(
     ensures { SomeTextPut W.contents W.took page.old writer.old page.new writer.new }
 {
     for index in &strip.holds {
-        if let Some(hold) = drawing.holds.get(*index) {
-            put_hold(page, writer, sheet, strip, hold);
-        }
+        let Some(hold) = drawing.holds.get(*index) else {
+            continue;
+        };
+        put_hold(page, writer, sheet, strip, hold);
     }
 }
 
-#[tactic(auto, using(crate::proofs::Putting::puts_more, crate::proofs::Putting::puts_none))]
 fn put_marks<W: Sink>(
     page: &mut Page,
     writer: &mut W,
@@ -417,13 +407,13 @@ fn put_marks<W: Sink>(
     ensures { SomeTextPut W.contents W.took page.old writer.old page.new writer.new }
 {
     for index in &strip.marks {
-        if let Some(mark) = drawing.marks.get(*index) {
-            put_mark(page, writer, sheet, strip, mark);
-        }
+        let Some(mark) = drawing.marks.get(*index) else {
+            continue;
+        };
+        put_mark(page, writer, sheet, strip, mark);
     }
 }
 
-#[tactic(auto, using(crate::proofs::Putting::puts_more, crate::proofs::Putting::puts_none))]
 fn put_finishes<W: Sink>(
     page: &mut Page,
     writer: &mut W,
@@ -434,8 +424,9 @@ fn put_finishes<W: Sink>(
     ensures { SomeTextPut W.contents W.took page.old writer.old page.new writer.new }
 {
     for index in &strip.finishes {
-        if let Some(finish) = drawing.finishes.get(*index) {
-            put_finish(page, writer, sheet, strip, finish);
-        }
+        let Some(finish) = drawing.finishes.get(*index) else {
+            continue;
+        };
+        put_finish(page, writer, sheet, strip, finish);
     }
 }

@@ -17,7 +17,8 @@ use Rattle.rme_durable_format.specs.CommandLines.{AppendsCommands}
 -- ---- one line after the other
 
 -- Two lines with texts after them that are equal: the lines are equal.
-same_lines : (one other first second : List ℕ) → IsPiece one → IsPiece other → one ++ 10 ∷ first ≡ other ++ 10 ∷ second → one ≡ other
+same_lines : (one other first second : List ℕ) → IsPiece one → IsPiece other → one ++ 10 ∷ first ≡ other ++ 10 ∷ second
+    → one ≡ other
 same_lines [] [] first second is also same = refl
 same_lines [] (b ∷ other) first second is also same =
     let ten : b ≡ 10 = cc same in
@@ -34,7 +35,8 @@ world_same : (one other : Command) → World one ≡ World other → one ≡ oth
 world_same one other same = cc same
 
 -- What comes after the first line.
-after_line : (names : List (List ℕ)) (before : List ℕ) (commands : List Command) (after : List ℕ) → AppendsCommands names before commands after → (rest : List ℕ) × (after ≡ before ++ rest)
+after_line : (names : List (List ℕ)) (before : List ℕ) (commands : List Command) (after : List ℕ)
+    → AppendsCommands names before commands after → (rest : List ℕ) × (after ≡ before ++ rest)
 after_line names before [] after writes = ([], writes ∙ sym (append-nil_of before))
   where
     append-nil_of : (xs : List ℕ) → xs ++ [] ≡ xs
@@ -53,7 +55,8 @@ no_more : (before line rest : List ℕ) → before ≡ before ++ ((line ++ 10 �
 no_more before line rest same = omega (arith, ap length same, length-append before ((line ++ 10 ∷ []) ++ rest), length-append (line ++ 10 ∷ []) rest, length-append line (10 ∷ []))
 
 -- The commands of lines are determined.
-pub same_commands : (names : List (List ℕ)) (before : List ℕ) (one other : List Command) (after : List ℕ) → AppendsCommands names before one after → AppendsCommands names before other after → one ≡ other
+pub same_commands : (names : List (List ℕ)) (before : List ℕ) (one other : List Command) (after : List ℕ)
+    → AppendsCommands names before one after → AppendsCommands names before other after → one ≡ other
 same_commands names before [] [] after first second = refl
 same_commands names before [] (c ∷ other) after first second =
     let rest = after_line names second.0 other after second.2 in
@@ -98,7 +101,8 @@ batch_of (command.Walk walk ∷ commands) = with_steps walk.worker GoOn (command
 batch_of (command.Crash worker ∷ commands) = with_steps worker GoOn (command.Crash worker ∷ commands)
 batch_of commands = None
 
-found_in : (worker : ℕ) (begins : BatchStart) (steps : ℕ) (falls : Bool) → (has_start begins || (nat_lt 0 steps || falls)) ≡ true
+found_in : (worker : ℕ) (begins : BatchStart) (steps : ℕ) (falls : Bool)
+    → (has_start begins || (nat_lt 0 steps || falls)) ≡ true
     → batch_of (start_commands worker begins ++ (step_commands worker steps ++ crash_commands worker falls)) ≡ Some record { worker = worker; begins = begins; steps = steps; falls = falls }
 unfolding batch_of with_steps with_crash
 found_in worker Restart zero true some = refl
@@ -121,7 +125,9 @@ found_in worker GoOn (suc steps) false some = refl
 found : (batch : EventBatch) → has_events batch ≡ true → batch_of (batch_commands batch) ≡ Some batch
 found batch some = found_in batch.worker batch.begins batch.steps batch.falls some
 
-pub same_batch : (names : List (List ℕ)) (lines : List ℕ) (one other : EventBatch) → has_events one ≡ true → has_events other ≡ true → AppendsCommands names [] (batch_commands one) lines → AppendsCommands names [] (batch_commands other) lines → one ≡ other
+pub same_batch : (names : List (List ℕ)) (lines : List ℕ) (one other : EventBatch) → has_events one ≡ true
+    → has_events other ≡ true → AppendsCommands names [] (batch_commands one) lines
+    → AppendsCommands names [] (batch_commands other) lines → one ≡ other
 same_batch names lines one other some also first second =
     let same = same_commands names [] (batch_commands one) (batch_commands other) lines first second in
     same_Some _ _ (sym (found one some) ∙ (ap batch_of same ∙ found other also))

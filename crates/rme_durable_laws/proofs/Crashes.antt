@@ -47,7 +47,8 @@ set_same [] i x found = refl
 set_same (y ∷ ys) zero x found = ap (λ (h : Option Private). h ∷ ys) (sym (same_Some _ _ found))
 set_same (y ∷ ys) (suc i) x found = ap (λ (t : List (Option Private)). y ∷ t) (set_same ys i x found)
 
-set_front : (front : List (Option Private)) (x y : Option Private) (ps : List (Option Private)) → slice_set (front ++ y ∷ ps) (length front) x ≡ front ++ x ∷ ps
+set_front : (front : List (Option Private)) (x y : Option Private) (ps : List (Option Private))
+    → slice_set (front ++ y ∷ ps) (length front) x ≡ front ++ x ∷ ps
 set_front [] x y ps = refl
 set_front (z ∷ front) x y ps = ap (λ (t : List (Option Private)). z ∷ t) (set_front front x y ps)
 
@@ -55,7 +56,8 @@ abbrev nones : List (Option Private) → List (Option Private)
 nones [] = []
 nones (p ∷ ps) = None ∷ nones ps
 
-all_none : (xs ys : List (Option Private)) → length xs ≡ length ys → ((i : ℕ) → i < length xs → slice_get xs i ≡ Some None) → xs ≡ nones ys
+all_none : (xs ys : List (Option Private)) → length xs ≡ length ys
+    → ((i : ℕ) → i < length xs → slice_get xs i ≡ Some None) → xs ≡ nones ys
 all_none [] [] long none = refl
 all_none [] (y ∷ ys) long none = absurd (omega (arith, long))
 all_none (x ∷ xs) [] long none = absurd (omega (arith, long))
@@ -70,12 +72,14 @@ all_none (x ∷ xs) (y ∷ ys) long none =
 abbrev SameWith : List (Option Private) → WorldView → WorldView → Type 0
 SameWith privates old new = (new.shape ≡ old.shape) × (new.words ≡ old.words) × (new.history ≡ old.history) × (new.privates ≡ privates)
 
-refused_same : (found : Option (Option Private)) (refusal : Refusal) → refusal_unless_up found (λ (p : Private). None) ≡ Some refusal → (found ≡ None) ⊎ (found ≡ Some None)
+refused_same : (found : Option (Option Private)) (refusal : Refusal)
+    → refusal_unless_up found (λ (p : Private). None) ≡ Some refusal → (found ≡ None) ⊎ (found ≡ Some None)
 refused_same None refusal is = inl refl
 refused_same (Some None) refusal is = inr refl
 refused_same (Some (Some p)) refusal is = absurd (none-some refusal is)
 
-crash_same : (w : ℕ) (old new : WorldView) (result : Result (Unit {0}) Refusal) → CrashContract old w result new → SameWith (slice_set old.privates w None) old new
+crash_same : (w : ℕ) (old new : WorldView) (result : Result (Unit {0}) Refusal) → CrashContract old w result new
+    → SameWith (slice_set old.privates w None) old new
 crash_same w old new (Ok done) crashed = subst (SameWith (slice_set old.privates w None) old) (sym crashed.accepted.falls) (refl, refl, refl, refl)
 crash_same w old new (Err refusal) crashed =
     let same : slice_set old.privates w None ≡ old.privates = elim (refused_same (slice_get old.privates w) refusal crashed.refused) [
@@ -89,7 +93,8 @@ crashed_privates [] ps = ps
 crashed_privates (event.Crash w ∷ events) ps = crashed_privates events (slice_set ps w None)
 crashed_privates (other ∷ events) ps = ps
 
-crashed_long : (events : List Event) → AreCrashes events → (ps : List (Option Private)) → length (crashed_privates events ps) ≡ length ps
+crashed_long : (events : List Event) → AreCrashes events → (ps : List (Option Private))
+    → length (crashed_privates events ps) ≡ length ps
 crashed_long [] crashes ps = refl
 crashed_long (event.Crash w ∷ events) crashes ps = crashed_long events crashes (slice_set ps w None) ∙ length-set ps w None
 crashed_long (event.Submit w job ∷ events) crashes ps = absurd crashes
@@ -97,7 +102,8 @@ crashed_long (event.Step w ∷ events) crashes ps = absurd crashes
 crashed_long (event.Restart w ∷ events) crashes ps = absurd crashes
 crashed_long (event.Withdraw w ∷ events) crashes ps = absurd crashes
 
-crashes_same : (events : List Event) → AreCrashes events → (answers : List Answer) (old new : WorldView) → EventListContract old events answers new → SameWith (crashed_privates events old.privates) old new
+crashes_same : (events : List Event) → AreCrashes events → (answers : List Answer) (old new : WorldView)
+    → EventListContract old events answers new → SameWith (crashed_privates events old.privates) old new
 crashes_same [] crashes [] old new all = subst (SameWith old.privates old) (sym all) (refl, refl, refl, refl)
 crashes_same [] crashes (a ∷ answers) old new all = absurd all
 crashes_same (event.Crash w ∷ events) crashes [] old new all = absurd all
@@ -132,7 +138,9 @@ crash_only n [] = tt
 crash_only n (None ∷ ps) = crash_only (suc n) ps
 crash_only n (Some p ∷ ps) = crash_only (suc n) ps
 
-crash_next : (front ps : List (Option Private)) → crashed_privates (all_asked_events (crash_commands_from (length (front ++ None ∷ [])) ps)) ((front ++ None ∷ []) ++ ps) ≡ (front ++ None ∷ []) ++ nones ps
+crash_next : (front ps : List (Option Private))
+    → crashed_privates (all_asked_events (crash_commands_from (length (front ++ None ∷ [])) ps))
+    ((front ++ None ∷ []) ++ ps) ≡ (front ++ None ∷ []) ++ nones ps
     → crashed_privates (all_asked_events (crash_commands_from (suc (length front)) ps)) (front ++ None ∷ ps) ≡ front ++ None ∷ nones ps
 crash_next front ps rest =
     let long : length (front ++ None ∷ []) ≡ suc (length front) = omega (arith, length-append front (None ∷ [])) in
@@ -141,7 +149,8 @@ crash_next front ps rest =
     ap (λ (n : ℕ). crashed_privates (all_asked_events (crash_commands_from n ps)) (front ++ None ∷ ps)) (sym long)
     ∙ (ap (crashed_privates (all_asked_events (crash_commands_from (length (front ++ None ∷ [])) ps))) (sym at) ∙ (rest ∙ there))
 
-crash_all : (front ps : List (Option Private)) → crashed_privates (all_asked_events (crash_commands_from (length front) ps)) (front ++ ps) ≡ front ++ nones ps
+crash_all : (front ps : List (Option Private))
+    → crashed_privates (all_asked_events (crash_commands_from (length front) ps)) (front ++ ps) ≡ front ++ nones ps
 crash_all front [] = refl
 crash_all front (None ∷ ps) = crash_next front ps (crash_all (front ++ None ∷ []) ps)
 crash_all front (Some p ∷ ps) =
@@ -149,7 +158,9 @@ crash_all front (Some p ∷ ps) =
 
 -- ---- accepted crash lines
 
-lines_happen : (names : List (List ℕ)) (commands : List Command) (lines : List (List ℕ)) → AreCrashCommands commands → AreCommandLines names commands lines → (tallied : TalliedWorld) (from to : EngineState) → from ≡ record { names = names; world = Some tallied } → AcceptsLines from (map text lines) to
+lines_happen : (names : List (List ℕ)) (commands : List Command) (lines : List (List ℕ)) → AreCrashCommands commands
+    → AreCommandLines names commands lines → (tallied : TalliedWorld) (from to : EngineState)
+    → from ≡ record { names = names; world = Some tallied } → AcceptsLines from (map text lines) to
     → (after : TalliedWorld) × (to ≡ record { names = names; world = Some after }) × AppliesEvents tallied.world (all_asked_events commands) after.world
 lines_happen names [] [] only are tallied from to is accepts = (tallied, accepts ∙ is, ([], refl))
 lines_happen names [] (line ∷ lines) only are tallied from to is accepts = absurd are
@@ -167,10 +178,12 @@ lines_happen names (other ∷ commands) lines only are tallied from to is accept
 
 -- ---- recovery after the crashes
 
-memory_same : (one other : WorldView) → one.shape ≡ other.shape → one.words ≡ other.words → world_memory one ≡ world_memory other
+memory_same : (one other : WorldView) → one.shape ≡ other.shape → one.words ≡ other.words
+    → world_memory one ≡ world_memory other
 memory_same one other shape words = cc (shape, words)
 
-pub recovers_again : (names others : List (List ℕ)) (bytes crashes : List ℕ) (found begun again : WorldView) → AreWholeLines bytes → RecoversWorld bytes names found → length found.privates ≡ found.shape.workers
+pub recovers_again : (names others : List (List ℕ)) (bytes crashes : List ℕ) (found begun again : WorldView)
+    → AreWholeLines bytes → RecoversWorld bytes names found → length found.privates ≡ found.shape.workers
     → AppendsCommands names [] (crash_commands_from 0 found.privates) crashes → HasCrashedAll found begun → RecoversWorld (bytes ++ crashes) others again → (names ≡ others) × AreWorldsAlike begun again
 recovers_again names others bytes crashes found begun again whole before all writes fallen recovers =
     let commands = crash_commands_from 0 found.privates in

@@ -28,10 +28,12 @@ use Rattle.rme_durable_laws.specs.AlikeWorlds.{AreWorldsAlike}
 use Rattle.rme_durable_laws.proofs.Steps.{after_same, did_same, found_same}
 
 -- Some refusal is not none.
-some_none : {A : Type 0} (one other : Option Refusal) (refusal : Refusal) → one ≡ other → one ≡ None → other ≡ Some refusal → A
+some_none : {A : Type 0} (one other : Option Refusal) (refusal : Refusal) → one ≡ other → one ≡ None
+    → other ≡ Some refusal → A
 some_none one other refusal same none some = absurd (none-some refusal (sym none ∙ same ∙ some))
 
-no_memory : {A : Type 0} (one : Option Refusal) (refusal : Refusal) (given : Answer) → one ≡ None → RefusalIsGiven one refusal → given ≡ answer.Refused refusal → given ≢ answer.Refused NoMemory → A
+no_memory : {A : Type 0} (one : Option Refusal) (refusal : Refusal) (given : Answer) → one ≡ None
+    → RefusalIsGiven one refusal → given ≡ answer.Refused refusal → given ≢ answer.Refused NoMemory → A
 no_memory None refusal given none refused is memory = absurd (memory (is ∙ ap answer.Refused refused))
 no_memory (Some other) refusal given none refused is memory = absurd (none-some other (sym none))
 
@@ -55,15 +57,18 @@ module _ (old again one other : WorldView) (alike : AreWorldsAlike old again) wh
     history = ap (λ (s : WorldView). s.history) first ∙ alike.history ∙ sym (ap (λ (s : WorldView). s.history) second);
   }
 
-  same_private : (worker : ℕ) (private same : Private) → slice_get old.privates worker ≡ Some (Some private) → slice_get again.privates worker ≡ Some (Some same) → private ≡ same
+  same_private : (worker : ℕ) (private same : Private) → slice_get old.privates worker ≡ Some (Some private)
+      → slice_get again.privates worker ≡ Some (Some same) → private ≡ same
   same_private worker private same first second = same_Some _ _ (same_Some _ _ (sym first ∙ ap (λ (ps : List (Option Private)). slice_get ps worker) alike.privates ∙ second))
 
-  pub submits : (worker : ℕ) (job : Job) (number also : ℕ) → SubmitChange old worker job number one → SubmitChange again worker job also other → AreWorldsAlike one other
+  pub submits : (worker : ℕ) (job : Job) (number also : ℕ) → SubmitChange old worker job number one
+      → SubmitChange again worker job also other → AreWorldsAlike one other
   submits worker job number also first second =
       known worker (Some (submitted_private first.private job)) (Some (submitted_private second.private job)) _ _ one.room other.room
       (ap (λ (p : Private). Some (submitted_private p job)) (same_private worker first.private second.private first.found second.found)) first.hands second.hands
 
-  pub withdraws : (worker : ℕ) → WithdrawChange old worker one → WithdrawChange again worker other → AreWorldsAlike one other
+  pub withdraws : (worker : ℕ) → WithdrawChange old worker one → WithdrawChange again worker other
+      → AreWorldsAlike one other
   withdraws worker first second =
       known worker (Some (withdrawing_private first.private)) (Some (withdrawing_private second.private)) _ _ old.room again.room
       (ap (λ (p : Private). Some (withdrawing_private p)) (same_private worker first.private second.private first.found second.found)) first.turns second.turns
@@ -71,7 +76,8 @@ module _ (old again one other : WorldView) (alike : AreWorldsAlike old again) wh
   pub crashes : (worker : ℕ) → CrashChange old worker one → CrashChange again worker other → AreWorldsAlike one other
   crashes worker first second = known worker None None _ _ old.room again.room refl first.falls second.falls
 
-  pub restarts : (worker : ℕ) → RestartChange old worker one → RestartChange again worker other → AreWorldsAlike one other
+  pub restarts : (worker : ℕ) → RestartChange old worker one → RestartChange again worker other
+      → AreWorldsAlike one other
   restarts worker first second = known worker (Some (restarted_private worker)) (Some (restarted_private worker)) _ _ old.room again.room refl first.rises second.rises
 
   -- An own step, of one private state, from one memory.
@@ -89,7 +95,8 @@ module _ (old again one other : WorldView) (alike : AreWorldsAlike old again) wh
     words : world_memory one ≡ world_memory other
     words = did_same (world_memory old) (world_memory one) (world_memory other) (private_action old.shape first.private) first.value second.value first.did did
 
-    after : (private_after old.shape first.private first.value ≡ private_after old.shape first.private second.value) × (note_after old.shape first.private first.value ≡ note_after old.shape first.private second.value)
+    after : (private_after old.shape first.private first.value ≡ private_after old.shape first.private second.value) ×
+        (note_after old.shape first.private first.value ≡ note_after old.shape first.private second.value)
     after = after_same old.shape first.private first.value second.value (found_same (world_memory old) (world_memory one) (world_memory other) (private_action old.shape first.private) first.value second.value first.did did)
 
     knows : private_after old.shape first.private first.value ≡ private_after again.shape second.private second.value
@@ -110,14 +117,17 @@ module _ (old again one other : WorldView) (alike : AreWorldsAlike old again) wh
 
 -- One event. An event that is refused is refused in both, and not for want of memory.
 module _ (old again one other : WorldView) (alike : AreWorldsAlike old again) where
-  up_same : (worker : ℕ) (first second : Private → Option Refusal) → first ≡ second → refusal_unless_up (slice_get old.privates worker) first ≡ refusal_unless_up (slice_get again.privates worker) second
+  up_same : (worker : ℕ) (first second : Private → Option Refusal) → first ≡ second
+      → refusal_unless_up (slice_get old.privates worker) first ≡ refusal_unless_up
+      (slice_get again.privates worker) second
   up_same worker first second same =
       ap (λ (ps : List (Option Private)). refusal_unless_up (slice_get ps worker) first) alike.privates ∙ ap (refusal_unless_up (slice_get again.privates worker)) same
 
   job_same : (worker : ℕ) (job : Job) → submit_refusal old worker job ≡ submit_refusal again worker job
   job_same worker job = up_same worker (worker_job_refusal old job) (worker_job_refusal again job) (ap (λ (s : Shape). worker_job_refusal (record old { shape = s }) job) alike.shape)
 
-  submit_one : (worker : ℕ) (job : Job) (result repeat : Result ℕ Refusal) (given also : Answer) → given ≡ answer_of_call answer.Handed result → also ≡ answer_of_call answer.Handed repeat
+  submit_one : (worker : ℕ) (job : Job) (result repeat : Result ℕ Refusal) (given also : Answer)
+      → given ≡ answer_of_call answer.Handed result → also ≡ answer_of_call answer.Handed repeat
       → SubmitContract old worker job result one → SubmitContract again worker job repeat other → given ≢ answer.Refused NoMemory → also ≢ answer.Refused NoMemory → AreWorldsAlike one other
   submit_one worker job (Ok number) (Ok same) given also its was first second memory more = submits old again one other alike worker job number same first.accepted second.accepted
   submit_one worker job (Err why) (Err same) given also its was first second memory more = unchanged old again one other alike first.unchanged second.unchanged
@@ -126,26 +136,30 @@ module _ (old again one other : WorldView) (alike : AreWorldsAlike old again) wh
   submit_one worker job (Err why) (Ok number) given also its was first second memory more =
       no_memory (submit_refusal old worker job) why given (job_same worker job ∙ second.accepted.may) first.refused its memory
 
-  pub step_one : (worker : ℕ) (result repeat : Result Note Refusal) → StepContract old worker result one → StepContract again worker repeat other → AreWorldsAlike one other
+  pub step_one : (worker : ℕ) (result repeat : Result Note Refusal) → StepContract old worker result one
+      → StepContract again worker repeat other → AreWorldsAlike one other
   step_one worker (Ok note) (Ok told) first second = steps old again one other alike worker note told first.accepted second.accepted
   step_one worker (Err why) (Err same) first second = unchanged old again one other alike first.unchanged second.unchanged
   step_one worker (Ok note) (Err why) first second = some_none _ _ why (up_same worker _ _ refl) first.accepted.may second.refused
   step_one worker (Err why) (Ok note) first second = some_none _ _ why (sym (up_same worker _ _ refl)) second.accepted.may first.refused
 
   -- The result is the same too.
-  pub step_result : (worker : ℕ) (result repeat : Result Note Refusal) → StepContract old worker result one → StepContract again worker repeat other → result ≡ repeat
+  pub step_result : (worker : ℕ) (result repeat : Result Note Refusal) → StepContract old worker result one
+      → StepContract again worker repeat other → result ≡ repeat
   step_result worker (Ok note) (Ok told) first second = ap Ok (says old again one other alike worker note told first.accepted second.accepted)
   step_result worker (Err why) (Err same) first second = ap Err (same_Some why same (sym first.refused ∙ up_same worker _ _ refl ∙ second.refused))
   step_result worker (Ok note) (Err why) first second = some_none _ _ why (up_same worker _ _ refl) first.accepted.may second.refused
   step_result worker (Err why) (Ok note) first second = some_none _ _ why (sym (up_same worker _ _ refl)) second.accepted.may first.refused
 
-  pub crash_one : (worker : ℕ) (result repeat : Result (Unit {0}) Refusal) → CrashContract old worker result one → CrashContract again worker repeat other → AreWorldsAlike one other
+  pub crash_one : (worker : ℕ) (result repeat : Result (Unit {0}) Refusal) → CrashContract old worker result one
+      → CrashContract again worker repeat other → AreWorldsAlike one other
   crash_one worker (Ok done) (Ok same) first second = crashes old again one other alike worker first.accepted second.accepted
   crash_one worker (Err why) (Err same) first second = unchanged old again one other alike first.unchanged second.unchanged
   crash_one worker (Ok done) (Err why) first second = some_none (crash_refusal old worker) (crash_refusal again worker) why (up_same worker _ _ refl) first.accepted.may second.refused
   crash_one worker (Err why) (Ok done) first second = some_none (crash_refusal again worker) (crash_refusal old worker) why (sym (up_same worker _ _ refl)) second.accepted.may first.refused
 
-  pub restart_one : (worker : ℕ) (result repeat : Result (Unit {0}) Refusal) → RestartContract old worker result one → RestartContract again worker repeat other → AreWorldsAlike one other
+  pub restart_one : (worker : ℕ) (result repeat : Result (Unit {0}) Refusal) → RestartContract old worker result one
+      → RestartContract again worker repeat other → AreWorldsAlike one other
   restart_one worker (Ok done) (Ok same) first second = restarts old again one other alike worker first.accepted second.accepted
   restart_one worker (Err why) (Err same) first second = unchanged old again one other alike first.unchanged second.unchanged
   restart_one worker (Ok done) (Err why) first second =
@@ -153,13 +167,15 @@ module _ (old again one other : WorldView) (alike : AreWorldsAlike old again) wh
   restart_one worker (Err why) (Ok done) first second =
       some_none (restart_refusal again worker) (restart_refusal old worker) why (sym (ap (λ (ps : List (Option Private)). refusal_unless_down (slice_get ps worker)) alike.privates)) second.accepted.may first.refused
 
-  pub withdraw_one : (worker : ℕ) (result repeat : Result (Unit {0}) Refusal) → WithdrawContract old worker result one → WithdrawContract again worker repeat other → AreWorldsAlike one other
+  pub withdraw_one : (worker : ℕ) (result repeat : Result (Unit {0}) Refusal) → WithdrawContract old worker result one
+      → WithdrawContract again worker repeat other → AreWorldsAlike one other
   withdraw_one worker (Ok done) (Ok same) first second = withdraws old again one other alike worker first.accepted second.accepted
   withdraw_one worker (Err why) (Err same) first second = unchanged old again one other alike first.unchanged second.unchanged
   withdraw_one worker (Ok done) (Err why) first second = some_none (withdraw_refusal old worker) (withdraw_refusal again worker) why (up_same worker _ _ refl) first.accepted.may second.refused
   withdraw_one worker (Err why) (Ok done) first second = some_none (withdraw_refusal again worker) (withdraw_refusal old worker) why (sym (up_same worker _ _ refl)) second.accepted.may first.refused
 
-  happens : (event : Event) (given also : Answer) → ListedEventContract old event given one → ListedEventContract again event also other → AreWorldsAlike one other
+  happens : (event : Event) (given also : Answer) → ListedEventContract old event given one
+      → ListedEventContract again event also other → AreWorldsAlike one other
   happens (Submit worker job) given also first second = submit_one worker job first.call.0 second.call.0 given also first.call.1 second.call.1 first.call.2 second.call.2 first.memory second.memory
   happens (Step worker) given also first second = step_one worker first.call.0 second.call.0 first.call.2 second.call.2
   happens (Crash worker) given also first second = crash_one worker first.call.0 second.call.0 first.call.2 second.call.2
@@ -167,11 +183,14 @@ module _ (old again one other : WorldView) (alike : AreWorldsAlike old again) wh
   happens (Withdraw worker) given also first second = withdraw_one worker first.call.0 second.call.0 first.call.2 second.call.2
 
 -- Unchanged worlds stay alike.
-pub alike_after : (old again one other : WorldView) → AreWorldsAlike old again → one ≡ old → other ≡ again → AreWorldsAlike one other
+pub alike_after : (old again one other : WorldView) → AreWorldsAlike old again → one ≡ old → other ≡ again
+    → AreWorldsAlike one other
 alike_after old again one other alike first second = unchanged old again one other alike first second
 
 -- All events of a list.
-pub all_happen : (events : List Event) (told also : List Answer) (old again one other : WorldView) → AreWorldsAlike old again → EventListContract old events told one → EventListContract again events also other → AreWorldsAlike one other
+pub all_happen : (events : List Event) (told also : List Answer) (old again one other : WorldView)
+    → AreWorldsAlike old again → EventListContract old events told one → EventListContract again events also other
+    → AreWorldsAlike one other
 all_happen [] [] [] old again one other alike first second = unchanged old again one other alike first second
 all_happen [] (given ∷ told) also old again one other alike first second = absurd first
 all_happen [] [] (given ∷ also) old again one other alike first second = absurd second

@@ -23,27 +23,31 @@ use Rattle.rme_durable_laws.proofs.Prefixes.{bytes_grown, last_whole, lines_whol
 
 -- ---- the number of the epoch
 
-pub epochs_counted : (names : List (List ℕ)) (log : List LogEntry) (old new : ServerState) → EntriesLead names old log new → new.epoch ≡ old.epoch + checkpoint_count log
+pub epochs_counted : (names : List (List ℕ)) (log : List LogEntry) (old new : ServerState)
+    → EntriesLead names old log new → new.epoch ≡ old.epoch + checkpoint_count log
 epochs_counted names [] old new lead = omega (arith, ap (λ (s : ServerState). s.epoch) lead)
 epochs_counted names (Lines session lines ∷ log) old new lead = omega (arith, epochs_counted names log lead.0 new lead.2, lead.1.epoch)
 epochs_counted names (Whole bytes ∷ log) old new lead = omega (arith, epochs_counted names log lead.0 new lead.2, lead.1.epoch)
 
 -- ---- lines keep what a header says
 
-event_shape : (one : Event) (given : Answer) (old new : WorldView) → EventContract old one given new → new.shape ≡ old.shape
+event_shape : (one : Event) (given : Answer) (old new : WorldView) → EventContract old one given new
+    → new.shape ≡ old.shape
 event_shape (event.Submit u job) given old new call = call.2.headline.shape
 event_shape (event.Step u) given old new call = call.2.headline.shape
 event_shape (event.Crash u) given old new call = call.2.headline.shape
 event_shape (event.Restart u) given old new call = call.2.headline.shape
 event_shape (event.Withdraw u) given old new call = call.2.headline.shape
 
-list_shape : (events : List Event) (given : List Answer) (old new : WorldView) → EventListContract old events given new → new.shape ≡ old.shape
+list_shape : (events : List Event) (given : List Answer) (old new : WorldView) → EventListContract old events given new
+    → new.shape ≡ old.shape
 list_shape [] [] old new all = ap (λ (s : WorldView). s.shape) all
 list_shape [] (a ∷ given) old new all = absurd all
 list_shape (one ∷ events) [] old new all = absurd all
 list_shape (one ∷ events) (a ∷ given) old new all = list_shape events given all.0 new all.2 ∙ event_shape one a old all.0 all.1.call
 
-lines_keep : (names : List (List ℕ)) (log : List LogEntry) (old new : ServerState) → AreAllLines log → EntriesLead names old log new
+lines_keep : (names : List (List ℕ)) (log : List LogEntry) (old new : ServerState) → AreAllLines log
+    → EntriesLead names old log new
     → (new.executor.world.shape ≡ old.executor.world.shape) × (new.base ≡ old.base) × (new.epoch ≡ old.epoch)
 lines_keep names [] old new all lead = (ap (λ (s : ServerState). s.executor.world.shape) lead, ap (λ (s : ServerState). s.base) lead, ap (λ (s : ServerState). s.epoch) lead)
 lines_keep names (Lines session lines ∷ log) old new all lead =
@@ -55,7 +59,8 @@ lines_keep names (Whole bytes ∷ log) old new all lead = absurd all
 
 -- ---- the header
 
-header_more : (first more : List ℕ) (names : List (List ℕ)) (shape : Shape) (past : HeaderValues) → AreWholeLines first → BeginsWithHeader first names shape past → BeginsWithHeader (first ++ more) names shape past
+header_more : (first more : List ℕ) (names : List (List ℕ)) (shape : Shape) (past : HeaderValues) → AreWholeLines first
+    → BeginsWithHeader first names shape past → BeginsWithHeader (first ++ more) names shape past
 header_more first more names shape past whole begins = record {
   first = begins.first;
   lines = begins.lines ++ lines_of more;
@@ -63,7 +68,9 @@ header_more first more names shape past whole begins = record {
   header = begins.header;
 }
 
-grown_header : (names : List (List ℕ)) (first : List ℕ) (log : List LogEntry) (start state : ServerState) → AreAllLines log → AreWholeLines first → HasStateHeader names first start → EntriesLead names start log state → HasStateHeader names (first ++ entry_lines log) state
+grown_header : (names : List (List ℕ)) (first : List ℕ) (log : List LogEntry) (start state : ServerState)
+    → AreAllLines log → AreWholeLines first → HasStateHeader names first start → EntriesLead names start log state
+    → HasStateHeader names (first ++ entry_lines log) state
 grown_header names first log start state all whole from lead =
     let keeps = lines_keep names log start state all lead in
     let begins = header_more first (entry_lines log) names start.executor.world.shape from.past whole from.begins in
@@ -74,7 +81,9 @@ grown_header names first log start state all whole from lead =
       base = subst (IsHeaderBase from.past) (sym keeps.1) from.base;
     }
 
-pub prefix_header : (names : List (List ℕ)) (first : List ℕ) (log : List LogEntry) (start state : ServerState) → AreWholeLines first → HasStateHeader names first start → EntriesLead names start log state → HasStateHeader names (log_bytes_after first log) state
+pub prefix_header : (names : List (List ℕ)) (first : List ℕ) (log : List LogEntry) (start state : ServerState)
+    → AreWholeLines first → HasStateHeader names first start → EntriesLead names start log state
+    → HasStateHeader names (log_bytes_after first log) state
 prefix_header names first log start state whole from lead = elim (last_whole log) [
   | inl all ↦ subst (λ (b : List ℕ). HasStateHeader names b state) (sym (bytes_grown first log all)) (grown_header names first log start state all whole from lead)
   | inr last ↦

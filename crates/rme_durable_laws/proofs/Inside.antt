@@ -47,19 +47,23 @@ pub same_pending : (one other : PendingWorker) → Held one ≡ Held other → o
 unfolding held_pending
 same_pending one other same = same_Some _ _ (ap held_pending same)
 
-pub stance_of_held : (history : List Entry) (worker asked number : ℕ) (stance : JobStance) (job : Job) → worker_session_by history worker asked stance ≡ Held record { worker = worker; number = number; draft = Some job } → IsInSectionOf stance job.lock
+pub stance_of_held : (history : List Entry) (worker asked number : ℕ) (stance : JobStance) (job : Job)
+    → worker_session_by history worker asked stance ≡ Held record { worker = worker; number = number; draft = Some job }
+    → IsInSectionOf stance job.lock
 stance_of_held history worker asked number Idle job shown = absurd (cc)
 stance_of_held history worker asked number (Handed its) job shown = absurd (cc)
 stance_of_held history worker asked number (Waiting k its) job shown = absurd (cc)
 stance_of_held history worker asked number (Inside k its) job shown = let same : its ≡ job = same_Some _ _ (ap (λ (p : PendingWorker). p.draft) (same_pending _ _ shown)) in ap (λ (j : Job). j.lock) same
 stance_of_held history worker asked number (Finished k its) job shown = absurd (cc)
 
-owner_found : (f : ℕ → Option ℕ) (locks lock worker : ℕ) → slice_get (map f (range_with_len 0 locks)) lock ≡ Some (Some worker) → (lock < locks) × (f lock ≡ Some worker)
+owner_found : (f : ℕ → Option ℕ) (locks lock worker : ℕ)
+    → slice_get (map f (range_with_len 0 locks)) lock ≡ Some (Some worker) → (lock < locks) × (f lock ≡ Some worker)
 owner_found f locks lock worker found =
     let within : lock < locks = omega (arith, slice_get_within (map f (range_with_len 0 locks)) lock (Some worker) found, made_long f locks) in
     (within, same_Some _ _ (sym (made_get f locks lock within) ∙ found))
 
-pub inside_owns : (session worker : ℕ) (job : Job) (state : ServerState) → IsWorldReachable state.executor.world → IsSessionInside session worker job state → WorkerOwnsLock state.executor.world worker job.lock
+pub inside_owns : (session worker : ℕ) (job : Job) (state : ServerState) → IsWorldReachable state.executor.world
+    → IsSessionInside session worker job state → WorkerOwnsLock state.executor.world worker job.lock
 inside_owns session worker job state reached inside =
     let world = state.executor.world in
     let within : worker < world.shape.workers = omega (arith, inside.client) in
@@ -78,7 +82,8 @@ session_of worker shape memory privates history =
     let me : WorkerState = abstract_worker shape memory (λ (v : ℕ). private_if_up (slice_get privates v)) history worker in
     worker_session_by history worker me.asked me.stance
 
-session_alike : (worker : ℕ) (one other : WorldView) → AreWorldsAlike one other → worker_session other worker ≡ worker_session one worker
+session_alike : (worker : ℕ) (one other : WorldView) → AreWorldsAlike one other
+    → worker_session other worker ≡ worker_session one worker
 session_alike worker one other alike =
     let F = session_of worker in
     sym (ap (λ (s : Shape). F s (world_memory one) one.privates one.history) alike.shape
@@ -86,7 +91,8 @@ session_alike worker one other alike =
     ∙ ap (λ (p : List (Option Private)). F other.shape (world_memory other) p one.history) alike.privates
     ∙ ap (λ (h : List Entry). F other.shape (world_memory other) other.privates h) alike.history)
 
-pub inside_alike : (session worker : ℕ) (job : Job) (one other : ServerState) → AreStatesAlike one other → IsSessionInside session worker job one → IsSessionInside session worker job other
+pub inside_alike : (session worker : ℕ) (job : Job) (one other : ServerState) → AreStatesAlike one other
+    → IsSessionInside session worker job one → IsSessionInside session worker job other
 inside_alike session worker job one other alike inside = record {
   client = subst (λ (s : Shape). worker + 1 < s.workers) alike.world.shape inside.client;
   has = ap (λ (h : List (Option ℕ)). slice_get h worker) (sym alike.holders) ∙ inside.has;
@@ -97,7 +103,9 @@ inside_alike session worker job one other alike inside = record {
 -- ---- entries of others
 
 -- What the client sees of a held session tells the worker and the job, in whatever epoch.
-held_shown : (now : Base) (after : Session) (was : Base) (its : PendingWorker) → client_session now after ≡ client_session was (Held its) → (number : ℕ) × (after ≡ Held record { worker = its.worker; number = number; draft = its.draft })
+held_shown : (now : Base) (after : Session) (was : Base) (its : PendingWorker)
+    → client_session now after ≡ client_session was (Held its)
+    → (number : ℕ) × (after ≡ Held record { worker = its.worker; number = number; draft = its.draft })
 held_shown now Nobody was its same = absurd (cc)
 held_shown now (Ready ready) was its same = absurd (cc)
 held_shown now (Climb pending) was its same = absurd (cc)
@@ -107,7 +115,9 @@ held_shown now (Held pending) was its same =
     let draft : pending.draft ≡ its.draft = ap (λ (p : PendingWorker). p.draft) its_is in
     (pending.number, ap₂ (λ (w : ℕ) (d : Option Job). let p : PendingWorker = record { worker = w; number = pending.number; draft = d } in Held p) worker draft)
 
-pub inside_kept : (session worker : ℕ) (job : Job) (old new : ServerState) → new.executor.world.shape.workers ≡ old.executor.world.shape.workers → KeepsWorker session worker old new → IsSessionInside session worker job old → IsSessionInside session worker job new
+pub inside_kept : (session worker : ℕ) (job : Job) (old new : ServerState)
+    → new.executor.world.shape.workers ≡ old.executor.world.shape.workers → KeepsWorker session worker old new
+    → IsSessionInside session worker job old → IsSessionInside session worker job new
 inside_kept session worker job old new workers keeps inside =
     let its : PendingWorker = record { worker = worker; number = inside.number; draft = Some job } in
     let found = held_shown new.base (held_session new.executor worker) old.base its (keeps.shown ∙ ap (client_session old.base) inside.shown) in
@@ -115,7 +125,9 @@ inside_kept session worker job old new workers keeps inside =
 
 -- ---- moments
 
-pub acted_leads : (opening : ServerOpening) (old : SessionMoment) (before : ServerState) (now : SessionMoment) (after : ServerState) → SessionActs opening old before now after → LogLeads opening now.log after
+pub acted_leads : (opening : ServerOpening) (old : SessionMoment) (before : ServerState) (now : SessionMoment)
+    (after : ServerState)
+    → SessionActs opening old before now after → LogLeads opening now.log after
 acted_leads opening old before now after acts = elim acts.appends [
   | inl same ↦ subst (λ (l : List LogEntry). LogLeads opening l after) (sym same.0) (subst (λ (s : ServerState). LogLeads opening acts.log s) (sym same.1) acts.leads)
   | inr one ↦ subst (λ (l : List LogEntry). LogLeads opening l after) (sym one.1) (leads_more opening acts.log before (Lines old.session.session one.0) after acts.leads one.2)
@@ -125,7 +137,11 @@ alike_to_itself : (state : ServerState) → AreStatesAlike state state
 alike_to_itself state = record { world = alike_itself state.executor.world; holders = refl; lives = refl; epoch = refl; places = refl }
 
 -- A state to which a prefix of a log leads is like the one on the way.
-pub on_the_way : (opening : ServerOpening) (start : ServerState) → BeginsWith opening start → (log rest : List LogEntry) (state later : ServerState) → LogLeads opening log state → LogLeads opening (log ++ rest) later → (mid : ServerState) × LogLeads opening log mid × AreStatesAlike state mid × EntriesLead opening.names mid rest later
+pub on_the_way : (opening : ServerOpening) (start : ServerState) → BeginsWith opening start
+    → (log rest : List LogEntry) (state later : ServerState) → LogLeads opening log state
+    → LogLeads opening (log ++ rest) later
+    → (mid : ServerState) × LogLeads opening log mid × AreStatesAlike state mid
+    × EntriesLead opening.names mid rest later
 on_the_way opening start begins [] rest state later one two = absurd one
 on_the_way opening start begins (first ∷ log) rest state later one two =
     let parts = split_lead opening.names log rest two.0 later two.2 in
@@ -133,7 +149,9 @@ on_the_way opening start begins (first ∷ log) rest state later one two =
     let starts : AreStatesAlike one.0 two.0 = subst (AreStatesAlike one.0) same (alike_to_itself one.0) in
     (parts.0, (two.0, two.1, parts.1), all_alike opening.names log one.0 two.0 state parts.0 starts one.2 parts.1, parts.2)
 
-pub stays_inside : (opening : ServerOpening) (start : ServerState) (old held now : SessionMoment) (before after next last : ServerState) (worker : ℕ) (job : Job) → BeginsWith opening start → SessionActs opening old before held after → SessionActs opening held next now last
+pub stays_inside : (opening : ServerOpening) (start : ServerState) (old held now : SessionMoment)
+    (before after next last : ServerState) (worker : ℕ) (job : Job)
+    → BeginsWith opening start → SessionActs opening old before held after → SessionActs opening held next now last
     → IsSessionInside held.session.session worker job after → IsSessionInside held.session.session worker job next × WorkerOwnsLock next.executor.world worker job.lock
 stays_inside opening start old held now before after next last worker job begins first second inside =
     let session = held.session.session in

@@ -39,13 +39,17 @@ no_change is = absurd (false≢true is)
 
 -- Commands.
 module _ (old again one other : TalliedWorld) (alike : AreWorldsAlike old.world again.world) where
-  submitted_one : (worker : ℕ) (job : Job) (result repeat : Result ℕ Refusal) (says also : Reply) → says ≡ reply_of_call reply.Handed result → also ≡ reply_of_call reply.Handed repeat → reply_refusal says ≡ None → reply_refusal also ≡ None
+  submitted_one : (worker : ℕ) (job : Job) (result repeat : Result ℕ Refusal) (says also : Reply)
+      → says ≡ reply_of_call reply.Handed result → also ≡ reply_of_call reply.Handed repeat → reply_refusal says ≡ None
+      → reply_refusal also ≡ None
       → SubmitContract old.world worker job result one.world → SubmitContract again.world worker job repeat other.world → AreWorldsAlike one.world other.world
   submitted_one worker job (Ok number) (Ok same) says also its was taken too first second = submits old.world again.world one.world other.world alike worker job number same first.accepted second.accepted
   submitted_one worker job (Err why) repeat says also its was taken too first second = not_refused says why its taken
   submitted_one worker job (Ok number) (Err why) says also its was taken too first second = not_refused also why was too
 
-  command_one : (command : Command) (says also : Reply) → changes_world command ≡ true → CommandEffect old command says one → CommandEffect again command also other → reply_refusal says ≡ None → reply_refusal also ≡ None → AreWorldsAlike one.world other.world
+  command_one : (command : Command) (says also : Reply) → changes_world command ≡ true
+      → CommandEffect old command says one → CommandEffect again command also other → reply_refusal says ≡ None
+      → reply_refusal also ≡ None → AreWorldsAlike one.world other.world
   command_one (Submit worker job) says also kept first second taken too = submitted_one worker job first.0 second.0 says also first.2 second.2 taken too first.1 second.1
   command_one (Step worker) says also kept first second taken too = step_one old.world again.world one.world other.world alike worker first.0 second.0 first.1.stepped second.1.stepped
   command_one (Walk walk) says also kept first second taken too = walk_one walk.worker walk.until walk.max old again alike first.1.0 second.1.0 first.1.1 second.1.1 one other first.1.2 second.1.2
@@ -75,7 +79,9 @@ same_by one other was too first second same =
     subst P (sym first) (subst Q (sym second) same)
 
 module _ (old again one other : EngineState) (names : old.names ≡ again.names) (says also : Reply) (taken : reply_refusal says ≡ None) (too : reply_refusal also ≡ None) where
-  does_one : (command : Command) (was also_was : Option TalliedWorld) → changes_world command ≡ true → OpenAlike was also_was → CommandEffectIn was old command says one → CommandEffectIn also_was again command also other → Same one other
+  does_one : (command : Command) (was also_was : Option TalliedWorld) → changes_world command ≡ true
+      → OpenAlike was also_was → CommandEffectIn was old command says one
+      → CommandEffectIn also_was again command also other → Same one other
   does_one command None None kept alike first second = not_refused says NotOpen first.0 taken
   does_one command None (Some world) kept alike first second = absurd alike
   does_one command (Some world) None kept alike first second = absurd alike
@@ -83,7 +89,8 @@ module _ (old again one other : EngineState) (names : old.names ≡ again.names)
       same_by one other record { names = old.names; world = Some first.0 } record { names = again.names; world = Some second.0 } first.2 second.2
       (names, command_one world same first.0 second.0 alike command says also kept first.1 second.1 taken too)
 
-  opens_one : (given : Opening) (result repeat : Result Shape Refusal) → OpenOutcome old given result says one → OpenOutcome again given repeat also other → Same one other
+  opens_one : (given : Opening) (result repeat : Result Shape Refusal) → OpenOutcome old given result says one
+      → OpenOutcome again given repeat also other → Same one other
   opens_one given (Ok shape) (Ok found) first second =
       let is : shape ≡ found = same_shape shape found (first.1.0 ∙ sym second.1.0) (first.1.1 ∙ sym second.1.1) (first.1.2 ∙ sym second.1.2) (first.1.3 ∙ sym second.1.3) in
       let P : Shape → Type 0 = λ s. Same record { names = given.locks; world = Some (tallied_opening shape) } record { names = given.locks; world = Some (tallied_opening s) } in
@@ -92,23 +99,27 @@ module _ (old again one other : EngineState) (names : old.names ≡ again.names)
   opens_one given (Err why) repeat first second = not_refused says why first.1 taken
   opens_one given (Ok shape) (Err why) first second = not_refused also why second.1 too
 
-  opens_in : (given : Opening) (was also_was : Option TalliedWorld) → OpenAlike was also_was → OpenEffect was old given says one → OpenEffect also_was again given also other → Same one other
+  opens_in : (given : Opening) (was also_was : Option TalliedWorld) → OpenAlike was also_was
+      → OpenEffect was old given says one → OpenEffect also_was again given also other → Same one other
   opens_in given None None alike first second = opens_one given first.0 second.0 first.1 second.1
   opens_in given None (Some world) alike first second = absurd alike
   opens_in given (Some world) also_was alike first second = not_refused says AlreadyOpen first.0 taken
 
-  obeys_one : (request : Request) → is_log_request request ≡ true → OpenAlike old.world again.world → RequestEffect old (Some request) says one → RequestEffect again (Some request) also other → Same one other
+  obeys_one : (request : Request) → is_log_request request ≡ true → OpenAlike old.world again.world
+      → RequestEffect old (Some request) says one → RequestEffect again (Some request) also other → Same one other
   obeys_one (Open given) kept alike first second = opens_in given old.world again.world alike first second
   obeys_one (Load given) kept alike first second = no_change kept
   obeys_one (World command) kept alike first second = does_one command old.world again.world kept alike first second
 
-accept_one : (line : InputLine) (old again one other : EngineState) → Same old again → AcceptsLine old line one → AcceptsLine again line other → Same one other
+accept_one : (line : InputLine) (old again one other : EngineState) → Same old again → AcceptsLine old line one
+    → AcceptsLine again line other → Same one other
 accept_one line old again one other same first second =
     let is : first.request ≡ second.request = same_Some _ _ (sym first.asks ∙ ap (λ (names : List (List ℕ)). request_read names line) same.0 ∙ second.asks) in
     let P : Request → Type 0 = λ r. RequestEffect again (Some r) second.reply other in
     obeys_one old again one other same.0 first.reply second.reply first.taken second.taken first.request first.kept same.1 first.obeys (subst P (sym is) second.obeys)
 
-pub accept_all : (lines : List InputLine) (old again one other : EngineState) → Same old again → AcceptsLines old lines one → AcceptsLines again lines other → Same one other
+pub accept_all : (lines : List InputLine) (old again one other : EngineState) → Same old again
+    → AcceptsLines old lines one → AcceptsLines again lines other → Same one other
 accept_all [] old again one other same first second = same_by one other old again first second same
 accept_all (line ∷ lines) old again one other same first second =
     accept_all lines first.0 second.0 one other (accept_one line old again first.0 second.0 same first.1 second.1) first.2 second.2
@@ -117,7 +128,8 @@ rest_of : List InputLine → List InputLine
 rest_of [] = []
 rest_of (line ∷ lines) = lines
 
-pub starts_alike : (bytes : List ℕ) (names others : List (List ℕ)) (one other : WorldView) → RecoversWorld bytes names one → RecoversWorld bytes others other → (names ≡ others) × AreWorldsAlike one other
+pub starts_alike : (bytes : List ℕ) (names others : List (List ℕ)) (one other : WorldView)
+    → RecoversWorld bytes names one → RecoversWorld bytes others other → (names ≡ others) × AreWorldsAlike one other
 unfolding rest_of
 starts_alike bytes names others one other first second =
     let lines : first.lines ≡ second.lines = ap rest_of (sym first.are ∙ second.are) in

@@ -22,7 +22,7 @@ use Rattle.rme_session_protocol.specs.declared.view.Session.TheVariants.{Held, N
 use Rattle.rme_session_world.specs.Executors.{executor_session_view}
 use Rattle.rme_words.specs.declared.refusal.Refusal.TheVariants.{Overtaken}
 use Rattle.rme_durable_epochs.specs.ClientLives.{IsRestartedAfter, TellsOvertaken}
-use Rattle.rme_durable_server.specs.DurableAnswers.{DurableAttempt}
+use Rattle.rme_durable_server.specs.DurableOrders.{DurableAttempt}
 use Rattle.rme_durable_server.specs.ServerHistories.{EntriesLead, EntryLeads, ServerOpening, ServerState, SessionMoment}
 use Rattle.rme_durable_laws.specs.Histories.{AreLivesWhole, HaveLivesGrown}
 
@@ -30,10 +30,13 @@ use Rattle.rme_durable_laws.specs.Histories.{AreLivesWhole, HaveLivesGrown}
 abbrev counted : List ℕ → ℕ → ℕ
 counted lives at = min (life_of lives at + 1) (2 ^ 64 - 1)
 
-counted_more : (lives : List ℕ) (at : ℕ) → life_of lives at < 2 ^ 64 → (life_of lives at ≤ counted lives at) × (counted lives at < 2 ^ 64)
+counted_more : (lives : List ℕ) (at : ℕ) → life_of lives at < 2 ^ 64
+    → (life_of lives at ≤ counted lives at) × (counted lives at < 2 ^ 64)
 counted_more lives at few = (omega (arith, few), omega (arith, few))
 
-one_more_grows : (lives : List ℕ) (at worker : ℕ) → AreLivesWhole lives → (life_of lives worker ≤ life_of (one_more_life lives at) worker) × (life_of (one_more_life lives at) worker < 2 ^ 64)
+one_more_grows : (lives : List ℕ) (at worker : ℕ) → AreLivesWhole lives
+    → (life_of lives worker ≤ life_of (one_more_life lives at) worker) × (life_of
+    (one_more_life lives at) worker < 2 ^ 64)
 one_more_grows lives at worker whole = elim (cases_lt at (length lives)) [
   | inl within ↦ (elim (cases_eq worker at) [
     | inl same ↦
@@ -50,11 +53,14 @@ one_more_grows lives at worker whole = elim (cases_lt at (length lives)) [
       (omega (arith, is), omega (arith, is, whole worker)))
 ]
 
-start_grows : (lives : List ℕ) (at : ℕ) (start : BatchStart) → AreLivesWhole lives → HaveLivesGrown lives (lives_after_start lives at start) × AreLivesWhole (lives_after_start lives at start)
+start_grows : (lives : List ℕ) (at : ℕ) (start : BatchStart) → AreLivesWhole lives
+    → HaveLivesGrown lives (lives_after_start lives at start) × AreLivesWhole (lives_after_start lives at start)
 start_grows lives at begins.Restart whole = ((λ worker. (one_more_grows lives at worker whole).0), (λ worker. (one_more_grows lives at worker whole).1))
 start_grows lives at start whole = ((λ worker. omega arith), whole)
 
-entry_grows : (names : List (List ℕ)) (old : ServerState) (entry : LogEntry) (new : ServerState) → AreLivesWhole old.lives → EntryLeads names old entry new → HaveLivesGrown old.lives new.lives × AreLivesWhole new.lives
+entry_grows : (names : List (List ℕ)) (old : ServerState) (entry : LogEntry) (new : ServerState)
+    → AreLivesWhole old.lives → EntryLeads names old entry new
+    → HaveLivesGrown old.lives new.lives × AreLivesWhole new.lives
 entry_grows names old (Lines session lines) new whole lead =
     let L : List ℕ → Type 0 = λ lives. HaveLivesGrown old.lives lives × AreLivesWhole lives in
     subst L (sym lead.lives) (start_grows old.lives lead.batch.worker lead.batch.begins whole)
@@ -62,14 +68,17 @@ entry_grows names old (Whole bytes) new whole lead =
     let L : List ℕ → Type 0 = λ lives. HaveLivesGrown old.lives lives × AreLivesWhole lives in
     subst L (sym lead.lives) ((λ worker. omega arith), whole)
 
-pub lives_grow : (names : List (List ℕ)) (log : List LogEntry) (old new : ServerState) → AreLivesWhole old.lives → EntriesLead names old log new → HaveLivesGrown old.lives new.lives
+pub lives_grow : (names : List (List ℕ)) (log : List LogEntry) (old new : ServerState) → AreLivesWhole old.lives
+    → EntriesLead names old log new → HaveLivesGrown old.lives new.lives
 lives_grow names [] old new whole lead = subst (λ (s : ServerState). HaveLivesGrown old.lives s.lives) (sym lead) (λ worker. omega arith)
 lives_grow names (entry ∷ log) old new whole lead =
     let first = entry_grows names old entry lead.0 whole lead.1 in
     let rest = lives_grow names log lead.0 new first.1 lead.2 in
     (λ worker. omega (arith, first.0 worker, rest worker))
 
-pub finds_life : (opening : ServerOpening) (old held begun now : SessionMoment) (its : Order) (token : FencingToken) (pending : PendingWorker) (asked : Attachment) (answer : SessionReply) (log : List LogEntry) (enters : DurableAttempt opening old its held (Entered (Inside token)))
+pub finds_life : (opening : ServerOpening) (old held begun now : SessionMoment) (its : Order) (token : FencingToken)
+    (pending : PendingWorker) (asked : Attachment) (answer : SessionReply) (log : List LogEntry)
+    (enters : DurableAttempt opening old its held (Entered (Inside token)))
     (attaches : DurableAttempt opening begun (Attach asked) now answer)
     → AreLivesWhole enters.after.lives → EntriesLead opening.names enters.after log attaches.before → (executor_session_view enters.after.executor held.session).session ≡ Held pending
     → (executor_session_view attaches.before.executor begun.session).session ≡ Nobody → asked.worker ≡ pending.worker → asked.worker < attaches.before.executor.world.shape.workers → asked.after ≡ Some token.life → answer ≢ Refused Overtaken

@@ -52,7 +52,8 @@ module _ (shape : Shape) (v w : ℕ) (apart : w ≢ v) where
   by_worker : (old new : MachineState) (x : WorkerState) → new ≡ with_worker old v x → SameIn w old new
   by_worker old new x is = subst (SameIn w old) (sym is) (get_set_other old.workers v w x apart, refl)
 
-  act_leaves : (act : Act) (old : MachineState) (me : WorkerState) (new : MachineState) → ActEffect shape act old v me new → SameIn w old new
+  act_leaves : (act : Act) (old : MachineState) (me : WorkerState) (new : MachineState)
+      → ActEffect shape act old v me new → SameIn w old new
   act_leaves (Hand k job) old me new goes = by_worker old new _ goes.5
   act_leaves (Ask k) old me new goes = by_worker old new _ goes.4
   act_leaves (Take lock) old me new goes = subst (SameIn w old) (sym goes.6) (get_set_other old.workers v w _ apart, refl)
@@ -72,7 +73,8 @@ module _ (shape : Shape) (v w : ℕ) (apart : w ≢ v) where
   IsOf Nothing = Unit {0}
   IsOf (Of u act) = u ≡ v
 
-  label_leaves : (label : Label) → IsOf label → (old new : MachineState) → LabelStep shape label old new → SameIn w old new
+  label_leaves : (label : Label) → IsOf label → (old new : MachineState) → LabelStep shape label old new
+      → SameIn w old new
   label_leaves Nothing of_it old new step = subst (SameIn w old) (sym step) (refl, refl)
   label_leaves (Of u act) of_it old new step =
       let mine : MachineStep shape act old v new = subst (λ (x : ℕ). MachineStep shape act old x new) of_it step in
@@ -86,7 +88,8 @@ module _ (shape : Shape) (v w : ℕ) (apart : w ≢ v) where
   IsEventOf (event.Restart u) = u ≡ v
   IsEventOf (event.Withdraw u) = u ≡ v
 
-  pub label_of : (one : Event) → IsEventOf one → (given : Answer) (label : Label) → event_label one given ≡ Some label → IsOf label
+  pub label_of : (one : Event) → IsEventOf one → (given : Answer) (label : Label) → event_label one given ≡ Some label
+      → IsOf label
   label_of one of_it (answer.Refused refusal) label is = subst IsOf (same_Some _ _ is) tt
   label_of (event.Submit u job) of_it (answer.Handed k) label is = subst IsOf (same_Some _ _ is) of_it
   label_of (event.Step u) of_it (answer.Stepped note) label is = subst IsOf (same_Some _ _ is) of_it
@@ -95,7 +98,10 @@ module _ (shape : Shape) (v w : ℕ) (apart : w ≢ v) where
   label_of (event.Withdraw u) of_it answer.Withdrawing label is = subst IsOf (same_Some _ _ is) of_it
   label_of one of_it given label is = absurd (cc)
 
-  told_leaves : (one : Event) → IsEventOf one → (given : Answer) (old new : WorldView) → old.shape ≡ shape → IsRefinement old (one ∷ []) (given ∷ []) new → (told : List Label) → EventsHaveLabels (one ∷ []) (given ∷ []) told → MachineRun shape (world_abstract_state old) told (world_abstract_state new)
+  told_leaves : (one : Event) → IsEventOf one → (given : Answer) (old new : WorldView) → old.shape ≡ shape
+      → IsRefinement old (one ∷ []) (given ∷ []) new → (told : List Label)
+      → EventsHaveLabels (one ∷ []) (given ∷ []) told
+      → MachineRun shape (world_abstract_state old) told (world_abstract_state new)
       → SameIn w (world_abstract_state old) (world_abstract_state new)
   told_leaves one of_it given old new at refines [] labels run = absurd labels
   told_leaves one of_it given old new at refines (label ∷ []) labels run =
@@ -106,13 +112,15 @@ module _ (shape : Shape) (v w : ℕ) (apart : w ≢ v) where
   abbrev Same : WorldView → WorldView → Type 0
   Same old new = SameIn w (world_abstract_state old) (world_abstract_state new) × (new.shape ≡ shape)
 
-  refined : (one : Event) → IsEventOf one → (given : Answer) (old new : WorldView) → old.shape ≡ shape → IsRefinement old (one ∷ []) (given ∷ []) new → Same old new
+  refined : (one : Event) → IsEventOf one → (given : Answer) (old new : WorldView) → old.shape ≡ shape
+      → IsRefinement old (one ∷ []) (given ∷ []) new → Same old new
   refined one of_it given old new at refines = (
     told_leaves one of_it given old new at refines refines.told refines.are_labels (subst (λ (s : Shape). MachineRun s (world_abstract_state old) refines.told (world_abstract_state new)) at refines.run),
     refines.shape ∙ at,
   )
 
-  pub event_leaves : (one : Event) → IsEventOf one → (given : Answer) (old new : WorldView) → old.shape ≡ shape → EventContract old one given new → Same old new
+  pub event_leaves : (one : Event) → IsEventOf one → (given : Answer) (old new : WorldView) → old.shape ≡ shape
+      → EventContract old one given new → Same old new
   event_leaves (event.Submit u job) of_it given old new at call = refined (event.Submit u job) of_it _ old new at call.2.headline
   event_leaves (event.Step u) of_it given old new at call = refined (event.Step u) of_it _ old new at call.2.headline
   event_leaves (event.Crash u) of_it given old new at call = refined (event.Crash u) of_it _ old new at call.2.headline
@@ -123,7 +131,8 @@ module _ (shape : Shape) (v w : ℕ) (apart : w ≢ v) where
   AreEventsOf [] = Unit {0}
   AreEventsOf (one ∷ events) = IsEventOf one × AreEventsOf events
 
-  list_leaves : (events : List Event) → AreEventsOf events → (given : List Answer) (old new : WorldView) → old.shape ≡ shape → EventListContract old events given new → Same old new
+  list_leaves : (events : List Event) → AreEventsOf events → (given : List Answer) (old new : WorldView)
+      → old.shape ≡ shape → EventListContract old events given new → Same old new
   list_leaves [] of_it [] old new at all = subst (Same old) (sym all) ((refl, refl), at)
   list_leaves [] of_it (a ∷ given) old new at all = absurd all
   list_leaves (one ∷ events) of_it [] old new at all = absurd all
@@ -158,17 +167,21 @@ module _ (shape : Shape) (v w : ℕ) (apart : w ≢ v) where
 
 -- ---- the view of a worker's session
 
-session_same : (w asked : ℕ) (stance : JobStance) (one other : List Entry) → last_entry_of_worker other w ≡ last_entry_of_worker one w → worker_session_by other w asked stance ≡ worker_session_by one w asked stance
+session_same : (w asked : ℕ) (stance : JobStance) (one other : List Entry)
+    → last_entry_of_worker other w ≡ last_entry_of_worker one w
+    → worker_session_by other w asked stance ≡ worker_session_by one w asked stance
 session_same w asked Idle one other last = ap (λ (l : Option Entry). Ready record { worker = w; number = asked; last = receipt_of_number asked l }) last
 session_same w asked (Handed job) one other last = refl
 session_same w asked (Waiting k job) one other last = refl
 session_same w asked (Inside k job) one other last = refl
 session_same w asked (Finished k job) one other last = refl
 
-pub state_found : (seen : WorldView) (w : ℕ) → w < seen.shape.workers → slice_get (world_abstract_state seen).workers w ≡ Some (worker_state_in seen w)
+pub state_found : (seen : WorldView) (w : ℕ) → w < seen.shape.workers
+    → slice_get (world_abstract_state seen).workers w ≡ Some (worker_state_in seen w)
 state_found seen w within = made_get (λ (worker : ℕ). abstract_worker seen.shape (world_memory seen) (world_privates seen) seen.history worker) seen.shape.workers w within
 
-view_same : (w : ℕ) (old new : WorldView) → w < old.shape.workers → new.shape ≡ old.shape → SameIn w (world_abstract_state old) (world_abstract_state new) → worker_session new w ≡ worker_session old w
+view_same : (w : ℕ) (old new : WorldView) → w < old.shape.workers → new.shape ≡ old.shape
+    → SameIn w (world_abstract_state old) (world_abstract_state new) → worker_session new w ≡ worker_session old w
 view_same w old new within shape same =
     let there : w < new.shape.workers = subst (λ (s : Shape). w < s.workers) (sym shape) within in
     let state : worker_state_in new w ≡ worker_state_in old w = same_Some _ _ (sym (state_found new w there) ∙ (same.0 ∙ state_found old w within)) in
@@ -176,21 +189,26 @@ view_same w old new within shape same =
 
 -- ---- entries of other sessions
 
-pub holder_apart : (session author : ℕ) (holders : List (Option ℕ)) (worker its : ℕ) → author ≢ session → slice_get holders worker ≡ Some (Some session) → slice_get holders its ≡ Some (Some author) → worker ≢ its
+pub holder_apart : (session author : ℕ) (holders : List (Option ℕ)) (worker its : ℕ) → author ≢ session
+    → slice_get holders worker ≡ Some (Some session) → slice_get holders its ≡ Some (Some author) → worker ≢ its
 holder_apart session author holders worker its other has had same =
     let e : Some (Some session) ≡ Some (Some author) = sym has ∙ (ap (slice_get holders) same ∙ had) in
     other (sym (same_Some _ _ (same_Some _ _ e)))
 
-pub nobody_apart : (session : ℕ) (holders : List (Option ℕ)) (worker its : ℕ) → slice_get holders worker ≡ Some (Some session) → slice_get holders its ≡ Some None → worker ≢ its
+pub nobody_apart : (session : ℕ) (holders : List (Option ℕ)) (worker its : ℕ)
+    → slice_get holders worker ≡ Some (Some session) → slice_get holders its ≡ Some None → worker ≢ its
 nobody_apart session holders worker its has had same =
     let e : Some (Some session) ≡ Some None = sym has ∙ (ap (slice_get holders) same ∙ had) in
     none-some session (sym (same_Some _ _ e))
 
 module _ (session worker : ℕ) where
-  pub held_is : (state : ServerState) → slice_get state.executor.holders worker ≡ Some (Some session) → held_session state.executor worker ≡ worker_session state.executor.world worker
+  pub held_is : (state : ServerState) → slice_get state.executor.holders worker ≡ Some (Some session)
+      → held_session state.executor worker ≡ worker_session state.executor.world worker
   held_is state has = ap (λ (found : Option (Option ℕ)). held_session_if found (worker_session state.executor.world worker)) has
 
-  batch_keeps : (names : List (List ℕ)) (author : ℕ) (old : ServerState) (lines : List ℕ) (new : ServerState) → author ≢ session → worker < old.executor.world.shape.workers → slice_get old.executor.holders worker ≡ Some (Some session) → AppendsSessionBatch names author old lines new
+  batch_keeps : (names : List (List ℕ)) (author : ℕ) (old : ServerState) (lines : List ℕ) (new : ServerState)
+      → author ≢ session → worker < old.executor.world.shape.workers
+      → slice_get old.executor.holders worker ≡ Some (Some session) → AppendsSessionBatch names author old lines new
       → KeepsWorker session worker old new × (new.executor.world.shape ≡ old.executor.world.shape)
   batch_keeps names author old lines new other within has appended =
       let applies = appended.applies in
@@ -204,23 +222,30 @@ module _ (session worker : ℕ) where
       let view = held_is new keeps ∙ (view_same worker old.executor.world new.executor.world within same.1 same.0 ∙ sym (held_is old has)) in
       (record { has = keeps; shown = ap (λ (b : Base). client_session b (held_session new.executor worker)) appended.base ∙ ap (client_session old.base) view }, same.1)
 
-  epoch_keeps : (names : List (List ℕ)) (old : ServerState) (bytes : List ℕ) (new : ServerState) → worker + 1 < old.executor.world.shape.workers → slice_get old.executor.holders worker ≡ Some (Some session) → BeginsEpoch names old bytes new → KeepsWorker session worker old new
+  epoch_keeps : (names : List (List ℕ)) (old : ServerState) (bytes : List ℕ) (new : ServerState)
+      → worker + 1 < old.executor.world.shape.workers → slice_get old.executor.holders worker ≡ Some (Some session)
+      → BeginsEpoch names old bytes new → KeepsWorker session worker old new
   epoch_keeps names old bytes new within has begins = record {
     has = ap (λ (h : List (Option ℕ)). slice_get h worker) begins.same.holders ∙ has;
     shown = (begins.same.each.alike worker within).shown;
   }
 
-  keeps_then : (old mid new : ServerState) → KeepsWorker session worker old mid → KeepsWorker session worker mid new → KeepsWorker session worker old new
+  keeps_then : (old mid new : ServerState) → KeepsWorker session worker old mid → KeepsWorker session worker mid new
+      → KeepsWorker session worker old new
   keeps_then old mid new one two = record { has = two.has; shown = two.shown ∙ one.shown }
 
-  pub entry_keeps : (names : List (List ℕ)) (entry : LogEntry) (old new : ServerState) → EntryLeads names old entry new → IsNotByAuthor session entry → worker + 1 < old.executor.world.shape.workers → slice_get old.executor.holders worker ≡ Some (Some session)
+  pub entry_keeps : (names : List (List ℕ)) (entry : LogEntry) (old new : ServerState) → EntryLeads names old entry new
+      → IsNotByAuthor session entry → worker + 1 < old.executor.world.shape.workers
+      → slice_get old.executor.holders worker ≡ Some (Some session)
       → KeepsWorker session worker old new × (new.executor.world.shape.workers ≡ old.executor.world.shape.workers)
   entry_keeps names (Lines author lines) old new lead other within has =
       let keeps = batch_keeps names author old lines new other (omega (arith, within)) has lead in
       (keeps.0, ap (λ (s : Shape). s.workers) keeps.1)
   entry_keeps names (Whole bytes) old new lead other within has = (epoch_keeps names old bytes new within has lead, lead.same.workers)
 
-pub keeps_worker : (names : List (List ℕ)) (session worker : ℕ) (log : List LogEntry) (old new : ServerState) → EntriesLead names old log new → AreNotByAuthor session log → worker + 1 < old.executor.world.shape.workers → slice_get old.executor.holders worker ≡ Some (Some session)
+pub keeps_worker : (names : List (List ℕ)) (session worker : ℕ) (log : List LogEntry) (old new : ServerState)
+    → EntriesLead names old log new → AreNotByAuthor session log → worker + 1 < old.executor.world.shape.workers
+    → slice_get old.executor.holders worker ≡ Some (Some session)
     → KeepsWorker session worker old new
 keeps_worker names session worker [] old new lead others within has = subst (KeepsWorker session worker old) (sym lead) record { has = has; shown = refl }
 keeps_worker names session worker (entry ∷ log) old new lead others within has =

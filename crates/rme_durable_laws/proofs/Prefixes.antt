@@ -36,7 +36,8 @@ use Rattle.rme_durable_laws.proofs.Still.{alike_then}
 
 -- ---- lines of bytes
 
-pieces_whole : (seen front more : List ℕ) → pieces seen ((front ++ 10 ∷ []) ++ more) ≡ pieces seen (front ++ 10 ∷ []) ++ pieces [] more
+pieces_whole : (seen front more : List ℕ)
+    → pieces seen ((front ++ 10 ∷ []) ++ more) ≡ pieces seen (front ++ 10 ∷ []) ++ pieces [] more
 unfolding pieces
 pieces_whole seen [] more = refl
 pieces_whole seen (b ∷ front) more = elim (cases_Bool (b == 10)) [
@@ -44,7 +45,8 @@ pieces_whole seen (b ∷ front) more = elim (cases_Bool (b == 10)) [
   | inr f ↦ rw f (pieces_whole (seen ++ b ∷ []) front more)
 ]
 
-pub lines_whole : (first more : List ℕ) → AreWholeLines first → lines_of (first ++ more) ≡ lines_of first ++ lines_of more
+pub lines_whole : (first more : List ℕ) → AreWholeLines first
+    → lines_of (first ++ more) ≡ lines_of first ++ lines_of more
 unfolding lines_of
 lines_whole first more (front, is) =
     let cut = pieces_whole [] front more ∙ ap (λ (b : List ℕ). pieces [] b ++ pieces [] more) (sym is) in
@@ -84,7 +86,8 @@ asked_append : (one two : List Command) → all_asked_events (one ++ two) ≡ al
 asked_append [] two = refl
 asked_append (c ∷ one) two = ap (λ (es : List Event). asked_events c ++ es) (asked_append one two) ∙ sym (append_assoc (asked_events c) (all_asked_events one) (all_asked_events two))
 
-start_asked : (worker : ℕ) (begins : BatchStart) → all_asked_events (start_commands worker begins) ≡ start_events worker begins
+start_asked : (worker : ℕ) (begins : BatchStart)
+    → all_asked_events (start_commands worker begins) ≡ start_events worker begins
 start_asked worker Restart = refl
 start_asked worker (Submit job) = refl
 start_asked worker Withdraw = refl
@@ -111,7 +114,8 @@ short_line : (line : List ℕ) → length line ≤ 65536 → line_of line ≡ te
 short_line line short = rw (le-leb (length line) 65536 short) refl
 
 -- The lines of the commands, before more bytes.
-pub command_lines : (names : List (List ℕ)) (commands : List Command) (bytes more : List ℕ) → AppendsCommands names [] commands bytes → AreOrders commands
+pub command_lines : (names : List (List ℕ)) (commands : List Command) (bytes more : List ℕ)
+    → AppendsCommands names [] commands bytes → AreOrders commands
     → (lines : List (List ℕ)) × AreCommandLines names commands lines × (lines_of (bytes ++ more) ≡ map text lines ++ lines_of more)
 command_lines names [] bytes more writes orders = ([], tt, ap (λ (b : List ℕ). lines_of (b ++ more)) writes)
 command_lines names (command ∷ commands) bytes more writes orders =
@@ -125,14 +129,17 @@ command_lines names (command ∷ commands) bytes more writes orders =
 
 -- ---- accepted lines
 
-pub split_accepts : (one two : List InputLine) (old new : EngineState) → AcceptsLines old (one ++ two) new → (mid : EngineState) × AcceptsLines old one mid × AcceptsLines mid two new
+pub split_accepts : (one two : List InputLine) (old new : EngineState) → AcceptsLines old (one ++ two) new
+    → (mid : EngineState) × AcceptsLines old one mid × AcceptsLines mid two new
 split_accepts [] two old new accepts = (old, refl, accepts)
 split_accepts (line ∷ one) two old new accepts =
     let rest = split_accepts one two accepts.0 new accepts.2 in
     (rest.0, (accepts.0, accepts.1, rest.1), rest.2)
 
 -- The entry of an event batch, before more bytes.
-entry_read : (names : List (List ℕ)) (session : ℕ) (old new : ServerState) (bytes more : List ℕ) (from to : EngineState) → AppendsSessionBatch names session old bytes new → HasAlikeWorldOpen names old.executor.world from → AcceptsLines from (lines_of (bytes ++ more)) to
+entry_read : (names : List (List ℕ)) (session : ℕ) (old new : ServerState) (bytes more : List ℕ) (from to : EngineState)
+    → AppendsSessionBatch names session old bytes new → HasAlikeWorldOpen names old.executor.world from
+    → AcceptsLines from (lines_of (bytes ++ more)) to
     → (mid : EngineState) × HasAlikeWorldOpen names new.executor.world mid × AcceptsLines mid (lines_of more) to
 entry_read names session old new bytes more from to appended opened accepts =
     let batch = appended.batch in
@@ -141,7 +148,9 @@ entry_read names session old new bytes more from to appended opened accepts =
     let happened : AppliesEvents old.executor.world (all_asked_events (batch_commands batch)) new.executor.world = subst (λ (es : List Event). AppliesEvents old.executor.world es new.executor.world) (sym (batch_asked batch)) appended.applies.happened in
     (parts.0, all_read names (batch_commands batch) lines.0 old.executor.world new.executor.world happened.0 from parts.0 lines.1 opened happened.1 parts.1, parts.2)
 
-entries_read : (names : List (List ℕ)) (log : List LogEntry) (old new : ServerState) (from to : EngineState) → AreAllLines log → EntriesLead names old log new → HasAlikeWorldOpen names old.executor.world from → AcceptsLines from (lines_of (entry_lines log)) to → HasAlikeWorldOpen names new.executor.world to
+entries_read : (names : List (List ℕ)) (log : List LogEntry) (old new : ServerState) (from to : EngineState)
+    → AreAllLines log → EntriesLead names old log new → HasAlikeWorldOpen names old.executor.world from
+    → AcceptsLines from (lines_of (entry_lines log)) to → HasAlikeWorldOpen names new.executor.world to
 entries_read names [] old new from to all lead opened accepts =
     let left : to ≡ from = subst (λ (ls : List InputLine). AcceptsLines from ls to) lines_none accepts in
     subst (λ (s : ServerState). HasAlikeWorldOpen names s.executor.world to) (sym lead) (subst (HasAlikeWorldOpen names old.executor.world) (sym left) opened)
@@ -152,7 +161,10 @@ entries_read names (Whole bytes ∷ log) old new from to all lead opened accepts
 
 -- ---- a log that only grew
 
-pub open_by : (names : List (List ℕ)) (seen : WorldView) (tallied : TalliedWorld) (mid : EngineState) (world : Option TalliedWorld) → mid.world ≡ world → Same record { names = names; world = Some tallied } mid → AreWorldsAlike seen tallied.world → HasAlikeWorldOpen names seen mid
+pub open_by : (names : List (List ℕ)) (seen : WorldView) (tallied : TalliedWorld) (mid : EngineState)
+    (world : Option TalliedWorld)
+    → mid.world ≡ world → Same record { names = names; world = Some tallied } mid → AreWorldsAlike seen tallied.world
+    → HasAlikeWorldOpen names seen mid
 open_by names seen tallied mid None is same alike = absurd (subst (λ (w : Option TalliedWorld). OpenAlike (Some tallied) w) is same.1)
 open_by names seen tallied mid (Some found) is same alike =
     let opened = subst (λ (w : Option TalliedWorld). OpenAlike (Some tallied) w) is same.1 in
@@ -163,7 +175,8 @@ unfoldable pub rest_of : List InputLine → List InputLine
 rest_of [] = []
 rest_of (line ∷ lines) = lines
 
-pub rest_front : (header : InputLine) (lines more whole : List InputLine) → whole ≡ header ∷ lines → rest_of (whole ++ more) ≡ lines ++ more
+pub rest_front : (header : InputLine) (lines more whole : List InputLine) → whole ≡ header ∷ lines
+    → rest_of (whole ++ more) ≡ lines ++ more
 unfolding rest_of
 rest_front header lines more whole is = ap (λ (w : List InputLine). rest_of (w ++ more)) is
 
@@ -171,13 +184,17 @@ pub rest_is : (header : InputLine) (lines whole : List InputLine) → whole ≡ 
 unfolding rest_of
 rest_is header lines whole is = ap rest_of is
 
-pub final_alike : (names others : List (List ℕ)) (seen : WorldView) (tallied : TalliedWorld) (world : WorldView) → tallied.world ≡ world → HasAlikeWorldOpen names seen record { names = others; world = Some tallied } → (names ≡ others) × AreWorldsAlike seen world
+pub final_alike : (names others : List (List ℕ)) (seen : WorldView) (tallied : TalliedWorld) (world : WorldView)
+    → tallied.world ≡ world → HasAlikeWorldOpen names seen record { names = others; world = Some tallied }
+    → (names ≡ others) × AreWorldsAlike seen world
 final_alike names others seen tallied world its opened =
     let named = ap (λ (s : EngineState). s.names) opened.is in
     let same : tallied ≡ opened.tallied = same_Some _ _ (ap (λ (s : EngineState). s.world) opened.is) in
     (sym named, subst (AreWorldsAlike seen) (ap (λ (t : TalliedWorld). t.world) (sym same) ∙ its) opened.alike)
 
-grown_recovers : (names others : List (List ℕ)) (first : List ℕ) (log : List LogEntry) (start state : ServerState) (world : WorldView) → AreAllLines log → AreWholeLines first → RecoversState names first start → EntriesLead names start log state
+grown_recovers : (names others : List (List ℕ)) (first : List ℕ) (log : List LogEntry) (start state : ServerState)
+    (world : WorldView)
+    → AreAllLines log → AreWholeLines first → RecoversState names first start → EntriesLead names start log state
     → RecoversWorld (first ++ entry_lines log) others world → (names ≡ others) × AreWorldsAlike state.executor.world world
 grown_recovers names others first log start state world all whole from lead recovers =
     let before = from.recovers in
@@ -206,16 +223,21 @@ last_whole (Whole bytes ∷ log) = elim (last_whole log) [
   | inr last ↦ inr (Whole bytes ∷ last.0, last.1, last.2, last.3, ap (λ (l : List LogEntry). Whole bytes ∷ l) last.4)
 ]
 
-pub split_lead : (names : List (List ℕ)) (one two : List LogEntry) (old new : ServerState) → EntriesLead names old (one ++ two) new → (mid : ServerState) × EntriesLead names old one mid × EntriesLead names mid two new
+pub split_lead : (names : List (List ℕ)) (one two : List LogEntry) (old new : ServerState)
+    → EntriesLead names old (one ++ two) new
+    → (mid : ServerState) × EntriesLead names old one mid × EntriesLead names mid two new
 split_lead names [] two old new lead = (old, refl, lead)
 split_lead names (entry ∷ one) two old new lead =
     let rest = split_lead names one two lead.0 new lead.2 in
     (rest.0, (lead.0, lead.1, rest.1), rest.2)
 
-pub bytes_grown : (first : List ℕ) (log : List LogEntry) → AreAllLines log → log_bytes_after first log ≡ first ++ entry_lines log
+pub bytes_grown : (first : List ℕ) (log : List LogEntry) → AreAllLines log
+    → log_bytes_after first log ≡ first ++ entry_lines log
 bytes_grown first log all = bytes_of-more (Whole first ∷ []) log all
 
-pub prefix_recovers : (names others : List (List ℕ)) (first : List ℕ) (log : List LogEntry) (start state : ServerState) (world : WorldView) → AreWholeLines first → RecoversState names first start → EntriesLead names start log state
+pub prefix_recovers : (names others : List (List ℕ)) (first : List ℕ) (log : List LogEntry) (start state : ServerState)
+    (world : WorldView)
+    → AreWholeLines first → RecoversState names first start → EntriesLead names start log state
     → RecoversWorld (log_bytes_after first log) others world → (names ≡ others) × AreWorldsAlike state.executor.world world
 prefix_recovers names others first log start state world whole from lead recovers = elim (last_whole log) [
   | inl all ↦ grown_recovers names others first log start state world all whole from lead (subst (λ (b : List ℕ). RecoversWorld b others world) (bytes_grown first log all) recovers)

@@ -47,7 +47,8 @@ module _ (shape : Shape) (v w lock : ℕ) (apart : w ≢ v) where
   abbrev SamePlace : MachineState → MachineState → Type 0
   SamePlace old new = place_of new.history lock ≡ place_of old.history lock
 
-  act_place : (act : Act) (old : MachineState) (me : WorkerState) (new : MachineState) → IsReachable shape old → slice_get old.workers v ≡ Some me → Owns old → ActEffect shape act old v me new → SamePlace old new
+  act_place : (act : Act) (old : MachineState) (me : WorkerState) (new : MachineState) → IsReachable shape old
+      → slice_get old.workers v ≡ Some me → Owns old → ActEffect shape act old v me new → SamePlace old new
   act_place (Hand k job) old me new reached found owned goes = ap (λ (s : MachineState). place_of s.history lock) goes.5
   act_place (Ask k) old me new reached found owned goes = ap (λ (s : MachineState). place_of s.history lock) goes.4
   act_place (Take site) old me new reached found owned goes = ap (λ (s : MachineState). place_of s.history lock) goes.6
@@ -66,26 +67,32 @@ module _ (shape : Shape) (v w lock : ℕ) (apart : w ≢ v) where
   act_place Still old me new reached found owned goes = ap (λ (s : MachineState). place_of s.history lock) goes.1
   act_place Wait old me new reached found owned goes = ap (λ (s : MachineState). place_of s.history lock) goes.4
 
-  label_place : (label : Label) → IsOf shape v w apart label → (old new : MachineState) → IsReachable shape old → Owns old → LabelStep shape label old new → SamePlace old new
+  label_place : (label : Label) → IsOf shape v w apart label → (old new : MachineState) → IsReachable shape old
+      → Owns old → LabelStep shape label old new → SamePlace old new
   label_place Nothing of_it old new reached owned step = ap (λ (s : MachineState). place_of s.history lock) step
   label_place (Of u act) of_it old new reached owned step =
       let mine : MachineStep shape act old v new = subst (λ (x : ℕ). MachineStep shape act old x new) of_it step in
       act_place act old mine.me new reached mine.is_me owned mine.goes
 
-  told_place : (one : Event) → IsEventOf shape v w apart one → (given : Answer) (old new : WorldView) → IsReachable shape (world_abstract_state old) → Owns (world_abstract_state old) → (told : List Label) → EventsHaveLabels (one ∷ []) (given ∷ []) told
+  told_place : (one : Event) → IsEventOf shape v w apart one → (given : Answer) (old new : WorldView)
+      → IsReachable shape (world_abstract_state old) → Owns (world_abstract_state old) → (told : List Label)
+      → EventsHaveLabels (one ∷ []) (given ∷ []) told
       → MachineRun shape (world_abstract_state old) told (world_abstract_state new) → place_of new.history lock ≡ place_of old.history lock
   told_place one of_it given old new reached owned [] labels run = absurd labels
   told_place one of_it given old new reached owned (label ∷ []) labels run =
       ap (λ (s : MachineState). place_of s.history lock) run.2 ∙ label_place label (label_of shape v w apart one of_it given label labels.0) (world_abstract_state old) run.0 reached owned run.1
   told_place one of_it given old new reached owned (label ∷ more ∷ rest) labels run = absurd labels.1
 
-  refined_place : (one : Event) → IsEventOf shape v w apart one → (given : Answer) (old new : WorldView) → old.shape ≡ shape → IsWorldReachable old → Owns (world_abstract_state old) → IsRefinement old (one ∷ []) (given ∷ []) new
+  refined_place : (one : Event) → IsEventOf shape v w apart one → (given : Answer) (old new : WorldView)
+      → old.shape ≡ shape → IsWorldReachable old → Owns (world_abstract_state old)
+      → IsRefinement old (one ∷ []) (given ∷ []) new
       → place_of new.history lock ≡ place_of old.history lock
   refined_place one of_it given old new at reached owned refines =
       told_place one of_it given old new (subst (λ (s : Shape). IsReachable s (world_abstract_state old)) at reached) owned refines.told refines.are_labels
       (subst (λ (s : Shape). MachineRun s (world_abstract_state old) refines.told (world_abstract_state new)) at refines.run)
 
-  event_place : (one : Event) → IsEventOf shape v w apart one → (given : Answer) (old new : WorldView) → old.shape ≡ shape → IsWorldReachable old → Owns (world_abstract_state old) → EventContract old one given new
+  event_place : (one : Event) → IsEventOf shape v w apart one → (given : Answer) (old new : WorldView)
+      → old.shape ≡ shape → IsWorldReachable old → Owns (world_abstract_state old) → EventContract old one given new
       → place_of new.history lock ≡ place_of old.history lock
   event_place (event.Submit u job) of_it given old new at reached owned call = refined_place (event.Submit u job) of_it _ old new at reached owned call.2.headline
   event_place (event.Step u) of_it given old new at reached owned call = refined_place (event.Step u) of_it _ old new at reached owned call.2.headline
@@ -93,7 +100,9 @@ module _ (shape : Shape) (v w lock : ℕ) (apart : w ≢ v) where
   event_place (event.Restart u) of_it given old new at reached owned call = refined_place (event.Restart u) of_it _ old new at reached owned call.2.headline
   event_place (event.Withdraw u) of_it given old new at reached owned call = refined_place (event.Withdraw u) of_it _ old new at reached owned call.2.headline
 
-  list_place : (events : List Event) → AreEventsOf shape v w apart events → (given : List Answer) (old new : WorldView) → old.shape ≡ shape → IsWorldReachable old → (me : WorkerState) → slice_get (world_abstract_state old).workers w ≡ Some me
+  list_place : (events : List Event) → AreEventsOf shape v w apart events → (given : List Answer) (old new : WorldView)
+      → old.shape ≡ shape → IsWorldReachable old → (me : WorkerState)
+      → slice_get (world_abstract_state old).workers w ≡ Some me
       → IsInSectionOf me.stance lock → EventListContract old events given new → place_of new.history lock ≡ place_of old.history lock
   list_place [] of_it [] old new at reached me found section all = ap (λ (s : WorldView). place_of s.history lock) all
   list_place [] of_it (a ∷ given) old new at reached me found section all = absurd all
@@ -112,7 +121,9 @@ abbrev pub SectionStays : ℕ → ServerState → ServerState → Type 0
 SectionStays lock old new = next_client_place new.base new.executor.world lock ≡ next_client_place old.base old.executor.world lock
 
 module _ (names : List (List ℕ)) (session worker : ℕ) (job : Job) where
-  entry_place : (entry : LogEntry) (old new : ServerState) → EntryLeads names old entry new → IsNotByAuthor session entry → IsWorldReachable old.executor.world → IsSessionInside session worker job old → SectionStays job.lock old new
+  entry_place : (entry : LogEntry) (old new : ServerState) → EntryLeads names old entry new
+      → IsNotByAuthor session entry → IsWorldReachable old.executor.world → IsSessionInside session worker job old
+      → SectionStays job.lock old new
   entry_place (Lines author lines) old new lead other reached inside =
       let world = old.executor.world in
       let batch = lead.batch in
@@ -129,7 +140,9 @@ module _ (names : List (List ℕ)) (session worker : ℕ) (job : Job) where
       ap₂ (λ (b : Base) (n : ℕ). client_place b job.lock n) lead.base place
   entry_place (Whole bytes) old new lead other reached inside = lead.same.each.places job.lock (inside_owns session worker job old reached inside).within
 
-  pub entries_place : (log : List LogEntry) (old new : ServerState) → EntriesLead names old log new → AreNotByAuthor session log → IsWorldReachable old.executor.world → IsSessionInside session worker job old → SectionStays job.lock old new
+  pub entries_place : (log : List LogEntry) (old new : ServerState) → EntriesLead names old log new
+      → AreNotByAuthor session log → IsWorldReachable old.executor.world → IsSessionInside session worker job old
+      → SectionStays job.lock old new
   entries_place [] old new lead others reached inside = ap (λ (s : ServerState). next_client_place s.base s.executor.world job.lock) lead
   entries_place (entry ∷ log) old new lead others reached inside =
       let mid : ServerState = lead.0 in
@@ -143,7 +156,9 @@ alike_place : (lock : ℕ) (one other : ServerState) → AreStatesAlike one othe
 alike_place lock one other alike =
     ap₂ (λ (ps : List PlaceOffset) (es : List Entry). offset_place (slice_get ps lock) (place_of es lock)) (sym alike.places) (sym alike.world.history)
 
-pub section_stays : (opening : ServerOpening) (start : ServerState) (old held now : SessionMoment) (before after next last : ServerState) (worker : ℕ) (job : Job) → BeginsWith opening start → SessionActs opening old before held after → SessionActs opening held next now last
+pub section_stays : (opening : ServerOpening) (start : ServerState) (old held now : SessionMoment)
+    (before after next last : ServerState) (worker : ℕ) (job : Job)
+    → BeginsWith opening start → SessionActs opening old before held after → SessionActs opening held next now last
     → IsSessionInside held.session.session worker job after → SectionStays job.lock after next
 section_stays opening start old held now before after next last worker job begins first second inside =
     let session = held.session.session in

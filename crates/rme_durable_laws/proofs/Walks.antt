@@ -15,7 +15,8 @@ use Rattle.rme_durable_laws.proofs.Events.{alike_after, step_one, step_result}
 use Rattle.rme_durable_laws.proofs.Still.{alike_back, ready_on}
 
 -- Alike worlds answer the same readiness.
-ready_same : (one other : WorldView) (worker : ℕ) (ready again : Result Bool Refusal) → AreWorldsAlike one other → ReadyContract one worker ready → ReadyContract other worker again → is_true ready ≡ is_true again
+ready_same : (one other : WorldView) (worker : ℕ) (ready again : Result Bool Refusal) → AreWorldsAlike one other
+    → ReadyContract one worker ready → ReadyContract other worker again → is_true ready ≡ is_true again
 ready_same one other worker (Ok true) (Ok true) alike first second = refl
 ready_same one other worker (Ok false) (Ok false) alike first second = refl
 ready_same one other worker (Ok true) (Ok false) alike first second = sym (second.ready.1 (ready_on one other worker alike (first.ready.0 refl)))
@@ -32,13 +33,17 @@ module _ (worker : ℕ) (wanted : Option Until) where
   GoesOn most mid again = (notes also : List Note) (outcome repeat : Result WalkEnd Refusal) (one other : TalliedWorld)
       → WalkStepSequence most mid worker wanted (walk_outcome notes outcome one) → WalkStepSequence most again worker wanted (walk_outcome also repeat other) → AreWorldsAlike one.world other.world
 
-  goes_one : (most : ℕ) (mid again one other : TalliedWorld) (note : Note) (end : Option WalkEnd) (notes also : List Note) (outcome repeat : Result WalkEnd Refusal) → AreWorldsAlike mid.world again.world → GoesOn most mid again
+  goes_one : (most : ℕ) (mid again one other : TalliedWorld) (note : Note) (end : Option WalkEnd)
+      (notes also : List Note) (outcome repeat : Result WalkEnd Refusal)
+      → AreWorldsAlike mid.world again.world → GoesOn most mid again
       → WalkAfterNote (WalkStepSequence most mid worker wanted) mid note end (walk_outcome notes outcome one) → WalkAfterNote (WalkStepSequence most again worker wanted) again note end (walk_outcome also repeat other) → AreWorldsAlike one.world other.world
   goes_one most mid again one other note (Some end) notes also outcome repeat alike on first second =
       alike_after mid.world again.world one.world other.world alike (ap (λ (t : TalliedWorld). t.world) first.2) (ap (λ (t : TalliedWorld). t.world) second.2)
   goes_one most mid again one other note None notes also outcome repeat alike on first second = on first.0 second.0 outcome repeat one other first.1 second.1
 
-  follows_one : (most : ℕ) (mid again one other : TalliedWorld) (result : Result Note Refusal) (notes also : List Note) (outcome repeat : Result WalkEnd Refusal) → AreWorldsAlike mid.world again.world → GoesOn most mid again
+  follows_one : (most : ℕ) (mid again one other : TalliedWorld) (result : Result Note Refusal) (notes also : List Note)
+      (outcome repeat : Result WalkEnd Refusal)
+      → AreWorldsAlike mid.world again.world → GoesOn most mid again
       → WalkAfterStep (WalkStepSequence most mid worker wanted) mid worker wanted result (walk_outcome notes outcome one) → WalkAfterStep (WalkStepSequence most again worker wanted) again worker wanted result (walk_outcome also repeat other) → AreWorldsAlike one.world other.world
   follows_one most mid again one other (Err why) notes also outcome repeat alike on first second =
       alike_after mid.world again.world one.world other.world alike (ap (λ (t : TalliedWorld). t.world) first.2) (ap (λ (t : TalliedWorld). t.world) second.2)

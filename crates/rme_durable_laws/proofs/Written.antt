@@ -31,7 +31,8 @@ is_blocked_note (Left lock) is = absurd (false≢true is)
 is_blocked_note Ready is = absurd (false≢true is)
 is_blocked_note (Withdrew number) is = absurd (false≢true is)
 
-is_ready_seen : (seen : WorldView) (worker : ℕ) (ready : Result Bool Refusal) → ReadyContract seen worker ready → is_true ready ≡ true → WorkerIsReady seen worker
+is_ready_seen : (seen : WorldView) (worker : ℕ) (ready : Result Bool Refusal) → ReadyContract seen worker ready
+    → is_true ready ≡ true → WorkerIsReady seen worker
 is_ready_seen seen worker (Ok true) shows is = shows.ready.0 refl
 is_ready_seen seen worker (Ok false) shows is = absurd (false≢true is)
 is_ready_seen seen worker (Err why) shows is = absurd (false≢true is)
@@ -52,12 +53,16 @@ module _ (worker most : ℕ) (answers : List Answer) (seen mid new : WorldView) 
       from_mid left (all_blocked most worker answers seen mid mid new blocked (blocked_same seen mid worker blocked) all)
   ended_early false false ended left is so why = absurd (none-some ended why)
 
-  goes_written : (notes : List Note) (outcome : Result WalkEnd Refusal) → ((more : List Note) → WalkStepSequence most too worker None (walk_outcome more outcome one) → AreWorldsAlike new one.world)
+  goes_written : (notes : List Note) (outcome : Result WalkEnd Refusal)
+      → ((more : List Note) → WalkStepSequence most too worker None (walk_outcome more outcome one)
+      → AreWorldsAlike new one.world)
       → (ended : Option WalkEnd) → walk_end_after None note ready ≡ ended → WalkAfterNote (WalkStepSequence most too worker None) too note ended (walk_outcome notes outcome one) → AreWorldsAlike new one.world
   goes_written notes outcome on (Some ended) is goes = ended_early (is_true ready) (is_blocked note) ended goes.2 refl refl is
   goes_written notes outcome on None is goes = on goes.0 goes.1
 
-follows_written : (worker most : ℕ) (answers : List Answer) (seen mid new : WorldView) (too one : TalliedWorld) (result : Result Note Refusal) (notes : List Note) (outcome : Result WalkEnd Refusal) (ended : WalkEnd) → outcome ≡ Ok ended
+follows_written : (worker most : ℕ) (answers : List Answer) (seen mid new : WorldView) (too one : TalliedWorld)
+    (result : Result Note Refusal) (notes : List Note) (outcome : Result WalkEnd Refusal) (ended : WalkEnd)
+    → outcome ≡ Ok ended
     → StepContract seen worker result mid → AreWorldsAlike mid too.world → EventListContract mid (replicate most (event.Step worker)) answers new
     → ((more : List Note) → WalkStepSequence most too worker None (walk_outcome more outcome one) → AreWorldsAlike new one.world)
     → WalkAfterStep (WalkStepSequence most too worker None) too worker None result (walk_outcome notes outcome one) → AreWorldsAlike new one.world
@@ -66,7 +71,9 @@ follows_written worker most answers seen mid new too one (Ok note) notes outcome
     goes_written worker most answers seen mid new too one note follows.0 step alike follows.1 all notes outcome on (walk_end_after None note follows.0) refl follows.2
 
 -- A walk of as many steps as one worker made leads to the same state.
-pub walk_written : (most worker : ℕ) (answers : List Answer) (seen new : WorldView) (old one : TalliedWorld) (notes : List Note) (outcome : Result WalkEnd Refusal) (ended : WalkEnd) → outcome ≡ Ok ended
+pub walk_written : (most worker : ℕ) (answers : List Answer) (seen new : WorldView) (old one : TalliedWorld)
+    (notes : List Note) (outcome : Result WalkEnd Refusal) (ended : WalkEnd)
+    → outcome ≡ Ok ended
     → AreWorldsAlike seen old.world → EventListContract seen (replicate most (event.Step worker)) answers new → WalkStepSequence most old worker None (walk_outcome notes outcome one) → AreWorldsAlike new one.world
 unfolding WalkStepSequence
 walk_written zero worker [] seen new old one notes outcome ended ok alike all walks = alike_after seen old.world new one.world alike all (ap (λ (t : TalliedWorld). t.world) walks.2)

@@ -9,12 +9,13 @@ use Rattle.rme_durable_format.specs.Recovery.{changes_world}
 use Rattle.rme_world.specs.WorldViews.{WorldView}
 use Rattle.rme_durable_laws.specs.AlikeWorlds.{AreWorldsAlike}
 
--- A command as orders are logged: it changes a world, and a walk of own steps has no note to end with.
+-- A command of the kind that orders are logged as: it changes a world, and a walk of own steps names no note at which it
+-- ends.
 abbrev pub IsOrderCommand : Command → Type 0
 IsOrderCommand (Walk walk) = walk.until ≡ None
 IsOrderCommand command = changes_world command ≡ true
 
--- One line for each of these commands, in order, which asks for it by these names of the locks.
+-- There is one line for each command, in the same order. It asks for the command, with these names of the locks.
 abbrev pub AreCommandLines : List (List ℕ) → List Command → List (List ℕ) → Type 0
 AreCommandLines names [] [] = Unit {0}
 AreCommandLines names (command ∷ commands) (line ∷ lines) =

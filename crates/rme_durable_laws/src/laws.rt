@@ -28,7 +28,7 @@ ghost use Rattle.rme_session_protocol.specs.declared.view.PendingWorker.{Pending
 ghost use Rattle.rme_session_protocol.specs.declared.view.Session.TheVariants.{Held, Nobody};
 ghost use Rattle.rme_words.specs.declared.refusal.Refusal.TheVariants.{Overtaken};
 ghost use Rattle.rme_durable_epochs.specs.ClientValues.{next_client_place};
-ghost use Rattle.rme_durable_server.specs.DurableAnswers.{DurableAttempt};
+ghost use Rattle.rme_durable_server.specs.DurableOrders.{DurableAttempt};
 ghost use Rattle.rme_durable_server.specs.ServerHistories.{EntriesLead, HasStateHeader, KeepsWorker, ServerState, SessionActs, SessionMoment};
 ghost use Rattle.rme_durable_laws.specs.AlikeWorlds.{AreWorldsAlike};
 ghost use Rattle.rme_durable_laws.specs.HeldLocks.{BeginsWith, IsSessionInside, IsWorldReachable, WorkerOwnsLock};
@@ -63,16 +63,16 @@ pub fn replay_restores_world()
 {}
 
 /// The log determines the history: the same entries lead from alike states to alike states. So the state in which an
-/// order was executed is the one to which the log before it leads, whoever's order that was.
+/// order was executed is the one to which the log before it leads, whichever session gave the order.
 pub fn log_determines_state()
     ensures { (names : List (List ℕ)) (log : List LogEntry) (old again one other : ServerState)
         → AreStatesAlike old again → EntriesLead names old log one → EntriesLead names again log other
         → AreStatesAlike one other }
 {}
 
-/// RECOVERY IS PREFIX-CLOSED: what recovery reads from the bytes of any prefix of a server's log, the first entry
-/// included, is the state to which that prefix leads. So an order is done in it whose entry is in the prefix, and no
-/// other one.
+/// RECOVERY IS PREFIX-CLOSED: recovery of the bytes of any prefix of a server's log, the first entry included, leads to
+/// the state to which that prefix leads. So the recovered state has the orders whose entries are in the prefix, and no
+/// others.
 ///
 /// `first` are the bytes at the opening, `log` the entries after them.
 pub fn recovery_is_prefix_closed()
@@ -99,8 +99,8 @@ pub fn header_follows_history()
         → HasStateHeader names (log_bytes_after first log) state }
 {}
 
-/// RECOVERY IS IDEMPOTENT: a start appends a crash line for each worker that is up. What recovery reads then is the
-/// world with which that start began, in which all workers are down.
+/// RECOVERY IS IDEMPOTENT: a start appends a crash line for each worker that is up. Recovery then leads to the world with
+/// which that start began, in which all workers are down.
 pub fn recovery_is_idempotent()
     ensures { (names others : List (List ℕ)) (bytes crashes : List ℕ) (found begun again : WorldView)
         → AreWholeLines bytes → RecoversWorld bytes names found
@@ -110,8 +110,7 @@ pub fn recovery_is_idempotent()
         → (names ≡ others) × AreWorldsAlike begun again }
 {}
 
-/// Between two moments of the log between which a session appended nothing, the session keeps its worker, and its client
-/// sees the same of it.
+/// While a session appends nothing to the log, it keeps its worker, and its client sees the same of the worker.
 ///
 /// The worker is not the checkpoint worker, which no session has.
 pub fn session_keeps_worker()
@@ -133,8 +132,8 @@ pub fn inside_is_kept<J: ServerTag>()
         → IsSessionInside held.session.session worker job next × WorkerOwnsLock next.executor.world worker job.lock }
 {}
 
-/// THE SECTION IS KEPT: between these two acts the number of the lock's finished sections stays, as clients count them
-/// over all epochs.
+/// THE SECTION IS KEPT: between the two acts of `inside_is_kept` the number of the lock's finished sections stays the
+/// same, as clients count them over all epochs.
 pub fn section_is_kept<J: ServerTag>()
     ensures { (start : ServerState) (old held now : SessionMoment) (before after next last : ServerState) (worker : ℕ)
         (job : Job)
@@ -178,7 +177,7 @@ pub fn attachment_finds_life<J: ServerTag>()
         → life_of attaches.before.lives asked.worker ≡ token.life }
 {}
 
-/// The world with which a start begins, the recovered one after a crash of each worker that was up, is reachable.
+/// A start begins with the recovered world after a crash of each worker that was up. That world is reachable.
 pub fn recovered_world_is_reachable()
     ensures { (bytes : List ℕ) (names : List (List ℕ)) (found begun : WorldView)
         → RecoversWorld bytes names found → HasCrashedAll found begun → IsWorldReachable begun }

@@ -8,10 +8,12 @@ use Rattle.rme_session_protocol.specs.declared.reply.SessionReply.{SessionReply}
 use Rattle.rme_session_protocol.specs.declared.worker_choice.ChoiceRequest.{ChoiceRequest}
 use Rattle.rme_session_protocol.specs.declared.worker_choice.WorkerChoice.{WorkerChoice}
 use Rattle.rme_session_world.specs.Executors.{IsChosenWorker}
-use Rattle.rme_durable_server.specs.DurableAnswers.{AttachesChosen, AttemptFrom, ChoiceIsRefused, IsWhyNoneChosen, client_terms}
+use Rattle.rme_durable_server.specs.DurableOrders.{AttemptFrom, client_terms}
+use Rattle.rme_durable_server.specs.DurableChoices.{AttachesChosen, ChoiceIsRefused, IsWhyNoneChosen}
 use Rattle.rme_durable_server.specs.ServerHistories.{LogLeads, ServerOpening, ServerState, SessionMoment, session_moment}
 
-pub attaches_chosen : (state : ServerState) (opening : ServerOpening) (clients : ℕ) (old : SessionMoment) (asked : ChoiceRequest) (worker : ℕ) (now : SessionMoment) (answer : SessionReply)
+pub attaches_chosen : (state : ServerState) (opening : ServerOpening) (clients : ℕ) (old : SessionMoment)
+    (asked : ChoiceRequest) (worker : ℕ) (now : SessionMoment) (answer : SessionReply)
     → AttemptFrom state opening old (Attach record { worker = worker; take = false; after = None; label = asked.label }) now answer → IsChosenWorker state.executor asked.choice clients worker → AttachesChosen opening clients old asked worker now answer
 attaches_chosen state opening clients old asked worker now answer (attempt, is) chosen = record {
   attempt = attempt;
@@ -19,7 +21,9 @@ attaches_chosen state opening clients old asked worker now answer (attempt, is) 
 }
 
 -- A session gets no worker: at one moment it has one, or there is none that the choice takes.
-pub none_chosen : (opening : ServerOpening) (clients : ℕ) (old : SessionMoment) (choice : WorkerChoice) (why : Refusal) (log : List LogEntry) (state : ServerState) → LogLeads opening log state → GrowsByOthers old.session.session old.log log
+pub none_chosen : (opening : ServerOpening) (clients : ℕ) (old : SessionMoment) (choice : WorkerChoice) (why : Refusal)
+    (log : List LogEntry) (state : ServerState)
+    → LogLeads opening log state → GrowsByOthers old.session.session old.log log
     → IsWhyNoneChosen clients state.executor old.session choice why → ChoiceIsRefused (client_terms clients opening) old choice why (session_moment old.session log)
 none_chosen opening clients old choice why log state leads others none = record {
   state = state;

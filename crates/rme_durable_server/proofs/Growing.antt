@@ -12,7 +12,8 @@ use Rattle.rme_durable_format.specs.CommandLines.{AppendsCommands}
 use Rattle.rme_wire.specs.declared.command.Command.{Command}
 
 -- The same lines come after a longer text.
-appends_more : (names : List (List ℕ)) (front before : List ℕ) (commands : List Command) (after : List ℕ) → AppendsCommands names before commands after → AppendsCommands names (front ++ before) commands (front ++ after)
+appends_more : (names : List (List ℕ)) (front before : List ℕ) (commands : List Command) (after : List ℕ)
+    → AppendsCommands names before commands after → AppendsCommands names (front ++ before) commands (front ++ after)
 appends_more names front before [] after writes = ap (λ w. front ++ w) writes
 appends_more names front before (command ∷ commands) after writes =
     let line = writes.1.0 ++ 10 ∷ [] in
@@ -22,7 +23,8 @@ some_line : (line rest : List ℕ) → (line ++ 10 ∷ []) ++ rest ≢ []
 some_line line rest none = omega (arith, ap length none, length-append (line ++ 10 ∷ []) rest, length-append line (10 ∷ []))
 
 -- The lines that come after a text.
-pub appends_from : (names : List (List ℕ)) (before : List ℕ) (commands : List Command) (after : List ℕ) → AppendsCommands names before commands after
+pub appends_from : (names : List (List ℕ)) (before : List ℕ) (commands : List Command) (after : List ℕ)
+    → AppendsCommands names before commands after
     → (rest : List ℕ) × (after ≡ before ++ rest) × AppendsCommands names [] commands rest × (commands ≢ [] → rest ≢ [])
 appends_from names before [] after writes = ([], writes ∙ sym (append-nil before), refl, λ some. absurd (some refl))
 appends_from names before (command ∷ commands) after writes =
@@ -35,7 +37,9 @@ appends_from names before (command ∷ commands) after writes =
     )
 
 -- A batch with events has commands.
-commands_some_in : (worker : ℕ) (begins : BatchStart) (steps : ℕ) (falls : Bool) → (has_start begins || (nat_lt 0 steps || falls)) ≡ true → (start_commands worker begins ++ (step_commands worker steps ++ crash_commands worker falls)) ≢ []
+commands_some_in : (worker : ℕ) (begins : BatchStart) (steps : ℕ) (falls : Bool)
+    → (has_start begins || (nat_lt 0 steps || falls)) ≡ true
+    → (start_commands worker begins ++ (step_commands worker steps ++ crash_commands worker falls)) ≢ []
 commands_some_in worker Restart steps falls some none = cc
 commands_some_in worker (Submit job) steps falls some none = cc
 commands_some_in worker Withdraw steps falls some none = cc

@@ -44,7 +44,7 @@ abbrev pub no_opening : ServerOpening
 no_opening = record { names = []; begins = λ _. ⊤ }
 
 -- An event batch of a session: its events lead from one state to the next, and its lines are those of their commands.
--- They are events of one worker, which that session had, or no session had; a restart is one more life of the worker.
+-- All events are of one worker, which that session had, or no session had. A restart is one more life of the worker.
 pub record AppendsSessionBatch (names : List (List ℕ)) (session : ℕ) (old : ServerState) (lines : List ℕ)
     (new : ServerState) : Type 0 where
   pub batch : EventBatch
@@ -90,7 +90,7 @@ LogLeads opening [] state = ⊥
 LogLeads opening (first ∷ log) state =
     (start : ServerState) × opening.begins start × EntriesLead opening.names start log state
 
--- The log leads to the state of an executor, and the lines that wait in it are those of the executor.
+-- The log leads to the state of an executor, whose lines are those that wait to be written.
 pub record IsLogged (opening : ServerOpening) (epoch : EpochState) (log : List LogEntry) (waits : List ℕ) : Type 0 where
   pub leads : LogLeads opening log (server_state epoch)
   pub lines : waits ≡ epoch.lines
@@ -122,8 +122,8 @@ pub record SessionMoment : Type 0 where
 abbrev pub session_moment : SessionState → List LogEntry → SessionMoment
 session_moment session log = record { session = session; log = log }
 
--- A session acted at one moment of the log, since whose earlier moment only other sessions have appended: `before` is
--- the state to which the log led then, and the session appended at most one entry.
+-- A session acted at one moment of the log. Since its earlier moment only other sessions had appended. `before` is the
+-- state to which the log led then. The session appended at most one entry.
 pub record SessionActs (opening : ServerOpening) (old : SessionMoment) (before : ServerState) (now : SessionMoment)
     (after : ServerState) : Type 0 where
   pub log : List LogEntry
@@ -132,7 +132,7 @@ pub record SessionActs (opening : ServerOpening) (old : SessionMoment) (before :
   pub appends : AppendsAtMostOne opening.names old.session.session log before now.log after
   pub session : now.session.session ≡ old.session.session
 
--- A session ended at one moment of the log, which is then this one: its worker, if it had one, has crashed and can be
+-- A session ended at one moment, after which the log is this one. Its worker, if it had one, has crashed and can be
 -- attached.
 pub record SessionEnds (opening : ServerOpening) (old : SessionMoment) (log : List LogEntry) : Type 0 where
   pub before : ServerState

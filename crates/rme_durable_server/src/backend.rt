@@ -1,20 +1,21 @@
 //! The durable server as a backend of sessions.
 
 ghost use Rattle.std.specs.Prelude.{◌≡◌, [], IfErr, OnOk, string_bytes, Ok};
-ghost use Rattle.rme_durable_server.specs.DurableAnswers.{DurableLineReply, ask_order, client_terms};
+ghost use Rattle.rme_durable_server.specs.DurableOrders.{client_terms};
+ghost use Rattle.rme_durable_server.specs.DurableAnswers.{DurableLineReply, ask_order};
 ghost use Rattle.rme_line_io.specs.BufferedWrites.{BufferedWrite};
 ghost use Rattle.rme_line_io.specs.StreamEvents.{LastWriteFailed, WritesMade};
-ghost use Rattle.rme_session_server.specs.SessionAnswers.{AnswerFailure};
+ghost use Rattle.rme_session_loop.specs.SessionAnswers.{AnswerFailure};
 
 use crate::durable_server::DurableServer;
 use crate::session::{DurableSession, ServerTag};
 use crate::worker_choice::Chosen;
 use rme_durable_log::LogStore;
 use rme_durable_lookups::{SessionLookup, parse_lookup};
-use rme_session_protocol::{ChoiceRequest, ClientReply, SERVICE_NUMBERS, SessionReply};
-use rme_session_server::{
+use rme_session_loop::{
     AnswerError, AttemptError, Backend, Buffers, Client, CloseHandle, OrderRequest, OrderRun,
 };
+use rme_session_protocol::{ChoiceRequest, ClientReply, SERVICE_NUMBERS, SessionReply};
 use rme_wire::{Names, Sink};
 use rme_words::Refusal;
 use std::alloc::Global;
@@ -25,7 +26,8 @@ use std::time::Clock;
 /// answer depends on are durable. A session whose lines can't be logged ends without an answer, and with it the server.
 impl<L: LogStore, H: CloseHandle, J: ServerTag> Backend for DurableServer<L, H, J> {
     ghost use Rattle.std.specs.Prelude.{⊤, IfSome, None};
-    ghost use Rattle.rme_durable_server.specs.DurableAnswers.{DurableLineAnswer, IsSessionEndDurable, client_terms};
+    ghost use Rattle.rme_durable_server.specs.DurableOrders.{client_terms};
+    ghost use Rattle.rme_durable_server.specs.DurableAnswers.{DurableLineAnswer, IsSessionEndDurable, session_worker};
 
     /// `None` before its first line.
     type Stand = Option<DurableSession<L, J>>;
@@ -39,6 +41,8 @@ impl<L: LogStore, H: CloseHandle, J: ServerTag> Backend for DurableServer<L, H, 
     ghost nobody = { λ _. None };
 
     ghost ends = { λ _ stand. IfSome stand (IsSessionEndDurable L.holds J.opening) };
+
+    ghost attached = { λ _ stand. session_worker stand };
 
     ghost answers = { λ kept _. DurableLineAnswer L.holds (client_terms kept.clients J.opening) };
 
@@ -57,6 +61,17 @@ impl<L: LogStore, H: CloseHandle, J: ServerTag> Backend for DurableServer<L, H, 
 
     fn begin_session(&self) -> Option<DurableSession<L, J>> {
         None
+    }
+
+    fn is_finished(&self, _stand: &Option<DurableSession<L, J>>) -> bool {
+        false
+    }
+
+    fn attached_worker(&self, stand: &Option<DurableSession<L, J>>) -> Option<u32> {
+        match stand {
+            Some(session) => session.state.worker,
+            None => None,
+        }
     }
 
     fn answer<R: Wait + Clock, O: Sink, C: Client<Handle = H>>(
@@ -104,7 +119,9 @@ impl<L: LogStore, H: CloseHandle, J: ServerTag> Backend for DurableServer<L, H, 
 
 impl<L: LogStore, H: CloseHandle, J: ServerTag> DurableServer<L, H, J> {
     ghost use Rattle.std.specs.Prelude.{◌≡◌, ◌≢◌, IfErr, IfOk, IfSome, None, OnOk, string_bytes, Err};
-    ghost use Rattle.rme_durable_server.specs.DurableAnswers.{DurableChoice, DurableLineReply, DurableLookup, IsSessionBegun, ask_if_bad, client_terms};
+    ghost use Rattle.rme_durable_server.specs.DurableOrders.{client_terms};
+    ghost use Rattle.rme_durable_server.specs.DurableChoices.{DurableChoice};
+    ghost use Rattle.rme_durable_server.specs.DurableAnswers.{DurableLineReply, DurableLookup, IsSessionBegun, ask_if_bad};
     ghost use Rattle.rme_durable_lookups.specs.Lookups.{lookup_of_bytes};
     ghost use Rattle.rme_durable_log.specs.Logs.{IsLogDurable};
     ghost use Rattle.rme_session_protocol.specs.SessionLines.{choice_reply_line, session_reply_line};

@@ -7,14 +7,14 @@ use crate::durable_server::DurableServer;
 use crate::session::ServerTag;
 use rme_durable_epochs::EpochExecutor;
 use rme_durable_log::{LogStore, LogWriter, PendingLines};
+use rme_session_loop::{Client, CloseHandle, SessionEvent};
 use rme_session_protocol::{Attachment, Order};
-use rme_session_server::{Client, CloseHandle, SessionEvent};
 use std::sync::atomic::{AtomicBool, AtomicU64, Ordering};
 use std::sync::{Mutex, Wait};
 use std::time::{Clock, Duration, Instant};
 
-/// More bytes of lines than a section takes, with everything that a session does for it. By this limit the lines do not
-/// grow for ever even if sessions only attach and detach.
+/// More bytes than the lines of one section take, with all orders of its session. The limit by bytes also bounds the log
+/// if sessions only attach and detach.
 const MOST_BYTES: u64 = 1_024;
 
 /// The pause after a checkpoint that failed, in seconds. It doubles with each further failure, up to `LONGEST_PAUSE`.
@@ -22,7 +22,7 @@ const FIRST_PAUSE: u64 = 5;
 
 const LONGEST_PAUSE: u64 = 60;
 
-/// A checkpoint failed: none is tried until the pause is over. Each try stops all orders, mostly for the disk.
+/// A checkpoint failed: none is tried until the pause is over. Each try stops all orders while the disk works.
 #[derive(Clone, Copy)]
 struct CheckpointRetry {
     at: Instant,
@@ -31,7 +31,7 @@ struct CheckpointRetry {
 }
 
 impl CheckpointRetry {
-    /// The pause that begins now, after a failure, and perhaps an earlier one.
+    /// The pause that begins now, after a failure. `before` is the pause after the failure before it, if there was one.
     fn after_failure<R: Clock>(rt: &R, before: Option<CheckpointRetry>) -> Option<CheckpointRetry> {
         let at = Instant::now(rt).ok()?;
         let pause = match before {

@@ -52,7 +52,8 @@ impl<L: LogStore, J: ServerTag> DurableExecutor<L, J> {
     ghost use Rattle.std.specs.Prelude.{◌≡◌, ◌∷◌, [], IfErr, IfOk, IfSome, List, None, false, ℕ, string_bytes};
     ghost use Rattle.rme_durable_log.specs.Logs.{GrowsByOthers};
     ghost use Rattle.rme_durable_log.specs.declared.log_entry.LogEntry.TheVariants.{Whole};
-    ghost use Rattle.rme_durable_server.specs.DurableAnswers.{AttemptFrom, IsSessionBegun};
+    ghost use Rattle.rme_durable_server.specs.DurableOrders.{AttemptFrom};
+    ghost use Rattle.rme_durable_server.specs.DurableAnswers.{IsSessionBegun};
     ghost use Rattle.rme_durable_server.specs.ServerHistories.{BeginsEpoch, LogLeads, SessionEnds, server_state, session_moment};
     ghost use Rattle.rme_session_protocol.specs.ClientReplies.{reply_of_client};
 
@@ -101,7 +102,7 @@ impl<L: LogStore, J: ServerTag> DurableExecutor<L, J> {
         self.notes.begin(rt, self.executor.executor().world());
     }
 
-    /// Notes the standing of every worker, after orders of the server's own.
+    /// Notes the standing of every worker, after orders of the server itself.
     pub(crate) fn note_standings<R: Clock>(&mut self, rt: &R)
         ensures { self.new ≡ self.old }
     {
@@ -135,8 +136,8 @@ impl<L: LogStore, J: ServerTag> DurableExecutor<L, J> {
         session
     }
 
-    /// The end of the log, since whose earlier moment only other sessions have appended; `None` once an event batch
-    /// could not be logged.
+    /// The end of the log; `None` once an event batch could not be logged. Only other sessions have appended since the
+    /// position of this session.
     pub(crate) fn position_after(&self, session: &DurableSession<L, J>) -> Option<LogPosition<L, J>>
         ensures leads { IfSome result (λ end. LogLeads J.opening end (server_state self.now)) }
         ensures others { IfSome result (λ end. GrowsByOthers session.now.session.session session.now.log end) }
@@ -211,7 +212,7 @@ impl<L: LogStore, J: ServerTag> DurableExecutor<L, J> {
         acted
     }
 
-    /// Ends a session: its worker, if it has one, crashes, and the lines of that are appended. Answers the position
+    /// Ends a session: its worker, if it has one, crashes, and the lines of the crash are appended. Answers the position
     /// after them. After an error no order is executed any more.
     pub(crate) fn detach_session(
         &mut self,
@@ -255,7 +256,7 @@ impl<L: LogStore, J: ServerTag> DurableExecutor<L, J> {
         }
     }
 
-    /// Replaces the log's bytes by those of a new epoch, once the store holds all lines, and the executor by that of the
+    /// Begins a new epoch, once the store holds all lines: replaces the log's bytes and the executor by those of the
     /// epoch. Answers whether it did. If the log can't be written any more, the caller gets the store, to drop it.
     pub(crate) fn install_checkpoint(
         &mut self,
@@ -300,8 +301,8 @@ impl<L: LogStore, J: ServerTag> PendingLines<L, J> for DurableExecutor<L, J> {
     }
 }
 
-/// Appends the lines of an executor after this number of bytes, if there are any. Answers the end of the log then;
-/// `None` if they could not be appended.
+/// Appends the lines of an executor that follow its first `before` bytes, if there are any. Answers the end of the log
+/// then; `None` if they could not be appended.
 fn append_new_lines<L: LogStore, J: LogTag>(
     appender: &mut LogAppender<L, J>,
     author: &LogAuthor<J>,

@@ -11,15 +11,15 @@ use rme_durable_log::{
     GroupCommit, LogPosition, LogStore, LogTag, NotDurable, OpenLog, lock_with_spin,
 };
 use rme_durable_lookups::{SessionLookup, WorkerNotes, clients_of, write_lookup};
+use rme_session_loop::{Client, CloseHandle, ReleaseCause, SessionRegistry, is_take_over};
 use rme_session_protocol::{ClientReply, Order};
-use rme_session_server::{Client, CloseHandle, ReleaseCause, SessionRegistry, is_take_over};
 use rme_wire::Names;
 use rme_words::{NoMemory, Refusal};
 use std::alloc::Global;
 use std::sync::{Mutex, Wait};
 use std::time::Clock;
 
-/// What a server is asked for, beside its state.
+/// The settings of a server.
 #[derive(Clone, Copy, Debug)]
 pub struct ServerSetting {
     /// A checkpoint is made after this number of finished sections in one epoch.
@@ -45,7 +45,8 @@ pub struct DurableServer<L: LogStore, H: CloseHandle, J: ServerTag> {
 
 impl<L: LogStore, H: CloseHandle, J: ServerTag> DurableServer<L, H, J> {
     ghost use Rattle.std.specs.Prelude.{◌≡◌, [], IfOk, IfSome, OnOk, None, string_bytes};
-    ghost use Rattle.rme_durable_server.specs.DurableAnswers.{IsSessionBegun, IsSessionEndDurable, DurableAttempt, LookupMoment, asks_checkpoint_worker};
+    ghost use Rattle.rme_durable_server.specs.DurableOrders.{DurableAttempt, asks_checkpoint_worker};
+    ghost use Rattle.rme_durable_server.specs.DurableAnswers.{IsSessionBegun, IsSessionEndDurable, LookupMoment};
     ghost use Rattle.rme_durable_server.specs.ServerHistories.{server_state, session_moment};
     ghost use Rattle.rme_durable_log.specs.Logs.{GrowsByOthers, IsLogDurable};
     ghost use Rattle.rme_session_protocol.specs.ClientReplies.{reply_of_client};
@@ -186,8 +187,8 @@ impl<L: LogStore, H: CloseHandle, J: ServerTag> DurableServer<L, H, J> {
         acted
     }
 
-    /// Notes whether a checkpoint is due, and whether an event could not be logged. After a failure, nothing that is
-    /// seen of the executor is answered.
+    /// Notes whether a checkpoint is due, and whether an event could not be logged. After such a failure the state of
+    /// the executor is not shown to clients.
     pub(crate) fn observe(&self, executor: &DurableExecutor<L, J>) {
         self.due.observe(executor.executor());
         if executor.is_failed() {
@@ -255,8 +256,8 @@ impl<L: LogStore, H: CloseHandle, J: ServerTag> DurableServer<L, H, J> {
         self.commits.fail(rt);
     }
 
-    /// Writes the line that answers a look-up of a session, and answers the end of the log then, since whose earlier
-    /// moment only other sessions have appended; `None` once an event could not be logged.
+    /// Writes the line that answers a look-up of a session. Answers the end of the log at that moment; `None` once an
+    /// event could not be logged. Only other sessions have appended since the position of this session.
     pub(crate) fn write_lookup<R: Wait + Clock>(
         &self,
         rt: &R,

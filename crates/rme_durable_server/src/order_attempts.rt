@@ -8,11 +8,11 @@ use crate::durable_server::DurableServer;
 use crate::session::{DurableSession, ServerTag};
 use rme_durable_epochs::{ApplyError, ClientAnswer};
 use rme_durable_log::LogStore;
+use rme_session_loop::{
+    AttemptError, Client, CloseHandle, FirstReply, OrderAttempts, OrderRequest, SessionRegistry,
+};
 use rme_session_protocol::{
     ClientReply, Order, is_client_waiting, merge_client_replies, retry_order,
-};
-use rme_session_server::{
-    AttemptError, Client, CloseHandle, FirstReply, OrderAttempts, OrderRequest, SessionRegistry,
 };
 use rme_words::Refusal;
 use std::sync::Wait;
@@ -22,7 +22,7 @@ use std::time::Clock;
 /// the log, and perhaps not durable yet.
 impl<L: LogStore, H: CloseHandle, J: ServerTag> OrderAttempts for DurableServer<L, H, J> {
     ghost use Rattle.std.specs.Prelude.{⊤};
-    ghost use Rattle.rme_durable_server.specs.DurableAnswers.{DurableTries};
+    ghost use Rattle.rme_durable_server.specs.DurableOrders.{DurableTries};
     ghost use Rattle.rme_session_protocol.specs.ClientReplies.{reply_of_client};
 
     type Session = DurableSession<L, J>;
@@ -95,7 +95,7 @@ impl<L: LogStore, H: CloseHandle, J: ServerTag> OrderAttempts for DurableServer<
 
 impl<L: LogStore, H: CloseHandle, J: ServerTag> DurableServer<L, H, J> {
     ghost use Rattle.std.specs.Prelude.{IfOk};
-    ghost use Rattle.rme_durable_server.specs.DurableAnswers.{DurableAttempt};
+    ghost use Rattle.rme_durable_server.specs.DurableOrders.{DurableAttempt};
     ghost use Rattle.rme_session_protocol.specs.ClientReplies.{reply_of_client};
 
     /// Executes an order with one try. If its lines can't be logged the server fails: it executes no more orders, so

@@ -5,8 +5,9 @@ use crate::durable_server::DurableServer;
 use crate::session::ServerTag;
 use rme_durable_log::{LogPosition, LogStore, NotDurable, lock_with_spin};
 use rme_durable_lookups::{WorkerStance, worker_stance};
+use rme_session_loop::{CloseHandle, SessionEvent};
 use rme_session_protocol::{Attachment, ClientReply, Order, SessionStance};
-use rme_session_server::{CloseHandle, ServerObserver, SessionEvent};
+use rme_session_server::ServerObserver;
 use std::sync::Wait;
 use std::time::Clock;
 
@@ -26,7 +27,7 @@ pub enum WaitingJobs {
 pub(crate) struct Withdrawal<L: LogStore, J: ServerTag> {
     /// That the job was withdrawn; `None` if memory was refused.
     pub(crate) event: Option<SessionEvent>,
-    /// The position after the lines of it.
+    /// The position after its lines.
     pub(crate) end: LogPosition<L, J>,
 }
 
@@ -61,7 +62,7 @@ impl<L: LogStore, H: CloseHandle, J: ServerTag> DurableServer<L, H, J> {
     /// Withdraws the job of a worker, if it waits, no session has the worker, and waiting jobs are to be withdrawn.
     /// Answers what came of it, if its lines are appended.
     ///
-    /// A session of the server's own does it: the worker is restarted, withdraws its job, takes its own steps until it is
+    /// A session of the server itself does it: the worker is restarted, withdraws its job, takes its own steps until it is
     /// ready, and crashes.
     pub(crate) fn withdraw_if_waiting(
         &self,

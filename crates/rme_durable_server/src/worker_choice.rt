@@ -1,26 +1,26 @@
-//! A session that leaves it to the server which worker it attaches.
+//! Sessions that attach a worker of the server's choice.
 
 ghost use Rattle.std.specs.Prelude.{IfErr};
-ghost use Rattle.rme_durable_server.specs.DurableAnswers.{IsWhyNoneChosen};
+ghost use Rattle.rme_durable_server.specs.DurableChoices.{IsWhyNoneChosen};
 
 use crate::durable_executor::DurableReply;
 use crate::durable_server::DurableServer;
 use crate::session::{DurableSession, ServerTag};
 use rme_durable_epochs::ApplyError;
 use rme_durable_log::{LogPosition, LogStore, lock_with_spin};
+use rme_session_loop::{AnswerError, Client, CloseHandle};
 use rme_session_protocol::{Attachment, ChoiceRequest, ClientReply, Order, Session, WorkerChoice};
-use rme_session_server::{AnswerError, Client, CloseHandle};
 use rme_session_world::{Executor, SessionState};
 use rme_words::Refusal;
 use std::sync::Wait;
 use std::time::Clock;
 
-/// What a session gets that leaves the choice to the server.
+/// What a session gets if the server chooses its worker.
 #[derive(Clone, Copy)]
 pub(crate) enum Chosen {
     /// This worker, with this reply to its attachment.
     Worker(u32, ClientReply),
-    /// No worker: it has one, or there is none that the choice takes.
+    /// No worker: the session has one, or no worker without a session fits the choice.
     Refused(Refusal),
 }
 
@@ -29,12 +29,13 @@ type NoChoice<L, J> = (Refusal, LogPosition<L, J>);
 
 impl<L: LogStore, H: CloseHandle, J: ServerTag> DurableServer<L, H, J> {
     ghost use Rattle.std.specs.Prelude.{◌≢◌, IfErr, IfOk, IfSome};
-    ghost use Rattle.rme_durable_server.specs.DurableAnswers.{AttachesChosen, ChoiceIsRefused, DurableChoiceOutcome, client_terms};
+    ghost use Rattle.rme_durable_server.specs.DurableOrders.{client_terms};
+    ghost use Rattle.rme_durable_server.specs.DurableChoices.{AttachesChosen, ChoiceIsRefused, DurableChoiceOutcome};
     ghost use Rattle.rme_durable_server.specs.ServerHistories.{session_moment};
     ghost use Rattle.rme_session_protocol.specs.ClientReplies.{reply_of_client};
 
-    /// Attaches a session to the lowest worker that the choice takes, or answers why it gets none. The session is then at
-    /// that moment.
+    /// Attaches a session to the lowest worker that fits the choice, or answers why it gets none. The session moves to
+    /// that moment of the log.
     pub(crate) fn attach_any<R: Wait + Clock, C: Client<Handle = H>>(
         &self,
         rt: &R,
@@ -92,7 +93,7 @@ impl<L: LogStore, H: CloseHandle, J: ServerTag> DurableServer<L, H, J> {
         Some(Err((why, end)))
     }
 
-    /// Attaches a session to this worker with its claim locked, if the choice takes the worker now, and updates the
+    /// Attaches a session to this worker with its claim locked, if the worker fits the choice now, and updates the
     /// claim.
     fn attach_if_chosen<R: Wait + Clock, C: Client<Handle = H>>(
         &self,
@@ -120,7 +121,7 @@ impl<L: LogStore, H: CloseHandle, J: ServerTag> DurableServer<L, H, J> {
         tried
     }
 
-    /// Attaches a session to this worker, if the choice takes the worker now. Its lines are committed at once, if that is
+    /// Attaches a session to this worker, if the worker fits the choice now. Its lines are committed at once, if that is
     /// quick.
     fn attach_and_commit<R: Wait + Clock>(
         &self,
@@ -158,7 +159,7 @@ impl<L: LogStore, H: CloseHandle, J: ServerTag> DurableServer<L, H, J> {
     }
 }
 
-/// The worker that the choice takes among the first `clients` workers, or why a session in this state gets none.
+/// The lowest of the first `clients` workers that fits the choice, or why a session in this state gets none.
 fn choose_for(
     executor: &Executor,
     state: &SessionState,

@@ -8,7 +8,7 @@ use Rattle.rme_durable_writes.specs.declared.sum_line.SumFront.{SumFront}
 use Rattle.rme_durable_writes.proofs.Marks.{mark_behind}
 use Rattle.rme_durable_writes.proofs.Options.{some_same}
 
--- What stands behind the front of a last line.
+-- The text of a last line after its front.
 abbrev pub behind_front : ℕ → Write → List ℕ → List ℕ
 behind_front number write rest = (sum_text write.kept number write.lines ++ codes "\"}\n") ++ rest
 

@@ -19,13 +19,13 @@ no_line bytes rest found none ends skips = none_some found none (first_same _ _ 
 pub skips_there : (bytes : List ℕ) (end : ℕ) → IsFirstByte (is_byte 10) bytes (Some end) → SkipsLine bytes (behind bytes end)
 skips_there bytes end ends = record { end = end; ends = ends; are = behind_is bytes end }
 
--- One rest alone stands behind the first line.
+-- The bytes after the first line are determined.
 pub skips_same : (bytes one other : List ℕ) → SkipsLine bytes one → SkipsLine bytes other → one ≡ other
 skips_same bytes one other a b =
     let ends : a.end ≡ b.end = some_same (Some a.end) refl (first_same _ _ _ (Some a.end) (Some b.end) a.ends b.ends) in
     a.are ∙ ap (λ (n : ℕ). drop (n + 1) bytes) ends ∙ sym b.are
 
--- What tells that a write was kept, and is not at the front, stands behind the first line.
+-- If the first line does not tell that a write was kept, a line after it does.
 kept_after : (count : ℕ) (bytes rest : List ℕ) (number : ℕ) → SkipsLine bytes rest → (IsKeptByFirst bytes number → ⊥) → IsKeptAfter count bytes number → IsKeptWithin rest number
 kept_after zero bytes rest number skips none after = absurd (none after)
 kept_after (suc count) bytes rest number skips none after =

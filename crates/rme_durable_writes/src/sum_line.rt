@@ -61,7 +61,7 @@ pub(crate) fn push_front(front: SumFront, text: &mut Vec<u8>) -> Result<(), Allo
     Ok(())
 }
 
-/// Appends the checksum and what stands behind it in the last line of a write.
+/// Appends the end of a write's last line: the checksum, and the text after the checksum.
 pub(crate) fn push_end(sum: u32, text: &mut Vec<u8>) -> Result<(), AllocError>
     ensures { OnOk result (text.new.items ≡ text.old.items ++ (spec.sum_digits sum ++ codes "\"}\n")) }
 {

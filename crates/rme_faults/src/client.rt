@@ -1,6 +1,6 @@
 //! Clients of a simulation: no connection, a flag that closes a client, and a feed of lines.
 
-use rme_session_server::{Client, CloseHandle, SessionEvent};
+use rme_session_loop::{Client, CloseHandle, SessionEvent};
 use std::cell::Cell;
 use std::io;
 use std::io::Read;

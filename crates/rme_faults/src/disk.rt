@@ -1,9 +1,9 @@
 //! A disk in memory, with faults: what a stop of the machine leaves of a file.
 
 use crate::defect::Defect;
-use crate::draws::Draws;
 use crate::lines_of_file::{KnownLastJob, with_last_job};
 use rme_durable_file::{Cause, DiskFile, FileReadError};
+use rme_faults_model::Draws;
 use std::alloc::Global;
 use std::cell::Cell;
 use std::io;
@@ -294,11 +294,11 @@ impl<'a> Disk<'a> {
 
 /// The file of a server, on a disk that outlives it.
 #[derive(Drop)]
-pub struct MemoryFile<'a> {
+pub struct SimulatedFile<'a> {
     pub disk: &'a Disk<'a>,
 }
 
-impl DiskFile for MemoryFile<'_> {
+impl DiskFile for SimulatedFile<'_> {
     ghost use Rattle.std.specs.Prelude.{None};
 
     ghost contents = { λ _. None };

@@ -5,11 +5,9 @@ ghost use Rattle.rme_durable_server.specs.ServerHistories.{server_state};
 
 use crate::client::CloseFlag;
 use crate::clock::SimulatedRuntime;
-use crate::disk::MemoryFile;
+use crate::disk::SimulatedFile;
 use crate::fault::SimulationFailure;
-use crate::found::is_or;
 use crate::plan::{Plan, Sizes};
-use crate::request::{MOST_LOCKS, lock_text};
 use crate::run::{LifeEnd, Run, count};
 use crate::stage::ScriptedStage;
 use rme_cli_messages::CliFault;
@@ -18,8 +16,10 @@ use rme_durable_file::{OpenedState, RecoveredFile, StateFile, StateName};
 use rme_durable_log::OpenLog;
 use rme_durable_lookups::clients_of;
 use rme_durable_server::{DurableServer, ServerSetting, ServerTag, WaitingJobs};
+use rme_faults_model::{MOST_LOCKS, is_or, lock_text};
 use rme_line_diagnose::Reason;
-use rme_session_server::{LocalClient, ServerObserver, SessionEvent, session};
+use rme_session_loop::{LocalClient, SessionEvent, session};
+use rme_session_server::ServerObserver;
 use rme_wire::{GivenNames, LineReader, Names};
 use rme_words::Shape;
 use std::alloc::{AllocError, Global};
@@ -59,19 +59,19 @@ impl ServerObserver for NoObserver {
 
 /// A state with the log that is opened over its file.
 #[derive(Drop)]
-struct LoggedState<'a> {
+struct StateWithLog<'a> {
     names: Names,
     executor: EpochExecutor,
-    log: OpenLog<StateFile<'a, MemoryFile<'a>>>,
+    log: OpenLog<StateFile<'a, SimulatedFile<'a>>>,
 }
 
 /// A state with a log over its file.
-fn logged_state<'a>(opened: OpenedState<'a, MemoryFile<'a>>) -> LoggedState<'a>
+fn state_with_log<'a>(opened: OpenedState<'a, SimulatedFile<'a>>) -> StateWithLog<'a>
     requires works { opened.file.works ≡ true }
     ensures names { result.names ≡ opened.entry.names }
     ensures executor { result.executor ≡ opened.entry.executor }
 {
-    LoggedState {
+    StateWithLog {
         names: opened.names,
         executor: opened.executor,
         log: OpenLog::new(opened.file),
@@ -96,19 +96,19 @@ pub fn live<'a, R: Wait>(
             return Ok(run);
         }
     };
-    serve_logged::<Brand, R>(life_context, logged_state(opened), run)
+    serve_logged::<Brand, R>(life_context, state_with_log(opened), run)
 }
 
 /// Recovers the file, crashes each worker that was up, and now and then lets the state grow.
 fn open<'a, R>(
     life_context: &ServerLifeContext<'a, R>,
     run: &mut Run<'a>,
-) -> Result<OpenedState<'a, MemoryFile<'a>>, CliFault>
+) -> Result<OpenedState<'a, SimulatedFile<'a>>, CliFault>
     ensures works { IfOk result (λ state. state.file.works ≡ true) }
     ensures lines { IfOk result (λ state. state.executor.lines ≡ []) }
 {
     let disk = run.disk;
-    let file = StateFile::new(life_context.name, MemoryFile { disk }, run.plan.syncs);
+    let file = StateFile::new(life_context.name, SimulatedFile { disk }, run.plan.syncs);
     let found = RecoveredFile::read(run.rt, file)?;
     let opened = found.open(run.rt)?;
     learn_sizes(run, &opened)?;
@@ -152,7 +152,7 @@ fn draw_growth(run: &Run<'_>) -> Sizes {
 /// have though the start that wanted it has failed.
 fn learn_sizes(
     run: &mut Run<'_>,
-    opened: &OpenedState<'_, MemoryFile<'_>>,
+    opened: &OpenedState<'_, SimulatedFile<'_>>,
 ) -> Result<(), AllocError> {
     let shape = opened.executor.executor().world().shape();
     let found = Sizes {
@@ -207,7 +207,7 @@ fn setting_of(plan: &Plan) -> ServerSetting {
 /// Makes a server of a state, with a tag for its log and its opening, and plays its life.
 fn serve_logged<'a, J: ServerTag, R: Wait>(
     life_context: &ServerLifeContext<'a, R>,
-    state: LoggedState<'a>,
+    state: StateWithLog<'a>,
     run: Run<'a>,
 ) -> Result<Run<'a>, SimulationFailure>
     requires log { state.log ≡ J.book }
@@ -215,13 +215,13 @@ fn serve_logged<'a, J: ServerTag, R: Wait>(
     requires named { state.names ≡ J.opening.names }
     requires begins { J.opening.begins (server_state state.executor) }
 {
-    let LoggedState {
+    let StateWithLog {
         names,
         executor,
         log,
     } = state;
     let setting = setting_of(&run.plan);
-    let server = DurableServer::<StateFile<'a, MemoryFile<'a>>, CloseFlag<'a>, J>::new(
+    let server = DurableServer::<StateFile<'a, SimulatedFile<'a>>, CloseFlag<'a>, J>::new(
         run.alloc, names, executor, setting, log,
     )?;
     if server

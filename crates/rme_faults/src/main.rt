@@ -4,31 +4,22 @@
 //! `rme_faults SEED COUNT` runs the simulations of COUNT seeds, and prints what it counted and a line
 //! `FAILED seed N step K: what` for each that failed; `rme_faults N 1 --trace` prints the schedule of one. After each
 //! answer, and over each restart, the answers are checked against a model that knows nothing of the server but its
-//! answers. Begin with `simulation.rt`, then `steps.rt` and `model.rt`; `disk.rt` has the faults.
+//! answers, rme_faults_model. Begin with `simulation.rt`, then `steps.rt`; `disk.rt` has the faults.
 #![tactic(auto)]
 
-mod answer;
 mod client;
 mod clock;
-mod counted;
 mod defect;
 mod disk;
-mod drawing;
-mod draws;
 mod fault;
-mod found;
 mod life;
 mod lines_of_file;
-mod lookups;
-mod model;
 mod plan;
 mod recovering;
-mod request;
 mod run;
 mod simulation;
 mod stage;
 mod steps;
-mod view;
 mod words;
 
 use crate::fault::SimulationFailure;

@@ -1,7 +1,7 @@
 //! The plan of a simulation, drawn from its seed.
 
 use crate::defect::Defect;
-use crate::draws::Draws;
+use rme_faults_model::Draws;
 
 /// What the words of the program ask for, beside the seed.
 #[derive(Clone, Copy)]

@@ -1,9 +1,9 @@
 //! Recovery accepts the file at each moment.
 
-use crate::found::{Found, is_or};
 use crate::run::Run;
 use rme_durable_format::{RecoveryProgress, whole_lines};
 use rme_durable_recovery::recover;
+use rme_faults_model::{Found, is_or};
 
 /// Tells nobody.
 struct NoProgress;

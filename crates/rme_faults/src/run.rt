@@ -1,10 +1,8 @@
 //! A simulation in its course.
 
 use crate::disk::Disk;
-use crate::draws::Draws;
-use crate::found::Found;
-use crate::model::Model;
 use crate::plan::{Plan, Sizes};
+use rme_faults_model::{Draws, Found, Model};
 use std::alloc::Global;
 use std::cell::Cell;
 

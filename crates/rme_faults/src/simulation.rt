@@ -2,15 +2,14 @@
 
 use crate::clock::{SimulatedRuntime, SimulatedTime};
 use crate::disk::Disk;
-use crate::draws::Draws;
 use crate::fault::SimulationFailure;
 use crate::life::{ServerLifeContext, live, lock_names};
-use crate::model::Model;
 use crate::plan::{Asked, Plan};
 use crate::recovering::check_recovery;
 use crate::run::{LifeEnd, Run, SimulationContext, SimulationCounts, count};
 use rme_durable_file::StateName;
 use rme_durable_format::{LogHeader, push_header};
+use rme_faults_model::{Draws, Model};
 use rme_line_text::push_opening;
 use rme_words::Shape;
 use std::alloc::Global;

@@ -6,12 +6,12 @@
 ghost use Rattle.std.specs.Prelude.{◌≡◌, ⊤};
 
 use crate::client::{CloseFlag, LineFeed, SimulatedClient};
-use crate::disk::MemoryFile;
+use crate::disk::SimulatedFile;
 use crate::run::Run;
 use crate::steps::play;
 use rme_durable_file::StateFile;
 use rme_durable_server::{DurableServer, ServerTag};
-use rme_session_server::{AnswerError, AttemptError, Backend, Buffers, Client, NoCloseHandle};
+use rme_session_loop::{AnswerError, AttemptError, Backend, Buffers, Client, NoCloseHandle};
 use rme_wire::{Exchange, Names, Sink};
 use std::alloc::Global;
 use std::cell::Cell;
@@ -20,7 +20,7 @@ use std::sync::{Mutex, Wait};
 use std::time::Clock;
 
 /// The server that is simulated.
-pub type SimulatedServer<'a, J> = DurableServer<StateFile<'a, MemoryFile<'a>>, CloseFlag<'a>, J>;
+pub type SimulatedServer<'a, J> = DurableServer<StateFile<'a, SimulatedFile<'a>>, CloseFlag<'a>, J>;
 
 /// A server, and the simulation of which a life is played on it.
 #[derive(Drop)]
@@ -32,7 +32,7 @@ pub struct ScriptedStage<'s, 'a, J: ServerTag> {
 }
 
 impl<J: ServerTag> Backend for ScriptedStage<'_, '_, J> {
-    ghost use Rattle.std.specs.Prelude.{⊤};
+    ghost use Rattle.std.specs.Prelude.{⊤, None};
 
     type Stand = ();
 
@@ -45,6 +45,8 @@ impl<J: ServerTag> Backend for ScriptedStage<'_, '_, J> {
     ghost nobody = { λ _. record {} };
 
     ghost answers = { λ _ _ _ _ _ _. ⊤ };
+
+    ghost attached = { λ _ _. None };
 
     ghost ends = { λ _ _. ⊤ };
 
@@ -61,6 +63,14 @@ impl<J: ServerTag> Backend for ScriptedStage<'_, '_, J> {
     }
 
     fn begin_session(&self) {}
+
+    fn is_finished(&self, _stand: &()) -> bool {
+        false
+    }
+
+    fn attached_worker(&self, _stand: &()) -> Option<u32> {
+        None
+    }
 
     fn answer<R: Wait + Clock, O: Sink, C: Client<Handle = NoCloseHandle>>(
         &self,

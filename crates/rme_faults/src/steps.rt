@@ -1,17 +1,16 @@
 //! The steps of one life of a server.
 
-use crate::answer::{SeenAnswer, read_answer};
 use crate::client::{LineFeed, SimulatedClient};
 use crate::defect::Defect;
-use crate::drawing::draw_request;
-use crate::found::{Found, is_or};
 use crate::recovering::check_recovery;
-use crate::request::{AttachRequest, SimulatedRequest, push_request};
 use crate::run::{LifeEnd, Run, count};
 use crate::stage::SimulatedServer;
-use crate::view::Standing;
 use rme_durable_server::ServerTag;
-use rme_session_server::{AnswerError, Backend, Buffers};
+use rme_faults_model::{
+    AttachRequest, Found, KnownStanding, SeenAnswer, SimulatedRequest, draw_request, is_or,
+    push_request, read_answer,
+};
+use rme_session_loop::{AnswerError, Backend, Buffers};
 use rme_wire::LineReader;
 use rme_words::NoMemory;
 use std::alloc::AllocFailed;
@@ -292,7 +291,7 @@ fn load_line<J: ServerTag, R>(
     }
 }
 
-/// Checks the answer to a request of a session, or notes that there is none.
+/// Checks the answer to a session's request. If the session got no answer, notes that.
 fn take_answer<'a>(
     run: &mut Run<'a>,
     desk: &Desk<'_>,
@@ -406,8 +405,8 @@ fn next_to_finish(run: &Run<'_>, worker: u32) -> Option<SimulatedRequest> {
         }));
     }
     match view.standing {
-        Standing::Climb | Standing::Held => Some(SimulatedRequest::Resume),
-        Standing::Unlearned => Some(SimulatedRequest::Last),
-        Standing::Ready | Standing::Unsure => None,
+        KnownStanding::Climb | KnownStanding::Held => Some(SimulatedRequest::Resume),
+        KnownStanding::Unlearned => Some(SimulatedRequest::Last),
+        KnownStanding::Ready | KnownStanding::Unsure => None,
     }
 }

@@ -69,7 +69,7 @@ fn reason_of_value(
 
 /// Whether an order leaves the choice of its worker to the server.
 fn leaves_choice(vocabulary: Vocabulary, word: &str, value: &Value<'_>) -> bool {
-    vocabulary == Vocabulary::Orders && word == "attach" && value.get("any").is_some()
+    matches!(vocabulary, Vocabulary::Orders(_)) && word == "attach" && value.get("any").is_some()
 }
 
 /// What is wrong with such an order.

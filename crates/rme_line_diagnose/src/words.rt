@@ -10,7 +10,18 @@ pub enum Vocabulary {
     /// Those of `rme run --transcript`, which loads no world.
     Transcript,
     /// The orders of a session.
-    Orders,
+    Orders(SessionWords),
+}
+
+/// The words that not every server has.
+#[derive(Clone, Copy, Debug, PartialEq, Eq)]
+pub struct SessionWords {
+    /// Look-ups, as a server with a state has them.
+    pub has_look_ups: bool,
+    /// Secrets, as a server with keys has them.
+    pub has_secrets: bool,
+    /// Orders on spaces, as a server of spaces has them.
+    pub has_spaces: bool,
 }
 
 /// The valid values of a key.
@@ -145,10 +156,43 @@ const ANY: Key = Key {
     is_optional: false,
 };
 
+const SECRET: Key = Key {
+    name: "secret",
+    kind: KeyKind::Text,
+    is_optional: false,
+};
+
 const STEPS: Key = Key {
     name: "steps",
     kind: KeyKind::Number(0, 1_000_000),
     is_optional: false,
+};
+
+const SPACE: Key = Key {
+    name: "space",
+    kind: KeyKind::Text,
+    is_optional: false,
+};
+
+/// The number of workers of a new space.
+const SPACE_WORKERS: Key = Key {
+    name: "workers",
+    kind: NUMBER,
+    is_optional: true,
+};
+
+/// The number of cells of each lock of a new space.
+const SPACE_CELLS: Key = Key {
+    name: "cells",
+    kind: NUMBER,
+    is_optional: true,
+};
+
+/// The name of a space behind which the list begins.
+const AFTER_SPACE: Key = Key {
+    name: "after",
+    kind: KeyKind::Text,
+    is_optional: true,
 };
 
 /// The keys of an attachment that leaves the choice of the worker to the server.
@@ -157,7 +201,7 @@ pub const CHOICE_KEYS: &[Key] = &[ANY, AS];
 /// The keys of a word, or `None` if it is no word of this vocabulary.
 pub fn keys_of(vocabulary: Vocabulary, word: &str) -> Option<&'static [Key]> {
     match vocabulary {
-        Vocabulary::Orders => order_keys(word),
+        Vocabulary::Orders(words) => order_keys(words, word),
         Vocabulary::Transcript if word == "load" => None,
         _ => command_keys(word),
     }
@@ -176,8 +220,14 @@ fn command_keys(word: &str) -> Option<&'static [Key]> {
     }
 }
 
-fn order_keys(word: &str) -> Option<&'static [Key]> {
+fn order_keys(words: SessionWords, word: &str) -> Option<&'static [Key]> {
     match word {
+        "status" if words.has_look_ups => Some(&[]),
+        "owner" | "cells" if words.has_look_ups => Some(&[LOCK]),
+        "hello" if words.has_secrets => Some(&[SECRET]),
+        "create" if words.has_spaces => Some(&[SPACE, LOCKS, SPACE_WORKERS, SPACE_CELLS]),
+        "use" | "drop" if words.has_spaces => Some(&[SPACE]),
+        "spaces" if words.has_spaces => Some(&[AFTER_SPACE]),
         "attach" => Some(&[WORKER, TAKE, AFTER, AS]),
         "submit" | "enter" => Some(&[NUMBER_OF_JOB, LOCK, SCRIPT, TRIES, WAIT]),
         "resume" => Some(&[TRIES, WAIT]),

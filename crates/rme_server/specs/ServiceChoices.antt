@@ -15,7 +15,7 @@ use Rattle.rme_session_protocol.specs.declared.reply.SessionStance.{SessionStanc
 use Rattle.rme_session_protocol.specs.declared.reply.SessionStance.TheVariants.{Ready, Climb, Held}
 use Rattle.rme_session_protocol.specs.declared.worker_choice.ChoiceRequest.{ChoiceRequest}
 use Rattle.rme_session_protocol.specs.declared.worker_choice.WorkerChoice.{WorkerChoice}
-use Rattle.rme_session_server.specs.SessionAnswers.{parsed_order}
+use Rattle.rme_session_loop.specs.SessionAnswers.{parsed_order}
 use Rattle.rme_session_threads.specs.Stands.{empty_stand}
 use Rattle.rme_session_threads.specs.ThreadSteps.{ThreadSessionStep}
 use Rattle.rme_session_threads.specs.declared.stand.Holding.TheVariants.{Empty}

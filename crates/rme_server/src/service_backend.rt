@@ -4,13 +4,13 @@ ghost use Rattle.std.specs.Prelude.{◌≡◌, ◌≤◌};
 ghost use Rattle.rme_session_protocol.specs.ClientReplies.{reply_of_client};
 
 use crate::worker_choice::ChosenWorker;
+use rme_session_loop::{
+    AnswerError, AttemptError, Backend, Buffers, Client, CloseHandle, FirstReply, OrderAttempts,
+    OrderRequest, OrderRun, ReleaseCause, SessionRegistry, is_take_over,
+};
 use rme_session_protocol::{
     ClientReply, Order, Patience, SessionReply, WORLD_NUMBERS, WorkerChoice, is_still_waiting,
     merge_replies, order_patience, retry_order, with_tries,
-};
-use rme_session_server::{
-    AnswerError, AttemptError, Backend, Buffers, Client, CloseHandle, FirstReply, OrderAttempts,
-    OrderRequest, OrderRun, ReleaseCause, SessionRegistry, is_take_over,
 };
 use rme_session_threads::{Holding, Slots, Stand, obey};
 use rme_table::{Service, Tag};
@@ -56,6 +56,8 @@ impl<K: Tag, H: CloseHandle> Backend for ServiceBackend<'_, K, H> {
 
     ghost nobody = { λ _. stands.empty_stand };
 
+    ghost attached = { λ _ stand. stands.held_worker_number (stands.held_worker stand.value) };
+
     ghost answers = { λ host gone. ServiceLineAnswer gone K.ident host.slots.now host.names.now };
 
     fn alloc(&self) -> Global {
@@ -72,6 +74,14 @@ impl<K: Tag, H: CloseHandle> Backend for ServiceBackend<'_, K, H> {
 
     fn begin_session(&self) -> Stand {
         Stand::empty()
+    }
+
+    fn is_finished(&self, _stand: &Stand) -> bool {
+        false
+    }
+
+    fn attached_worker(&self, stand: &Stand) -> Option<u32> {
+        stand.worker()
     }
 
     fn answer<R: Wait + Clock, O: Sink, C: Client<Handle = H>>(

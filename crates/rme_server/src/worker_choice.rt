@@ -4,8 +4,8 @@ ghost use Rattle.std.specs.Prelude.{IsTrue};
 ghost use Rattle.rme_server.specs.ServiceChoices.{IsChosenReply};
 
 use crate::service_backend::ServiceBackend;
+use rme_session_loop::{Client, CloseHandle, ReleaseCause};
 use rme_session_protocol::{Attachment, Order, SessionReply, SessionStance, WorkerChoice};
-use rme_session_server::{Client, CloseHandle, ReleaseCause};
 use rme_session_threads::{Holding, Stand, detach_session};
 use rme_table::Tag;
 use rme_words::Refusal;

@@ -1,10 +1,11 @@
 //! Connections of clients and their listeners, over TCP and over Unix sockets.
 
-use crate::client::{Client, CloseHandle};
+use rme_session_loop::{Client, CloseHandle};
 use std::io::{ErrorKind, Read, Result, Write};
 use std::net::{Shutdown, TcpListener, TcpStream};
 use std::os::fd::{AsFd, OwnedFd};
 use std::os::unix::net::UnixListener;
+use std::sync::Arc;
 use std::time::Duration;
 
 /// The longest time, in seconds, in which a client may take no byte of its answers. Then its session ends.
@@ -113,6 +114,19 @@ impl Write for &Connection {
 
     fn flush(&mut self) -> Result<()> {
         Ok(())
+    }
+}
+
+/// A connection that the list of open connections has too. It is closed once both let it go.
+#[derive(Drop)]
+pub(crate) struct SharedConnection {
+    pub(crate) connection: Arc<Connection>,
+}
+
+impl Read for SharedConnection {
+    fn read(&mut self, buf: &mut [u8]) -> Result<usize> {
+        let mut stream = &self.connection.stream;
+        stream.read(buf)
     }
 }
 

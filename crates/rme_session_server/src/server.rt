@@ -1,43 +1,27 @@
-//! A server: a session for each connection.
+//! A server: each connection that it accepts is handled in a thread of its own.
 
-use crate::backend::Backend;
-use crate::buffers::push_reply_line;
-use crate::client::Client;
+use crate::acceptor::{Accepted, Acceptor};
 use crate::connection::{Closer, Connection, Listener};
-use crate::open_connections::OpenConnections;
-use crate::session_event::SessionEvent;
-use crate::session_loop::session;
-use rme_line_diagnose::{DiagnosedReader, Reason, ReasonObserver, Vocabulary};
+use crate::connection_handler::{ConnectionHandler, SessionHandler};
+use rme_line_diagnose::Reason;
 use rme_line_io::ServeFault;
+use rme_session_loop::{Backend, SessionEvent, push_reply_line};
 use rme_session_protocol::SessionReply;
-use rme_wire::{LineReader, Names, put_all};
+use rme_wire::{Names, put_all};
 use rme_words::Refusal;
-use std::alloc::Global;
+use std::alloc::{AllocError, Global};
 use std::io::{Error, ErrorKind};
-use std::sync::atomic::{AtomicU64, Ordering};
-use std::sync::{Condvar, Mutex, Wait};
+use std::sync::{Arc, Wait};
 use std::thread;
 use std::thread::{Builder, Scope, Threads};
 use std::time::{Clock, Duration};
 
-/// The stack size in bytes of a session's thread, of an accepting thread, and of the watching thread.
-const STACK: usize = 262_144;
+/// The stack size in bytes of a session's thread, in which checkpoints are made, of an accepting thread, and of the
+/// watching thread. Memory is taken only for what is touched.
+const STACK: usize = 524_288;
 
 /// The period of the watching thread, in seconds.
 const WATCH_PERIOD: u64 = 1;
-
-/// The limits of a server, over all its listeners.
-#[derive(Clone, Copy)]
-pub struct ServerLimits {
-    /// The number of connections that are accepted, rejected ones included; with `None` there is no limit.
-    pub connections: Option<u32>,
-    /// The number of sessions that run at a time. A further connection is answered `Busy` and closed.
-    pub at_once: u32,
-    /// The number of seconds after which the session of a silent client ends; `None` for no limit. Not 0.
-    pub idle: Option<u32>,
-    /// Whether the observer gets the reason of each line that is answered `BadLine`.
-    pub tells_why: bool,
-}
 
 /// Observes a server: connections that could not be accepted or served, lines that are no orders, what happens to its
 /// workers, and each second.
@@ -60,14 +44,51 @@ pub trait ServerObserver {
     fn second_passed(&self);
 }
 
-/// Accepts connections from one listener or from two, and runs a session for each in a thread of its own. It returns
-/// when all sessions have ended; the listeners are closed as soon as the last connection was accepted. Once the backend
-/// is over, no more are accepted, and all connections are closed, within a second even if no client sends anything.
+/// A reference to an observer, which observes as it does.
+#[derive(Drop)]
+pub struct SharedObserver<'a, T> {
+    pub observer: &'a T,
+}
+
+impl<T> Clone for SharedObserver<'_, T> {
+    fn clone(&self) -> Result<Self, AllocError> {
+        Ok(*self)
+    }
+}
+
+impl<T> Copy for SharedObserver<'_, T> {}
+
+impl<T: ServerObserver> ServerObserver for SharedObserver<'_, T> {
+    fn not_accepted(&self, why: Error) {
+        self.observer.not_accepted(why);
+    }
+
+    fn no_thread(&self) {
+        self.observer.no_thread();
+    }
+
+    fn bad_line(&self, connection: u64, line: u64, why: &Reason) {
+        self.observer.bad_line(connection, line, why);
+    }
+
+    fn session_event(&self, connection: Option<u64>, event: SessionEvent) {
+        self.observer.session_event(connection, event);
+    }
+
+    fn second_passed(&self) {
+        self.observer.second_passed();
+    }
+}
+
+/// Accepts connections from one listener or from two, whose acceptor this is, and holds a session over each in a thread
+/// of its own, which the backend answers. It returns when all sessions have ended; the listeners are closed as soon as
+/// the last connection was accepted. Once the backend is over, no more are accepted, and all connections are closed,
+/// within a second even if no client sends anything.
 ///
 /// The end of one session ends no other, unless the backend is over then. Neither does a connection that can't be
 /// accepted or can't have a thread: `trouble` is notified, and the next one is accepted. The error is the first such
-/// failure, and is returned at the end. If a listener's closer or the second listener's thread can't be had, the error
-/// is returned before any connection is accepted.
+/// failure, and is returned at the end. If the second listener's thread can't be had, the error is returned before any
+/// connection is accepted.
 pub fn serve<
     B: Backend<Handle = Closer> + Sync,
     R: Threads + Wait + Clock + Sync,
@@ -75,41 +96,52 @@ pub fn serve<
 >(
     rt: &R,
     listeners: (Listener, Option<Listener>),
-    limits: ServerLimits,
+    acceptor: &Arc<Acceptor>,
     trouble: &T,
     backend: &B,
 ) -> Result<(), ServeFault>
     requires fits { B.fits backend.now }
 {
-    let (listener, other) = listeners;
-    let entrance = Acceptor {
-        limits,
-        taken: AtomicU64::new(0),
-        running: AtomicU64::new(0),
-        connections: OpenConnections::new(backend.alloc()),
-        closers: closers_of(&listener, &other)?,
-        has_ended: Mutex::new(false),
-        ended: Condvar::new(),
-    };
+    let handler = SessionHandler { backend };
+    let observer = SharedObserver { observer: trouble };
+    serve_connections(rt, listeners, acceptor, &observer, &handler)
+}
+
+/// Accepts the connections of an acceptor's listeners, and has each handled in a thread of its own, as `serve` does: it
+/// returns when no thread handles one any more. A connection that its thread moved elsewhere is then no longer waited
+/// for.
+pub fn serve_connections<
+    H: ConnectionHandler<T> + Sync,
+    R: Threads + Wait + Clock + Sync,
+    T: ServerObserver + Copy + Send + Sync,
+>(
+    rt: &R,
+    listeners: (Listener, Option<Listener>),
+    acceptor: &Arc<Acceptor>,
+    observer: &T,
+    handler: &H,
+) -> Result<(), ServeFault>
+    requires fits { H.fits handler.now }
+{
     let server = ServerContext {
-        entrance: &entrance,
-        observer: trouble,
-        backend,
+        acceptor,
+        observer,
+        handler,
     };
     let server = &server;
     thread::scope(
         thread::scope_env(),
         rt,
         move |scope| -> Result<(), ServeFault>
-            requires fits { B.fits server.now.backend.now }
+            requires fits { H.fits server.now.handler.now }
         {
             let watching = move || watch(rt, server);
             // Without this thread the server still ends, once a session finds that the backend is over.
             let watcher = Builder::new()
                 .stack_size(STACK)
                 .spawn_scoped(scope, watching);
-            let served = accept_all(rt, (listener, other), server);
-            server.entrance.announce_end(rt);
+            let served = accept_all(rt, listeners, server);
+            server.acceptor.announce_end(rt);
             if let Ok(watcher) = watcher {
                 watcher.join(rt);
             }
@@ -118,26 +150,26 @@ pub fn serve<
     )
 }
 
-/// What the threads of a server share: the entrance, the observer and the backend.
+/// What the threads of a server share: the acceptor, the observer and the handler.
 #[derive(Drop)]
-struct ServerContext<'a, B, T> {
-    entrance: &'a Acceptor,
+struct ServerContext<'a, H, T> {
+    acceptor: &'a Arc<Acceptor>,
     observer: &'a T,
-    backend: &'a B,
+    handler: &'a H,
 }
 
-/// Accepts the connections of one listener or of two, each listener in a thread of its own. Returns when all sessions
-/// have ended.
+/// Accepts the connections of one listener or of two, each listener in a thread of its own. Returns when no thread
+/// handles one any more.
 fn accept_all<
-    B: Backend<Handle = Closer> + Sync,
+    H: ConnectionHandler<T> + Sync,
     R: Threads + Wait + Clock + Sync,
-    T: ServerObserver + Sync,
+    T: ServerObserver + Copy + Send + Sync,
 >(
     rt: &R,
     listeners: (Listener, Option<Listener>),
-    server: &ServerContext<'_, B, T>,
+    server: &ServerContext<'_, H, T>,
 ) -> Result<(), ServeFault>
-    requires fits { B.fits server.now.backend.now }
+    requires fits { H.fits server.now.handler.now }
 {
     let (listener, other) = listeners;
     let Some(other) = other else {
@@ -147,10 +179,10 @@ fn accept_all<
         thread::scope_env(),
         rt,
         move |scope| -> Result<(), ServeFault>
-            requires fits { B.fits server.now.backend.now }
+            requires fits { H.fits server.now.handler.now }
         {
             let beside = move || -> Result<(), ServeFault>
-                requires fits { B.fits server.now.backend.now }
+                requires fits { H.fits server.now.handler.now }
             { accept_loop(rt, other, server) };
             let Ok(beside) = Builder::new().stack_size(STACK).spawn_scoped(scope, beside) else {
                 return Err(ServeFault::NoThread);
@@ -161,247 +193,126 @@ fn accept_all<
     )
 }
 
-/// Reports each second, and closes all connections once the backend is over, until all sessions have ended.
-fn watch<B: Backend<Handle = Closer>, R: Wait + Clock, T: ServerObserver>(
+/// Reports each second, and closes all connections once the handler is over, until all sessions have ended.
+fn watch<H: ConnectionHandler<T>, R: Wait + Clock, T: ServerObserver>(
     rt: &R,
-    server: &ServerContext<'_, B, T>,
+    server: &ServerContext<'_, H, T>,
 ) {
     for _ in rt.forever() {
         if server
-            .entrance
+            .acceptor
             .has_ended_within(rt, Duration::from_secs(WATCH_PERIOD))
         {
             return;
         }
         server.observer.second_passed();
-        if server.backend.is_over(rt) {
-            server.entrance.close_all(rt);
+        if server.handler.is_over(rt) {
+            server.acceptor.close_all(rt);
         }
     }
 }
 
-/// The closers of these listeners.
-fn closers_of(
-    listener: &Listener,
-    other: &Option<Listener>,
-) -> Result<(Closer, Option<Closer>), ServeFault> {
-    let closer = closer_of(listener)?;
-    match other {
-        Some(other) => Ok((closer, Some(closer_of(other)?))),
-        None => Ok((closer, None)),
-    }
-}
-
-fn closer_of(listener: &Listener) -> Result<Closer, ServeFault> {
-    match listener.closer() {
-        Ok(closer) => Ok(closer),
-        Err(_) => Err(ServeFault::SocketFailed),
-    }
-}
-
-/// Accepts the connections of a listener, until the server's limit is reached or the backend is over. Returns when
-/// their sessions have ended.
+/// Accepts the connections of a listener, until the server's limit is reached or the handler is over. Returns when no
+/// thread handles one any more.
 fn accept_loop<
-    B: Backend<Handle = Closer> + Sync,
+    H: ConnectionHandler<T> + Sync,
     R: Threads + Wait + Clock + Sync,
-    T: ServerObserver + Sync,
->(rt: &R, listener: Listener, server: &ServerContext<'_, B, T>) -> Result<(), ServeFault>
-    requires fits { B.fits server.now.backend.now }
+    T: ServerObserver + Copy + Send + Sync,
+>(rt: &R, listener: Listener, server: &ServerContext<'_, H, T>) -> Result<(), ServeFault>
+    requires fits { H.fits server.now.handler.now }
 {
     thread::scope(
         thread::scope_env(),
         rt,
         move |scope| -> Result<(), ServeFault>
-            requires fits { B.fits server.now.backend.now }
+            requires fits { H.fits server.now.handler.now }
         { accept_connections(rt, scope, listener, server) },
     )
 }
 
-/// Accepts connections, and starts a session for each in a thread of the scope. The error is the first failure.
+/// Accepts connections, and has each handled in a thread of the scope. The error is the first failure.
 fn accept_connections<
     's,
     E,
-    B: Backend<Handle = Closer> + Sync,
+    H: ConnectionHandler<T> + Sync,
     R: Threads + Wait + Clock + Sync,
-    T: ServerObserver + Sync,
+    T: ServerObserver + Copy + Send + Sync,
 >(
     rt: &'s R,
     scope: &Scope<'s, E>,
     listener: Listener,
-    server: &'s ServerContext<'s, B, T>,
+    server: &'s ServerContext<'s, H, T>,
 ) -> Result<(), ServeFault>
-    requires fits { B.fits server.now.backend.now }
+    requires fits { H.fits server.now.handler.now }
 {
     let mut ended = Ok(());
     for _ in rt.forever() {
-        let served = match server.entrance.accept(rt, &listener) {
+        let served = match server.acceptor.accept(rt, &listener) {
             Accepted::Over => return ended,
             Accepted::GivenUp => Ok(()),
             Accepted::Early(client) => {
-                reject(server.backend.alloc(), &client, server.backend.names());
+                reject(server.handler.alloc(), &client, server.handler.names());
                 Ok(())
             }
             Accepted::Failed(why) => Err(report_accept_failure(server.observer, why)),
-            Accepted::Client(number, client) => start_session(rt, scope, server, number, client),
+            Accepted::Client(number, client) => start_handling(rt, scope, server, number, client),
         };
         ended = ended.and(served);
     }
     unreachable!()
 }
 
-/// Starts the session of a connection in a thread of the scope.
-fn start_session<
+/// Has a connection handled in a thread of the scope.
+fn start_handling<
     's,
     E,
-    B: Backend<Handle = Closer> + Sync,
+    H: ConnectionHandler<T> + Sync,
     R: Threads + Wait + Clock + Sync,
-    T: ServerObserver + Sync,
+    T: ServerObserver + Copy + Send + Sync,
 >(
     rt: &'s R,
     scope: &Scope<'s, E>,
-    server: &'s ServerContext<'s, B, T>,
+    server: &'s ServerContext<'s, H, T>,
     number: u64,
     client: Connection,
 ) -> Result<(), ServeFault>
-    requires fits { B.fits server.now.backend.now }
+    requires fits { H.fits server.now.handler.now }
 {
-    let talk = move ||
-        requires fits { B.fits server.now.backend.now }
+    let handling = move ||
+        requires fits { H.fits server.now.handler.now }
     { handle_connection(rt, server, number, client) };
-    match Builder::new().stack_size(STACK).spawn_scoped(scope, talk) {
+    match Builder::new()
+        .stack_size(STACK)
+        .spawn_scoped(scope, handling)
+    {
         Ok(_) => Ok(()),
-        Err(_) => Err(report_no_thread(server.observer, &server.entrance.running)),
+        Err(_) => {
+            server.acceptor.count_end();
+            server.observer.no_thread();
+            Err(ServeFault::NoThread)
+        }
     }
 }
 
-/// The outcome of one `accept`.
-#[derive(Drop)]
-enum Accepted {
-    /// A connection for a session, which is already counted as running, and the connection's number.
-    Client(u64, Connection),
-    /// A connection while the number of sessions is at its limit.
-    Early(Connection),
-    /// No connection: it was closed before it could be accepted, or the call was interrupted.
-    GivenUp,
-    /// No connection: `accept` failed.
-    Failed(Error),
-    /// No connection: no more are accepted.
-    Over,
-}
-
-/// What the listeners of a server share: the limits, the counts, and the open connections.
-#[derive(Drop)]
-struct Acceptor {
-    limits: ServerLimits,
-    /// The number of accepted connections.
-    taken: AtomicU64,
-    /// The number of running sessions.
-    running: AtomicU64,
-    /// The connections of the running sessions.
-    connections: OpenConnections,
-    /// The closers of the listeners.
-    closers: (Closer, Option<Closer>),
-    /// Whether all sessions have ended, and no more will begin.
-    has_ended: Mutex<bool>,
-    /// Notified when `has_ended` becomes true.
-    ended: Condvar,
-}
-
-impl Acceptor {
-    /// Waits until all sessions have ended, at most this long. Answers whether they have.
-    fn has_ended_within<R: Wait + Clock>(&self, rt: &R, most: Duration) -> bool {
-        let has_ended = self.has_ended.lock(rt);
-        let (has_ended, _) = self
-            .ended
-            .wait_timeout_while(rt, has_ended, most, |has_ended| !*has_ended);
-        *has_ended
+/// Handles a connection, in a thread of its own. If the handler is over then, all other connections are closed.
+fn handle_connection<
+    H: ConnectionHandler<T>,
+    R: Threads + Wait + Clock + Sync,
+    T: ServerObserver + Copy,
+>(rt: &R, server: &ServerContext<'_, H, T>, number: u64, client: Connection)
+    requires fits { H.fits server.now.handler.now }
+{
+    if let Some(connection) = Acceptor::admit(
+        server.acceptor,
+        rt,
+        number,
+        client,
+        *server.observer,
+    ) {
+        server.handler.handle(rt, connection);
     }
-
-    /// Wakes and ends the watching thread: all sessions have ended.
-    fn announce_end<R: Wait>(&self, rt: &R) {
-        *self.has_ended.lock(rt) = true;
-        self.ended.notify_all();
-    }
-
-    /// Waits for the next connection of a listener.
-    fn accept<R: Wait>(&self, rt: &R, listener: &Listener) -> Accepted {
-        if self.is_over(rt) {
-            return Accepted::Over;
-        }
-        let client = match listener.accept() {
-            Ok(client) => client,
-            Err(why) => return self.accept_failure(rt, why),
-        };
-        let Some(number) = self.count_connection() else {
-            return Accepted::Over;
-        };
-        client.set_limits(self.limits.idle);
-        if self.running.fetch_add(1, Ordering::SeqCst) >= u64::from(self.limits.at_once) {
-            self.running.fetch_sub(1, Ordering::SeqCst);
-            return Accepted::Early(client);
-        }
-        Accepted::Client(number, client)
-    }
-
-    /// Whether the limit of connections is reached, or no more are added.
-    fn is_over<R: Wait>(&self, rt: &R) -> bool {
-        match self.limits.connections {
-            Some(most) if self.taken.load(Ordering::SeqCst) >= u64::from(most) => true,
-            _ => self.connections.is_over(rt),
-        }
-    }
-
-    /// Counts one more connection, and answers its number, or `None` beyond the limit. With the last one the listeners
-    /// are closed.
-    fn count_connection(&self) -> Option<u64> {
-        let number = self.taken.fetch_add(1, Ordering::SeqCst).saturating_add(1);
-        match self.limits.connections {
-            Some(most) if number > u64::from(most) => return None,
-            Some(most) if number == u64::from(most) => self.close_listeners(),
-            _ => {}
-        }
-        Some(number)
-    }
-
-    /// Closes the listeners, which wakes the threads that wait in `accept`.
-    fn close_listeners(&self) {
-        let (closer, other) = &self.closers;
-        closer.shut_down();
-        if let Some(other) = other {
-            other.shut_down();
-        }
-    }
-
-    /// Accepts no more connections, closes the listeners, and then closes all connections: a client that reconnects
-    /// then finds no listener.
-    fn close_all<R: Wait>(&self, rt: &R) {
-        if self.connections.stop_adding(rt) {
-            self.close_listeners();
-            self.connections.close_all(rt);
-        }
-    }
-
-    /// The observer of a connection's lines, if `tells_why` is set.
-    fn line_observer<'a, T: ServerObserver>(
-        &self,
-        trouble: &'a T,
-        number: u64,
-    ) -> Option<ConnectionObserver<'a, T>> {
-        if self.limits.tells_why {
-            return Some(ConnectionObserver { trouble, number });
-        }
-        None
-    }
-
-    /// The outcome of an `accept` that failed.
-    fn accept_failure<R: Wait>(&self, rt: &R, why: Error) -> Accepted {
-        if self.is_over(rt) {
-            return Accepted::Over;
-        }
-        match why.kind() {
-            ErrorKind::ConnectionAborted | ErrorKind::Interrupted => Accepted::GivenUp,
-            _ => Accepted::Failed(why),
-        }
+    if server.handler.is_over(rt) {
+        server.acceptor.close_all(rt);
     }
 }
 
@@ -415,13 +326,6 @@ fn report_accept_failure<T: ServerObserver>(trouble: &T, why: Error) -> ServeFau
     }
 }
 
-/// Reports that a connection had no thread, counts its session as ended, and answers the fault.
-fn report_no_thread<T: ServerObserver>(trouble: &T, sessions: &AtomicU64) -> ServeFault {
-    sessions.fetch_sub(1, Ordering::SeqCst);
-    trouble.no_thread();
-    ServeFault::NoThread
-}
-
 /// Answers `Busy` to a connection beyond the limit of sessions, before it is closed.
 fn reject(alloc: Global, client: &Connection, names: &Names) {
     let mut text = String::new(alloc);
@@ -431,91 +335,4 @@ fn reject(alloc: Global, client: &Connection, names: &Names) {
         let _ = put_all(&mut writer, text.as_bytes());
     }
     client.end_answers();
-}
-
-/// Reports the bad lines of a connection to the server's observer.
-#[derive(Drop)]
-struct ConnectionObserver<'a, T> {
-    trouble: &'a T,
-    number: u64,
-}
-
-impl<T: ServerObserver> ReasonObserver for ConnectionObserver<'_, T> {
-    fn reason_found(&self, line: u64, why: &Reason) {
-        self.trouble.bad_line(self.number, line, why);
-    }
-}
-
-/// The client of a connection's session: the connection, its number, and the server's observer.
-#[derive(Drop)]
-struct ObservedClient<'a, T> {
-    connection: &'a Connection,
-    number: u64,
-    observer: &'a T,
-}
-
-impl<T: ServerObserver> Client for ObservedClient<'_, T> {
-    type Handle = Closer;
-
-    fn is_gone(&self) -> bool {
-        self.connection.is_gone()
-    }
-
-    fn handle(&self) -> Option<Closer> {
-        self.connection.handle()
-    }
-
-    fn observe(&self, event: SessionEvent) {
-        self.observer.session_event(Some(self.number), event);
-    }
-}
-
-/// A connection's session and its end, in a thread of its own. If the backend is over then, all other connections are
-/// closed too.
-fn handle_connection<B: Backend<Handle = Closer>, R: Wait + Clock, T: ServerObserver>(
-    rt: &R,
-    server: &ServerContext<'_, B, T>,
-    number: u64,
-    client: Connection,
-)
-    requires fits { B.fits server.now.backend.now }
-{
-    let entrance = server.entrance;
-    let backend = server.backend;
-    // It is closed last: once its client sees that, the session is no longer counted.
-    let client = entrance
-        .connections
-        .add(rt, backend.alloc(), number, client);
-    if let Some(connection) = &client {
-        let client = ObservedClient {
-            connection,
-            number,
-            observer: server.observer,
-        };
-        let lines = entrance.line_observer(server.observer, number);
-        run_session(rt, &client, lines, backend);
-        entrance.connections.remove(rt, number);
-    }
-    entrance.running.fetch_sub(1, Ordering::SeqCst);
-    if backend.is_over(rt) {
-        entrance.close_all(rt);
-    }
-}
-
-/// A connection's session. Its fault is not reported: the client sees that the connection is closed.
-fn run_session<B: Backend<Handle = Closer>, R: Wait + Clock, T: ServerObserver>(
-    rt: &R,
-    client: &ObservedClient<'_, T>,
-    observer: Option<ConnectionObserver<'_, T>>,
-    backend: &B,
-)
-    requires fits { B.fits backend.now }
-{
-    let connection = client.connection;
-    let mut writer = connection;
-    let reader = DiagnosedReader::new(backend.alloc(), connection, Vocabulary::Orders, observer);
-    let Ok(mut lines) = LineReader::new(backend.alloc(), reader) else {
-        return;
-    };
-    let _ = session(rt, backend, client, &mut lines, &mut writer);
 }

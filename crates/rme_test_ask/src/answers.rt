@@ -2,8 +2,9 @@
 
 use crate::conversations::answer_to;
 use rme_ask_client::{
-    ClientRequest, ReportedOutcome, ReportedStance, ServerAnswer, attached_worker, cells_answer,
-    job_outcome, last_receipt, owner_answer, pending_job, server_status, withdrawn_number,
+    ClientError, ClientRequest, ReportedOutcome, ReportedStance, ServerAnswer, attached_worker,
+    cells_answer, job_outcome, last_receipt, owner_answer, pending_job, server_status, spaces_page,
+    withdrawn_number,
 };
 use std::test::Fail;
 
@@ -94,5 +95,34 @@ fn look_ups_are_read(rt: HostRuntime) -> Result<(), Fail> {
         return Err(Fail::from("cells"));
     };
     assert!(rt; cells_answer(alloc, &value)?.settled);
+    Ok(())
+}
+
+#[test]
+fn pages_of_spaces_are_read(rt: HostRuntime) -> Result<(), Fail> {
+    let alloc = rt.alloc();
+    let told = b"{\"more\":true,\"ok\":\"spaces\",\"spaces\":[\"a\",\"b\\u001b\"]}\n";
+    let ServerAnswer::Accepted(value) = answer_to(alloc, ClientRequest::Spaces(None), told)? else {
+        return Err(Fail::from("spaces"));
+    };
+    let page = spaces_page(alloc, &value)?;
+    assert!(rt; page.more && page.spaces.len() == 2);
+    assert!(rt; page.spaces[0].as_str() == "a" && page.spaces[1].as_str() == "b\u{1b}");
+    let told = b"{\"more\":false,\"ok\":\"spaces\",\"spaces\":[1]}\n";
+    let ServerAnswer::Accepted(value) = answer_to(alloc, ClientRequest::Spaces(None), told)? else {
+        return Err(Fail::from("spaces"));
+    };
+    assert_eq!(rt;
+        spaces_page(alloc, &value).err(),
+        Some(ClientError::NoMember("spaces"))
+    );
+    let told = b"{\"ok\":\"spaces\",\"spaces\":[]}\n";
+    let ServerAnswer::Accepted(value) = answer_to(alloc, ClientRequest::Spaces(None), told)? else {
+        return Err(Fail::from("spaces"));
+    };
+    assert_eq!(rt;
+        spaces_page(alloc, &value).err(),
+        Some(ClientError::NoMember("more"))
+    );
     Ok(())
 }

@@ -6,7 +6,9 @@ ghost use Rattle.rme_ask_client.specs.Conversations.{sent_bytes};
 ghost use Rattle.rme_ask_client.specs.RequestTexts.{request_word};
 ghost use Rattle.rme_test_ask.specs.Answers.{RepeatsWord};
 
-use rme_ask_client::{ClientError, ClientRequest, Conversation, ServerAnswer, push_request};
+use rme_ask_client::{
+    ClientError, ClientRequest, Conversation, NewSpace, ServerAnswer, push_request,
+};
 use rme_line_io::{Sink, Source};
 use std::alloc::Global;
 use std::test::Fail;
@@ -74,6 +76,58 @@ fn requests_have_their_lines(rt: HostRuntime) -> Result<(), Fail> {
     assert_eq!(rt;
         line_of(alloc, ClientRequest::Resume(250))?.as_str(),
         "{\"do\":\"resume\",\"wait\":250}"
+    );
+    Ok(())
+}
+
+#[test]
+fn requests_about_spaces_have_their_lines(rt: HostRuntime) -> Result<(), Fail> {
+    let alloc = rt.alloc();
+    assert_eq!(rt;
+        line_of(alloc, ClientRequest::UseSpace("a\nb"))?.as_str(),
+        "{\"do\":\"use\",\"space\":\"a\\nb\"}"
+    );
+    assert_eq!(rt;
+        line_of(alloc, ClientRequest::DropSpace("team-7"))?.as_str(),
+        "{\"do\":\"drop\",\"space\":\"team-7\"}"
+    );
+    assert_eq!(rt;
+        line_of(alloc, ClientRequest::Spaces(None))?.as_str(),
+        "{\"do\":\"spaces\"}"
+    );
+    assert_eq!(rt;
+        line_of(alloc, ClientRequest::Spaces(Some("team-7")))?.as_str(),
+        "{\"do\":\"spaces\",\"after\":\"team-7\"}"
+    );
+    Ok(())
+}
+
+#[test]
+fn requests_to_create_a_space_have_their_lines(rt: HostRuntime) -> Result<(), Fail> {
+    let alloc = rt.alloc();
+    let locks = vec![in alloc;
+        String::from_str(alloc, "bank")?,
+        String::from_str(alloc, "a\"b")?,
+    ]?;
+    let small = ClientRequest::CreateSpace(NewSpace {
+        name: "team-7",
+        locks: &locks[..1],
+        workers: None,
+        cells: None,
+    });
+    assert_eq!(rt;
+        line_of(alloc, small)?.as_str(),
+        "{\"do\":\"create\",\"space\":\"team-7\",\"locks\":[\"bank\"]}"
+    );
+    let large = ClientRequest::CreateSpace(NewSpace {
+        name: "team-7",
+        locks: locks.as_slice(),
+        workers: Some(255),
+        cells: Some(16),
+    });
+    assert_eq!(rt;
+        line_of(alloc, large)?.as_str(),
+        "{\"do\":\"create\",\"space\":\"team-7\",\"locks\":[\"bank\",\"a\\\"b\"],\"workers\":255,\"cells\":16}"
     );
     Ok(())
 }

@@ -89,7 +89,7 @@ fn execute(
 }
 
 /// A session, by its place in a list of two; its order; and the reply that it must have.
-type Exchange = (usize, Order, SessionReply);
+type OrderAndReply = (usize, Order, SessionReply);
 
 fn new_sessions() -> [SessionState; 2] {
     [SessionState::new(1), SessionState::new(2)]
@@ -100,7 +100,7 @@ fn play(
     rt: &impl Abort,
     executor: &mut Executor,
     sessions: &mut [SessionState; 2],
-    exchanges: &[Exchange],
+    exchanges: &[OrderAndReply],
 ) -> Result<(), NoMemory> {
     for (session, order, wanted) in exchanges {
         assert!(rt; *session < 2);
@@ -125,7 +125,7 @@ fn inside_in(section: u32) -> SessionReply {
 }
 
 /// One worker is inside while the other waits; then the other is inside.
-fn one_after_the_other() -> [Exchange; 7] {
+fn one_after_the_other() -> [OrderAndReply; 7] {
     let waits = SessionReply::Entered(JobOutcome::Waiting);
     let not_inside = SessionReply::Refused(Refusal::NotInside);
     [
@@ -152,7 +152,7 @@ fn inside(rt: HostRuntime) -> Result<(), Fail> {
 }
 
 /// A worker belongs to one session, until that detaches it.
-fn taken_worker() -> [Exchange; 3] {
+fn taken_worker() -> [OrderAndReply; 3] {
     [
         (0, attach(0), READY),
         (1, attach(0), SessionReply::Refused(Refusal::Taken)),
@@ -161,7 +161,7 @@ fn taken_worker() -> [Exchange; 3] {
 }
 
 /// Another session finds it inside, and finishes its job.
-fn found_inside() -> [Exchange; 2] {
+fn found_inside() -> [OrderAndReply; 2] {
     [
         (1, attach(0), HELD),
         (1, Order::Commit, SessionReply::Committed(receipt(0, 0, 5))),
@@ -181,7 +181,7 @@ fn handed_on(rt: HostRuntime) -> Result<(), Fail> {
 }
 
 /// A worker that crashes as planned is still inside.
-fn planned_crash() -> [Exchange; 6] {
+fn planned_crash() -> [OrderAndReply; 6] {
     [
         (0, attach(0), READY),
         (0, Order::CrashAfter(7), SessionReply::CrashPlanned),
@@ -200,7 +200,7 @@ fn planned(rt: HostRuntime) -> Result<(), Fail> {
 }
 
 /// The token is the place of the receipt, also where `enter` is repeated; a ping changes nothing.
-fn two_sections() -> [Exchange; 10] {
+fn two_sections() -> [OrderAndReply; 10] {
     [
         (0, Order::Ping, SessionReply::Pong),
         (0, attach(0), READY),
@@ -235,7 +235,7 @@ fn pending(amount: u64, stance: SessionStance) -> SessionReply {
 }
 
 /// One worker is inside and the other waits; each is told its job.
-fn two_pending_jobs() -> [Exchange; 8] {
+fn two_pending_jobs() -> [OrderAndReply; 8] {
     let waits = SessionReply::Entered(JobOutcome::Waiting);
     [
         (

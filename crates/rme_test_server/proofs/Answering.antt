@@ -25,17 +25,20 @@ use Rattle.rme_server.specs.ServiceChoices.{AnswerByOrder, ChoiceOutcome, IsChos
 use Rattle.rme_test_server.specs.Answers.{AnswersLine, TellsWorker}
 
 -- A ping has one answer.
-ponged : (ident : ServiceId) (count : ℕ) (old now : Stand) (told : SessionReply) → ThreadSessionStep ident count old Ping now told → (told ≡ Pong) × (now ≡ old)
+ponged : (ident : ServiceId) (count : ℕ) (old now : Stand) (told : SessionReply)
+    → ThreadSessionStep ident count old Ping now told → (told ≡ Pong) × (now ≡ old)
 ponged ident count old now (Refused why) step = elim step.acts.obeys.1 [ inl refused ↦ absurd (none-some _ (sym refused)) | inr taken ↦ absurd taken ]
 ponged ident count old now Pong step = (refl, step.acts.adds.0)
 ponged ident count old now told step = absurd step.acts.obeys.1
 
-ponged_until_gone : (gone : Type 0) (ident : ServiceId) (count : ℕ) (old now : Stand) (told : SessionReply) → SessionStepUntilGone gone (ThreadSessionStep ident count) old Ping now told → (told ≡ Pong) × (now ≡ old)
+ponged_until_gone : (gone : Type 0) (ident : ServiceId) (count : ℕ) (old now : Stand) (told : SessionReply)
+    → SessionStepUntilGone gone (ThreadSessionStep ident count) old Ping now told → (told ≡ Pong) × (now ≡ old)
 ponged_until_gone gone ident count old now told (inl step) = ponged ident count old now told step
 ponged_until_gone gone ident count old now told (inr fewer) = ponged ident count old now told fewer.2.2
 
 -- A worker that was chosen is ready exactly if a ready one was asked for.
-fits : (asked : WorkerChoice) (stance : SessionStance) → is_chosen asked (has_pending_job stance) ≡ true → (stance ≡ at.Ready) ↔ (asked ≡ choice.Ready)
+fits : (asked : WorkerChoice) (stance : SessionStance) → is_chosen asked (has_pending_job stance) ≡ true
+    → (stance ≡ at.Ready) ↔ (asked ≡ choice.Ready)
 fits choice.Pending at.Ready chosen = cc
 fits choice.Pending at.Climb chosen = ((λ ready. cc), (λ ready. cc))
 fits choice.Pending at.Held chosen = ((λ ready. cc), (λ ready. cc))
@@ -43,19 +46,24 @@ fits choice.Ready at.Ready chosen = ((λ ready. refl), (λ ready. refl))
 fits choice.Ready at.Climb chosen = cc
 fits choice.Ready at.Held chosen = cc
 
-told_worker : (names : List (List ℕ)) (asked : WorkerChoice) (bytes : List ℕ) (worker : ℕ) (told : SessionReply) → IsChosenReply asked told → bytes ≡ choice_reply_line names worker told → TellsWorker names asked bytes
+told_worker : (names : List (List ℕ)) (asked : WorkerChoice) (bytes : List ℕ) (worker : ℕ) (told : SessionReply)
+    → IsChosenReply asked told → bytes ≡ choice_reply_line names worker told → TellsWorker names asked bytes
 told_worker names asked bytes worker (Attached number stance) chosen says =
     record { worker = worker; number = number; stance = stance; fits = fits asked stance chosen; says = says }
 told_worker names asked bytes worker told chosen says = absurd chosen
 
-chosen_or_taken : (ident : ServiceId) (count : ℕ) (names : List (List ℕ)) (old now : Stand) (asked : WorkerChoice) (bytes : List ℕ) (found : Result _ Refusal) → ChoiceOutcome ident count old asked found now
+chosen_or_taken : (ident : ServiceId) (count : ℕ) (names : List (List ℕ)) (old now : Stand) (asked : WorkerChoice)
+    (bytes : List ℕ) (found : Result _ Refusal)
+    → ChoiceOutcome ident count old asked found now
     → bytes ≡ chosen_worker_line names found → old.value ≡ Empty → TellsWorker names asked bytes ⊎ (bytes ≡ session_reply_line names (Refused Taken))
 chosen_or_taken ident count names old now asked bytes (Ok found) outcome says empty = inl (told_worker names asked bytes found.worker found.reply outcome.1.chosen says)
 chosen_or_taken ident count names old now asked bytes (Err Busy) outcome says empty = absurd (outcome.0 empty)
 chosen_or_taken ident count names old now asked bytes (Err Taken) outcome says empty = inr says
 chosen_or_taken ident count names old now asked bytes (Err why) outcome says empty = absurd outcome
 
-pub answers_line : (gone : Type 0) (ident : ServiceId) (count : ℕ) (names : List (List ℕ)) (old : Stand) (line : InputLine) (bytes : List ℕ) (now : Stand) → ServiceLineAnswer gone ident count names old line bytes now → AnswersLine names old line bytes now
+pub answers_line : (gone : Type 0) (ident : ServiceId) (count : ℕ) (names : List (List ℕ)) (old : Stand)
+    (line : InputLine) (bytes : List ℕ) (now : Stand)
+    → ServiceLineAnswer gone ident count names old line bytes now → AnswersLine names old line bytes now
 answers_line gone ident count names old line bytes now answers = record {
   ping = λ is.
       let A : Result Order Refusal → Type 0 = λ parsed. AnswerByOrder gone ident count names parsed (choice_of_line line) old bytes now in

@@ -24,26 +24,32 @@ use Rattle.rme_session_threads.specs.declared.stand.Stand.{Stand}
 use Rattle.rme_test_server.specs.Fencing.{IsFencedReceipt}
 
 -- A session whose commit is not refused is inside.
-is_inside : (before : Option Receipt) (value : Holding) → None ≡ commit_refusal (holding_session before value) → (held : SeatView) × (value ≡ Held held)
+is_inside : (before : Option Receipt) (value : Holding) → None ≡ commit_refusal (holding_session before value)
+    → (held : SeatView) × (value ≡ Held held)
 is_inside before Empty none = absurd (none-some _ none)
 is_inside before (Ready ready) none = absurd (none-some _ none)
 is_inside before (Climb climb) none = absurd (none-some _ none)
 is_inside before (Held held) none = (held, refl)
 
 -- A worker that has told a token knows its section.
-knows_section : (shape : Shape) (lead : Part → Part) (token : FencingToken) (start : Option SeatView) (held : SeatView) (made : ℕ) → OwnStepsThenLoad shape lead (part_when_told (outcome.Inside token)) start (Some held) made → held.part.section ≡ Some token.section
+knows_section : (shape : Shape) (lead : Part → Part) (token : FencingToken) (start : Option SeatView) (held : SeatView)
+    (made : ℕ)
+    → OwnStepsThenLoad shape lead (part_when_told (outcome.Inside token)) start (Some held) made
+    → held.part.section ≡ Some token.section
 knows_section shape lead token None held made steps = absurd steps
 knows_section shape lead token (Some start) held made steps = ap (λ (part : Part). part.section) steps.walk
 
 -- The receipt of a commit has the lock of the worker's job.
-has_lock : (after : Option Receipt) (held : SeatView) (value : Holding) (receipt : Receipt) → CommitOrderEffect (at.Held (pending_worker_of held)) (holding_session after value) (outcome.Receipt receipt)
+has_lock : (after : Option Receipt) (held : SeatView) (value : Holding) (receipt : Receipt)
+    → CommitOrderEffect (at.Held (pending_worker_of held)) (holding_session after value) (outcome.Receipt receipt)
     → (job : Job) × (held.part.draft ≡ Some job) × (receipt.lock ≡ job.lock)
 has_lock after held Empty receipt did = absurd did
 has_lock after held (Ready ready) receipt did = (did.0, did.1, did.2.0.lock)
 has_lock after held (Climb climb) receipt did = absurd did
 has_lock after held (Held other) receipt did = absurd did
 
-pub fenced : (ident : ServiceId) (count : ℕ) (old mid now : Stand) (its : Submission) (token : FencingToken) (receipt : Receipt)
+pub fenced : (ident : ServiceId) (count : ℕ) (old mid now : Stand) (its : Submission) (token : FencingToken)
+    (receipt : Receipt)
     → ThreadSessionStep ident count old (order.Enter its) mid (reply.Entered (outcome.Inside token))
     → TellsSection (WorkerHasSection ident.shape (held_worker mid.value)) (holding_session None mid.value) (reply.Entered (outcome.Inside token))
     → TellsLife (λ worker life. life ≡ mid.life) (holding_session None mid.value) (reply.Entered (outcome.Inside token))

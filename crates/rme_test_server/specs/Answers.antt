@@ -12,7 +12,7 @@ use Rattle.rme_session_protocol.specs.declared.reply.SessionStance.TheVariants a
 use Rattle.rme_session_protocol.specs.declared.worker_choice.ChoiceRequest.{ChoiceRequest}
 use Rattle.rme_session_protocol.specs.declared.worker_choice.WorkerChoice.{WorkerChoice}
 use Rattle.rme_session_protocol.specs.declared.worker_choice.WorkerChoice.TheVariants as choice
-use Rattle.rme_session_server.specs.SessionAnswers.{parsed_order}
+use Rattle.rme_session_loop.specs.SessionAnswers.{parsed_order}
 use Rattle.rme_session_threads.specs.declared.stand.Holding.TheVariants.{Empty}
 use Rattle.rme_session_threads.specs.declared.stand.Stand.{Stand}
 

@@ -8,11 +8,11 @@ ghost use Rattle.rme_session_threads.specs.WorkerSlots.{AreDownsInPlace};
 ghost use Rattle.rme_test_server.specs.Answers.{AnswersLine};
 
 use rme_server::ServiceBackend;
-use rme_session_protocol::{Attachment, Order, SessionReply, SessionStance};
-use rme_session_server::{
+use rme_session_loop::{
     AnswerError, Backend, Buffers, Client, CloseHandle, OrderAttempts, OrderRequest, SessionEvent,
     SessionRegistry, session,
 };
+use rme_session_protocol::{Attachment, Order, SessionReply, SessionStance};
 use rme_session_threads::{Slots, Stand};
 use rme_table::{Down, Service, Tag};
 use rme_wire::{LineReader, Names, Sink};

@@ -1,7 +1,7 @@
 //! The registry has the workers and the locks of its shape, and no others; its claims tell clients of each change, and
 //! close the client of a session once.
 
-use rme_session_server::{
+use rme_session_loop::{
     Client, CloseHandle, NoCloseHandle, ReleaseCause, SessionEvent, SessionRegistry, WorkerClaim,
 };
 use rme_words::Shape;

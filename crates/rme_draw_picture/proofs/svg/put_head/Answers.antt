@@ -3,6 +3,6 @@ use Rattle.rme_draw_picture.proofs.svg.put_head.Goals as goal
 
 pub returns : goal.returns
 returns g c =
-    let title = puts_more _ _ _ _ _ _ _ _ c.put_opening.ensures c.put_title.ensures in
-    let again = puts_more _ _ _ _ _ _ _ _ c.put.ensures c.put_title-2.ensures in
-    puts_more _ _ _ _ _ _ _ _ (puts_more _ _ _ _ _ _ _ _ title again) c.put-2.ensures
+    let title = puts_more c.put_opening.ensures c.put_title.ensures in
+    let again = puts_more c.put.ensures c.put_title-2.ensures in
+    puts_more (puts_more title again) c.put-2.ensures

@@ -3,7 +3,7 @@ use Rattle.std.specs.Prelude.{OnOk, string_bytes}
 use Rattle.rme_durable_server.proofs.Extending.{order_at, refuses_it, says_it}
 use Rattle.rme_session_protocol.specs.ClientReplies.{reply_of_client}
 use Rattle.rme_session_protocol.specs.SessionLines.{session_reply_line}
-use Rattle.rme_session_server.specs.OrderRuns.{MayStopAfter}
+use Rattle.rme_session_loop.specs.OrderRuns.{MayStopAfter}
 use Rattle.rme_session_protocol.specs.declared.reply.SessionReply.TheVariants.{Refused}
 use Rattle.rme_words.specs.declared.refusal.Refusal.TheVariants.{NoWorker}
 use Rattle.rme_durable_server.proofs.backend.answer_order.Goals as goal
@@ -22,5 +22,6 @@ returns-in-Ok-clause-answers g c =
     let now = c.execute-session.result.0 in
     let S = λ (names : List (List ℕ)). OnOk c.answer_committed-told.result (string_bytes c.answer_committed-told.new.buffers.text ≡ session_reply_line names (reply_of_client answered.reply)) in
     says_it c.answer_committed-told.result g.L.LogStore.holds server.clients g.J.ServerTag.opening c.args.session its (reply_of_client answered.reply) (string_bytes c.answer_committed-told.new.buffers.text) now
+    (sym c.asks_checkpoint_worker.ensures ∙ c.if-asks_checkpoint_worker.false)
     (order_at c.execute-session.result.1 answered (λ r. reply_of_client r.reply) (λ (tries : ℕ). λ r. MayStopAfter (g.C.Client.gone c.args.run.now.request.client.now) its tries (reply_of_client r.reply)) g.J.ServerTag.opening c.args.session its now c.in-Ok.is c.execute-session.ensures.executes)
     (subst S server.named c.answer_committed-told.ensures.says) c.answer_committed-told.ensures.kept

@@ -1,7 +1,7 @@
 use Rattle.std.proofs.Common.{◌≤◌, ℕ, List, length, refl, sym, subst, ◌∙◌}
 use Rattle.rme_session_protocol.specs.ClientReplies.{reply_of_client}
 use Rattle.rme_durable_epochs.specs.EpochStates.{EpochState}
-use Rattle.rme_durable_server.specs.DurableAnswers.{AttemptFrom}
+use Rattle.rme_durable_server.specs.DurableOrders.{AttemptFrom}
 use Rattle.rme_durable_server.specs.ServerHistories.{SessionMoment, server_state, session_moment}
 use Rattle.rme_durable_server.proofs.Leading.{acted, lines_grow, logged_some, logged_step}
 use Rattle.rme_durable_server.proofs.durable_executor.DurableExecutor.execute.Goals as goal

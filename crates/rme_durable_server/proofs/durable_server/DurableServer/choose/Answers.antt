@@ -1,5 +1,5 @@
 use Rattle.std.proofs.Common.{rules}
-use Rattle.rme_durable_server.specs.DurableAnswers.{IsWhyNoneChosen}
+use Rattle.rme_durable_server.specs.DurableChoices.{IsWhyNoneChosen}
 use Rattle.rme_durable_server.specs.ServerHistories.{server_state}
 use Rattle.rme_durable_server.proofs.Choosing.{none_chosen}
 use Rattle.rme_durable_server.proofs.durable_server.DurableServer.choose.Goals as goal

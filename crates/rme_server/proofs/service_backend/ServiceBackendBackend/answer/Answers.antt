@@ -8,8 +8,8 @@ use Rattle.rme_session_protocol.specs.declared.reply.SessionReply.{SessionReply}
 use Rattle.rme_session_protocol.specs.Attempts.{with_tries}
 use Rattle.rme_session_protocol.specs.Orders.{world_numbers}
 use Rattle.rme_session_protocol.specs.WorkerChoices.{choice_of_line}
-use Rattle.rme_session_server.specs.OrderRuns.{IsReplyOfTries, MayStopAfter}
-use Rattle.rme_session_server.specs.SessionAnswers.{parsed_order}
+use Rattle.rme_session_loop.specs.OrderRuns.{IsReplyOfTries, MayStopAfter}
+use Rattle.rme_session_loop.specs.SessionAnswers.{parsed_order}
 use Rattle.rme_session_threads.specs.ThreadSteps.{ThreadSessionStep}
 use Rattle.rme_server.specs.ServiceChoices.{AnswerByOrder}
 use Rattle.rme_server.proofs.Trying.{tries_until_gone}

@@ -5,7 +5,8 @@ last_at : {A : Type 0} (before : List A) (last : A) → slice_get (before ++ las
 last_at [] last = refl
 last_at (first ∷ before) last = last_at before last
 
-front_at : {A : Type 0} (before : List A) (last a : A) (k : ℕ) → slice_get before k ≡ Some a → slice_get (before ++ last ∷ []) k ≡ Some a
+front_at : {A : Type 0} (before : List A) (last a : A) (k : ℕ) → slice_get before k ≡ Some a
+    → slice_get (before ++ last ∷ []) k ≡ Some a
 front_at [] last a zero at = cc
 front_at [] last a (suc k) at = cc
 front_at (first ∷ before) last a zero at = at

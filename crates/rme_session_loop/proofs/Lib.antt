@@ -1,0 +1,3 @@
+mod Talking
+mod Retrying
+mod Finishing

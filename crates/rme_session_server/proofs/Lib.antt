@@ -1,2 +1,0 @@
-mod Talking
-mod Retrying

@@ -1,4 +1,0 @@
--- How a line is answered, how an order is executed try by try, and the size of the registry that sessions share.
-pub mod SessionAnswers
-pub mod OrderRuns
-pub mod Registries

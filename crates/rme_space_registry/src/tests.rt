@@ -1,0 +1,13 @@
+//! Tests of the registry.
+
+use crate::registry::{SpaceRegistry, SpaceTask};
+use rme_space_orders::SpaceName;
+use std::test::Fail;
+
+#[test]
+fn there_is_no_task_at_the_end(rt: HostRuntime) -> Result<(), Fail> {
+    let registry: SpaceRegistry<u32> = SpaceRegistry::new(rt.alloc());
+    registry.end(&rt);
+    assert!(rt; registry.next_task(&rt).is_none());
+    Ok(())
+}
