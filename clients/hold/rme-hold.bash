@@ -9,14 +9,14 @@ _rme_hold() {
         fi
     done
     case $before in
-        --file | --socket)
+        --file | --socket | --key-file)
             compopt -o filenames 2>/dev/null
             mapfile -t COMPREPLY < <(compgen -f -- "$word")
             ;;
         --on-failure) mapfile -t COMPREPLY < <(compgen -W 'hold commit' -- "$word") ;;
-        --port | --worker | --wait | --script) ;;
+        --port | --worker | --wait | --script | --space) ;;
         *)
-            local options='--port --socket --file --worker --any -n --wait --kill --script --on-failure --help --'
+            local options='--port --socket --file --worker --any --key-file --space -n --wait --kill --script --on-failure --help --'
             mapfile -t COMPREPLY < <(compgen -W "$options" -- "$word")
             ;;
     esac

@@ -1,7 +1,7 @@
-"""Builds this package without a network: pip needs nothing beside it. The same file stands in each folder of clients/.
+"""Builds this package without a network: pip needs no other package. The folders of clients/ have copies of this file.
 
 It is what pyproject.toml names as the build backend. A package is the folder of its name beside this file; a wheel has its
-modules, `py.typed`, and a library where one lies there.
+modules, `py.typed`, and a library if the folder has one.
 """
 
 import base64
@@ -49,7 +49,7 @@ def metadata():
 
 
 def write_wheel(folder, files):
-    """A wheel with these files, and what says what it is; answers its name."""
+    """Makes a wheel with these files and its metadata, and returns its name."""
     told = project()
     name, version = told["name"], told["version"]
     platform = re.sub(r"[-.]", "_", sysconfig.get_platform()) if any(it.endswith(".so") for it in files) else "any"

@@ -3,9 +3,10 @@
 
     guarded_file.py PORT WORKER FILE CHANGES
 
-Each version of FILE has one line more than the one before: `VERSION WORKER NUMBER`, its own number and whose job of which
-number made it. A process makes CHANGES versions as its worker's jobs 1, 2, 3 and so on, in the lock `file`, whose cell counts
-the versions. One that is started again goes on with the job that is pending, or with the next.
+Each version of FILE has one line more than the one before: `VERSION WORKER NUMBER`: its own number, the worker that
+made it, and the number of the worker's job. A process makes CHANGES versions as its worker's jobs 1, 2, 3 and so on, in
+the lock `file`, whose cell counts the versions. One that is started again goes on with the job that is pending, or with
+the next.
 """
 
 import os
@@ -23,7 +24,8 @@ def read(path):
 
 
 def write(path, lines):
-    """Writes the version beside the file and then puts it into its place, so that the file is always a whole version."""
+    """Writes the version beside the file and then puts it into its place, so that the file is always a whole
+    version."""
     with open(path + ".next", "w", encoding="utf-8") as file:
         file.writelines(" ".join(line) + "\n" for line in lines)
     os.replace(path + ".next", path)
@@ -34,7 +36,7 @@ def change(client, path, number):
     own = [str(client.worker), str(number)]
     with client.inside("file", [["add", 0, 1]], number) as held:
         lines = read(path)
-        if not lines or lines[-1][1:] != own:  # else an attempt wrote it that was killed before its commit
+        if not lines or lines[-1][1:] != own:  # else an earlier attempt wrote it, and was killed before its commit
             lines.append([str(len(lines) + 1), *own])
             write(path, lines)
     if held.receipt["reply"] != len(lines):

@@ -4,7 +4,7 @@
     job_runner.py PORT WORKER JOBS RECEIPTS
 
 Line n of the file JOBS is the script of job n, for the lock `bank`, and line n of RECEIPTS will be its receipt. A job is sent
-under the number of its line, and the next one only when the receipt is on the disk. So whoever starts the runner again
+under the number of its line, and the next one only when the receipt is on the disk. So a runner that is started again
 begins with the first job that has no receipt; if that job was done already, the server answers its receipt once more.
 """
 

@@ -1,4 +1,4 @@
-"""The command, which keeps the worker for as long as it lives, and whose end is waited for."""
+"""The command, which keeps the worker while it lives, and the wait for its end."""
 
 from __future__ import annotations
 
@@ -13,18 +13,18 @@ from typing import Any, Callable, Dict, List, Optional
 
 FORWARDED = signal.SIGTERM, signal.SIGHUP, signal.SIGQUIT, signal.SIGUSR1, signal.SIGUSR2, signal.SIGINT
 LOOK = 0.05
-"""How often, in seconds, it is looked whether the worker is still had."""
+"""The seconds between two checks that the worker is still ours."""
 OVER, AGAIN = b"over", b"again"
 
 
 class Command:
-    """A command that runs. It has a process group of its own, by which it is ended with its children, unless it may talk to a
-    terminal: that lets only one group do so."""
+    """A command that runs. It has a process group of its own, by which it is ended with its children, unless it may
+    talk to a terminal: a terminal lets only one group do so."""
 
     def __init__(self, words: List[str], environment: Dict[str, str], descriptor: int, guard: Optional[Guard]):
         self._has_group = not sys.stdin.isatty()
 
-        # A signal that comes before it can be handed on waits until it can.
+        # A signal that comes before it can be passed on waits until it can.
         mask = signal.pthread_sigmask(signal.SIG_BLOCK, FORWARDED)
 
         def begin() -> None:
@@ -58,8 +58,8 @@ class Command:
             send(self.pid, self.group, number)
 
     def wait(self, keep: Callable[[], None]) -> int:
-        """The status of the command, as a shell says it. Where `keep`, which is called again and again, raises, the worker was
-        lost: the command is ended."""
+        """The status of the command, as a shell says it. `keep` is called again and again; if it raises, the worker was
+        lost, and the command is ended."""
         while True:
             try:
                 status = self._child.wait(LOOK)
@@ -91,8 +91,8 @@ def send(pid: int, group: Optional[int], number: int) -> None:
 
 
 class Guard:
-    """A process that outlives rme-hold where that is killed: it keeps the connection for as long as the command's group lives,
-    and ends the group where the connection ends. It makes no connection itself."""
+    """A process that outlives rme-hold if that is killed: it keeps the connection while the command's group lives, and
+    ends the group if the connection ends. It makes no connection itself."""
 
     def __init__(self, descriptor: int):
         told, self._tells = socket.socketpair(socket.AF_UNIX, socket.SOCK_SEQPACKET)
@@ -109,11 +109,11 @@ class Guard:
         self._tell(f"{pid} {group or 0}".encode())
 
     def goes_on(self, descriptor: int) -> None:
-        """The worker is had by this connection from now on."""
+        """From now on this connection has the worker."""
         self._tell(AGAIN, descriptor)
 
     def ends(self) -> None:
-        """The command has ended, and is waited for no more."""
+        """The command has ended, and nothing waits for it."""
         self._tell(OVER)
         self._tells.close()
         os.waitpid(self._process, 0)
@@ -148,7 +148,7 @@ def guard(told: socket.socket, descriptor: int) -> None:
 
 
 def outlive(begun: str, descriptor: int) -> None:
-    """Keeps the connection until the command has ended, and ends the command where the connection does."""
+    """Keeps the connection until the command has ended, and ends the command if the connection ends."""
     pid, group = map(int, begun.split())
     broken = select.poll()
     broken.register(descriptor, select.POLLIN | select.POLLHUP | select.POLLERR | select.POLLRDHUP)

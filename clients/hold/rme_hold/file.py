@@ -29,8 +29,8 @@ class FileWorker:
     # A worker
 
     def enter(self, deadline: Deadline) -> Held:
-        """Claims the number and enters the lock. `Ended` where that cannot be, or not in time: then nothing is pending that
-        was not pending before."""
+        """Claims the number and enters the lock. `Ended` if that cannot be done, or not in time: then nothing is
+        pending that was not pending before."""
         while True:
             try:
                 if self._claim():
@@ -49,7 +49,8 @@ class FileWorker:
         return Ended(NO_SERVER if is_missing else WRONG_WORDS, str(error))
 
     def _claim(self) -> bool:
-        """Whether the number was claimed: one that a living process has cannot be, unless that is ended."""
+        """Whether the number was claimed: a number that a living process has cannot be, unless that process is
+        ended."""
         if self._words.worker is not None:
             return self._claim_one(self._words.worker)
         ready: List[int] = []

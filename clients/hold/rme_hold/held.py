@@ -1,4 +1,4 @@
-"""What a worker that is inside a lock is told, and how long it may be waited for."""
+"""What the server tells a worker that is inside a lock, and how long a wait may last."""
 
 from __future__ import annotations
 
@@ -9,8 +9,8 @@ from typing import Dict, Optional
 
 @dataclass(frozen=True)
 class Held:
-    """A job whose worker is inside the lock. `again` says that it was inside before this attachment; `section` and `life` are
-    `None` where they were not told. A child that inherits `descriptor` keeps the worker."""
+    """A job whose worker is inside the lock. `again` says that it was inside before this attachment; `section` and
+    `life` are `None` if they were not told. A child that inherits `descriptor` keeps the worker."""
 
     worker: int
     number: int
@@ -31,14 +31,14 @@ class Held:
 
 
 class Deadline:
-    """The end of waiting: after so many seconds, or never."""
+    """The end of waiting: after this number of seconds, or never."""
 
     def __init__(self, seconds: Optional[float]):
         self._at = None if seconds is None else time.monotonic() + seconds
         self._pause = 0.005
 
     def left(self, most: float) -> float:
-        """The seconds that are left, and `most` at most."""
+        """The seconds that are left, at most `most`."""
         return most if self._at is None else max(0.0, min(most, self._at - time.monotonic()))
 
     def is_over(self) -> bool:

@@ -61,7 +61,7 @@ def hold(words: Words) -> int:
 
 
 def run(words: Words, worker: Union[ServerWorker, FileWorker], held: Held) -> int:
-    """The status of the command. `Ended` where the worker was lost meanwhile, and so the command ended."""
+    """The status of the command. `Ended` if the worker was lost meanwhile, and so the command ended."""
     guard = Guard(held.descriptor) if words.file is None else None
     command: List[str] = words.command
     try:

@@ -1,4 +1,4 @@
-"""A worker of a server: its session is a connection, and lasts as long as a process has that."""
+"""A worker of a server: its session is a connection, and lasts as long as a process has that connection."""
 
 from __future__ import annotations
 
@@ -11,27 +11,36 @@ from typing import Any, Dict, List, Optional
 from .command import Guard
 from .endings import LATER, NO_SERVER, NOT_ALLOWED, SOFTWARE, WRONG_WORDS, Ended
 from .held import Deadline, Held
+from .secret import KeyFile
 from .words import Words
 
 Answer = Dict[str, Any]
 
-NO_WORKER, BUSY, DIFFERS, TAKEN, OVERTAKEN = 6, 9, 17, 18, 26
-REFUSES_KEY = 25
+NO_WORKER, BUSY, DIFFERS, TAKEN, NO_MEMORY, OVERTAKEN = 6, 9, 17, 18, 20, 26
+NO_SPACE, REFUSES_KEY = 23, 25
 FOR_A_SERVER = 10.0
-"""For how many seconds a server that is not there is waited for at most, and a connection that broke is tried again."""
+"""The most seconds to wait for a server that is not there, and to try to make a broken connection again."""
 MOST_WORKERS = 256
 """The most workers that a server has."""
 AN_ORDER_WAITS = 5.0
-"""For how many seconds the server tries in one order."""
+"""How many seconds the server tries in one order."""
 FOR_ITS_END = 1.0
-"""For how many seconds the end of another session is waited for, and that of the command of one that was taken over, which
-ends when it is seen there."""
+"""How many seconds to wait for the end of another session, and, after a take-over, for the end of that session's
+command, which ends when it sees the take-over."""
 AN_ANSWER_TAKES = 60.0
-"""After how many further seconds a server that does not answer is taken for gone."""
+"""A server that has not answered after this number of further seconds counts as gone."""
 
 
 class Gone(Exception):
     """The connection ended."""
+
+
+class Full(Gone):
+    """The server has no room for the session."""
+
+
+class NoSpace(Ended):
+    """The server has no space of this name, or cannot open it now."""
 
 
 class Session:
@@ -48,7 +57,7 @@ class Session:
         self._read = b""
 
     def ask(self, **order: Any) -> Answer:
-        """The answer to an order. `Gone` where there is none."""
+        """The answer to an order. `Gone` if no answer comes."""
         try:
             self.connection.sendall(json.dumps(order).encode() + b"\n")
             while b"\n" not in self._read:
@@ -74,11 +83,11 @@ class Session:
         return not told.poll(0)
 
     def lasts(self) -> None:
-        """From now on an answer is waited for as usual."""
+        """From now on the wait for an answer is as usual."""
         self.connection.settimeout(AN_ANSWER_TAKES)
 
     def end(self) -> None:
-        """Ends the connection, also where other processes have its descriptor."""
+        """Ends the connection, even if other processes have its descriptor."""
         try:
             self.connection.shutdown(socket.SHUT_RDWR)
         except OSError:
@@ -94,11 +103,23 @@ def refused(answer: Answer) -> Optional[int]:
     return code if isinstance(code, int) else None
 
 
-def wrong(answer: Answer) -> Ended:
-    """How rme-hold ends for a refusal that waiting does not change."""
+def wrong(answer: Answer, otherwise: int = WRONG_WORDS, what: str = "") -> Ended:
+    """How rme-hold ends for a refusal that waiting does not change: with 77 if a key is missing, or else with this
+    status."""
     code = refused(answer)
-    status = NOT_ALLOWED if code == REFUSES_KEY else WRONG_WORDS
-    return Ended(status, f"the server refuses: {answer.get('error')}, {code}")
+    status = NOT_ALLOWED if code == REFUSES_KEY else otherwise
+    return Ended(status, f"{what}the server refuses: {answer.get('error')}, {code}")
+
+
+def may_begin(answer: Answer) -> None:
+    """Returns if a session may go on after this answer to one of its first orders."""
+    code = refused(answer)
+    if code == BUSY:
+        raise Full("the server has as many sessions as it may have")
+    if code == NO_SPACE:
+        raise NoSpace(WRONG_WORDS, f"the server refuses: {answer.get('error')}, {code}: it has no such space, or cannot open it")
+    if code is not None:
+        raise wrong(answer, LATER if code == NO_MEMORY else WRONG_WORDS)
 
 
 class ServerWorker:
@@ -106,17 +127,18 @@ class ServerWorker:
 
     def __init__(self, words: Words):
         self._words = words
+        self._key_file = None if words.key_file is None else KeyFile(words.key_file)
         self._session: Optional[Session] = None
         self._worker, self._number, self._stance = 0, 0, ""
         self._own: Optional[int] = None  # the number of the job that was begun here
-        self._life: Optional[int] = None  # that of the worker which is inside; an older server tells none
-        self._until: Optional[Deadline] = None  # while a connection that broke is tried again: for how long
+        self._life: Optional[int] = None  # that of the worker which is inside; an older server does not tell it
+        self._until: Optional[Deadline] = None  # while a broken connection is being made again: for how long
 
     # A worker
 
     def enter(self, deadline: Deadline) -> Held:
-        """Attaches the worker and enters the lock. `Ended` where that cannot be, or not in time: then nothing is pending that
-        was not pending before."""
+        """Attaches the worker and enters the lock. `Ended` if that cannot be done, or not in time: then nothing is
+        pending that was not pending before."""
         for_a_server = Deadline(FOR_A_SERVER)
         why = f"{'no worker' if self._words.worker is None else f'worker {self._words.worker}'} is not free"
         try:
@@ -124,6 +146,8 @@ class ServerWorker:
                 try:
                     if self._attach():
                         return self._entered(deadline)
+                    for_a_server = Deadline(FOR_A_SERVER)
+                except Full:
                     for_a_server = Deadline(FOR_A_SERVER)
                 except (Gone, OSError) as error:
                     if for_a_server.is_over() or (self._own is None and deadline.is_over()):
@@ -137,7 +161,8 @@ class ServerWorker:
             raise
 
     def _attach(self) -> bool:
-        """Whether the worker was attached: one that another session has cannot be, unless that is ended."""
+        """Whether the worker was attached: a worker that another session has cannot be, unless that session is
+        ended."""
         one = self._words.worker if self._own is None else self._worker
         if one is not None:
             return self._attach_one(one, self._words.kill) is None
@@ -145,7 +170,8 @@ class ServerWorker:
         return self._attach_unseen() if told is None else self._attach_any(told)
 
     def _attach_any(self, told: List[Answer]) -> bool:
-        """Whether one of these workers was attached: first those with a pending job of this lock, then those that are ready."""
+        """Whether one of these workers was attached: first those with a pending job of this lock, then those that are
+        ready."""
         for worker, it in enumerate(told):
             if not it.get("attached") and it.get("lock") == self._words.lock and self._attach_one(worker, False) is None:
                 if self._stance == "ready" or self._lock_of_job() == self._words.lock:
@@ -154,7 +180,8 @@ class ServerWorker:
         return self._attach_ready()
 
     def _attach_unseen(self) -> bool:
-        """The same where the server does not say how its workers are: each is attached, and asked for its pending job."""
+        """The same if the server does not tell the status of its workers: each is attached, and asked for its pending
+        job."""
         for worker in range(MOST_WORKERS):
             code = self._attach_one(worker, False)
             if code == NO_WORKER:
@@ -177,9 +204,7 @@ class ServerWorker:
         return True
 
     def _attach_one(self, worker: Optional[int], take: bool) -> Optional[int]:
-        """Why the worker was not attached, where waiting may help; `None` where it was."""
-        if self._session is None:
-            self._session = Session(self._words)
+        """Why the worker was not attached, if waiting may help; `None` if it was."""
         answer = self._asked(do="attach", worker=worker, **({"take": True} if take else {}))
         code = refused(answer)
         if code in (TAKEN, BUSY) or (code == NO_WORKER and self._words.worker is None):
@@ -192,18 +217,33 @@ class ServerWorker:
         return None
 
     def _lock_of_job(self) -> Optional[str]:
-        """The lock of the pending job; `None` where a server of version 0.2 does not say."""
+        """The lock of the pending job; `None` if a server of version 0.2 does not say."""
         return self._asked(do="pending").get("lock")
 
     def _workers(self) -> Optional[List[Answer]]:
-        """What the server says of all workers; `None` where it keeps no state."""
+        """What the server says of all workers; `None` if it keeps no state."""
         told = self._asked(do="status").get("workers")
         return told if isinstance(told, list) else None
 
     def _asked(self, **order: Any) -> Answer:
         if self._session is None:
-            self._session = Session(self._words)
+            self._session = self._begun(AN_ANSWER_TAKES)
         return self._session.ask(**order)
+
+    def _begun(self, limit: float) -> Session:
+        """A session, which begins with the secret if there is one, and uses the space if one is named. `Full` if the
+        server has no room for it."""
+        secret, space = None if self._key_file is None else self._key_file.secret(), self._words.space
+        session = Session(self._words, limit)
+        try:
+            if secret is not None:
+                may_begin(session.ask(do="hello", secret=secret))
+            if space is not None:
+                may_begin(session.ask(do="use", space=space))
+        except BaseException:
+            session.close()
+            raise
+        return session
 
     # A job
 
@@ -234,7 +274,7 @@ class ServerWorker:
                 raise Ended(LATER, f"lock {self._words.lock} is not free")
 
     def _other_job(self) -> Held:
-        """A pending job with another lock or another script: its command is run again where it is inside this lock."""
+        """A pending job with another lock or another script: its command is run again if it is inside this lock."""
         told = self._asked(do="pending")
         lock = told.get("lock")
         if self._stance == "held" and lock == self._words.lock:
@@ -250,8 +290,8 @@ class ServerWorker:
         return Held(self._worker, self._number, told.get("section"), again, descriptor, self._life)
 
     def _give_up(self) -> None:
-        """Gives up a job that was begun here and waits, so that it holds nothing. One that is inside meanwhile stays so, as
-        where a command fails."""
+        """Gives up a job that was begun here and waits, so that it holds nothing. A job that is inside by then stays
+        inside, as if its command had failed."""
         own, self._own = self._own, None
         if own is None:
             return
@@ -268,8 +308,9 @@ class ServerWorker:
     # Inside
 
     def keep(self, guard: Optional[Guard]) -> None:
-        """Returns while no other client can have had the worker: while the session lasts, and where it has ended while it is
-        tried to be had again, once in a call. `Ended` where another client had the worker, or no server was there in time."""
+        """Returns while no other client can have had the worker: while the session lasts, and, after it has ended,
+        while the connection is being made again, with one try in each call. `Ended` if another client had the worker,
+        or no server was there in time."""
         if self._session is not None and self._session.is_alive():
             return
         lost = f"the connection ended, and so the command; worker {self._worker} stays inside {self._words.lock}"
@@ -284,7 +325,7 @@ class ServerWorker:
             raise Ended(LATER, f"{lost}: no server was there for {FOR_A_SERVER:g} seconds")
 
     def _goes_on(self, guard: Optional[Guard]) -> None:
-        """The command goes on, and keeps the session that has come in the place of the one that broke."""
+        """The command goes on, and keeps the session that replaces the broken one."""
         if self._stance != "held":
             raise self._overtaken("the server lost its state")
         if guard is not None:
@@ -292,13 +333,13 @@ class ServerWorker:
             guard.goes_on(self._session.connection.fileno())
 
     def _comes_back(self, seconds: float) -> bool:
-        """Whether the worker was attached again, within these seconds. Only where nobody else has attached it since it was
-        inside; else `Ended`."""
+        """Whether the worker was attached again within these seconds. `Ended` if another client has attached it since
+        it was inside."""
         self._end_session()
         try:
-            self._session = Session(self._words, max(0.1, seconds))
+            self._session = self._begun(max(0.1, seconds))
             answer = self._session.ask(do="attach", worker=self._worker, after=self._life)
-        except (Gone, OSError):
+        except (Gone, NoSpace, OSError):  # a space whose file cannot be opened for a while still has the worker
             self._end_session()
             return False
         if refused(answer) in (TAKEN, BUSY):  # the server has not seen the end of the session yet
@@ -309,12 +350,12 @@ class ServerWorker:
         return True
 
     def _found(self, answer: Answer) -> None:
-        """Takes the answer to an attachment after the life that is known; `Ended` where the worker is not at its job."""
+        """Takes the answer to an attach with `after` the known life; `Ended` if the worker is not at its job."""
         code = refused(answer)
         if code == OVERTAKEN:
             raise self._overtaken("the answer to this one was lost")
         if code is not None:
-            raise Ended(LATER, f"worker {self._worker} is lost; the server refuses: {answer.get('error')}, {code}")
+            raise wrong(answer, LATER, f"worker {self._worker} is lost; ")
         if answer["number"] != self._number:
             raise self._overtaken("the server lost its state")
         self._stance = answer["stance"]
@@ -325,7 +366,8 @@ class ServerWorker:
         return Ended(LATER, f"another client went on with worker {self._worker}, or {otherwise}: see what is pending")
 
     def commit(self, number: int) -> None:
-        """Has the job counted and leaves the lock. Where the answer is lost the worker is attached again, and tells."""
+        """Has the job counted and leaves the lock. If the answer is lost, the worker is attached again, which tells the
+        outcome."""
         deadline = Deadline(FOR_A_SERVER)
         while not self._is_counted(number):
             self._end_session()
@@ -334,7 +376,7 @@ class ServerWorker:
             deadline.pause()
 
     def _is_counted(self, number: int) -> bool:
-        """Whether the job is known to have counted: it is committed where it has not."""
+        """Whether the job is known to have counted: it is committed if it has not."""
         try:
             if self._session is None and not self._attached_again():
                 return False
@@ -350,7 +392,8 @@ class ServerWorker:
         raise Ended(SOFTWARE, f"the job did not count: {json.dumps(answer)}")
 
     def _attached_again(self) -> bool:
-        """Whether the worker was attached again: where an older server told no life, whoever had it meanwhile."""
+        """Whether the worker was attached again. If an older server told no life, another client may have had it
+        meanwhile."""
         if self._life is None:
             return self._attach_one(self._worker, False) is None
         return self._comes_back(FOR_A_SERVER)

@@ -21,22 +21,24 @@ The environment of COMMAND has RME_LOCK, RME_WORKER, RME_NUMBER, which is the nu
 token: how many sections of the lock were finished before. RME_LIFE says how often the worker was restarted. RME_AGAIN=1 says that
 the worker was inside with this job before, so that COMMAND may be half done.
 
-COMMAND and its children keep the worker for as long as they live, also where rme-hold itself is killed. Where the
-connection to the server ends meanwhile, rme-hold makes it again, and COMMAND goes on. Where another client had the worker
-in between, or no server is there for 10 seconds, it ends COMMAND, and itself with 75.
+COMMAND and its children keep the worker while they live, even if rme-hold itself is killed. If the connection to the
+server ends meanwhile, rme-hold makes it again, and COMMAND goes on. If another client had the worker in between, or no
+server is there for 10 seconds, rme-hold ends COMMAND, and itself with 75.
 
-The status is that of COMMAND, or 128 and the number of the signal that ended it. Of rme-hold itself: 64 wrong words,
-69 no server, 75 try again later, 77 not allowed, 127 no such command.
+The status is that of COMMAND, or 128 and the number of the signal that ended it. Of rme-hold itself: 64 wrong words, or no
+such space, 69 no server, 75 try again later, 77 not allowed (the server's keys do not know the secret, or not for this
+worker or this space), 127 no such command.
 
 Examples:
   rme-hold --port 7000 --worker 0 bank -- ./transfer 5
+  rme-hold --port 7000 --space tenant-7 --any bank -- ./transfer 5
   rme-hold --file /dev/shm/locks --any -n nightly -- ./backup
 """
 
 
 @dataclass(frozen=True)
 class Words:
-    """What the command line asks for. `wait` is in seconds, `None` for as long as it takes; `worker` is `None` for any."""
+    """What the command line asks for. `wait` is in seconds, `None` for no limit; `worker` is `None` for any."""
 
     port: Optional[int]
     socket: Optional[str]
@@ -48,6 +50,8 @@ class Words:
     commits_failure: bool
     lock: str
     command: List[str]
+    key_file: Optional[str] = None
+    space: Optional[str] = None
 
 
 class Parser(argparse.ArgumentParser):
@@ -92,20 +96,22 @@ def parser() -> Parser:
     where = made.add_mutually_exclusive_group(required=True)
     where.add_argument("--port", type=number(65535), metavar="P", help="the server listens on this port of 127.0.0.1")
     where.add_argument("--socket", metavar="PATH", help="the server listens on this Unix socket")
-    where.add_argument("--file", metavar="FILE", help="the words lie in this file, which processes map")
+    where.add_argument("--file", metavar="FILE", help="the lock is in this file, which processes map")
     who = made.add_mutually_exclusive_group(required=True)
     who.add_argument("--worker", type=number(255), metavar="N", help="this worker")
-    who.add_argument("--any", action="store_true", help="one with a pending job of LOCK, else one that nobody has and is ready")
+    who.add_argument("--any", action="store_true", help="a worker with a pending job of LOCK, or else one that is ready and has no client")
+    made.add_argument("--key-file", metavar="F", help="the first line of this file is the secret, for a server with --keys")
+    made.add_argument("--space", metavar="NAME", help="worker and LOCK are of this space, of a server with --spaces")
     how_long = made.add_mutually_exclusive_group()
-    how_long.add_argument("-n", dest="wait", action="store_const", const=0.0, help="do not wait: 75 where LOCK is not free")
-    how_long.add_argument("--wait", type=seconds, metavar="SECONDS", help="wait so long at most, then 75; else without an end")
-    made.add_argument("--kill", action="store_true", help="end the command of whoever has the worker, and take it over")
+    how_long.add_argument("-n", dest="wait", action="store_const", const=0.0, help="do not wait: 75 if LOCK is not free")
+    how_long.add_argument("--wait", type=seconds, metavar="SECONDS", help="wait at most this number of seconds, then 75; the default is no limit")
+    made.add_argument("--kill", action="store_true", help="end the command that has the worker, and take the worker over")
     made.add_argument("--script", type=script, default=[], metavar="JSON", help="the operations of the job, by default []")
     made.add_argument(
         "--on-failure",
         choices=("hold", "commit"),
         default="hold",
-        help="where COMMAND fails: `hold` keeps the lock for its next run, `commit` lets the job count and leaves",
+        help="if COMMAND fails: `hold` keeps the lock for its next run, `commit` lets the job count and leaves",
     )
     made.add_argument("lock", metavar="LOCK")
     return made
@@ -118,9 +124,13 @@ def parsed(words: Sequence[str]) -> Words:
     found = own.parse_args(words[:at])
     command = list(words[at + 1 :])
     if not command:
-        own.error("there is no command: write it behind --")
+        own.error("there is no command: write it after --")
     if found.kill and found.any:
         own.error("--kill ends the command of one worker: name it by --worker")
+    if found.key_file is not None and found.file is not None:
+        own.error("--key-file is for a server: processes over one file have no keys")
+    if found.space is not None and found.file is not None:
+        own.error("--space is for a server: a file has one world of workers and locks")
     return Words(
         found.port,
         found.socket,
@@ -132,4 +142,6 @@ def parsed(words: Sequence[str]) -> Words:
         found.on_failure == "commit",
         found.lock,
         command,
+        found.key_file,
+        found.space,
     )

@@ -6,13 +6,13 @@
     with Worker("/dev/shm/bank", 3) as worker:
         receipt = worker.run("bank", [("add", 0, 5)])
         with worker.inside("bank", [("add", 0, 1)]) as held:
-            ...  # no other worker is inside the lock, also where this process is killed here
+            ...  # no other worker is inside the lock, even if this process is killed here
         receipt = held.receipt
 
-Where an earlier process of the worker left a job of this lock, the block is run for that job: `held.again` says so.
+If an earlier process of the worker left a job of this lock, the block is run for that job: `held.again` says so.
 
-`look` shows a file, `living` the workers that are alive, `holder` which process has one, `renew` makes the next file, and
-`outcome` says what became of a worker's last job, also in a file that was renewed. Refusals are exceptions.
+`look` shows a file, `living` the workers that are alive, `holder` which process has a worker, `renew` makes the next
+file, and `outcome` says what became of a worker's last job, also in a file that was renewed. Refusals are exceptions.
 """
 
 from .errors import (

@@ -1,4 +1,4 @@
-"""What a call is refused by: one exception for each number of `enum rme_error` in rme.h, named as it is there."""
+"""The refusals of calls: one exception for each number of `enum rme_error` in rme.h, with the same name."""
 
 from __future__ import annotations
 
@@ -45,11 +45,11 @@ class Busy(RmeError):
 
 
 class Pending(Busy):
-    """An earlier process of the worker left a job, and the call gave no number. The job has `number`, `lock` and `stance`,
-    which is `waiting` or `inside`; it stays as it is.
+    """An earlier process of the worker left a job, and the call gave no number. The job has `number`, `lock` and
+    `stance`, which is `waiting` or `inside`; it stays as it is.
 
-    Only the caller knows whether the work for that job was done. `inside` with its lock runs the block for it, `finish()`
-    makes it count without a block, and `withdraw()` gives it up where it waits.
+    Only the caller knows whether the work for that job was done. `inside` with its lock runs the block for it,
+    `finish()` makes it count without a block, and `withdraw()` gives it up if it waits.
     """
 
     def __init__(self, text: str, lock: str = "", number: int = 0, stance: str = ""):
@@ -72,7 +72,7 @@ class NoLock(RmeError):
 
 
 class BadScript(RmeError):
-    """The job has more than eight operations, or one that is none."""
+    """The job has more than eight operations, or an item that is not an operation."""
 
     code = 12
 
@@ -94,7 +94,7 @@ class WrongNumber(RmeError):
 
     code = 16
 
-    def __init__(self, text: str, expected: int = 0):  # a copy for another process is made of the text alone at first
+    def __init__(self, text: str, expected: int = 0):  # a copy for another process is at first made of only the text
         super().__init__(text)
         self.expected = expected
 
@@ -106,7 +106,7 @@ class Differs(RmeError):
 
 
 class Taken(RmeError):
-    """A living process has this worker. `process` is the process's number, and `None` where it cannot be known."""
+    """A living process has this worker. `process` is the process's number, and `None` if it cannot be known."""
 
     code = 18
 
@@ -152,7 +152,7 @@ class NoFile(RmeError):
 
 
 class NotRme(RmeError):
-    """The file is none of rme's, or not of this version, byte order or size; the text says which."""
+    """The file is not a file of rme, or not of this version, byte order or size; the text says which."""
 
     code = 102
 

@@ -13,8 +13,8 @@ from .library import call, encoded, number_of
 
 @dataclass(frozen=True)
 class LockLook:
-    """One lock: `owner` is the worker that owns it, alive or dead. The cells are not settled while the owner's job is not
-    finished."""
+    """One lock: `owner` is the worker that owns it, alive or dead. The cells are not settled while the owner's job is
+    not finished."""
 
     name: str
     owner: Optional[int]
@@ -24,8 +24,8 @@ class LockLook:
 
 @dataclass(frozen=True)
 class Look:
-    """What a file shows; exact where no worker makes a step meanwhile, and else of no one moment. `living` are the workers
-    that a living process has."""
+    """What a file shows. If workers make steps meanwhile, its parts may be of different moments. `living` are the
+    workers that a living process has."""
 
     workers: int
     jobs: int
@@ -35,8 +35,8 @@ class Look:
 
 @dataclass(frozen=True)
 class Outcome:
-    """What became of a worker's last job: its number, 0 where there was none; whether it counted; its place and its reply
-    where it did. A job that did not count was withdrawn."""
+    """What became of a worker's last job: its number, 0 if there was none; whether it counted; its place and its reply
+    if it did. A job that did not count was withdrawn."""
 
     number: int
     counted: bool
@@ -45,10 +45,11 @@ class Outcome:
 
 
 def create(path: Path, locks: Sequence[str], workers: int, cells: int = 1, jobs: int = 100_000) -> None:
-    """Makes a file with locks of these names, for so many workers, each of which may begin so many jobs in it.
+    """Makes a file with locks of these names, for this number of workers. Each worker may begin this number of jobs in
+    it.
 
-    `Exists` where something of this name is there, `BadShape` outside the limits: 256 workers, 16 locks of 1 to 32 bytes of
-    a-z, 0-9, _ and -, 16 cells, 1,000,000 jobs.
+    `Exists` if something of this name is there, `BadShape` outside the limits: 256 workers, 16 locks of 1 to 32 bytes
+    of a-z, 0-9, _ and -, 16 cells, 1,000,000 jobs.
     """
     if any("\0" in name for name in locks):
         raise BadShape("a name has a byte 0")
@@ -58,14 +59,14 @@ def create(path: Path, locks: Sequence[str], workers: int, cells: int = 1, jobs:
 
 
 def renew(path: Path, new_path: Path) -> None:
-    """Makes a new file of the same shape, whose cells are what they are in the old one, which is `Moved` from then on.
+    """Makes a new file of the same shape, with the cells of the old one, which is `Moved` from then on.
 
-    At rest alone: `Taken` where a living process has a worker, `Busy` where one is inside or waits. Numbers, places and
-    receipts begin anew; those of worker 0 behind the jobs that set the cells, so `next_number` says where. The old file
+    Only at rest: `Taken` if a living process has a worker, `Busy` if one is inside or waits. Numbers, places and
+    receipts begin anew; those of worker 0 begin after the jobs that set the cells, as `next_number` says. The old file
     answers `outcome`, so keep it as long as a process may ask.
 
-    Where the process is killed in it, a call with the same two paths finishes what it finds; `Moved` where nothing is left
-    to do. Until then the new file, where it is there, is `Unfinished`.
+    If the process is killed meanwhile, a call with the same two paths finishes the renewal; `Moved` if nothing is left
+    to do. Until then the new file, if it exists, is `Unfinished`.
     """
     try:
         call("rme_renew", encoded(path), encoded(new_path))
@@ -81,26 +82,27 @@ def living(path: Path) -> FrozenSet[int]:
 
 
 def holder(path: Path, worker: int) -> Optional[int]:
-    """The number of a process that has this worker; `None` where none has it, and where it cannot be known, as of another
-    user's process."""
+    """The number of a process that has this worker; `None` if no process has it, or if the number cannot be known, as
+    of another user's process."""
     process = U32()
     call("rme_holder", encoded(path), number_of(worker), ctypes.byref(process))
     return process.value or None
 
 
 def taken(path: Path, worker: Optional[int], text: str) -> Taken:
-    """The refusal of a worker, or of all of a file, with the process that has it; of this text where none is known."""
+    """The refusal of a worker, or of all workers of a file, with the process that has it; with this text if none is
+    known."""
     try:
         found = min(living(path), default=None) if worker is None else worker
         process = None if found is None else holder(path, found)
-    except RmeError:  # the file is another one meanwhile
+    except RmeError:  # another file has this path meanwhile
         process = None
     return Taken(text if process is None else f"A living process has worker {found}: process {process}.", process)
 
 
 def outcome(path: Path, worker: int) -> Outcome:
-    """What became of the last job of a worker, also in a file that was renewed; no process needs the worker for that. `Busy`
-    where a job is pending."""
+    """What became of the last job of a worker, also in a file that was renewed; the caller does not need the worker.
+    `Busy` if a job is pending."""
     number, receipt, there = U64(), ReceiptOf(), INT()
     answers = [ctypes.byref(it) for it in (number, receipt, there)]
     call("rme_outcome", encoded(path), number_of(worker), *answers)
@@ -128,7 +130,7 @@ def look(path: Path) -> Look:
 
 
 def owner_of(asked: Callable[..., None], lock: int) -> Optional[int]:
-    """The owner of a lock, by what makes a call with a handle."""
+    """The owner of a lock; `asked` makes a call with a handle."""
     owner = U32()
     asked("rme_owner", lock, ctypes.byref(owner))
     return None if owner.value == NOBODY else owner.value

@@ -68,7 +68,7 @@ Path = Union[str, "os.PathLike[str]"]
 
 
 def encoded(path: Path) -> bytes:
-    """A path for C, where a byte 0 would end it."""
+    """A path for C, in which a byte 0 would end it."""
     found = os.fsencode(path)
     if b"\0" in found:
         raise ValueError("embedded null byte")
@@ -76,7 +76,7 @@ def encoded(path: Path) -> bytes:
 
 
 def number_of(worker: int) -> int:
-    """A worker's number for C, where one that it could not be told is no worker's."""
+    """A worker's number for C. A number that C cannot take is replaced by one that no worker has."""
     return worker if 0 <= worker < 2**32 else NOBODY
 
 
@@ -109,28 +109,29 @@ def call(name: str, *words: Any) -> None:
 
 
 class Handle:
-    """A handle of C. It is ended with this object at the latest, so also where an exception, as of a signal's handler, loses
-    it. In a forked child only the child's copy of the file is closed then: the parent has its worker still."""
+    """A handle of C. It is ended with this object at the latest, so even if an exception, as of a signal's handler,
+    loses it. In a forked child only the child's copy of the file is closed then: the parent has its worker still."""
 
     def __init__(self) -> None:
-        self.pointer = HANDLE()  # none before it is made, and once it is ended
-        # Both are made in one call of C, so that no signal's handler runs between them: else a handle could be ended twice.
+        self.pointer = HANDLE()  # `None` before it is made, and after it is ended
+        # Both are done in one call of C, so that no signal's handler runs between them: else a handle could be ended twice.
         self._ends = (
             functools.partial(library().rme_detach, self.pointer),
             functools.partial(setattr, self.pointer, "value", None),
         )
         self._last = weakref.finalize(self, call_all, self._ends)
-        self._last.atexit = False  # the end of the process is its end
+        self._last.atexit = False  # it ends with the process
 
     def end(self) -> int:
-        """Ends it where it is there, and answers the refusal's number, or 0."""
+        """Ends the handle if there is one, and answers the refusal's number, or 0."""
         error = call_all(self._ends)[0] if self.pointer else 0
         self._last.detach()
         return error
 
 
 def call_all(functions: Sequence[Callable[[], Any]]) -> List[Any]:
-    """What they answer, one after the other; where they are of C, no code of Python runs between them."""
+    """Makes the calls one after the other, and answers their results. If they are of C, no code of Python runs between
+    them."""
     return list(map(methodcaller("__call__"), functions))
 
 

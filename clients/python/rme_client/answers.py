@@ -12,7 +12,8 @@ MOST = 2**64 - 1
 
 
 class Receipt(TypedDict):
-    """What is answered of a job that counted: the `place`-th section of its lock, and what its last operation gave."""
+    """The receipt of a job that counted: it was the `place`-th section of its lock, and `reply` is the result of its
+    last operation."""
 
     lock: str
     number: int
@@ -22,7 +23,8 @@ class Receipt(TypedDict):
 
 
 class PendingJob(TypedDict):
-    """A job that is not over, as it was handed over; `stance` is `"climb"` (it waits) or `"held"` (it is inside its lock)."""
+    """A job that is not over, as it was handed over; `stance` is `"climb"` (it waits) or `"held"` (it is inside its
+    lock)."""
 
     lock: str
     number: int
@@ -31,27 +33,27 @@ class PendingJob(TypedDict):
 
 
 class Answer:
-    """One line that was answered. Each method answers a member of it; `ProtocolError` where that is not as it must be."""
+    """One line that was answered. Each method answers a member of it; `ProtocolError` if that is not as it must be."""
 
     def __init__(self, line: bytes):
         self.line = line
         try:
             members = json.loads(line)
         except (ValueError, RecursionError):
-            raise self.broken("it is no JSON") from None
+            raise self.broken("it is not JSON") from None
         if not isinstance(members, dict):
             raise self.broken("it is no object")
         self.members: Dict[str, Any] = members
 
     def broken(self, reason: str) -> ProtocolError:
-        """The exception for an answer that is none."""
+        """The exception for a malformed answer."""
         return ProtocolError(self.line, reason)
 
     def must_be_of(self, do: str) -> None:
-        """`Refused` where the order was refused, and `ProtocolError` where this is no answer to it."""
+        """`Refused` if the order was refused, and `ProtocolError` if this does not answer the order."""
         if "code" in self.members:
             if not (is_number(self.members["code"]) and isinstance(self.members.get("error"), str)):
-                raise self.broken("it is no refusal")
+                raise self.broken("it is not a refusal")
             raise Refused(self.members)
         if self.members.get("ok") != do:
             raise self.broken(f"it does not answer `{do}`")
@@ -72,7 +74,7 @@ class Answer:
         """The member, which is one of these texts."""
         found = self.members.get(name)
         if not isinstance(found, str) or found not in texts:
-            raise self.broken(f"`{name}` is none of {', '.join(texts)}")
+            raise self.broken(f"`{name}` is not one of {', '.join(texts)}")
         return found
 
     def receipt(self, name: str, worker: int, number: int) -> Optional[Receipt]:
@@ -97,5 +99,5 @@ def number_of(members: Dict[str, Any], name: str, answer: Answer) -> int:
     """The member of this name of an object of the answer, which must be a number."""
     found = members.get(name)
     if not is_number(found):
-        raise answer.broken(f"`{name}` is no number")
+        raise answer.broken(f"`{name}` is not a number")
     return int(found)

@@ -1,4 +1,4 @@
-"""What a call of a `Worker` has in hand, and that it is the only one."""
+"""The state of a call of a `Worker`, and the check that no other call is under way."""
 
 from __future__ import annotations
 
@@ -7,29 +7,30 @@ import threading
 import time
 import weakref
 from contextlib import contextmanager
-from typing import Iterator, Optional
+from typing import Callable, Iterator, Optional
 
 from .errors import Forked, InUse, Overtaken
 from .session import READY, Session
 
 
 class Job:
-    """The job that a call is about: how long it waits for the lock, and what the server is known to have of it."""
+    """The job that a call is about: how long it waits for the lock, and what the server is known to have received of
+    it."""
 
     def __init__(self, lock: Optional[str] = None, number: Optional[int] = None, wait: Optional[float] = None):
-        if wait is not None and not wait >= 0:  # nor is NaN
+        if wait is not None and not wait >= 0:  # NaN fails too
             raise ValueError(f"`wait` is {wait}: it is a number of seconds, or None")
         self.lock, self.given = lock, number
         self.sent: Optional[int] = None  # the number under which its line was sent, or may have been
-        self.is_begun = False  # whether the server is known to have had it
+        self.is_begun = False  # whether the server is known to have received it
         self.again = False  # whether it was pending before this call
-        self.is_resent = False  # whether another session had come since it was sent first
+        self.is_resent = False  # whether another session began after it was first sent
         self.after: Optional[int] = None  # inside a block: the worker's life, after which nobody else may have attached it
         self._ends = None if wait is None else time.monotonic() + wait
 
     def start(self, session: Session) -> int:
-        """The number under which it is sent: the one that was given, or the one of the job that is pending in the session
-        in which it is sent first, or else the next one there."""
+        """The number under which it is sent: the number that was given, or else, in the session in which it is first
+        sent, the number of the pending job, or else the next number."""
         if self.sent is None:
             is_pending = session.stance != READY
             self.again = self.is_begun = is_pending and self.given in (None, session.number)
@@ -37,13 +38,13 @@ class Job:
         return self.sent
 
     def start_anew(self, session: Session) -> int:
-        """The number under which it is sent once its own was given up, so that nothing was done of it: the next one."""
+        """The next number, under which it is sent after its own number was given up, so that nothing of it was done."""
         self.again = self.is_begun = False
         self.sent = session.number + 1
         return self.sent
 
     def milliseconds(self, most: float) -> int:
-        """For how long the server should wait for the lock in the next order, which is `most` seconds at most."""
+        """How long the server should wait for the lock in the next order: at most `most` seconds."""
         left = most if self._ends is None else min(most, self._ends - time.monotonic())
         return max(0, int(1000 * left))
 
@@ -51,7 +52,7 @@ class Job:
         return self._ends is not None and time.monotonic() >= self._ends
 
     def must_fit(self, session: Session) -> None:
-        """`Overtaken` where what was sent before cannot have led to where this later session found the worker."""
+        """`Overtaken` if what was sent before cannot have led to where this later session found the worker."""
         if self.sent is None:
             return
         self.is_resent = True
@@ -64,26 +65,28 @@ class Job:
 class _Call:
     """A call that is under way, until it is over or forgotten."""
 
-    def __init__(self) -> None:
-        self.is_over, self.thread = False, threading.get_ident()
+    def __init__(self, caller: int) -> None:
+        self.is_over, self.caller = False, caller
 
 
 class Calls:
     """The calls of a worker, of which one is under way at a time, in the process that made the worker.
 
-    There is no lock: one that an exception of a signal's handler leaves locked would refuse all later calls. A call is in
-    the list as long as its frame lives.
+    There is no lock: an exception of a signal's handler could leave it locked, and then it would refuse all later
+    calls. A call is in the list as long as its frame lives.
     """
 
-    def __init__(self) -> None:
-        self._process = os.getpid()
+    def __init__(self, caller: Callable[[], int] = threading.get_ident) -> None:
+        """`caller` answers the number of the running thread or task."""
+        self._process, self._caller = os.getpid(), caller
         self._calls: list[weakref.ref[_Call]] = []
 
     @contextmanager
-    def alone(self) -> Iterator[None]:
-        """Where no other call is under way, the caller's is until the end of the block. `Forked` or `InUse` otherwise."""
+    def exclusive(self) -> Iterator[None]:
+        """Marks the caller's call as the one that is under way, until the end of the block. `Forked` in a forked child,
+        `InUse` if another call is under way."""
         self.must_be_own()
-        call = _Call()
+        call = _Call(self._caller())
         self._calls.append(weakref.ref(call, self._calls.remove))
         if self._first() is not call:
             raise InUse()
@@ -101,11 +104,11 @@ class Calls:
             raise Forked()
 
     def is_elsewhere(self) -> bool:
-        """Whether another thread of this process is in a call."""
+        """Whether another thread or task of this process is in a call."""
         first = self._first()
-        return first is not None and first.thread != threading.get_ident() and self.is_own()
+        return first is not None and first.caller != self._caller() and self.is_own()
 
     def _first(self) -> Optional[_Call]:
-        """The call that came first of those that are under way."""
+        """The first of the calls that are under way."""
         calls = (reference() for reference in tuple(self._calls))
         return next((call for call in calls if call is not None and not call.is_over), None)

@@ -14,7 +14,7 @@ class RmeError(Exception):
 
 class Refused(RmeError):
     """The server refuses the order, and would refuse it again. `answer` is its answer, and `code` the refusal's number;
-    `code` is `None` where the job's number was given up, so that it never counts. A refused job has used no number."""
+    `code` is `None` if the job's number was given up, so that it never counts. A refused job has used no number."""
 
     def __init__(self, answer: dict[str, Any]):
         super().__init__(answer)
@@ -44,8 +44,8 @@ class Done(RmeError):
 class Pending(RmeError):
     """The worker has a job that this object did not hand over, and this call did not go on with. Nothing was done.
 
-    `number` is the job's number, `stance` is `"climb"` (it waits) or `"held"` (it is inside its lock), and `lock` is its
-    lock, or `None` where that is not known: a server of version 0.2 does not say.
+    `number` is the job's number, `stance` is `"climb"` (it waits) or `"held"` (it is inside its lock), and `lock` is
+    its lock, or `None` if that is not known: a server of version 0.2 does not say.
     """
 
     def __init__(self, lock: Optional[str], number: int, stance: str):
@@ -67,7 +67,7 @@ class Pending(RmeError):
 
 class Blocked(RmeError):
     """Others had the lock for all of `wait`. The job of this `number`, for this `lock`, stays pending; `lock` is `None`
-    after `finish`, where that is not known."""
+    after `finish`, if the lock is not known."""
 
     def __init__(self, lock: Optional[str], number: int):
         super().__init__(lock, number)
@@ -81,10 +81,10 @@ class Blocked(RmeError):
 
 
 class Overtaken(RmeError):
-    """Somebody else used the worker, or the server lost its state, while this call was at the job of `number`.
+    """Another client used the worker, or the server lost its state, while this call made the job of `number`.
 
-    `found` is the number at which the worker stands, or `None` where another session was found to have attached it since
-    this call was inside; `receipt` is the receipt of another's job of the same number, where that is how it was noticed.
+    `found` is the number at which the worker stands, or `None` if another session was found to have attached it since
+    this call was inside; `receipt` is the receipt of the other client's job of the same number, if that showed it.
     Whether this call's own job counted is not known, except from the server's records.
     """
 
@@ -106,10 +106,10 @@ class Overtaken(RmeError):
 
 
 class Unreachable(RmeError, ConnectionError):
-    """There is no session of the worker to be had: nobody listens, the server is full, or another client has the worker.
+    """No session of the worker can be had: nobody listens, the server is full, or another client has the worker.
 
-    It comes after `connect_timeout`, or at once where trying again cannot help. `reason` says why. `number` is the job
-    that was sent in this call before, or `None`: that one may have been made, so send it again under the same number.
+    It is raised after `connect_timeout`, or at once if trying again cannot help. `reason` says why. `number` is the job
+    that was sent in this call before, or `None`: that job may have been made, so send it again under the same number.
     """
 
     def __init__(self, reason: str, number: Optional[int] = None):
@@ -123,8 +123,8 @@ class Unreachable(RmeError, ConnectionError):
 
 
 class ProtocolError(RmeError):
-    """What came is no answer of this protocol, so another service may have the address. `line` has the bytes up to there,
-    and `reason` says what is wrong. Whether an order that was sent was obeyed is not known."""
+    """What came is not an answer of this protocol, so another service may have the address. `line` has the bytes up to
+    the error, and `reason` says what is wrong. It is not known whether the order that was sent was obeyed."""
 
     def __init__(self, line: bytes, reason: str):
         super().__init__(line, reason)
@@ -143,7 +143,10 @@ class Forked(RmeError):
 
 
 class InUse(RmeError, RuntimeError):
-    """Another call of this `Worker` is under way, in another thread, or its block is. Nothing was sent."""
+    """Another call of this `Worker` is under way, in another thread or task, or its block is. Nothing was sent."""
 
     def __str__(self) -> str:
-        return "another call or block of this Worker is under way: threads use a Worker each, and a block makes no calls"
+        return (
+            "another call or block of this Worker is under way: threads and tasks use a Worker each, and a block makes no"
+            " calls"
+        )

@@ -1,12 +1,12 @@
-"""Look-ups of a server that keeps its state in a file: what its locks and its workers are at."""
+"""Look-ups of a server that keeps its state in a file: the status of its locks and of its workers."""
 
 from __future__ import annotations
 
-import time
 from typing import Any, Optional, TypedDict
 
 from .answers import Answer, is_number
-from .connection import Address, Lost
+from .blocking import Blocking, now
+from .caller import Caller
 from .errors import Refused, Unreachable
 from .session import BUSY, STANCES
 
@@ -19,7 +19,7 @@ class Cells(TypedDict):
 
 
 class LockStatus(TypedDict):
-    """What a lock is at: who owns it, if anybody does, and how many sections are finished."""
+    """The status of a lock: its owner, or `None`, and how many sections are finished."""
 
     cells: list[int]
     name: str
@@ -35,76 +35,75 @@ class _AnyWorkerStatus(TypedDict):
 
 
 class WorkerStatus(_AnyWorkerStatus, total=False):
-    """What a worker is at, as an attach would find it: the stance, and the number of its pending or else its last job.
-    There is a `lock` where a job is pending."""
+    """The status of a worker, as an attach would find it: the stance, and the number of its pending job or else of its
+    last job. There is a `lock` if a job is pending."""
 
     lock: str
 
 
 class Status(TypedDict):
-    """What all locks are at, and all workers in the order of their numbers, and how often the file was renewed."""
+    """The status of all locks, and of all workers in the order of their numbers; and how often the file was renewed."""
 
     epoch: int
     locks: list[LockStatus]
     workers: list[WorkerStatus]
 
 
-class Observer:
-    """Looks at a server that keeps its state, in the midst of its work. No worker is taken for it, and nothing changes.
+class Looks(Caller):
+    """The look-ups, as coroutines."""
 
-    Each call is one connection, made once. `Unreachable`, which is an `OSError`, where the server is not there, is full,
-    or has not answered within `timeout` seconds; `Refused` where it refuses the look-up, 1 where it keeps no state, and 11
-    for a lock that it does not have; `ProtocolError` where the peer is no server. What is answered is in its file.
-    """
-
-    def __init__(self, host: str, port: int, timeout: float = 30, socket_path: str = ""):
-        """With `socket_path` the server is reached over that Unix socket, and `host` and `port` say nothing.
-        `ValueError` where `timeout` is not more than 0."""
-        if not timeout > 0:  # nor is NaN
-            raise ValueError("`timeout` is a number of seconds, more than 0")
-        self.address, self.timeout, self.socket_path = (host, port), timeout, socket_path
-        self._server = Address(host, port, socket_path)
-
-    def status(self) -> Status:
-        """What all locks and workers are at, in one moment."""
-        answer = self._ask("status")
+    async def _status(self) -> Status:
+        answer = await self._look("status")
         locks, workers = answer.members.get("locks"), answer.members.get("workers")
         if not isinstance(locks, list) or not all(map(is_lock, locks)):
-            raise answer.broken("`locks` are none")
+            raise answer.broken("`locks` is not a list of locks")
         if not isinstance(workers, list) or not all(map(is_worker, workers)):
-            raise answer.broken("`workers` are none")
+            raise answer.broken("`workers` is not a list of workers")
         return {"epoch": answer.number("epoch"), "locks": locks, "workers": workers}
 
-    def owner(self, lock: str) -> Optional[int]:
-        """The worker that owns the lock, whether it is attached or down; `None` where nobody does."""
-        answer = self._ask("owner", lock=lock)
+    async def _owner(self, lock: str) -> Optional[int]:
+        answer = await self._look("owner", lock=lock)
         if answer.has("owner") and answer.members["owner"] is None:
             return None
         return answer.number("owner")
 
-    def cells(self, lock: str) -> Cells:
-        """What the cells of the lock hold."""
-        answer = self._ask("cells", lock=lock)
+    async def _cells(self, lock: str) -> Cells:
+        answer = await self._look("cells", lock=lock)
         if not is_row(answer.members):
-            raise answer.broken("`cells` are none")
+            raise answer.broken("`cells` or `settled` is malformed")
         return {"cells": answer.members["cells"], "settled": answer.members["settled"]}
 
-    def _ask(self, do: str, **more: str) -> Answer:
-        ends = time.monotonic() + self.timeout
+    async def _look(self, do: str, **more: str) -> Answer:
         try:
-            connection = self._server.connect(self.timeout)
-            try:
-                answer = connection.ask({"do": do, **more}, max(0.001, ends - time.monotonic()))
-            finally:
-                connection.close()
-            answer.must_be_of(do)
-            return answer
-        except Lost as lost:
-            raise Unreachable(f"{self._server}: {lost}") from lost
+            return await self._ask(do, **more)
         except Refused as refused:
             if refused.code == BUSY:
                 raise Unreachable(f"{self._server}: the server has as many sessions as it may have") from refused
             raise
+
+
+class Observer(Looks):
+    """Looks at a server that keeps its state, while it works. No worker is needed for it, and nothing changes.
+
+    Each call is one connection, made once. `Unreachable`, which is an `OSError`, if the server is not there, is full,
+    or has not answered within `timeout` seconds; `Refused` if it refuses the look-up, 1 if it keeps no state, and 11
+    for a lock that it does not have; `ProtocolError` if the peer is not a server. What is answered is in the server's
+    file.
+    """
+
+    _ways = Blocking()
+
+    def status(self) -> Status:
+        """The status of all locks and workers at one moment."""
+        return now(self._status)
+
+    def owner(self, lock: str) -> Optional[int]:
+        """The worker that owns the lock, whether it is attached or down; `None` if nobody does."""
+        return now(self._owner, lock)
+
+    def cells(self, lock: str) -> Cells:
+        """What the cells of the lock hold."""
+        return now(self._cells, lock)
 
 
 def is_row(row: dict[str, Any]) -> bool:

@@ -1,4 +1,4 @@
-"""A session: a connection that has a worker, and what was answered on it of where that worker stands."""
+"""A session: a connection that has a worker, and what the answers on it say about the worker's stance."""
 
 from __future__ import annotations
 
@@ -6,14 +6,15 @@ import time
 from typing import Any, Optional
 
 from .answers import Answer, PendingJob, Receipt
-from .connection import Connection, Lost
+from .connection import Link, Lost
 from .errors import Overtaken, Refused
 
 READY, CLIMB, HELD = "ready", "climb", "held"
 STANCES = READY, CLIMB, HELD
 
 FRESH = 0.2
-"""For how many seconds after an order a session cannot have ended for silence: a server's `--idle` is 1 at least."""
+"""For this number of seconds after an order a session cannot have ended for silence: a server's `--idle` is at least
+1."""
 
 BUSY, IDLE, TAKEN = 9, 10, 18
 OUTCOMES = {
@@ -22,15 +23,15 @@ OUTCOMES = {
     "enter": ("receipt", "waiting", "withdrawn", "fell", "stance"),
     "commit": ("receipt", "fell"),
 }
-"""Of which members an answer to an order that works at a job has one."""
+"""An answer to an order that works at a job has one of these members."""
 
 
 class Session:
     """A session that has the worker. `number` and `stance` are the worker's by the last answer; `lock` is the pending
-    job's, where it was handed over in this session, and `section` that of the job, where it was entered in this session;
-    `life` is the worker's, where a job was entered and the server told it."""
+    job's, if it was handed over in this session, and `section` that of the job, if it was entered in this session;
+    `life` is the worker's, if a job was entered and the server told it."""
 
-    def __init__(self, connection: Connection, worker: int, timeout: float, label: Optional[str] = None):
+    def __init__(self, connection: Link, worker: int, timeout: float, label: Optional[str] = None):
         self.connection, self.worker, self.timeout, self.label = connection, worker, timeout, label
         self.number, self.stance = 0, READY
         self.lock: Optional[str] = None
@@ -38,9 +39,9 @@ class Session:
         self.life: Optional[int] = None
         self._asked = 0.0  # when the last order was sent that was answered
 
-    def attach(self, take: bool, after: Optional[int], timeout: float) -> bool:
-        """Takes the worker, where it was not restarted since the life `after`, if one is given. False where another session
-        has it; `Lost` where the server has no room for this one; `Refused`, 26, where it was restarted since."""
+    async def attach(self, take: bool, after: Optional[int], timeout: float) -> bool:
+        """Takes the worker, unless it was restarted since the life `after`, if one is given. False if another session
+        has it; `Lost` if the server has no room for this one; `Refused`, 26, if it was restarted since."""
         order: dict[str, Any] = {"do": "attach", "worker": self.worker}
         if take:
             order["take"] = True
@@ -49,7 +50,7 @@ class Session:
         if self.label is not None:
             order["as"] = self.label
         try:
-            answer = self._ask(order, timeout)
+            answer = await self._ask(order, timeout)
         except Refused as refused:
             if refused.code == BUSY:
                 raise Lost("the server has as many sessions as it may have") from refused
@@ -59,30 +60,30 @@ class Session:
         self.number, self.stance = answer.number("number"), answer.one_of("stance", *STANCES)
         return True
 
-    def wake(self) -> None:
-        """Returns where the session has not ended: `Lost` where it has. What was answered on it still holds then, since
-        nobody else has had the worker.
+    async def wake(self) -> None:
+        """Returns if the session has not ended: `Lost` if it has. Then what was answered on it still holds, since no
+        other client has had the worker.
 
-        The server ends a session that is taken over before anybody else has its worker, so that the end is seen here at
-        once on one machine. It ends a silent one just after that. So an order without effect is sent where the last one
-        was long ago.
+        The server ends a session that is taken over before anybody else has its worker, so on one
+        machine the end is seen here at once. It ends a silent session just after another has the worker. So an order
+        without effect is sent if the last order was long ago.
         """
         if not self.connection.is_quiet():
             raise Lost("the session had ended")
         if time.monotonic() - self._asked < FRESH:
             return
         try:
-            self.last()
+            await self.last()
         except Refused as refused:
             if refused.code != BUSY:  # a job is pending: the session lives
                 raise
 
-    def hand(self, order: dict[str, Any]) -> Optional[Receipt]:
-        """Has the order done, which works at a job: the job's receipt, or `None` where it is pending still, and `stance`
-        says where. `Refused` where its number was given up, `Overtaken` where the number is that of another lock's job,
-        `Lost` where the worker fell."""
+    async def hand(self, order: dict[str, Any]) -> Optional[Receipt]:
+        """Has the order done, which works at a job: the job's receipt, or `None` if it is pending still, and `stance`
+        says where. `Refused` if its number was given up, `Overtaken` if the number is that of another lock's job,
+        `Lost` if the worker fell."""
         do, number = order["do"], order.get("number", self.number)
-        answer = self._ask(order, self.timeout)
+        answer = await self._ask(order, self.timeout)
         outcome = [name for name in OUTCOMES[do] if answer.has(name)]
         if len(outcome) != 1:
             raise answer.broken(f"it is no outcome of `{do}`")
@@ -93,7 +94,7 @@ class Session:
                 raise answer.broken(f"it is not about job {number}")
             self._stands(HELD, number, order["lock"])
             self.section = answer.number("section")
-            self.life = answer.number("life") if answer.has("life") else None  # an older server tells none
+            self.life = answer.number("life") if answer.has("life") else None  # an older server does not tell it
             return None
         answer.says(outcome[0])
         if outcome == ["fell"]:
@@ -104,23 +105,23 @@ class Session:
         self._stands(CLIMB, number, order.get("lock", self.lock))
         return None
 
-    def withdraw(self) -> None:
-        """Gives up the pending job. `Refused`, 21, where it is inside."""
-        answer = self._ask({"do": "withdraw"}, self.timeout)
+    async def withdraw(self) -> None:
+        """Gives up the pending job. `Refused`, 21, if it is inside."""
+        answer = await self._ask({"do": "withdraw"}, self.timeout)
         if answer.has("fell"):
             raise Lost("the worker fell")
         if answer.number("number") != self.number:
             raise answer.broken(f"it is not about job {self.number}")
         self._stands(READY, self.number)
 
-    def last(self) -> Optional[Receipt]:
-        """The last job's receipt; `None` where it was given up, or there was none. `Refused`, 9, with a job pending."""
-        return self._ask({"do": "last"}, self.timeout).receipt("last", self.worker, self.number)
+    async def last(self) -> Optional[Receipt]:
+        """The last job's receipt; `None` if it was given up, or there was none. `Refused`, 9, with a job pending."""
+        return (await self._ask({"do": "last"}, self.timeout)).receipt("last", self.worker, self.number)
 
-    def pending(self) -> Optional[PendingJob]:
-        """The pending job; `None` where none is. `Refused`, 1, by a server of version 0.2, which cannot say."""
+    async def pending(self) -> Optional[PendingJob]:
+        """The pending job; `None` if no job is pending. `Refused`, 1, by a server of version 0.2, which cannot say."""
         try:
-            answer = self._ask({"do": "pending"}, self.timeout)
+            answer = await self._ask({"do": "pending"}, self.timeout)
         except Refused as refused:
             if refused.code != IDLE:
                 raise
@@ -132,25 +133,29 @@ class Session:
             raise answer.broken(f"it is not about job {self.number}")
         return {"lock": lock, "number": self.number, "script": script, "stance": answer.one_of("stance", CLIMB, HELD)}
 
-    def pending_lock(self) -> Optional[str]:
-        """The lock of the pending job; `None` where a server of version 0.2 cannot say."""
+    async def pending_lock(self) -> Optional[str]:
+        """The lock of the pending job; `None` if a server of version 0.2 cannot say."""
         if self.lock is not None:
             return self.lock
-        try:
-            told = self.pending()
-        except Refused:
-            return None
+        told = await self.pending_job()
         return None if told is None else told["lock"]
 
-    def _ask(self, order: dict[str, Any], timeout: float) -> Answer:
+    async def pending_job(self) -> Optional[PendingJob]:
+        """The pending job; `None` if a server of version 0.2 cannot say."""
+        try:
+            return await self.pending()
+        except Refused:
+            return None
+
+    async def _ask(self, order: dict[str, Any], timeout: float) -> Answer:
         asked = time.monotonic()
-        answer = self.connection.ask(order, timeout)
+        answer = await self.connection.ask(order, timeout)
         self._asked = asked
         answer.must_be_of(order["do"])
         return answer
 
     def _counted(self, answer: Answer, number: int, lock: Optional[str]) -> Receipt:
-        """The receipt of the job of this number, which must be this lock's, where one is named."""
+        """The receipt of the job of this number, which must be of this lock, if one is named."""
         receipt = answer.receipt("receipt", self.worker, number)
         if receipt is None:
             raise answer.broken("the receipt is null")
