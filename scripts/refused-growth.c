@@ -1,6 +1,6 @@
 /* Refuses one growth of memory: the Nth that a program asks for once it has started, N from the environment; or, for
-   the word "threaded", each one that its first thread asks for once it has started another, or a number of others that
-   stands behind the word. try-memory and other scripts preload it. */
+   the word "threaded", each one that its first thread asks for once it has started another thread, or once it has
+   started the number of threads that follows the word. try-memory and other scripts preload it. */
 #define _GNU_SOURCE
 #include <dlfcn.h>
 #include <errno.h>

@@ -1,4 +1,4 @@
-"""`rme ask`, and the two servers that it is tried with; a stand-in for a server, which answers what it is told to."""
+"""`rme ask`, and the two servers that it is tried with; a stand-in for a server, which gives set answers."""
 
 import os
 import re

@@ -23,7 +23,7 @@ MOST_JOBS = 3
 # A crate's processes are a group, which `stop` can end, and no session: the system shares the processors among sessions
 # first, and by niceness only inside a session. (An older Python can only make sessions: the build is then slower.)
 GROUP = {"process_group": 0} if sys.version_info >= (3, 11) else {"start_new_session": True}
-# What can wait is this nice at least, and by one more for so many seconds that it can wait.
+# A crate that can wait has at least this niceness, and one more for each period of this number of seconds of its wait.
 LEAST_NICE, MOST_NICE, SECONDS_A_NICE = 5, 19, 15
 # The processor seconds that crates take with one job, some measured and some estimated. They say which chain of crates
 # is the longest, and about how long a build takes.
@@ -34,17 +34,17 @@ SECONDS = {
     "rme_line_diagnose": 60, "rme_line_check": 110, "rme_cli_messages": 120, "rme_draw_picture": 145,
     "rme_ask_client": 110, "rme_cli_ask": 150,
     "rme_service_steps": 60, "rme_service_phases": 100, "rme_table": 135, "rme_supervisor": 140,
-    "rme_session_threads": 140, "rme_session_server": 150, "rme_server": 65, "rme_line_engine": 88,
+    "rme_session_threads": 140, "rme_session_loop": 110, "rme_session_server": 80, "rme_server": 65, "rme_line_engine": 88,
     "rme_draw_history": 70, "rme_cli_lines": 80, "rme_cli_run": 49, "rme_session_world": 95, "rme_durable_log": 65,
     "rme_durable_format": 160, "rme_durable_epochs": 120, "rme_durable_checkpoint": 110, "rme_durable_recovery": 60, "rme_durable_lookups": 90,
     "rme_durable_server": 150,
     "rme_process_file": 90, "rme_durable_file": 120, "rme_cli_listen": 70, "rme_cli_look": 150, "rme_cli_durable": 150, "rme_cli_state": 200,
     "rme_cli_commands": 250, "rme_cli": 300,
 }  # fmt: skip
-# Side by side crates keep some 2.7 processors busy, where there are four. The longest chain takes about four fifths of
+# Side by side crates keep some 2.7 processors busy, if there are four. The longest chain takes about four fifths of
 # its seconds (an estimate).
 BUSY, OF_CHAIN = 2.7, 0.8
-LAST_LINES = 40  # of a log, where a crate failed
+LAST_LINES = 40  # of a log, if a crate failed
 # What a program is run with once it is built, on no input; any other is asked for its version.
 FIRST_WORDS = {"rme_cli_run": "run", "rme_faults": "1"}
 running = set()
@@ -55,7 +55,7 @@ def say(text):
 
 
 def say_end(name, log):
-    """Says the last lines of a log, and where all of it is."""
+    """Prints the last lines of a log, and the path of the whole log."""
     lines = log.splitlines(keepends=True)
     sys.stderr.write("".join(lines[-LAST_LINES:]))
     if len(lines) > LAST_LINES:
@@ -120,7 +120,8 @@ def move_all(source, target, but=()):
 
 
 def niceness(slack):
-    """How nice a crate is that can wait for so many seconds: at 0 it leads, and gets all processors that it can use."""
+    """The niceness of a crate that can wait for this number of seconds: at 0 it goes first, and gets all processors
+    that it can use."""
     return min(MOST_NICE, LEAST_NICE + slack // SECONDS_A_NICE) if slack else 0
 
 
@@ -154,13 +155,14 @@ def lanes():
 
 
 def expected(weight, chain, places):
-    """How many seconds so much work takes at pace 1, with so many crates side by side, where this is the chain of crates that
-    is the longest."""
+    """How many seconds this work takes at pace 1, with this number of crates side by side and this longest chain of
+    crates."""
     return max(weight / min(places, BUSY), (OF_CHAIN if places > 2 else 1) * chain)
 
 
 def minutes_for(crates, names):
-    """About how many minutes it takes to build these crates, and how fast they were built where this was written."""
+    """About how many minutes it takes to build these crates, and how fast they were built on the machine of the
+    estimates."""
     weights = {name: weight(name) for name in crates if name in names}
     chain = max(chains(crates, weights).values(), default=0)
     return round(expected(sum(weights.values()), chain, lanes()) / 60)
@@ -176,9 +178,8 @@ def to_build(crates, made, name):
 class Progress:
     """How far the build is, by the weights of its crates: of all, and of the chain of crates that is the longest.
 
-    That the machine is slow shows slowly, as if so many seconds had gone by at pace 1: its first crate is also the first
-    that reads the toolchain from the disk. That it is fast shows at once, as where most crates are found to be proved
-    already.
+    A slow machine shows slowly, as if some seconds at pace 1 had gone by before: its first crate is also the first that
+    reads the toolchain from the disk. A fast machine shows at once, as when most crates are found to be proved already.
     """
 
     SECONDS_AT_PACE_1 = 300
@@ -212,7 +213,7 @@ def chains(crates, weights):
 
 
 def shares(idle, count):
-    """How many jobs each of so many crates gets where so many processors are idle."""
+    """How many jobs each of `count` crates gets if `idle` processors are idle."""
     return [max(1, min(MOST_JOBS, idle // count + (at < idle % count))) for at in range(min(idle, count))]
 
 

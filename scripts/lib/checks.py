@@ -1,5 +1,5 @@
 """Checks that are counted. A part of a script makes all of its checks, whatever fails, and its last line is
-`N checks, M failed`; where the script runs all of its parts, it gets the count in place of the line."""
+`N checks, M failed`; if the script runs all of its parts, it gets the count in place of the line."""
 
 import os
 import signal
@@ -11,7 +11,7 @@ import traceback
 made = 0
 failed = 0
 left_out = 0
-counted = None  # the file, by its number, that is told the count
+counted = None  # the descriptor of the file to which the count is written
 
 
 class Stop(Exception):
@@ -19,8 +19,8 @@ class Stop(Exception):
 
 
 def check(name, holds, told="", quiet=False):
-    """Counts a check, says how it went, and answers whether it holds; `told` is said where it does not. One that is quiet
-    says nothing where it holds."""
+    """Counts a check, says how it went, and answers whether it holds; `told` is printed if it does not. A quiet check
+    prints nothing if it holds."""
     global made, failed
     made += 1
     failed += not holds
@@ -36,12 +36,12 @@ def same(name, found, wanted):
 
 
 def fail(name, told=""):
-    """A check that failed already."""
+    """Counts a check that is known to fail."""
     return check(name, False, told)
 
 
 def note(text):
-    """Says something that is no check."""
+    """Prints a line that is not a check."""
     print(f"     {text}", flush=True)
 
 
@@ -53,12 +53,13 @@ def skip(name, why):
 
 
 def is_well(made, failed, left_out):
-    """Whether all is well after so many checks: none failed, and where none was made, it was said what is left out."""
+    """Whether all is well after this number of checks: no check failed, and if no check was made, it was said what is
+    left out."""
     return not failed and bool(made or left_out)
 
 
 def end():
-    """Tells the count, and ends the script: status 1 where a check failed."""
+    """Tells the count, and ends the script: status 1 if a check failed."""
     if counted is None:
         print(f"{made} checks, {failed} failed", flush=True)
     else:
@@ -79,9 +80,11 @@ def main(*groups):
 
 
 def main_in_folders(*groups, minutes):
-    """Makes the groups as `main` does, each in a folder of its own, within so many minutes, and says how long each took."""
+    """Makes the groups as `main` does, each in a folder of its own, within this number of minutes, and says how long
+    each took."""
 
     def too_long(*_):
+        signal.alarm(60)  # the groups after it have an end too
         raise TimeoutError(f"no end after {minutes} minutes")
 
     def in_folder(group):

@@ -10,7 +10,7 @@ from lib.servers import Server
 
 CLIENTS = os.path.join(TOP, "clients", "python")
 sys.path.insert(0, CLIENTS)
-from rme_client import Done, Refused  # noqa: E402
+from rme_client import Done, Refused, Worker  # noqa: E402, F401
 
 JOBS = 300
 
@@ -40,7 +40,7 @@ def raised(call, *attributes):
 
 
 def inside(worker, amount, number=None, block=lambda: None, lock="bank", wait=None):
-    """The job's number and receipt, after a block; where it was done already, its receipt alone."""
+    """The job's number and receipt, after a block; if it was done already, only its receipt."""
     try:
         with worker.inside(lock, [["add", 0, amount]], number, **({} if wait is None else {"wait": wait})) as held:
             block()
@@ -57,7 +57,7 @@ def entered(worker, amount, lock="bank"):
 
 
 def in_time(call, seconds=10):
-    """What a call answers within so many seconds, or "no end"."""
+    """What a call answers within this number of seconds, or "no end"."""
     told = ["no end"]
     thread = threading.Thread(target=lambda: told.append(call()), daemon=True)
     thread.start()
@@ -73,8 +73,8 @@ def serve(port=0, workers=2, locks=("bank",), jobs=JOBS, **options):
 
 
 def leave(server, steps, worker=0, number=1, order=None):
-    """A session of another client, whose worker falls after so many own steps of a job, which adds 5 to `bank`'s cell where
-    no other order is given."""
+    """A session of another client, whose worker falls after this number of own steps of a job. Without another order
+    the job adds 5 to `bank`'s cell."""
     session = server.session()
     session.attach(worker)
     session.told(do="crash_after", steps=steps)
@@ -84,7 +84,7 @@ def leave(server, steps, worker=0, number=1, order=None):
 
 
 def by_another(server, *orders, worker=0):
-    """What another client is answered, who has the worker as soon as nobody else has it, and leaves."""
+    """The answers to another client, which takes the worker as soon as no other client has it, and leaves."""
     session = server.session()
     session.attach(worker)
     told = [session.told(**order) for order in orders]

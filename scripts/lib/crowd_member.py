@@ -1,8 +1,9 @@
 """One client process of a crowd: crowd_member.py FOLDER PORT WORKER SLOT SEED
 
-Of each worker there are several, in turn. This one makes lives: each takes the worker, by a take-over where no other client of
-it is in a call, makes some jobs, and lets it go; between them it may be silent until its session is ended. It makes one
-life where FOLDER has `stop`, so that nothing is left pending. FOLDER/log has a line for all that it did and was answered.
+Of each worker there are several, in turn. This one makes lives: each takes the worker, by a take-over if no other
+client of it is in a call, makes some jobs, and lets it go; between them it may be silent until its session is ended. It
+makes one life where FOLDER has `stop`, so that nothing is left pending. FOLDER/log has a line for all that it did and
+was answered.
 """
 
 import fcntl
@@ -17,7 +18,7 @@ sys.path.insert(0, os.path.join(os.path.dirname(os.path.realpath(__file__)), "..
 from rme_client import Pending, Worker  # noqa: E402
 
 LOCKS, SLOTS, SILENT = ("bank", "shop"), 3, 2.4
-MORTAL = 0.05  # so many of the jobs are the last of their clients, which are killed within some milliseconds; some in a block
+MORTAL = 0.05  # this part of the jobs are the last of their clients, which are killed within some milliseconds; some in a block
 
 
 class Member:
@@ -62,7 +63,7 @@ class Member:
         return self.worker * SLOTS + slot
 
     def others_at_rest(self):
-        """The places of the other clients of the worker, which are kept out of calls, where all are between two calls."""
+        """The places of the other clients of the worker, which are kept out of calls, if all are between two calls."""
         kept = []
         for slot in range(SLOTS):
             if slot == self.slot:

@@ -34,7 +34,7 @@ class Crowd:
         return subprocess.Popen(words, stdin=subprocess.DEVNULL)
 
     def run(self, seconds):
-        """Lets them work and kills them for so long, has them end, and answers what is wrong."""
+        """Lets the clients work and kills them for this time, has them end, and answers what is wrong."""
         running = {(worker, slot): self.start(worker, slot) for worker in range(WORKERS) for slot in range(SLOTS)}
         latest, is_over = time.monotonic() + seconds, False
         while running and not self.wrong:

@@ -20,7 +20,7 @@ def opened_by(line):
 
 
 def int_of(digits):
-    """A whole number; a zero below zero is none."""
+    """Whether it is a whole number; -0 is not."""
     return float(digits) if digits == "-0" else int(digits)
 
 
@@ -29,7 +29,7 @@ def is_whole(value, least=0, most=MOST):
 
 
 def is_last(word, worker, number, locks):
-    """Whether this may have become of a worker's last number, where it had so many: a receipt is its own, of that number."""
+    """Whether this may be the outcome of a worker's last number: a receipt must be its own, of that number."""
     if not isinstance(word, dict):
         return word is None and number == 0
     if set(word) == {"withdrawn"}:
@@ -42,7 +42,7 @@ def is_last(word, worker, number, locks):
 
 
 def header_fits(line, opening):
-    """Whether a line is a header, and one for the world that another line opens; None where it is no header."""
+    """Whether a line is a header, and one for the world that another line opens; None if it is no header."""
     try:
         header = json.loads(line.decode(), parse_int=int_of)
     except ValueError:
@@ -69,8 +69,8 @@ def header_fits(line, opening):
 
 
 def verdicts_on(held):
-    """What `rme look --check` may say of a file with these bytes: by its sums where it has them, by `rme run`, and by the form of
-    the header."""
+    """What `rme look --check` may say of a file with these bytes: by its sums if it has them, by `rme run`, and by the
+    form of the header."""
     start = start_of(held) if is_sealed(held) else None
     if start and start.changed:
         return start.verdicts

@@ -12,7 +12,8 @@ SECONDS = 600
 
 
 def simulate(first, count, *words):
-    """Runs so many seeds from the first on: the failures, each a seed, a step and what is wrong, and the counts."""
+    """Runs this number of seeds from the first on: the failures, each a seed, a step and what is wrong, and the
+    counts."""
     command = [built("rme_faults"), str(first), str(count), *map(str, words)]
     ran = subprocess.run(
         command, stdin=subprocess.DEVNULL, stdout=subprocess.PIPE, stderr=subprocess.DEVNULL, text=True, timeout=SECONDS

@@ -29,8 +29,23 @@ def limited(size):
     return limit
 
 
+def limited_for_now(size):
+    """The same, but the limit may be raised again, by `allow`."""
+
+    def limit():
+        ignore_limit()
+        resource.setrlimit(resource.RLIMIT_FSIZE, (size, resource.getrlimit(resource.RLIMIT_FSIZE)[1]))
+
+    return limit
+
+
+def allow(server, size):
+    """From now on each file of a server whose limit may be raised may have this number of bytes."""
+    resource.prlimit(server.program.pid, resource.RLIMIT_FSIZE, (size, resource.getrlimit(resource.RLIMIT_FSIZE)[1]))
+
+
 def allow_more(server, path, room):
-    """From now on the file of a server may have so many bytes more."""
+    """From now on the file of a server may have this number of bytes more."""
     size = os.path.getsize(path) + room
     resource.prlimit(server.program.pid, resource.RLIMIT_FSIZE, (size, size))
 
@@ -51,7 +66,7 @@ def own_end(server):
 
 
 def rest_of(session):
-    """What a client is still told up to the end of its connection, which may be reset where it has sent more."""
+    """What a client is still told up to the end of its connection, which may be reset if it has sent more."""
     try:
         return session.lines.read()
     except ConnectionResetError:
@@ -78,8 +93,9 @@ def jobs_until_none(session, worker, lock, most=100_000):
 
 
 def load_until_full(server, path, lock, workers, after, room):
-    """Clients with jobs, of which every second one comes by the socket, until the file of their server has so many
-    bytes more than it has after some time: how the server ended, and for each client the numbers that were answered."""
+    """Clients with jobs, of which every second one comes by the socket, until the file of their server has this number
+    of bytes more than it has after some time: how the server ended, and for each client the numbers that were
+    answered."""
     numbers = [[] for _ in range(workers)]
 
     def client(worker):

@@ -10,7 +10,8 @@ VALUES = re.compile(r" \[possible values: ([^\]]+)\]$")
 
 
 class Option:
-    """An option: `-l`, or None; `--long`; the name of its value, or None; its help; and the values, where it lists them."""
+    """An option: `-l`, or None; `--long`; the name of its value, or None; its help; and the values, if it lists
+    them."""
 
     def __init__(self, short, long, value, told):
         listed = VALUES.search(told)

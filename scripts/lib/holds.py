@@ -1,4 +1,4 @@
-"""rme-hold, and the ways in which it has a worker: a server without a state, one with a state, and a file."""
+"""rme-hold, and the ways in which it gets a worker: a server without a state, one with a state, and a file."""
 
 import functools
 import importlib
@@ -19,7 +19,7 @@ SHARED = os.path.join(TOP, "clients", "processes")
 
 
 class Way:
-    """Where the words of a lock `bank` and a lock `shop` lie, for four workers; `words` are those of rme-hold."""
+    """A place of the words of a lock `bank` and a lock `shop`, for four workers; `words` are those of rme-hold."""
 
     def __init__(self, name, folder):
         self.name, self.folder, self.server, self.door = name, folder, None, None
@@ -63,7 +63,8 @@ class Way:
 
 
 class Door:
-    """Stands between clients and a server, and passes on all that they say, but for what it is told to break."""
+    """Stands between clients and a server, and passes on all that they send, except for the connections that it must
+    break."""
 
     def __init__(self, port):
         self.server_port, self.is_shut, self.open, self.refused = port, False, [], 0
@@ -130,7 +131,7 @@ def fork_hold(words):
 
 @functools.lru_cache(maxsize=None)
 def hold_of_this_process():
-    """The call that rme-hold is, with all modules that it takes."""
+    """The main function of rme-hold, with all modules that it imports."""
     sys.path[:0] = [HOLD, SHARED]
     if "file" in ways():
         importlib.import_module("rme_shared")

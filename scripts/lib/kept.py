@@ -1,4 +1,4 @@
-"""Servers that keep their state in a file, and what such a file says by `rme run` and by `rme look`."""
+"""Servers that keep their state in a file, and the contents of such a file by `rme run` and by `rme look`."""
 
 import collections
 import json
@@ -12,9 +12,9 @@ from lib.servers import Server, line_of
 
 LOCKS = ("bank", "shop")
 
-# What may stand behind the last newline of a file where its server was killed: all of it is cut off.
+# What may follow the last newline of a file if its server was killed: a start cuts all of it off.
 TORN = (b"{", b'{"do":"crash","worker":0}', b'{"do":"walk","max":1', b"\0" * 4096, b"x" * 70_000, bytes(range(11, 256)))
-# And behind the last sum line.
+# What may follow the last sum line.
 CRASH = b'{"do":"crash","worker":0}\n'
 UNSEALED = (*TORN, CRASH, CRASH + b'{"kept":1,"seq":', b'{"kept":1,"seq":9,"sum":"00000000"}\n')
 
@@ -26,14 +26,14 @@ def state_words(path, *locks, **options):
 
 
 def serve(path, *locks, how=(), **options):
-    """A server that keeps this file, on a port that is free where no place is said."""
+    """A server that keeps this file, on a port that is free if no place is said."""
     if not {"port", "socket"} & set(options):
         options["port"] = 0
     return Server(words=state_words(path, *locks, **options), how=how)
 
 
 def end_of(words, **how):
-    """How a run ends that must not serve, as `ends_with` says it."""
+    """How a run that must not serve ends, in the form of `ends_with`."""
     try:
         return ends_with(run(words, stdin=subprocess.DEVNULL, timeout=10, **how))
     except subprocess.TimeoutExpired as late:
@@ -41,7 +41,7 @@ def end_of(words, **how):
 
 
 def until_waiting(session, worker):
-    """What all are at, once this worker waits."""
+    """The status of all, once this worker waits."""
     for _ in range(1000):
         told = session.told(do="status")
         if told["workers"][worker]["stance"] == "climb":
@@ -71,18 +71,18 @@ CUT_OFF = rb"rme: \d+ bytes at the end of .* were never known to be with the dis
 
 
 def without_count(told):
-    """What is on the standard error behind the lines that tell how many lines were read, and how many bytes are cut off."""
+    """The standard error after the lines that tell how many lines were read, and how many bytes are cut off."""
     return re.sub(rb"\A(rme: \d+ lines are read\n|rme: \d+ lines read in \d+ ms\n|%s)*" % CUT_OFF, b"", told)
 
 
 def bad_state(path, held, line):
-    """What a start says of a file with these bytes that it refuses at this line: by the sums, or by the line."""
+    """The message of a start that refuses a file with these bytes at this line: because of the sums, or of the line."""
     is_changed = sums.is_sealed(held) and sums.start_of(held).changed
     why = f"what was written up to line {line} has changed since" if is_changed else f"line {line}"
     return f"fault: bad state\n  {path}: {why}\n".encode()
 
 
-# ---- what a file says
+# ---- the contents of a file
 
 
 def whole_lines(held):
@@ -96,7 +96,7 @@ def answers_to(lines):
 
 
 class Told:
-    """What the lines of a file tell of one worker."""
+    """The state of one worker after the lines of a file."""
 
     def __init__(self):
         self.is_up, self.number, self.handed, self.is_pending = True, 0, None, False
@@ -114,7 +114,7 @@ class Told:
                 self.is_pending = False
 
     def status(self, number, owners, others):
-        """The worker of this number, where the locks have these owners, and these workers wait for those."""
+        """The worker of this number, if the locks have these owners, and these workers wait for those."""
         status = {"attached": self.is_up, "number": self.number, "stance": "ready"}
         if number in others:
             status["blocked_by"] = others[number]
@@ -125,8 +125,9 @@ class Told:
 
 
 def blocked_in(image):
-    """Who waits for whom in a world, by the words of its image: for each worker with a pending job, the worker whose path has the
-    node above the levels that the first one holds, and that holds its own path up to there."""
+    """Which worker waits for which in a world, by the words of its image: for each worker with a pending job, the
+    worker whose path has the node above the levels that the first one holds, and that holds its own path up to
+    there."""
     workers, locks, cells = int.from_bytes(image[5:7], "big"), image[7], image[8]
     leaves = max(2, 1 << (workers - 1).bit_length())
     size = leaves + 2 + 2 * cells
@@ -156,8 +157,8 @@ def held_path(leaf, nodes):
 
 
 def status_of(lines, header=None):
-    """The answer to `status` to which the lines of a file lead behind this header, or behind a first one: by what `rme run`
-    answers to them, and to look-ups behind them."""
+    """The answer to `status` after this header, or after a first one, and the lines of a file: by what `rme run`
+    answers to these lines, and to look-ups after them."""
     opening = json.loads(lines[0])
     header = header or first_header(opening)
     locks = opening["locks"]
@@ -179,7 +180,7 @@ def status_of(lines, header=None):
             for lock, row, before in zip(locks, rows, header["places"])
         ],
         "ok": "status",
-        "workers": [worker.status(number, owners, others) for number, worker in enumerate(workers[:-1])],  # but the keeper
+        "workers": [worker.status(number, owners, others) for number, worker in enumerate(workers[:-1])],  # without the keeper
     }
     for worker, before in zip(status["workers"], header["numbers"]):
         worker["number"] += before
@@ -187,13 +188,13 @@ def status_of(lines, header=None):
 
 
 def status_in(held):
-    """The answer to `status` to which a file's bytes lead."""
+    """The answer to `status` after a file's bytes."""
     header, *lines = whole_lines(held)
     return status_of(lines, json.loads(header))
 
 
 def first_header(opening):
-    """What the header says of a new file whose first line behind it is this one."""
+    """The members of the header of a new file whose next line is this one."""
     clients = opening["workers"] - 1
     lists = {"last": [None] * clients, "lives": [0] * clients, "numbers": [0] * clients}
     return {"epoch": 0, **lists, "places": [0] * len(opening["locks"])}
@@ -210,7 +211,7 @@ def epoch_of(held):
 
 
 def lives_of(held):
-    """How often each worker was restarted, by the header and the lines behind it."""
+    """How often each worker was restarted, by the header and the lines after it."""
     header, *lines = map(json.loads, whole_lines(held))
     lives = header.get("lives", [0] * len(header["numbers"]))
     for line in lines:
@@ -225,13 +226,14 @@ def look(path, *words):
 
 
 def looked(path):
-    """The answer to `status` that `rme look` gives; or how it ended, where it gives none."""
+    """The answer to `status` that `rme look` gives; or how it ended, if it gives none."""
     ran = look(path, "--json")
     return json.loads(ran.stdout) if ran.returncode == 0 else (ran.returncode, ran.stderr)
 
 
 def faults_of(held):
-    """What is wrong with a file's bytes as lines of `rme run`: lines that are refused, or a run that no machine has."""
+    """What is wrong with a file's bytes as lines of `rme run`: lines that are refused, or a run that the machine cannot
+    make."""
     lines = b"".join(whole_lines(held)[1:])
     answers = run(["run"], lines).stdout.splitlines()
     refused = [(number, answer) for number, answer in enumerate(answers, 2) if b'"code"' in answer]

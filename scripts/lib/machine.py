@@ -1,4 +1,4 @@
-"""The machine on which something is timed, and what else it did meanwhile."""
+"""The machine of a benchmark, and its other load meanwhile."""
 
 import os
 import re
@@ -8,7 +8,7 @@ TICKS = os.sysconf("SC_CLK_TCK")
 
 
 def processor():
-    """The model of the processor, as the kernel tells it."""
+    """The model of the processor, by the kernel."""
     with open("/proc/cpuinfo", encoding="utf-8", errors="replace") as file:
         found = re.search(r"^model name\s*: (.*)$", file.read(), re.M)
     return " ".join(found[1].split()) if found else "a processor without a name"
@@ -35,8 +35,8 @@ def stolen():
 
 
 def seconds_of_others():
-    """The processor's seconds that all other processes have used, and that were stolen. A process that ended counts by the one
-    that waited for it, so those that this one waited for do not."""
+    """The processor's seconds that all other processes have used, and that were stolen. The time of a process that
+    ended counts for the process that waited for it, so the children of this process do not count."""
     total = stolen()
     for name in os.listdir("/proc"):
         if name.isdigit() and int(name) != os.getpid():
@@ -49,7 +49,7 @@ def seconds_of_others():
 
 
 class Load:
-    """The machine's load from here on. All that this process starts must have ended when it is asked."""
+    """The machine's load from here on. All children of this process must have ended when the load is read."""
 
     def __init__(self):
         self.before, self.began, self.used = os.getloadavg()[0], time.monotonic(), seconds_of_others()

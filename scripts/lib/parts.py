@@ -1,7 +1,8 @@
 """Scripts of parts. A part is a module of scripts/parts/SUBJECT with a function `part`, which makes its checks.
 
-A script runs its parts one after another, each in a process of its own: no part meets what another has left, as servers,
-threads, limits of time or handlers of signals. Its last line is `N checks, M failed`, over all of its parts.
+A script runs its parts one after another, each in a process of its own: so no part is affected by what another has
+left, as servers, threads, limits of time or handlers of signals. Its last line is `N checks, M failed`, over all of its
+parts.
 """
 
 import ast
@@ -14,11 +15,11 @@ import tempfile
 from lib import checks
 from lib.programs import SCRIPTS
 
-COUNTED = "--counted"  # before the number of the file that is told the count, where a script starts itself for a part
+COUNTED = "--counted"  # before the descriptor to which the count is written, if a script starts itself for a part
 
 
 def script(about, *names):
-    """Runs the parts with these names in this order, or the one that the first word names, with the words behind it."""
+    """Runs the parts with these names in this order, or the one that the first word names, with the words after it."""
     subject = os.path.basename(sys.argv[0]).removeprefix("try-")
     words = sys.argv[1:]
     if words[:1] == [COUNTED]:
@@ -56,8 +57,8 @@ def told(made, failed):
 
 
 def counts_of(name):
-    """Runs a part in a process of its own: how many checks it made, how many failed, and how much was left out. One that ends
-    without a count, or otherwise than its count says, is a failed check more."""
+    """Runs a part in a process of its own: how many checks it made, how many failed, and how much was left out. A part
+    that ends without a count, or with a status that contradicts its count, counts as one more failed check."""
     with tempfile.TemporaryFile() as file:
         command = [sys.executable, sys.argv[0], COUNTED, str(file.fileno()), name]
         with subprocess.Popen(command, pass_fds=[file.fileno()]) as part:

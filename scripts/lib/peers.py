@@ -1,4 +1,4 @@
-"""Peers of a client that are no good server: ones that answer what they like, and ones that pass on what they like."""
+"""Faulty peers of a client: some answer anything, and some pass on only a part of what they get."""
 
 import json
 import socket
@@ -10,7 +10,7 @@ READY = b'{"number":0,"ok":"attach","stance":"ready"}\n'
 
 
 class Peer:
-    """Listens, and has each connection, counted from 0, served by a function in a thread, and closed then."""
+    """Listens. Each connection, counted from 0, is served by a function in a thread, and then closed."""
 
     def __init__(self, serve):
         self.serve, self.connections, self.lines = serve, 0, []
@@ -45,8 +45,8 @@ class Peer:
 
 
 def answering(*answers):
-    """A peer that answers the orders of each connection so, one by one, and then no more. An answer may be a function of
-    the connection."""
+    """A peer that answers the orders of each connection by these answers, one by one, and then answers no more. An
+    answer may be a function of the connection."""
 
     def serve(peer, connection, lines, _):
         for answer in answers:
@@ -65,9 +65,9 @@ def answering(*answers):
 def between(server, passes):
     """A peer that passes lines and answers on between clients and a server.
 
-    `passes(number, order, answer)` is asked of each order of a connection of this number before it is sent on, with `None`
-    for its answer, and again with the answer's bytes, before that is passed on. Its answer says how it goes on: the bytes
-    that are sent on in their place, or `None` for an end of the connection.
+    `passes(number, order, answer)` is called for each order of the connection of this number: before the order is sent
+    on, with `None` for its answer, and again before the answer is passed on, with the answer's bytes. It returns the
+    bytes that are sent on in their place, or `None` to end the connection.
     """
 
     def serve(peer, connection, lines, number):

@@ -1,6 +1,6 @@
-"""Planted defects of the sources: some seed finds each. They are must-fail edits of the crates, and the texts of
-scripts/faults, of which some also switch off the comparison that would refuse them. Each is built apart, without a proof, by
-`rt try`, which takes some minutes of one processor.
+"""Planted defects of the sources, each of which some seed finds. They are must-fail edits of the crates, and the texts
+of scripts/faults; some of these also switch off the comparison that would refuse them. Each is built separately,
+without a proof, by `rt try`, which takes some minutes of one processor.
 
 A text has comment lines, lines `file:`, and after each pairs of lines `old:` and `new:`, each old text standing once in the
 file.
@@ -18,7 +18,7 @@ from lib.checks import Stop, check
 from lib.programs import SCRIPTS, TOP, sources_in
 from lib.sources import below, listed
 
-# Crates, and those of their must-fail edits that clients can see without threads. (A look-up before its lines is none: each
+# Crates, and those of their must-fail edits that clients can see without threads. (A look-up before its lines is not one of them: each
 # line of a session is answered as a whole before the next, so a look-up meets no lines of another that are not durable.)
 REFUSED = {
     "rme_durable_server": (

@@ -14,8 +14,8 @@ C = os.path.join(TOP, "c")
 TESTS = os.path.join(C, "tests")
 WARNINGS = ("-Wall", "-Wextra", "-Wpedantic", "-Werror")
 SANITIZERS = ("-fsanitize=address,undefined", "-fno-sanitize-recover=all", "-fno-omit-frame-pointer")
-# What tests put functions of their own around: a kill before an own step, what comes just before a claim, a read, and a
-# kill before each call by which a renewal hands a file over.
+# The functions that tests wrap: a kill before an own step, a function just before a claim, a read, and a kill before each
+# call by which a renewal hands a file over.
 STEPS = ("-Wl,--wrap=rme_core_next", "-Wl,--wrap=rme_core_after")
 WRAPS = {
     "calls": ("-Wl,--wrap=fcntl", "-Wl,--wrap=read"),
@@ -32,7 +32,7 @@ def compiler():
 
 
 def libraries():
-    """The folder of librme.a and librme.so, which are built first where something that they are made of is newer."""
+    """The folder of librme.a and librme.so, which are built first if something that they are made of is newer."""
     folder = os.path.join(C, "out")
     made = os.path.join(folder, "librme.so")
     sources = [os.path.join(C, name) for name in os.listdir(C) if name.endswith((".c", ".h", ".map"))]
@@ -48,13 +48,13 @@ def build(folder, *flags):
 
 @functools.lru_cache(maxsize=None)
 def core_libraries():
-    """What the objects of c/ are linked with."""
+    """The archives with which the objects of c/ are linked."""
     words = [os.path.join(SCRIPTS, "build-c"), "--libraries"]
     return subprocess.run(words, check=True, stdout=subprocess.PIPE, text=True).stdout.split()
 
 
 def program(name, folder, *flags):
-    """A test program, made in a folder where the objects of c/ lie, of them and of the proved library."""
+    """A test program, made in a folder of objects of c/, of these objects and of the proved library."""
     made, objects = os.path.join(folder, f"test-{name}"), folder
     parts = [os.path.join(objects, f"{part}.o") for part in PARTS]
     words = [compiler(), "-std=c11", "-O2", "-g", "-pthread", *WARNINGS, *flags, *WRAPS.get(name, ()), "-o", made]
@@ -63,8 +63,8 @@ def program(name, folder, *flags):
 
 
 def sanitized():
-    """A folder with the objects of c/, built with sanitizers, and the flags for what is linked with them; the plain ones
-    where there are none."""
+    """A folder with the objects of c/, built with sanitizers, and the flags for what is linked with them; or the plain
+    objects if sanitizers are not there."""
     folder = os.path.join(C, "out", "sanitized")
     os.makedirs(folder, exist_ok=True)
     if not has_sanitizers(folder):
@@ -86,7 +86,7 @@ def has_sanitizers(folder):
 
 
 def run(name, *words):
-    """Runs a test program, whose checks are one check here, and says what it says. Answers its output."""
+    """Runs a test program, whose checks count as one check here, and prints its output, which it also returns."""
     ran = subprocess.run([*map(str, words)], stdin=subprocess.DEVNULL, capture_output=True, text=True, timeout=SECONDS)
     lines = ran.stdout.splitlines()
     for line in lines[:-1]:
@@ -103,7 +103,7 @@ def names_of(path, pattern):
 
 
 def shared_memory():
-    """A folder in memory where there is one, for files whose words are touched often."""
+    """A folder in memory if there is one, for files whose words are touched often."""
     return "/dev/shm" if os.access("/dev/shm", os.W_OK) else None
 
 
@@ -112,7 +112,7 @@ def has(program_name):
 
 
 def shared():
-    """The package of clients/processes, by the library that was built."""
+    """The package of clients/processes, with the library that was built."""
     os.environ["RME_LIBRARY"] = os.path.join(libraries(), "librme.so")
     folder = os.path.join(TOP, "clients", "processes")
     os.environ["PYTHONPATH"] = folder

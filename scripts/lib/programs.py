@@ -16,7 +16,7 @@ REFUSED_GROWTH = b"growth refused\n"
 
 @functools.lru_cache(maxsize=None)
 def built(name="rme_cli"):
-    """The path of a program, which is built first where it is not there yet."""
+    """The path of a program, which is built first if it is not there yet."""
     subprocess.run([os.path.join(SCRIPTS, "build"), name], check=True, stdin=subprocess.DEVNULL)
     return os.path.join(TOP, "crates", name, "out", name)
 
@@ -51,7 +51,7 @@ def has_strace():
 
 
 def lines_traced(log):
-    """The lines that `strace` wrote of a program that was killed, once it has written all."""
+    """The lines that `strace` wrote about a program that was killed, once all are written."""
     for _ in range(200):
         with open(log, "rb") as file:
             told = file.read()
@@ -62,10 +62,10 @@ def lines_traced(log):
 
 
 def growth_refuser(folder):
-    """A library that refuses one growth of memory where it is preloaded, or None where there is no C compiler."""
+    """A library that refuses one growth of memory if it is preloaded, or None if there is no C compiler."""
     compiler = shutil.which("cc")
     if not compiler:
-        skip("refused growths", "there is no C compiler cc, which makes what refuses them")
+        skip("refused growths", "there is no C compiler cc, which builds the library that refuses them")
         return None
     shim = os.path.join(folder, "refused-growth.so")
     source = os.path.join(SCRIPTS, "refused-growth.c")
@@ -74,12 +74,12 @@ def growth_refuser(folder):
 
 
 def refusing(shim, number):
-    """The environment in which the growth of this number is refused."""
+    """The environment that makes the growth of this number fail."""
     return {"LD_PRELOAD": shim, "REFUSED_GROWTH": str(number)}
 
 
 def sources_in(folder, crates=None):
-    """Copies the sources of these crates, or of all, into a folder, with the files that stand above them."""
+    """Copies the sources of these crates, or of all, into a folder, with the files in the folders above them."""
     skipped = shutil.ignore_patterns("out", "must-fail")
     for crate in crates or os.listdir(os.path.join(TOP, "crates")):
         shutil.copytree(os.path.join(TOP, "crates", crate), os.path.join(folder, "crates", crate), ignore=skipped)

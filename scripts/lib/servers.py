@@ -49,8 +49,8 @@ class Server:
         self.counting = threading.Lock()
 
     def connect(self, room=None):
-        """A connection without a Session, which counts as one of those that the server takes; with room for so many bytes
-        that were not read yet, where that is said."""
+        """A connection without a Session, which counts as one of those that the server takes; with room for this number
+        of bytes that were not read yet, if that is said."""
         with self.counting:
             self.left -= 1
         connection = socket.socket()
@@ -73,7 +73,7 @@ class Server:
         return Session(connection)
 
     def most_memory(self):
-        """The most memory that the server had so far, in KiB."""
+        """The peak of the server's memory so far, in KiB."""
         with open(f"/proc/{self.program.pid}/status", encoding="utf-8") as status:
             return next(int(line.split()[1]) for line in status if line.startswith("VmHWM"))
 
@@ -104,7 +104,7 @@ class Server:
             except subprocess.TimeoutExpired:
                 try:
                     self.connect().close()
-                except ConnectionRefusedError:  # it has taken its last one, and is at its end
+                except ConnectionRefusedError:  # it has accepted its last connection, and is about to end
                     break
         return self.end()
 
@@ -125,7 +125,7 @@ class Session:
         return self.lines.readline()
 
     def hang_up(self):
-        """Says that nothing more comes, and gives what is still answered up to the session's end."""
+        """Ends this side of the connection, and returns the further answers up to the session's end."""
         self.connection.shutdown(socket.SHUT_WR)
         rest = self.lines.read()
         self.close()
@@ -151,7 +151,7 @@ class Session:
         return answer
 
     def say(self, *orders):
-        """What is answered to these orders up to the end of the connection, with no further line to come."""
+        """The answers to these orders up to the end of the connection, with no further line."""
         self.send(b"".join(line_of(**order) for order in orders))
         return self.hang_up().splitlines()
 
@@ -165,6 +165,6 @@ class Session:
 
 
 def reset(connection):
-    """Closes a connection by a reset: what was not sent yet is thrown away."""
+    """Closes a connection by a reset: bytes that were not sent yet are discarded."""
     connection.setsockopt(socket.SOL_SOCKET, socket.SO_LINGER, RESET)
     connection.close()

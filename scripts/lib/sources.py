@@ -1,9 +1,10 @@
-"""What a program of this repository is made of, and whether one that was built is still made of it.
+"""The sources of a program of this repository, and whether a built program is still up to date with them.
 
-That goes by contents, not by times. Beside what was built stands a stamp, `NAME.made-of`: the toolchain's version, the
-lines of crates.txt and a digest of each source, all as they were when its build began. The stamp also has the size and the
-times of each source, so that only a source that changed these is read again, and those of the built file itself. A file
-that has no stamp of its own, as one that `rt ci` built, is fresh where it is newer than its sources; it then gets one.
+This goes by contents, not by times. Beside the built file lies a stamp, `NAME.made-of`: the toolchain's version, the
+lines of crates.txt and a digest of each source, all as they were when its build began. The stamp also has the size and
+the times of each source, so that only a source whose size or times changed is read again, and those of the built file
+itself. A file without a stamp of its own, as one that `rt ci` built, is fresh if it is newer than its sources; it then
+gets one.
 """
 
 import json
@@ -69,19 +70,19 @@ def time_of(path):
 
 
 def mark_of(stat):
-    """What changes where the contents of a file change."""
+    """The attributes of a file that change if its contents change."""
     return [stat.st_size, stat.st_mtime_ns, stat.st_ctime_ns]
 
 
 def digest_of(path):
-    import hashlib  # Seldom needed, and `./rme` comes by here each time.
+    import hashlib  # Imported here since it is seldom needed, and each `./rme` runs this module.
 
     with open(path, "rb") as file:
         return hashlib.sha256(file.read()).hexdigest()
 
 
 def mark_of_built(path):
-    """The size and the time of a built file, or None where there is none that can be run or linked."""
+    """The size and the time of a built file, or None if no file is there that can be run or linked."""
     if not os.path.isfile(path):
         return None
     stat = os.stat(path)
@@ -89,12 +90,12 @@ def mark_of_built(path):
 
 
 def library_of(name):
-    """What the toolchain writes last of a crate's library."""
+    """The file of a crate's library that the toolchain writes last."""
     return os.path.join(folder_of(name), "out", "rlib", "stamp")
 
 
 def toolchain():
-    """The command `rt` and its times, or None where it is not there."""
+    """The command `rt` and its times, or None if it is not there."""
     for folder in os.environ.get("PATH", os.defpath).split(os.pathsep):
         path = os.path.realpath(os.path.join(folder or os.curdir, "rt"))
         if os.access(path, os.X_OK) and os.path.isfile(path):
@@ -114,7 +115,7 @@ def digests_in(stamp):
 
 
 class MadeOf:
-    """What a built file is to be made of, as it is now, beside what its stamp says that it was made of."""
+    """The sources of a built file as they are now, and those that its stamp names."""
 
     def __init__(self, built, crates, names):
         self.built, self.names = built, names
@@ -127,7 +128,7 @@ class MadeOf:
         }
 
     def _read(self):
-        """What the stamp says, if it is one of this very file; else nothing."""
+        """The contents of the stamp, if it is the stamp of this very file; else nothing."""
         try:
             with open(self.stamp, encoding="utf-8") as file:
                 old = json.load(file)
@@ -136,12 +137,12 @@ class MadeOf:
             return {}
 
     def _toolchain(self):
-        """The command and what it says of itself. Without one nothing can be built, so what was built stays good."""
+        """The command and its version. Without the command nothing can be built, so what was built stays good."""
         command, old = toolchain(), self.old.get("toolchain", [None, None])
         return old if command in (None, old[0]) else [command, version_of(command)]
 
     def _sources(self):
-        """Each source with its mark and its digest. A mark that may yet stand for other contents is left out."""
+        """Each source with its mark and its digest. A mark that may still stand for other contents is left out."""
         old, began = self.old.get("sources", {}), time.time_ns()
         for name in self.names:
             for entry in entries_in(folder_of(name)):
@@ -156,7 +157,7 @@ class MadeOf:
         return None in versions or versions[0] == versions[1]
 
     def is_fresh(self):
-        """Whether the built file is there, and is made of what is there now."""
+        """Whether the built file is there, and is made of the present sources."""
         if not mark_of_built(self.built):
             return False
         if self.old:
@@ -170,8 +171,8 @@ class MadeOf:
         return is_fresh
 
     def is_library_fresh(self, name):
-        """Whether the library of a crate, the one that the built file was made over, would be made alike now. Of another
-        library only its time tells."""
+        """Whether the library of a crate, the one that the built file was made over, would be built the same now. For
+        another library only its time tells that."""
         if not self.is_of_this_toolchain():
             return False
         library = mark_of_built(library_of(name))
@@ -182,11 +183,11 @@ class MadeOf:
         return self.old["crates"].get(name) == self.now["crates"][name] and digests[0] == digests[1]
 
     def was_built(self):
-        """Writes the stamp of a file that was built of what was there before."""
+        """Writes the stamp of a file that was built from the sources read before."""
         self._keep({name: mark_of_built(library_of(name)) for name in self.names})
 
     def _keep(self, libraries):
-        """Writes the stamp where it says something new. One that cannot be written is left out: it only saves work."""
+        """Writes the stamp if it says something new. One that cannot be written is left out: it only saves work."""
         stamp = {**self.now, "built": mark_of_built(self.built), "libraries": libraries}
         if stamp == self.old:
             return

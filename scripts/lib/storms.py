@@ -61,7 +61,7 @@ class Storm:
         return state_words(self.state, *self.LOCKS, sync=self.numbers.choice(("always", "never", "never")), **options)
 
     def run(self, kills, epochs=0):
-        """Kills so many servers, has the last one renew the file until it is of such an epoch, and answers what is wrong at
+        """Kills this number of servers, has the last one renew the file up to an epoch, and answers what is wrong at
         the end."""
         clients = [threading.Thread(target=self.client, args=(worker,), daemon=True) for worker in range(self.WORKERS)]
         for client in clients:
@@ -73,7 +73,7 @@ class Storm:
         return self.wrong
 
     def end(self, clients, epochs):
-        """The last server, with which each client comes to its end."""
+        """The last server, with which each client finishes."""
         server = Server(words=self.words())
         time.sleep(0.3)
         self.wait_for_epoch(epochs)
@@ -88,7 +88,7 @@ class Storm:
         kill(server)
 
     def wait_for_epoch(self, epoch):
-        """Waits until the file was renewed so often, and looks at it meanwhile."""
+        """Waits until the file was renewed this number of times, and looks at it meanwhile."""
         latest = time.monotonic() + 120
         while epoch_of(held := read(self.state)) < epoch and time.monotonic() < latest and not self.wrong:
             self.wrong += faults_of(held)
@@ -126,7 +126,8 @@ class Storm:
         self.look_at_file()
 
     def wait_for_jobs(self, count):
-        """Waits for so many receipts more, and then for a moment. Who found no server may come after a second alone."""
+        """Waits for this number of receipts more, and then for a moment. A client that found no server may come only
+        after a second."""
         goal, latest = self.jobs() + count, time.monotonic() + 3
         while self.jobs() < goal and time.monotonic() < latest:
             time.sleep(0.0005)

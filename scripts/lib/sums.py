@@ -1,8 +1,9 @@
-"""The sums of a state file of version 2: what a server writes behind each write, and what a start takes of such a file.
+"""The sums of a state file of version 2: what a server writes after each write, and which part of such a file a start
+takes.
 
 A file is writes. A write is whole lines, and then its sum line `{"kept":K,"seq":N,"sum":"XXXXXXXX"}`: N is its number in the
 file, from 1, K the number of the last write that was known to be with the disk when it was made, and the sum is CRC-32C over
-its lines and its sum line up to the sum. A file of version 1 has lines alone.
+its lines and its sum line up to the sum. A file of version 1 has only lines.
 """
 
 import re
@@ -16,7 +17,7 @@ FIRST, SECOND = b'"version":1}', b'"version":2}'  # the end of the first line
 
 
 def table_of(polynomial):
-    """What becomes of each byte of a reflected CRC."""
+    """The table of a reflected CRC: the result for each byte."""
     table = []
     for value in range(256):
         for _ in range(8):
@@ -43,7 +44,8 @@ def sealed(lines, kept, number):
 
 
 class Write(NamedTuple):
-    """A write as it stands in a file: its lines, and what its sum line says, which says nothing where it has another form."""
+    """A write as it stands in a file: its lines, and the numbers of its sum line, or none if that line has another
+    form."""
 
     lines: bytes
     sum_line: bytes
@@ -51,7 +53,7 @@ class Write(NamedTuple):
     kept: Optional[int]
     is_good: bool  # the sum is right over these lines
     last: int  # the number of its sum line in the file
-    end: int  # so many bytes of the file are up to its end
+    end: int  # the number of the file's bytes up to its end
 
     @property
     def bytes(self):
@@ -59,8 +61,8 @@ class Write(NamedTuple):
 
 
 def writes_of(held):
-    """The writes of a file's bytes, good or not: each up to a line that begins as a sum line. The bytes behind the last one are
-    of none."""
+    """The writes of a file's bytes, good or not: each up to a line that begins as a sum line. The bytes after the last
+    one belong to no write."""
     found, begin, at = [], 0, 0
     for count, line in enumerate(held.split(b"\n")[:-1], 1):
         if line.startswith(MARK):
@@ -78,12 +80,12 @@ def write_of(lines, sum_line, last, end):
     return Write(lines, sum_line, number, kept, sealed(lines, kept, number) == lines + sum_line, last, end)
 
 
-# ---- what a start takes
+# ---- the part of a file that a start takes
 
 
 class Start(NamedTuple):
-    """What a start makes of a file: its good writes in order, and the bytes behind them; it cuts these off, or refuses the file,
-    where something that was durable has changed up to this line."""
+    """What a start does with a file: it takes the good writes in order, and cuts off the bytes after them, or refuses
+    the file if something that was durable has changed up to this line."""
 
     writes: tuple
     behind: int
@@ -91,8 +93,8 @@ class Start(NamedTuple):
 
     @property
     def verdicts(self):
-        """What `rme look --check` may say, where all lines of these writes are accepted. Where the first write is bad, its header
-        may be none."""
+        """What `rme look --check` may say, if all lines of these writes are accepted. If the first write is bad, its
+        header may be malformed."""
         if self.changed:
             return {b"no %d\n" % self.changed, *([] if self.writes else [b"no 1\n"])}
         line = self.writes[-1].last
@@ -101,7 +103,7 @@ class Start(NamedTuple):
 
 
 def start_of(held):
-    """What a start makes of the bytes of a file of version 2, but for what its lines say."""
+    """What a start does with the bytes of a file of version 2, apart from the contents of its lines."""
     writes = writes_of(held)
     wrong = (at for at, write in enumerate(writes) if not (write.is_good and write.number == at + 1))
     count = next(wrong, len(writes))
@@ -114,7 +116,7 @@ def start_of(held):
 
 def greatest_kept(lines):
     """The greatest K of these lines. Each line that begins as a sum line does counts, whatever its sum is: its K was true when it
-    was made, and what became of its write since changes nothing of that."""
+    was made, whatever happened to its write since."""
     numbers = ([int(number) for number in form.groups()] for form in SUM_FRONT.finditer(lines))
     return max((kept for kept, number in numbers if max(kept, number) < NUMBERS), default=0)
 

@@ -21,7 +21,7 @@ def run(words, *asked, **more):
 
 
 def answers(words, *asked):
-    """The answers of a run that must end with status 0 and say nothing."""
+    """The answers of a run that must end with status 0 and no message."""
     ran = run(words, *asked)
     if (ran.returncode, ran.stderr) != (0, b""):
         raise Stop(f"{words}: status {ran.returncode}, {ran.stderr!r}")

@@ -1,5 +1,5 @@
 """`cut everywhere`: the job of row `five operations` is crashed after each of its own steps, and its worker again after each
-step of what follows. It is made once, with reply 5, where its number was stored, and else never. The number is stored at
+step of what follows. It is made once, with reply 5, if its number was stored, and else never. The number is stored at
 step 18 of 56."""
 
 from rows.images import LOADED, load
@@ -23,7 +23,7 @@ STEPS, NUMBER_AT, MOST_STEPS = 56, 18, 60
 
 
 def steps(count):
-    """So many own steps, or fewer where the worker is ready sooner."""
+    """So many own steps, or fewer if the worker is ready sooner."""
     return b'{"do":"walk","max":%d,"worker":0}\n' % count if count else b""
 
 

@@ -14,7 +14,7 @@ CUT_SESSION, CUT_IMAGE = "rows/sessions/cut", "rows/images/saved-climber"
 
 
 def try_answers(row, path):
-    """The answers of a row, at each of its cuts where it is swept."""
+    """The answers of a row, at each of its cuts if it is swept."""
     answers = items_of(path)
     cuts = cuts_of(row.items, answers)
     for cut in cuts:
@@ -31,7 +31,7 @@ def try_answers(row, path):
 
 
 def try_transcript(row, path):
-    """What is told of a row's lines; the machine has it, and each of its fronts, also without the last newline."""
+    """The answers to a row's lines, from the machine and from each of its fronts, also without the last newline."""
     transcript = read(path)
     check_output(f"{row.name}, told", ["run", "--transcript"], text_of(row.items), transcript)
     lines = transcript.splitlines(keepends=True)

@@ -38,7 +38,7 @@ def image_of(answer):
 
 
 class Layout:
-    """Where the words of an image of version 2 stand, by the sizes in its header."""
+    """The offsets of the words of an image of version 2, by the sizes in its header."""
 
     def __init__(self, image):
         self.workers = int.from_bytes(image[5:7], "big")
@@ -112,7 +112,7 @@ def older(image):
 
 
 def stands_for(image, layout):
-    """The image of version 2 that one of version 1 stands for: the mask of all cells where the turn is odd, else 0."""
+    """The image of version 2 that one of version 1 stands for: the mask of all cells if the turn is odd, else 0."""
     found = bytearray(image)
     for lock, at in enumerate(masks(layout)):
         turn = HEADER + 8 * layout.word("Turn", lock, [])
@@ -125,7 +125,7 @@ def stands_for(image, layout):
 
 
 def check_loads(cases, locks):
-    """Loads and saves, many in a run: each case is a name, an image, and the image that is saved then, or None where it is
+    """Loads and saves, many in a run: each case is a name, an image, and the image that is saved then, or None if it is
     refused. After a refusal the last world is saved again."""
     for at in range(0, len(cases), MOST_LOADS):
         check_some_loads(cases[at : at + MOST_LOADS], locks)
@@ -197,8 +197,8 @@ def good_at_lock(word, bit):
 
 
 def good_bit(offset, bit, words):
-    """Whether the image stays good with this bit changed of the byte at an offset. Behind so many words stands the number
-    of entries, of which there are none."""
+    """Whether the image stays good with this bit changed of the byte at an offset. After this number of words stands
+    the number of entries, which is 0."""
     if offset < HEADER:
         return good_in_header(offset, bit)
     word, byte = divmod(offset - HEADER, 8)
@@ -279,7 +279,7 @@ def others_come_up(workers, but):
 
 
 def halves_of(items):
-    """The lines before and after the place where the world is saved, and the worker that goes on there."""
+    """The lines before and after the place at which the world is saved, and the worker that goes on there."""
     at = next(at for at, item in enumerate(items) if isinstance(item, Save))
     before, after = ([item.text for item in part if isinstance(item, Line)] for part in (items[:at], items[at:]))
     return before, after, items[at].worker

@@ -10,7 +10,7 @@ TOO_LONG = b'{"code":2,"error":"LineTooLong"}\n'
 
 
 def line_of(text, length):
-    """The text with spaces behind it, in all so many bytes."""
+    """The text followed by spaces, in all this number of bytes."""
     return text.ljust(length)
 
 

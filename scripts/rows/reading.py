@@ -65,7 +65,7 @@ def of_cut(items, cut):
 
 
 def cuts_of(*files):
-    """The cuts that these files speak of, from 0 on; where they speak of none, the cut 0 alone."""
+    """The cuts that these files speak of, from 0 on; if they speak of no cut, only the cut 0."""
     return range(max([0, *(item.last for items in files for item in items if isinstance(item, Cut))]) + 1)
 
 
@@ -78,7 +78,7 @@ def asks(row, kind):
 
 
 def split_name(file):
-    """The name of a row and which of its files this is; None where it is none."""
+    """The name of a row and which of its files this is; None if it is not the name of a row's file."""
     for end in OTHERS + INPUTS:
         if file.endswith(end):
             return file.removesuffix(end), end

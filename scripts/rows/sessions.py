@@ -6,7 +6,7 @@ from rows.reading import Client, Ends, Line, Serve, text_of
 
 
 def started(words, connections):
-    """A server with these words, and so many connections."""
+    """A server with these words, and this number of connections."""
     return Server(words=["serve", *words, "--port", "0", "--connections", str(connections)])
 
 
@@ -21,7 +21,7 @@ def closing(server, connections):
 
 
 def heard(words, turns):
-    """What the clients are answered, who wait for each answer before the next line, and what the server says at its end.
+    """The answers to the clients, which wait for each answer before the next line, and what the server says at its end.
     Without a line a client ends, and the server has seen that before the next turn."""
     count = max(client for client, _ in turns)
     server = started(words, count)
@@ -43,7 +43,7 @@ def check_session(name, words, turns, wanted):
 
 
 def turns_of(items):
-    """Each line with the number of the client that says it; none where the client ends."""
+    """Each line with the number of the client that says it; none if the client ends."""
     client, turns = 1, []
     for item in items:
         if isinstance(item, Client):
@@ -64,7 +64,7 @@ def try_session(name, words, items, wanted):
 
 
 def try_cut_session(row):
-    """The row's client goes after each byte of its lines. The job is made where its last brace was read: the next
+    """The row's client goes after each byte of its lines. The job is made if its last brace was read: the next
     session sees it, and so does the lock."""
     text = text_of(row.items)
     made_from = text.index(b"]]}") + len(b"]]}")

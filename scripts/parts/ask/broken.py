@@ -1,4 +1,4 @@
-"""No server, servers that end in the middle, and answers that are none: each is said, and nothing is made up."""
+"""No server, servers that end in the middle, and malformed answers: each is reported, and nothing is made up."""
 
 import subprocess
 
@@ -52,7 +52,7 @@ def try_killed(folder):
 
 
 def try_answers(_folder):
-    """Answers that are none, at each place."""
+    """Malformed answers, at each place."""
     rows = {
         "no JSON": (["ping"], [b"HTTP/1.1 400 Bad Request\n"], "no JSON"),
         "no text": (["ping"], [b'{"ok":"\xff"}\n'], "no JSON"),
@@ -72,7 +72,7 @@ def try_answers(_folder):
             [b'{"epoch":0,"locks":[{"cells":[],"name":"\\u001b[2J","owner":null,"sections":0,"settled":true}],"ok":"status","workers":[]}\n'],
             "no `name`",
         ),
-        "a stance that is none": (["finish", "0"], [b'{"number":1,"ok":"attach","stance":"up"}\n'], "no `stance`"),
+        "an unknown stance": (["finish", "0"], [b'{"number":1,"ok":"attach","stance":"up"}\n'], "no `stance`"),
         "no job": (["finish", "0"], [ATTACH, b'{"ok":"pending"}\n'], "no `lock`"),
         "no outcome": (["finish", "0"], [ATTACH, PENDING, b'{"ok":"resume"}\n'], "no `"),
         "no receipt": (["finish", "0"], [ATTACH, PENDING, b'{"ok":"resume","receipt":{"lock":"bank"}}\n'], "no `number`"),

@@ -91,7 +91,7 @@ def try_withdraw(folder):
 
 
 def try_taken(folder):
-    """A worker that a living session has is left alone, unless it is to be taken."""
+    """A worker that a living session has is not touched, unless it is to be taken."""
 
     def checks(name, server):
         session, _ = enter(server, 0)
@@ -107,7 +107,7 @@ def try_taken(folder):
 
 
 def try_long_wait(folder):
-    """Without --wait it waits as long as it takes, in rounds, and says once who has the lock."""
+    """Without --wait it waits as long as it takes, in rounds, and says once which worker has the lock."""
     server = with_state(folder)
     owner, _ = enter(server, 0)
     waits, _ = enter(server, 1, tries=3)

@@ -103,6 +103,6 @@ def begin(server):
 
 
 def part():
-    # Where this is run in the background, the shell has it ignore what Ctrl-C sends.
+    # If this is run in the background, the shell has it ignore what Ctrl-C sends.
     signal.signal(signal.SIGINT, signal.default_int_handler)
     main_in_folders(try_count, try_rate, try_terminal, try_gone, minutes=3)

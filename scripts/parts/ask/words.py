@@ -158,7 +158,7 @@ def try_wrong_words(_folder):
         "a count of another word": ["status", "--count", "1"],
         "a count of 0": ["top", "--count", "0"],
         "two addresses": ["--port", "1", "--socket", "x", "ping"],
-        "a port that is none": ["--port", "70000", "ping"],
+        "an invalid port": ["--port", "70000", "ping"],
     }
     for name, words in rows.items():
         ended = run(["ask", *words])

@@ -66,7 +66,7 @@ def try_stopped(folder):
 
 
 def part():
-    # Where this is run in the background, the shell has it ignore what Ctrl-C sends.
+    # If this is run in the background, the shell has it ignore what Ctrl-C sends.
     signal.signal(signal.SIGINT, signal.default_int_handler)
     if shutil.which("gcc"):
         main_in_folders(try_examples, try_small, try_stopped, minutes=5)

@@ -1,7 +1,8 @@
 """build: what `./rme` and scripts/build build, and when, in a small tree of crates, with an `rt` that proves nothing.
 
-A program is built again where a source, a line of crates.txt that it is made of, or the toolchain is another one than when it
-was built; and it is left where only times changed, or something that it is not made of. Nothing is built that is there."""
+A program is built again if a source, a line of crates.txt that it is made of, or the toolchain is another one than when
+it was built; and it is left where only times changed, or something that it is not made of. Nothing is built that is
+there."""
 
 import contextlib
 import os

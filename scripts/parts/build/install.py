@@ -1,9 +1,10 @@
 """install: the version, the manual page, the completions for bash, and scripts/install.
 
-The program's version is that of the change log and of the Python packages, and the toolchain that it names is the one that
-is here. The page has all words of the help texts, in their order. Completions are asked for as bash asks for them. What is
-installed is what the manifest says, and works from there; pip installs the packages without a network; a file that is none of
-ours, or that was changed, is left; an install that fails leaves what was there; and a removal leaves nothing else."""
+The program's version is that of the change log and of the Python packages, and the toolchain that it names is the one
+that is here. The page has all words of the help texts, in their order. Completions are asked for as bash asks for them.
+What is installed is what the manifest says, and works from there; pip installs the packages without a network; a file
+that is not one of ours, or that was changed, is left; an install that fails leaves what was there; and a removal leaves
+nothing else."""
 
 import glob
 import os
@@ -15,7 +16,7 @@ import sys
 
 from lib.checks import check, main_in_folders, same, skip
 from lib.help import helps_of, told_by
-from lib.processes import compiler
+from lib.processes import compiler, libraries
 from lib.programs import SCRIPTS, TOP, built
 
 COMPILER = compiler()
@@ -135,17 +136,26 @@ def try_completions(folder):
     write(path, script("completions").stdout)
     for name in ("one.state", "other.text"):
         write(os.path.join(folder, "files", name), "")
+    write(os.path.join(folder, "files", "old", "spaces"), "")
     commands = "run check draw explain threads serve look ask help".split()
     cases = {
         ("",): [*commands, "-h", "--help", "-V", "--version"],
         ("s",): ["serve"],
         ("--v",): ["--version"],
         ("help", ""): commands,
-        ("serve", "--s"): ["--socket", "--state", "--sync", "--sections"],
+        ("serve", "--s"): ["--socket", "--state", "--spaces", "--sync", "--sections"],
+        ("serve", "--spaces", ""): ["old"],
+        ("serve", "--c"): ["--cells", "--close-after", "--connections"],
+        ("serve", "--close-after", ""): [],
         ("serve", "--sync", ""): ["always", "never"],
         ("serve", "--sync", "al"): ["always"],
         ("serve", "--waiting", ""): ["keep", "withdraw"],
-        ("serve", "--state", "o"): ["one.state", "other.text"],
+        ("serve", "--state", "o"): ["old", "one.state", "other.text"],
+        ("serve", "--keys", "o"): ["old", "one.state", "other.text"],
+        ("ask", "--key"): ["--key-file"],
+        ("ask", "--sp"): ["--space"],
+        ("ask", "--space", ""): [],
+        ("ask", "--key-file", "one"): ["one.state"],
         ("serve", "--port", ""): [],
         ("serve", "--port", "7000", "--wo"): ["--workers"],
         ("run", "--image", "one"): ["one.state"],
@@ -289,7 +299,7 @@ def try_again(folder):
     write(os.path.join(prefix, "share/man/man1/rme.1"), "another page\n")
     before = state_of(prefix)
     ran = install(*words)
-    check("a file in the way", ran[0] == 1 and "share/man/man1/rme.1 is there, and is none" in ran[2], ran)
+    check("a file in the way", ran[0] == 1 and "share/man/man1/rme.1 is there, and no earlier install left it" in ran[2], ran)
     same("nothing is installed beside it", state_of(prefix), before)
 
 
@@ -306,7 +316,7 @@ def try_changed(folder):
 
 
 def try_failures(folder):
-    """Where a step fails, what stood there before stands there again."""
+    """If a step fails, what stood there before stands there again."""
     prefix = os.path.join(folder, "new", "prefix")
 
     def short_files():
@@ -324,7 +334,7 @@ def try_failures(folder):
     install("--without-c", prefix)
     write(os.path.join(prefix, "share/rme/manifest"), "sha256 0 ../other\n")
     ran = install("--remove", prefix)
-    check("a manifest that is none", ran[0] == 1 and "line 1 is none of a manifest" in ran[2], ran)
+    check("a malformed manifest", ran[0] == 1 and "line 1 is not a line of a manifest" in ran[2], ran)
     check("nothing was removed", os.path.exists(os.path.join(prefix, "bin/rme")))
 
 
@@ -348,6 +358,10 @@ def try_words(folder):
 
 
 def part():
+    # What is not proved and built yet takes none of the minutes.
+    built()
+    if shutil.which(COMPILER):
+        libraries()
     main_in_folders(
         try_version,
         try_manual,

@@ -80,7 +80,7 @@ NO_SUBMIT = {
 
 
 def told_by(answers, call, **options):
-    """What a call of a worker comes to, where each connection is answered so, and how many connections there were."""
+    """The result of a call of a worker, if each connection gets these answers, and how many connections there were."""
     peer = answering(*answers)
     worker = Worker(HOST, peer.port, 0, **options)
     told = in_time(lambda: raised(lambda: call(worker), "line"), 15)
@@ -252,7 +252,7 @@ def try_observer():
         "a lock without a name": {**status, "locks": [{**lock, "name": 5}]},
         "a lock whose cells are texts": {**status, "locks": [{**lock, "cells": ["0"]}]},
         "a lock whose owner is a text": {**status, "locks": [{**lock, "owner": "0"}]},
-        "a worker that is none": {**status, "workers": [5]},
+        "a malformed worker": {**status, "workers": [5]},
         "a worker of no stance": {**status, "workers": [{**worker, "stance": 5}]},
         "a worker of another stance": {**status, "workers": [{**worker, "stance": "up"}]},
     }
@@ -361,5 +361,5 @@ PEERS = try_garbage, try_other_orders, try_no_end, try_slow, try_closed, try_its
 
 
 def part():
-    faulthandler.dump_traceback_later(300, exit=True)  # no end: where each thread is
+    faulthandler.dump_traceback_later(300, exit=True)  # no end: it shows where each thread is
     main(*PEERS, try_exceptions, try_cut_at_each_byte)

@@ -1,8 +1,8 @@
-"""Runs the package of clients/python against `rme serve`: each call where the worker is ready, waits, is inside, or was given
-up by another; a server that comes late; and programs that are killed again and again: a job runner, and several that write
-one file in turn.
+"""Runs the package of clients/python against `rme serve`: each call while the worker is ready, waits, is inside, or was
+given up by another; a server that comes late; and programs that are killed again and again: a job runner, and several
+that write one file in turn.
 
-What a client does where it is not the only one is in the part `others`, what it does with peers that are no good server in
+What a client does if it is not the only one is in the part `others`, what it does with peers that are no good server in
 `broken`, and a crowd of clients in `storm`. Runs whose connections are cut at random bytes are made by `try-server sessions`.
 """
 
@@ -141,7 +141,7 @@ def try_64_bits():
         replies = [worker.submit("bank", script)["reply"] for script in ([["set", 0, most]], [["get", 0]], [["add", 0, 2]])]
         same("the largest cell, and what comes behind it", replies, [most, most, 1])
         told = [refusal_of(lambda: worker.submit("bank", [["set", 0, amount]]))["code"] for amount in (2**64, 5.0, -1, True)]
-        same("amounts that are none", told, [1, 1, 1, 1])
+        same("invalid amounts", told, [1, 1, 1, 1])
     server.kill()
 
 
@@ -219,7 +219,7 @@ def try_lives():
 
 
 def try_inside_and_overtaken():
-    """Who was inside and comes back after another had the worker is told so, and changes nothing."""
+    """A client that was inside, and attaches again after another had the worker, is told so and changes nothing."""
     server, commit = serve(), {"do": "commit"}
 
     def overtaken(worker, *orders):
@@ -317,7 +317,7 @@ def try_inside_and_pending():
 
 
 def try_inside_and_another_is_pending():
-    """A pending job of another lock, or of another script: the block is run for it only where it is inside this lock."""
+    """A pending job of another lock, or of another script: the block is run for it only if it is inside this lock."""
     with tempfile.TemporaryDirectory() as folder:
         for name, options in (("no state", {}), ("a state", {"state": os.path.join(folder, "state")})):
             server = serve(locks=["bank", "shop"], **options)

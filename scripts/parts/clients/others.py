@@ -1,4 +1,4 @@
-"""What the package of clients/python does where its own process, thread or session is not the only one.
+"""What the package of clients/python does if its own process, thread or session is not the only one.
 
 Sessions that ended while nobody looked, and a worker that others used meanwhile: a job is made under a number of its own, or the
 call says that it was overtaken. Exceptions of signal handlers at each line. Forked children, threads, and a child that keeps
@@ -96,8 +96,9 @@ def hang():
 
 
 def overtaken(call, cut, *orders, ends=False, done=()):
-    """What a call of A comes to, after jobs that were `done`, where its connection is cut at the first order `cut`, before it
-    is sent on or, where `ends` is true, before its answer is passed on; and B has the worker then for these orders."""
+    """The result of a call of A, after jobs that were `done`, if its connection is cut at the first order `cut`, before
+    it is sent on or, where `ends` is true, before its answer is passed on; and B has the worker then for these
+    orders."""
     server, cuts = serve(locks=["bank", "shop"], workers=2), []
 
     def passes(_, order, answer):
@@ -166,7 +167,8 @@ def try_another_lock():
 
 
 def interrupted(call, line):
-    """Makes a call in which a `KeyboardInterrupt` comes before this line of the package. Whether it came to that line."""
+    """Makes a call in which a `KeyboardInterrupt` comes before this line of the package. Whether it reached that
+    line."""
     left = line
 
     def trace(frame, event, _):
@@ -265,7 +267,7 @@ def in_child(call):
             status = 0 if call() else 3
         finally:
             os._exit(status)
-    return os.waitpid(child, 0)[1]  # 0 only where it exited so
+    return os.waitpid(child, 0)[1]  # 0 only if it exited so
 
 
 def try_forked():
@@ -337,7 +339,7 @@ with worker.inside("bank", [["add", 0, 5]]) as held:
 
 
 def try_child_keeps():
-    """A client is killed inside. Its worker is to be had once its child has ended, where that holds the connection."""
+    """A client is killed inside. Its worker is to be had once its child has ended, if that holds the connection."""
     for way in ("keeps", "does not keep"):
         server = serve()
         parent = subprocess.Popen(
@@ -498,7 +500,7 @@ except RmeError as error:
 
 
 def try_unreachable():
-    """At once where another try does not help; after `connect_timeout` else."""
+    """At once if another try does not help; after `connect_timeout` else."""
     with tempfile.TemporaryDirectory() as folder:
         plain, path = os.path.join(folder, "plain"), os.path.join(folder, "socket")
         with open(plain, "wb"):
@@ -506,7 +508,7 @@ def try_unreachable():
         paths = {"a file": plain, "a folder": folder, "below a file": plain + "/x", "too long": folder + "/" + "x" * 200}
         for name, wrong in paths.items():
             lasts(name, timed(lambda: Worker("", 0, 0, socket_path=wrong).last(), "number"), ("Unreachable", None), 0, 2)
-        lasts("a host that is none", timed(lambda: Worker("no such host", 7000, 0).last()), ("Unreachable",), 0, 5)
+        lasts("an invalid host", timed(lambda: Worker("no such host", 7000, 0).last()), ("Unreachable",), 0, 5)
         missing = timed(lambda: Worker("", 0, 0, socket_path=path, connect_timeout=0.4).last())
         lasts("no socket yet", missing, ("Unreachable",), 0.4, 2)
         nobody = timed(lambda: Worker(HOST, free_port(), 0, connect_timeout=0.4).last())
@@ -550,7 +552,7 @@ class Heard(logging.Handler):
 
 
 def try_logger():
-    """What is told of a connection that breaks, and of a server that is waited for."""
+    """What is logged of a connection that breaks, and of a wait for a server."""
     heard, server = Heard("rme_client"), serve()
     with Worker(HOST, server.port, 0, connect_timeout=1.6) as worker:
         with worker.inside("bank", []):
@@ -569,5 +571,5 @@ ALONE = try_forked, try_threads, try_threads_and_block, try_child_keeps, try_hal
 
 
 def part():
-    faulthandler.dump_traceback_later(300, exit=True)  # no end: where each thread is
+    faulthandler.dump_traceback_later(300, exit=True)  # no end: it shows where each thread is
     main(*SESSIONS, *ALONE, try_blocked, try_worker_taken, try_full, try_unreachable, try_logger)

@@ -1,7 +1,7 @@
 """commands [PROGRAM]: runs the commands that README.md, docs/*.md and clients/README.md show, and compares what they print.
 
-Each document has a fresh folder with ./rme, examples/ and clients/, in which its blocks are run in order by bash, with
-rme-hold in the path:
+Each document has a fresh folder with ./rme, examples/, clients/ and scripts/new-key, in which its blocks are run in order by
+bash, with rme-hold in the path:
 
   ```console          each line `$ COMMAND` is run; the lines below it are what it prints
   ```sh               the block is run as one; what it prints is not shown
@@ -99,6 +99,8 @@ class Folder:
         os.symlink(PROGRAM, os.path.join(path, "rme"))
         for name in ("examples", "clients"):
             shutil.copytree(os.path.join(TOP, name), os.path.join(path, name))
+        os.mkdir(os.path.join(path, "scripts"))
+        os.symlink(os.path.join(TOP, "scripts", "new-key"), os.path.join(path, "scripts", "new-key"))
         os.mkdir(os.path.join(path, "bin"))
         hold = os.path.join(path, "bin", "rme-hold")
         with open(hold, "w", encoding="utf-8") as file:
@@ -112,7 +114,7 @@ class Folder:
                                 stderr=subprocess.PIPE, text=True, start_new_session=True)
 
     def run(self, place, command, wanted):
-        """Runs a command, which must print these lines, or any where there are none."""
+        """Runs a command, which must print these lines, or may print any lines if the document shows none."""
         self.judge(place, command, self.start(command), wanted)
 
     def judge(self, place, command, started, wanted):
@@ -154,7 +156,7 @@ class Folder:
 
 
 def shown_of(blocks, at):
-    """What the sh block of this index prints, where the document shows it."""
+    """What the sh block of this index prints, if the document shows it."""
     if blocks[at].words == "table":
         return answers_of_table(blocks[at])
     if at + 1 < len(blocks) and (blocks[at + 1].kind, blocks[at + 1].words) == ("text", "output"):

@@ -2,10 +2,10 @@
 
 Each rust block of README.md, docs/*.md and the READMEs of crates is from a file: above it, under the same heading, stands
 "From the test `NAME` of [FILE](..)", or "From [FILE](..)". Its lines must stand in one of the files that are linked there,
-side by side and in order; indentation and empty lines do not count. Where the text says that lines are left out, lines may
+side by side and in order; indentation and empty lines do not count. If the text says that lines are left out, lines may
 be left out between them, within one function. A test that is named must be a function of one of those files.
 
-README.md is short, each page of docs says at its head for whom it is, and their lines are wrapped.
+README.md is short, each page of docs says at its head who its readers are, and their lines are wrapped.
 
 Each link to a file of the repository must lead to a file or a folder that is there, each link to a heading to a heading,
 each image must be well-formed, and each path in code type that begins with a folder of the repository must be there; so
@@ -22,7 +22,7 @@ from lib.programs import TOP
 LINK = re.compile(r"(?<!`)\[[^\]]*\]\(([^)\s]+)\)")
 CODE = re.compile(r"`[^`]*`")
 PATH = re.compile(r"`((?:scripts|bench|docs|examples|rows|crates|\.ci)/[\w./-]+)(?: ([^`]*))?`")
-PART = re.compile(r"[a-z][\w-]*")  # a script's first word, where it is no placeholder and no option
+PART = re.compile(r"[a-z][\w-]*")  # a script's first word, if it is no placeholder and no option
 NAMED = re.compile(r"\btests? ((?:`\w+`(?:,| and)? ?)+)")
 MOST_LINES, WIDTH = 130, 120
 
@@ -111,7 +111,7 @@ def stands_with_gaps(quoted, lines):
 
 def check_quote(page, block):
     above = block["above"]
-    files = [page.target(link) for link in LINK.findall(above) if link.endswith(".rt")]
+    files = [page.target(link) for link in LINK.findall(above) if link.endswith((".rt", ".rs"))]
     if not re.search(r"\b[Ff]rom\b", above) or not files:
         fail(block["at"], "the text above does not say from which file the code is")
         return

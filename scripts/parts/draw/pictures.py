@@ -176,7 +176,7 @@ def cell_lines(row):
 
 
 class Sheet:
-    """Where things are. A long transcript is cut into strips of so many lines, one below the other."""
+    """Where things are. A long transcript is cut into strips of this number of lines, one below the other."""
 
     def __init__(self, seen):
         used = {lock for _, _, lock, *_ in seen.stays}
@@ -372,7 +372,7 @@ def try_left_out(name, transcript):
 
 def gave_up():
     """Four workers: one gives up with nothing to release, one with a node, and one falls after giving up. A lock that
-    nobody uses has no row, and one of 32 letters has its name along its row where that has room."""
+    nobody uses has no row, and one of 32 letters has its name along its row if that has room."""
     wide, job = "m" * 32, {"do": "submit", "script": [["add", 0, 5]]}
     walks = [(0, "bank", "entered"), (1, "bank", ""), (2, "bank", ""), (3, wide, "")]
     yield {"cells": 1, "do": "open", "jobs": 100, "locks": ["bank", "unused", wide], "workers": 4}

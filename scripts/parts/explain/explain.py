@@ -42,8 +42,8 @@ def try_each(line):
         at = found[code].index(line)
         check(f"explain {code}, in sentences", len(re.findall(r"[.!?](?: |$)", found[code][at + 1])) > 1, found[code][at + 1])
         if status:
-            alone = run(["explain", "status", code])
-            same(f"explain status {code}", (alone.returncode, alone.stdout.splitlines()), (0, found[code][at : at + 2]))
+            of_status = run(["explain", "status", code])
+            same(f"explain status {code}", (of_status.returncode, of_status.stdout.splitlines()), (0, found[code][at : at + 2]))
     same(f"explain {name.upper()}, by another case", found[name.upper()], found[name])
 
 

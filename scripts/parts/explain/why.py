@@ -1,7 +1,7 @@
 """why: `rme run --why` and `rme serve --why` say why a line is answered `BadLine`, and of no other line anything.
 
 The look at a line is made apart from its readers. Here the two are held together: over all inputs of rows/ and examples/,
-and over lines that differ from good ones in one key, a reason is given exactly where the answer is `BadLine`, and the
+and over lines that differ from good ones in one key, a reason is given exactly if the answer is `BadLine`, and the
 answers are what they are without the option. What the reasons say is worked out by hand.
 """
 
@@ -108,7 +108,7 @@ def refused(answers):
 
 
 def explained(told, before="rme: line "):
-    """The numbers of the lines of which something was said, or what was said where that is of another form."""
+    """The numbers of the lines of which something was said, or what was said if that is of another form."""
     found = [re.fullmatch(re.escape(before) + r"(\d+): (.+)", line) for line in told.decode().splitlines()]
     return [int(line.group(1)) for line in found] if all(found) else told
 
@@ -192,5 +192,30 @@ def try_sessions():
     same("nothing is said without it", plain.end()[2].count(b"\n"), 1)
 
 
+# Lines of a server with a state, which has look-ups and no keys, and what is said of them.
+OF_A_STATE = {
+    b'{"do":"status"}': None,
+    b'{"do":"owner","lock":"bank"}': None,
+    b'{"do":"cells","lock":"bank"}': None,
+    b'{"do":"ping"}': None,
+    b'{"do":"status","lock":"bank"}': '"status" takes no key "lock"',
+    b'{"do":"owner"}': '"owner" needs the key "lock"',
+    b'{"do":"hello","secret":"apple"}': 'there is no word "hello" of "do" here',
+}
+
+
+def try_state():
+    """Look-ups are lines of a server with a state."""
+    with tempfile.TemporaryDirectory() as folder:
+        server = Server(words=["serve", "--why", "--state", os.path.join(folder, "state"), "--port", "0", "bank"])
+        session = server.session()
+        session.send(b"".join(line + b"\n" for line in OF_A_STATE))
+        heard = session.hang_up().splitlines()
+        remarks = [line for line in server.kill()[2].decode().splitlines() if line.startswith("rme: connection ")]
+        wanted = [f"rme: connection 1, line {number}: {why}" for number, why in enumerate(OF_A_STATE.values(), 1) if why]
+        same("a state: what is said", remarks, wanted)
+        same("a state: of what is refused", [answer == REFUSED for answer in heard], [why is not None for why in OF_A_STATE.values()])
+
+
 def part():
-    main(try_texts, try_lengths, try_variants, try_transcript, try_image, try_rows, try_sessions)
+    main(try_texts, try_lengths, try_variants, try_transcript, try_image, try_rows, try_sessions, try_state)

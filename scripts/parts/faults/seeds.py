@@ -1,7 +1,7 @@
 """Simulations of the durable server: sessions, faults of the disk, crashes, stops of the machine, checkpoints and growths,
 all drawn from a seed. No seed may fail. What a failed one shows is made smaller, and told with the words that repeat it.
 
-`try-faults seeds [SEEDS] [FIRST]` runs so many seeds from the first on.
+`try-faults seeds [SEEDS] [FIRST]` runs this number of seeds from the first on.
 """
 
 import sys

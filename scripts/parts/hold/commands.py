@@ -1,4 +1,5 @@
-"""Commands that end, fail, are killed and wait: what their environments say, who is inside meanwhile, and each status."""
+"""Commands that end, fail, are killed and wait: what their environments say, which worker is inside meanwhile, and each
+status."""
 
 import os
 import signal
@@ -36,7 +37,7 @@ def try_runs(folder):
 
 
 def try_lives(folder):
-    """Each run is a life more of its worker, also where its command is run again in the same section."""
+    """Each run is a life more of its worker, even if its command is run again in the same section."""
     tells = ["bank", "--", "sh", "-c", 'echo "$RME_SECTION $RME_LIFE"; exit $0']
 
     def checks(name, way):
@@ -233,7 +234,7 @@ def try_overtaken(folder):
 
 
 def try_started_again(folder):
-    """The server is killed while a command runs, and started again: the command goes on where there is a state."""
+    """The server is killed while a command runs, and started again: the command goes on if there is a state."""
     for name in ("plain", "state"):
         way = Way(name, folder)
         first = way.begin("bank", "--", "sh", "-c", "echo $$; sleep 3; echo over")
@@ -251,7 +252,7 @@ def try_started_again(folder):
 
 def try_broken(folder):
     """The server ends while a command runs, and does not come back: the command is ended too. The next one goes on with its
-    job, where there is a state."""
+    job, if there is a state."""
     for name in ("plain", "state"):
         way = Way(name, folder)
         first = way.begin("bank", "--", "sh", "-c", "echo $$; sleep 60")
@@ -275,10 +276,10 @@ def try_wrong(folder):
         "no command": ["bank"],
         "no command behind the dashes": ["bank", "--"],
         "no lock": ["--", "true"],
-        "an option that is none": ["--loud", *TELLS],
+        "an unknown option": ["--loud", *TELLS],
         "half an option": ["--scr", "[]", *TELLS],
-        "a wait that is none": ["--wait", "long", *TELLS],
-        "a script that is none": ["--script", "{}", *TELLS],
+        "an invalid wait": ["--wait", "long", *TELLS],
+        "an invalid script": ["--script", "{}", *TELLS],
         "a script of no operations": ["--script", '[["mul",0,1]]', *TELLS],
         "no such lock": ["yard", "--", "true"],
         "two ways to wait": ["-n", "--wait", "1", *TELLS],
@@ -287,7 +288,7 @@ def try_wrong(folder):
         status, told, why = way.hold(*words)
         check(name, (status, told) == (64, "") and why, (status, told, why))
     same("no such worker", way.hold(*TELLS, worker=9)[0], 64)
-    same("a worker that is none", way.hold(*TELLS, worker="x")[0], 64)
+    same("an invalid worker", way.hold(*TELLS, worker="x")[0], 64)
     same("any worker is no one's to be ended", way.hold("--kill", *TELLS, worker=None)[0], 64)
     same("no such program", way.hold("bank", "--", "no-such-program")[0], 127)
     same("nothing of this was a job", way.hold(*TELLS)[:2], (0, "bank 0 1 0\n"))

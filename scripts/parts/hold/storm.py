@@ -1,5 +1,5 @@
-"""storm [SECONDS | kills N] [SEED]: wrappers for few workers, started again and again, and killed, they or their commands, for
-so many seconds, or until so many were killed.
+"""storm [SECONDS | kills N] [SEED]: wrappers for few workers, started again and again. They or their commands are
+killed, for SECONDS seconds, or until N were killed.
 
 At no moment are two commands of one lock at work: each takes a lock of the kernel on a file, which ends with it and with its
 children. Each section that counted is one whose command came to its end. The pairs of section and life rise, from one end to
@@ -92,7 +92,7 @@ class Storm:
             kill(run, command)
 
     def finish(self):
-        """Lets all that runs come to its end, and each worker its job; answers how many sections the lock has then."""
+        """Lets all commands end, and each worker finish its job; answers how many sections the lock has then."""
         for run in self.runs.values():
             end_of(run.pid)
         # The worker of a wrapper that was killed while it waited holds a part of the lock's tree: one behind it ends later.
@@ -121,7 +121,7 @@ def kill(run, command):
 
 
 def ended(pid):
-    """The status of a process, negative for a signal; `None` where it runs."""
+    """The status of a process, negative for a signal; `None` if it runs."""
     gone, status = os.waitpid(pid, os.WNOHANG)
     return os.waitstatus_to_exitcode(status) if gone else None
 
@@ -151,7 +151,8 @@ class Asked:
         return time.monotonic() - self.began
 
     def is_over(self, storms):
-        """After so many kills; or after so many seconds, and longer on a slow machine, until there were some of each kind."""
+        """After this number of kills; or after this number of seconds, and longer on a slow machine, until there were
+        some of each kind."""
         if self.kills:
             return killed(storms) >= self.kills
         return self.passed() > self.seconds * (1 if all(is_enough(of_way(storms, name)) for name in ways()) else 5)

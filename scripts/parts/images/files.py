@@ -87,7 +87,7 @@ def try_cut_examples(folder):
 
 def try_cut_steps(folder):
     """A job of 56 steps is cut before each of them: 18 of Post, 1 of Enter, 34 of the section, 3 of Exit. It counts once
-    where its number was stored, and else it was never asked for."""
+    if its number was stored, and else it was never asked for."""
     image = os.path.join(folder, "steps.rme")
     script = [["set", 1, 5], ["set", 0, 2**64 - 1], ["add", 0, 1], ["swap", 0, 0], ["copy", 1, 1]]
     opening = {"cells": 2, "do": "open", "jobs": 10, "locks": ["bank"], "workers": 1}
@@ -198,7 +198,7 @@ def try_names(folder):
     bad = "--locks takes 1 to 16 names, each once, of 1 to 32 of a-z 0-9 _ and -, with commas between"
     for names in ("", "Bank", "bank,bank", "bank,", "b" * 33, ",".join("abcdefghijklmnopq")):
         refused(f"names: '{names}'", ["--image", image, "--locks", names], 2, bad)
-    refused("names that are none, and no image", ["--image", image + ".none", "--locks", "Bank"], 2, bad)
+    refused("invalid names, and no image", ["--image", image + ".none", "--locks", "Bank"], 2, bad)
     other = f"the world of the image {image} has not as many locks as --locks has names: 2"
     refused("two names for one lock", ["--image", image, "--locks", "bank,shop"], 2, other)
 
@@ -247,7 +247,7 @@ def unsavable(name, image, why):
 
 
 def try_unsavable(folder):
-    """What is no regular file stays what it is, also behind a link; and a folder must take new files."""
+    """A file that is not regular stays what it is, also behind a link; and a folder must take new files."""
     inner, pipe, link = (os.path.join(folder, name) for name in ("inner", "pipe", "link"))
     os.mkdir(inner)
     os.mkfifo(pipe)
@@ -289,7 +289,7 @@ def try_modes(folder):
 
 
 def try_names_beside(folder):
-    """Names beside the file that others have are left alone, also a link and a FIFO."""
+    """Names beside the file that others have are not touched, also a link and a FIFO."""
     image = os.path.join(folder, "taken.rme")
     other = written(os.path.join(folder, "other.txt"), b"other")
     os.symlink(other, image + ".new")
@@ -343,8 +343,8 @@ def try_growths(folder):
 
 
 def kill_when_saving(words, given, image, delay):
-    """Starts a run and kills it so long after it began to write beside the file, which it does once it has answered all.
-    Answers whether it was still there."""
+    """Starts a run and kills it this time after it began to write beside the file, which it does once it has answered
+    all. Answers whether it was still there."""
     program = subprocess.Popen([built(), "run"] + words, stdin=subprocess.PIPE, stdout=subprocess.PIPE, stderr=subprocess.DEVNULL)
     program.stdin.write(given)
     program.stdin.flush()
@@ -402,8 +402,8 @@ def try_kills(folder):
 
 
 def save_both(image, shorter, longer, delays):
-    """Two runs save to one file, each with its system calls of a kind held up so long in microseconds, where `strace` is
-    there. Answers their statuses and the images that were seen meanwhile."""
+    """Two runs save to one file, each with its system calls of a kind held up for this number of microseconds, if
+    `strace` is there. Answers their statuses and the images that were seen meanwhile."""
     programs = []
     for given, (call, delay) in zip((shorter, longer), delays):
         command = [built(), "run", "--save", image]

@@ -1,4 +1,4 @@
-"""A client over pipes gets each answer before it sends the next line, also where a line comes in two pieces; a line that
+"""A client over pipes gets each answer before it sends the next line, even if a line comes in two pieces; a line that
 comes in 1,000 pieces is one, and lines that come together are answered by one write; and at a terminal nothing is read after
 the end of the input, also after a last piece without a newline."""
 
@@ -55,8 +55,8 @@ def try_pipes():
 
 
 def writes_for(*pieces):
-    """What the program writes, as a list of its writes, where each read gives it one of these pieces: sockets that keep the
-    borders of packets are its input and its output."""
+    """What the program writes, as a list of its writes, if each read gives it one of these pieces: sockets that keep
+    the borders of packets are its input and its output."""
     ours, given = socket.socketpair(socket.AF_UNIX, socket.SOCK_SEQPACKET)
     told, theirs = socket.socketpair(socket.AF_UNIX, socket.SOCK_SEQPACKET)
     with subprocess.Popen([built(), "run"], stdin=given, stdout=theirs) as program, ours, told:

@@ -3,13 +3,14 @@
 A refused run of `rme run` ends with status 5 after whole answers to its first lines, or answers one line by the
 refusal 20 and goes on as if that line had not been there. So does one of `rme run --transcript`, which tells
 nothing of that line. A refused run of `rme check` ends with status 5 and no verdict, one of
-`rme draw` with status 5 and no picture. One of `rme threads` ends with status 5; where a thread was refused memory, with
+`rme draw` with status 5 and no picture. One of `rme threads` ends with status 5; if a thread was refused memory, with
 the jobs of the other worker made. One of `rme look` ends with status 5. One of `rme serve --state`, which renews its file
 after each second job, ends with status 5 before it listens, or answers what it would have answered, until it refuses a
 job by 20 or 14, or ends the session; and the next start is right. Each may answer all as ever: a list that was refused
 room for all of its items at once asks for less, and then gets it.
 
-At their end `rme threads` and `rme serve` need none: where each growth is refused there, they still print their closing lines.
+At their end `rme threads` and `rme serve` need none: if each growth is refused there, they still print their closing
+lines.
 
 Of the library, `World::run`, `Service::close`, `supervise`, `Slots::new` and `Slots::into_downs` are refused: crates/rme_bench
 makes each, and sees that the refusal is the one that the call tells of. What the call was given is then as it was: a second
@@ -36,10 +37,10 @@ NO_MEMORY = b'{"code":20,"error":"NoMemory"}\n'
 # What `rme threads` reports of two workers with two jobs each: how many were done, the cell and the entries.
 REPORT = b"workers 2\njobs 2\nall done %d\ncell %d\nentries %d\n"
 
-# Jobs of a run whose end is refused all growths, so many that their entries take more than a reserve of a few pages.
+# Jobs of a run whose end is refused all growths: their entries take more than a reserve of a few pages.
 JOBS = 2000
 
-# So many sweeps are made over the growths of a program in threads.
+# The number of sweeps over the growths of a program in threads.
 SWEEPS = 2
 
 
@@ -189,7 +190,7 @@ def try_ends(shim):
 
 
 def end_of_call(whole, status, output, fault):
-    """How a program ended that makes a call, and once more where the call was refused; or None."""
+    """How a program ended that makes a call, and once more if the call was refused; or None."""
     good = {
         (2, b"", b""): "ended before the call",
         (0, whole, b""): "answered as ever",
@@ -200,7 +201,7 @@ def end_of_call(whole, status, output, fault):
 
 def end_of_supervise(whole, status, output, fault):
     """How a supervised run of two workers with three jobs each ended, or None. One that is refused, before it or in its close,
-    gives all workers back, with which the service is closed; and where a thread was refused its worker ends early."""
+    gives all workers back, with which the service is closed; and if a thread was refused its worker ends early."""
     done, counts = whole.split(b"\n", 1)
     none = counts.replace(b"6", b"0")
     ends = {(0, b"refused\n" + none, b""): "was refused before it", (0, b"refused\n" + counts, b""): "was refused in its close"}
@@ -225,7 +226,7 @@ def try_calls(shim):
 
 
 def made_state(path):
-    """A file that was renewed, with workers of each kind: the first has so many jobs."""
+    """A file that was renewed, with workers of each kind: the first has this number of jobs."""
     server = serve(path, "bank", "shop", workers=5, cells=2, jobs=100, sections=2)
     one, two, three = (server.session() for _ in range(3))
     two.ask_all(attach(1), job("enter", "shop", 1, *ONE))
@@ -287,7 +288,8 @@ def end_of_state(shim, folder, held, wanted, number):
 
 
 def next_start(path, jobs, sent):
-    """Whether the next start goes on with so many jobs, or with as many as were sent, and all else stands as it stood."""
+    """Whether the next start goes on with this number of jobs, or with as many as were sent, and all else stands as it
+    stood."""
     if faults_of(read(path)):
         return False
     server = serve(path)

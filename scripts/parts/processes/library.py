@@ -4,7 +4,7 @@ The library is built without a warning by each compiler that is there, and again
 its refusals and its answers; files whose first page, size or words are damaged; a kill before each own step of a job and
 of its recovery, and before each call by which a renewal hands a file over; the lives of workers, also of killed ones, and
 a program that is older than lives; storms, in which processes are killed at random moments, and each job counts once.
-`soak` makes storms for so many minutes, and says how many kills there were.
+`soak` makes storms for this number of minutes, and says how many kills there were.
 """
 
 import ctypes
@@ -130,7 +130,7 @@ def try_sanitized(folder):
 
 
 def soak(minutes):
-    """Storms, for so many minutes."""
+    """Storms, for this number of minutes."""
     end, seed, storms, kills, re_entries = time.time() + 60 * minutes, SEED, 0, 0, 0
     with tempfile.TemporaryDirectory() as folder:
         made = program("storm", libraries())

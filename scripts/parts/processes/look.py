@@ -127,7 +127,7 @@ def try_waiting(folder):
     enter = "worker.submit('bank', [('add', 0, 1)])\ntry:\n    worker.enter(0.1)\nexcept Blocked:\n    pass"
     held = [holder(path, worker, enter) for worker in (2, 0, 1)]
     told = workers_of(json.loads(look(path, "--json").stdout))
-    same("who waits for whom", [row[5] for row in told], ["2", "0", "-", "-"])
+    same("which worker waits for which", [row[5] for row in told], ["2", "0", "-", "-"])
     for process in held:
         killed(process)
     left = [
@@ -143,7 +143,7 @@ def holding(path, worker):
 
 
 def try_pages(folder):
-    """A first page that is none, by its reason; and one of an earlier start of the machine."""
+    """An invalid first page, by its reason; and one of an earlier start of the machine."""
     rme, path, other = shared(), os.path.join(folder, "words"), os.path.join(folder, "other")
     rme.create(path, ["bank"], workers=WORKERS, cells=CELLS)
     held = read(path)
@@ -224,7 +224,7 @@ def try_damage(folder):
 
 
 def try_beside(folder):
-    """Beside processes that work, a look ends well; and where they are dead, it says what the C library looks up."""
+    """Beside processes that work, a look ends well; and if they are dead, it says what the C library looks up."""
     rme, path = shared(), os.path.join(folder, "words")
     rme.create(path, ["bank", "shop"], workers=WORKERS, cells=CELLS)
     busy = "[worker.run(('bank', 'shop')[n % 2], [('add', n % 2, 1)]) for n in range(1_000_000)]"

@@ -27,7 +27,7 @@ SEED = int(sys.argv[1]) if len(sys.argv) > 1 else random.randrange(10**6)
 
 
 def raises(name, kind, call, *words, **named):
-    """A call raises this refusal, which is answered; the check fails where it does not."""
+    """A call raises this refusal, which is answered; the check fails if it does not."""
     try:
         check(name, False, f"{call(*words, **named)!r} in place of {kind.__name__}")
     except kind as error:
@@ -54,7 +54,7 @@ def try_package(folder):
         try_bad_scripts(rme, worker)
         try_three_parts(rme, worker)
         try_blocks(rme, worker)
-        same("who lives", rme.living(path), {0, 1})
+        same("which workers live", rme.living(path), {0, 1})
     raises("closed", rme.NotAttached, worker.last)
     try_after_renewal(rme, path)
 
@@ -179,7 +179,7 @@ def try_stopped(folder):
     rme.create(path, ["bank"], workers=1)
 
     def stops_behind(name):
-        """From now on a call of this name is stopped; of none where it is empty."""
+        """From now on a call of this name is stopped; of none if it is empty."""
 
         def stop(at, *words):
             call(at, *words)
@@ -416,10 +416,10 @@ def try_files(folder):
     with python(INSIDE, path) as inside:
         inside.stdout.readline()
         error = raises("taken", rme.Taken, rme.Worker, path, 1)
-        same("by whom", (error.process, f"process {inside.pid}" in str(error)), (inside.pid, True))
+        same("by which process", (error.process, f"process {inside.pid}" in str(error)), (inside.pid, True))
         same("told to another process", pickle.loads(pickle.dumps(error)).process, inside.pid)
         error = raises("a renewal", rme.Taken, rme.renew, path, path + "1")
-        same("is refused by whom", error.process, inside.pid)
+        same("which process refuses it", error.process, inside.pid)
         same("who holds", [rme.holder(path, worker) for worker in range(4)], [None, inside.pid, None, None])
         raises("no worker", rme.NoWorker, rme.holder, path, 4)
         inside.kill()
@@ -638,7 +638,7 @@ def try_closed(folder):
 
 
 def worker_is_free(rme, worker):
-    """Whether no thread is in a call of this worker; `InUse` where one is."""
+    """Whether no thread is in a call of this worker; `InUse` if one is."""
     try:
         return bool(worker.stance)
     except rme.InUse:
@@ -646,7 +646,7 @@ def worker_is_free(rme, worker):
 
 
 def storm_of_blocks(rme, folder, workers=3, kills=40):
-    """Processes that give no numbers, killed in the midst of their jobs: each job that counted had its block."""
+    """Processes that give no numbers, killed during their jobs: each job that counted had its block."""
     path, numbers = os.path.join(folder, "blocks"), random.Random(SEED)
     rme.create(path, ["bank"], workers=workers, jobs=1_000_000)
     running = [python(BLOCKS, path, worker) for worker in range(workers)]

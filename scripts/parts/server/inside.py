@@ -1,4 +1,4 @@
-"""Sessions of `rme serve` that enter a lock and commit, over connections that are cut, and with lines that are none.
+"""Sessions of `rme serve` that enter a lock and commit, over connections that are cut, and with malformed lines.
 
 A session that attaches, enters and commits ends after each byte of its lines, once by a close and once by a reset, with
 nobody in its way and behind another: the job counts once, and as long as its worker is inside, another's `enter` waits.
@@ -111,8 +111,8 @@ def finishes(server, number, place):
     return told.get("receipt") == {"lock": "a", "number": number, "place": place, "reply": reply, "worker": 0}
 
 
-def cut_alone(server, rival, number, lines, length, hard):
-    """What went wrong where job `number`, with nobody in its way, was cut after so many bytes; or None."""
+def cut_without_rival(server, rival, number, lines, length, hard):
+    """What went wrong if job `number`, with no other worker in its way, was cut after this number of bytes; or None."""
     attempt(server, b"".join(lines)[:length], hard)
     stood = stands(server)
     _, entered, committed = ends_of(lines)
@@ -127,7 +127,7 @@ def cut_alone(server, rival, number, lines, length, hard):
 
 
 def cut_waiting(server, rival, number, lines, length, hard):
-    """The same where the rival is inside."""
+    """The same if the rival is inside."""
     inside = rival.enters()
     attempt(server, b"".join(lines)[:length], hard)
     stood = stands(server)
@@ -159,7 +159,7 @@ def try_cuts(cut, name, hard):
 
 def try_all_cuts():
     for hard in (False, True):
-        try_cuts(cut_alone, "alone", hard)
+        try_cuts(cut_without_rival, "without a rival", hard)
         try_cuts(cut_waiting, "behind another", hard)
 
 
@@ -193,13 +193,14 @@ def hostile():
 
 
 def standing(session):
-    """What shows a session's stance and changes nothing but by tries: the last receipt's, and a commit's, where it waits."""
+    """What shows a session's stance and changes nothing but by tries: the last receipt's, and a commit's, if it
+    waits."""
     told = session.told(do="last")
     return told if told.get("code") != 9 else (told, session.told(**{**ENTER, "tries": 1}))
 
 
 def bring(server, stance):
-    """A session with this stance; a second one is inside where it waits."""
+    """A session with this stance; a second one is inside if it waits."""
     session = server.session()
     if stance == "none":
         return session

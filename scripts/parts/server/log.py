@@ -1,5 +1,5 @@
 """log: `rme serve --log` has a line for each attachment, each take-over, and each worker that a session lets go or leaves, in
-their order, with the time; and nothing else. Without the option there is none."""
+their order, with the time; and nothing else. Without the option there is no log."""
 
 import datetime
 import threading

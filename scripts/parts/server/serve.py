@@ -75,7 +75,7 @@ def try_two_clients():
     silent, other = server.session(), server.session()
     told = [silent.ask(ATTACH)] + other.ask_all(ATTACH, {"do": "attach", "worker": 1}, JOB)
     wanted = [ATTACHED, TAKEN, ATTACHED, RECEIVED.replace(b'"worker":0', b'"worker":1')]
-    check("a silent client holds its own worker alone", told == wanted, told)
+    check("a silent client holds only its own worker", told == wanted, told)
     silent.close()
     other.ask({"do": "detach"})
     told = [attached_again(other), other.ask({**JOB, "lock": "shop", "script": [["set", 1, 7]]})]
@@ -101,7 +101,8 @@ def try_crash():
 
 
 def try_unsettled():
-    """A worker that falls in its section and does not come back keeps its lock, which the run says of it alone."""
+    """A worker that falls in its section and does not come back keeps its lock, and the run says this of no other
+    worker."""
     server = Server(("bank", "shop"))
     client = server.session()
     told = client.ask_all(ATTACH, {"do": "crash_after", "steps": 20}, JOB)
@@ -161,6 +162,26 @@ def try_words():
     refused(words_of() + ["--loud"], "--loud")
 
 
+def try_spaces_words():
+    """The words that the server refuses beside `--spaces`, and those that it takes only with `--spaces` or `--state`."""
+    spaces = ["serve", "--spaces", "nowhere"]
+    beside = {"--state": "file", "--workers": 2, "--cells": 1, "--jobs": 1, "--connections": 1}
+    for words in ([option, str(value)] for option, value in beside.items()):
+        refused([*spaces, *words], f"--spaces beside {words[0]}")
+    refused([*spaces, "bank"], "--spaces beside a lock")
+    for value in ("", "0", "x", "1000001"):
+        refused([*spaces, "--close-after", value], f"--close-after '{value}'")
+    state = ["serve", "--state", "nowhere", "bank"]
+    for words in ([*state, "--close-after", "5"], [*words_of(), "--close-after", "5"]):
+        ran = run(words)
+        told = b"error: --close-after is an option of --spaces\n"
+        check(f"refused: {' '.join(words)}", (ran.returncode, ran.stderr.startswith(told)) == (2, True), ran)
+    for words in (["--sync", "always"], ["--waiting", "keep"], ["--sections", "5"]):
+        ran = run([*words_of(), *words])
+        told = b"error: --sync, --waiting and --sections are options of --state and --spaces\n"
+        check(f"refused without a state: {words[0]}", (ran.returncode, ran.stderr.startswith(told)) == (2, True), ran)
+
+
 def bad(why, locks=("bank",), **options):
     ran = run(words_of(locks, **options))
     told = BAD + f"  {why}\n".encode()
@@ -213,12 +234,12 @@ def try_ports():
 
 
 def try_unix_alone(folder):
-    """A server with no port: the file of its socket is there for its user alone, and is gone after it."""
+    """A server with no port: the file of its socket is there for only its user, and is gone after it."""
     path = os.path.join(folder, "alone")
     server = Server(without="port", socket=path, how={"umask": 0})
     same("the socket's line", server.first, f"listening {path}\n".encode())
     mode = os.lstat(path).st_mode
-    same("a socket for its user alone", (stat.S_ISSOCK(mode), stat.S_IMODE(mode)), (True, 0o600))
+    same("a socket for only its user", (stat.S_ISSOCK(mode), stat.S_IMODE(mode)), (True, 0o600))
     same("and nothing beside it", [name for name in os.listdir(folder) if name.startswith(".s")], [])
     client = server.session_at_socket()
     same("a session over it", client.ask_all(*LINES), ANSWERS)
@@ -316,7 +337,7 @@ def try_no_socket():
 
 
 def try_at_once():
-    """One session at a time: one more is told so and closed, and another is served once the first has ended."""
+    """One session at a time: a further one is refused and closed, and another is served once the first has ended."""
     server = Server(without="connections", at_once=1)
     first = server.session()
     told = [first.ask(ATTACH)]
@@ -419,7 +440,7 @@ def try_endless():
         client.close()
     check("fifty connections, one after another", told == [ATTACHED] * 50, told)
     ended = server.kill()
-    check("and it ends by a signal alone", ended == (-signal.SIGTERM, b"", b""), ended)
+    check("and only a signal ends it", ended == (-signal.SIGTERM, b"", b""), ended)
 
 
 def no_threads():
@@ -479,7 +500,7 @@ def try_outputs():
 
 
 def try_errors():
-    """The record of the log is lost where it can't be written, and nothing else is."""
+    """The record of the log is lost if it can't be written, and nothing else is."""
     with open("/dev/full", "wb") as full:
         server = Server(how={"stderr": full})
         server.session().close()
@@ -495,12 +516,12 @@ def try_errors():
 
 
 def refused_end(shim, number):
-    """How a run ended whose growth of this number was refused: in one of the ways that are good, in another, or, where it
+    """How a run ended whose growth of this number was refused: in one of the ways that are good, in another, or, if it
     had fewer growths, not at all. A session that ends early has answered a front of its lines, and may have made its job."""
     server = Server(how={"env": refusing(shim, number)})
     answers = []
     try:
-        # Where a growth is refused after the port was told, the server may be gone before it is reached.
+        # If a growth is refused after the port was told, the server may be gone before it is reached.
         if server.port:
             client = server.session()
             answers = client.say(*LINES)
@@ -513,9 +534,9 @@ def refused_end(shim, number):
     end = status, rest, told.replace(REFUSED_GROWTH, b"")
     if answers == ANSWERS[: len(answers)]:
         if end == (0, MADE, SERVED):
-            return "served as ever" if answers == ANSWERS else "ended the session alone"
+            return "served as ever" if answers == ANSWERS else "ended only the session"
         if end == (0, UNMADE, SERVED) and len(answers) < 2:
-            return "ended the session alone"
+            return "ended only the session"
         if end == (7, UNMADE, THREADLESS + SERVED + b"fault: no thread\n") and not answers:
             return "ended with status 7"
         if end == (5, b"", b"fault: no memory\n"):
@@ -534,7 +555,7 @@ def try_growths(folder):
         number += 1
     told = ", ".join(f"{count} runs {end}" for end, count in ends.items())
     wrong = [end for end in ends if end.startswith("growth")]
-    check("refused growths: " + told, not wrong and ends["ended with status 5"] and ends["ended the session alone"], wrong)
+    check("refused growths: " + told, not wrong and ends["ended with status 5"] and ends["ended only the session"], wrong)
 
 
 FOLDER = tempfile.TemporaryDirectory()
@@ -550,7 +571,8 @@ def with_folder(part):
     return call
 
 
-WHOLE = [try_one_client, try_two_clients, try_crash, try_unsettled, try_no_lines, try_words, try_arguments, try_limits, try_ports]
+WHOLE = [try_one_client, try_two_clients, try_crash, try_unsettled, try_no_lines]
+WHOLE += [try_words, try_spaces_words, try_arguments, try_limits, try_ports]
 DOORS = [try_at_once, try_idle, try_deaf, try_last_accepted, try_endless]
 FAILING = [try_no_socket, try_signal, try_outputs, try_errors]
 

@@ -2,8 +2,8 @@
 
 Clients of clients/python behind a proxy that cuts their connections at random bytes, and connections that send what they
 have up to a random byte and are reset: at the end each job has counted once, by its receipt, by its lock's cells and by the
-number of entries. Then clients that are slow, that never read, or that send a line of 100 MB beside one that is none of
-these. At last the example's own run, and the sessions of docs/server.md.
+number of entries. Then clients that are slow, that never read, or that send a line of 100 MB beside one that does
+none of these. At last the example's own run, and the sessions of docs/server.md.
 """
 
 import json
@@ -80,7 +80,8 @@ class Server(servers.Server):
 
 
 class Proxy:
-    """Passes bytes on between clients and a server, and cuts each connection after so many bytes one way or the other."""
+    """Passes bytes on between clients and a server, and cuts each connection after this number of bytes one way or the
+    other."""
 
     def __init__(self, server, numbers):
         self.server, self.numbers = server, numbers
@@ -137,7 +138,7 @@ class Proxy:
 
 
 def enter(worker, lock, script, inside):
-    """The receipt of a job in whose lock nobody else may be: `inside` has who is, by lock."""
+    """The receipt of a job in whose lock no other worker may be: `inside` has the worker inside each lock."""
     number = None
     while True:
         try:
@@ -154,7 +155,7 @@ def entered(worker, lock, script, number, inside):
     with worker.inside(lock, script, number) as held:
         others = inside.setdefault(lock, worker.worker)
         if others != worker.worker:
-            fail("alone inside", f"{worker.worker} beside {others}")
+            fail("only one worker inside", f"{worker.worker} beside {others}")
         time.sleep(0.0002)
         del inside[lock]
     return held.receipt
@@ -266,7 +267,7 @@ def finish(server, worker, last):
 def try_resets(numbers):
     server = Server(WORKERS, 2, *LOCKS)
     known = [1] * WORKERS
-    # Each worker is attached once more, and so many clients may begin their last session at once.
+    # Each worker is attached once more, and as many clients may begin their last session at once.
     spare = WORKERS + AT_ONCE
 
     def client():

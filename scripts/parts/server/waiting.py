@@ -58,12 +58,12 @@ def try_time():
         answer = other.told(do="enter", lock="bank", number=1, script=ADD, wait=milliseconds)
         took = 1000 * (time.monotonic() - began)
         check(f"a wait of {milliseconds} ms", answer == {"ok": "enter", "waiting": True}, answer)
-        check(f"a wait of {milliseconds} ms takes so long", milliseconds <= took < milliseconds + 1000, took)
+        check(f"a wait of {milliseconds} ms takes that time", milliseconds <= took < milliseconds + 1000, took)
     server.kill()
 
 
 def try_handing_over():
-    """Who waits is told at once when the lock is left."""
+    """A client that waits is told at once when the lock is left."""
     server = served()
     owner = owner_of(server)
     other = waiting(server, 1, wait=60_000)
@@ -117,7 +117,7 @@ time.sleep(400)
 
 def try_crowd():
     """200 clients that wait for a lock whose owner is down take less than a tenth of a processor; on a slow machine, less
-    than twice what 200 threads of Python take there meanwhile that only sleep so long."""
+    than twice what 200 threads of Python take there that only sleep for the same time."""
     server = served(workers=256)
     owner_of(server).close()
     crowd = [waiting(server, worker, wait=600_000) for worker in range(1, 201)]

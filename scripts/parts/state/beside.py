@@ -41,7 +41,7 @@ def heard(path, words, turns):
 
 
 def with_large_numbers(items, wanted):
-    """The answers to a row's lines where a job's number may be over 2^32: a session without a worker is told so."""
+    """The answers to a row's lines at a server that takes numbers over 2^32: a session without a worker is told so."""
     large = [b'"number":4294967296,' in line for line in text_of(items).splitlines()]
     return [NOT_ATTACHED if is_large else answer for is_large, answer in zip(large, wanted)] if any(large) else wanted
 
@@ -127,8 +127,8 @@ class Talk:
 
 
 class CalmTalk(Talk):
-    """What they say where the file is renewed: of a lock at most one waits, and no crash is planned. How far a worker that
-    waits has climbed, and who was first of two that wait, is not told, and may be another after a renewal."""
+    """The orders if the file is renewed: at most one worker waits for a lock, and no crash is planned. How far a worker
+    that waits has climbed, and which of two that wait was first, is not shown, and may change with a renewal."""
 
     OFTEN = {**Talk.OFTEN, "crash_after": 0, "detach": 3}
 
@@ -157,7 +157,7 @@ def try_beside(folder):
 
 
 def try_renewed_beside(folder):
-    """The same with one that renews its file, for so many jobs of all, or of a worker."""
+    """The same with one that renews its file, for this number of jobs of all, or of a worker."""
     for sections, jobs in ((1, 100_000), (7, 100_000), (1000, 1), (1000, 4)):
         name = f"beside-{sections}-{jobs}"
         beside(folder, name, CalmTalk, {"sections": sections, "jobs": jobs}, 4)
@@ -166,7 +166,8 @@ def try_renewed_beside(folder):
 
 
 def beside(folder, name, talks, more, lives):
-    """Orders over so many lives, to a server without a state and to one that has a state, and these options too."""
+    """Orders over this number of lives, to a server without a state and to one that has a state, and these options
+    too."""
     numbers, path = random.Random(f"{SEED} {name}"), os.path.join(folder, name)
     options = {"workers": 3, "cells": 2, "jobs": 100_000}
     plain = Server(LOCKS, without="connections", **options)

@@ -1,7 +1,7 @@
 """files [SEED]: the file of a state.
 
 What the file says, with each byte of its lines changed and the sums made right, and without sums cut at each. What can't be
-served: files that are none, words that contradict, two servers.
+served: invalid files, words that contradict, two servers.
 """
 
 import concurrent.futures
@@ -81,7 +81,7 @@ def try_file(folder):
     wanted = sealed(header + b"\n" + opening + b"\n", 0, 1) + sealed(crashes, 1, 2)
     same("a new file of the usual sizes", read(path), wanted)
     mode = os.lstat(path).st_mode
-    same("a file for its user alone", (stat.S_ISREG(mode), stat.S_IMODE(mode)), (True, 0o600))
+    same("a file for only its user", (stat.S_ISREG(mode), stat.S_IMODE(mode)), (True, 0o600))
     same("and nothing beside it", [name for name in os.listdir(folder) if name.startswith("usual.")], [])
     session = server.session()
     session.ask_all(STATUS, {"do": "cells", "lock": "bank"}, RESUME, {"do": "none"}, attach(8), job("enter", "bank", 1))
@@ -175,7 +175,7 @@ def try_cuts(folder):
 
 
 def start_cut(path, held):
-    """A server starts where a file was torn, and what was torn is not there any more."""
+    """A server starts if a file was torn, and what was torn is not there any more."""
     front = whole_lines(held)
     wanted = status_of(front[1:])
     for worker in wanted["workers"]:
@@ -232,7 +232,7 @@ def refused(name, path, why, *locks, status=2, **options):
 
 
 def try_places(folder):
-    """What is no regular file is left alone, and so is a file that another program wrote."""
+    """A file that is not regular is not touched, nor is a file that another program wrote."""
     there = {name: os.path.join(folder, f"a-{name}") for name in ("file", "link", "lost", "folder", "pipe", "socket")}
     made_by(there["file"])
     os.symlink(there["file"], there["link"])
@@ -250,14 +250,14 @@ def try_places(folder):
         path = written(os.path.join(folder, f"other-{name}"), held)
         refused(f"another file: {name}", path, f"bad state\n  {path}: line 1", "bank")
     path = written(os.path.join(folder, "other-opening"), lines[0])
-    refused("a header alone", path, f"bad state\n  {path}: line 2", *LOCKS)
+    refused("only a header", path, f"bad state\n  {path}: line 2", *LOCKS)
     missing = os.path.join(folder, "nowhere", "state")
     why = f"the state {missing} can't be written: No such file or directory (os error 2)"
     refused("a folder that is not there", missing, why, "bank", status=4)
 
 
 def try_words(folder):
-    """Words that contradict a file, words that make none, and words that are none."""
+    """Words that contradict a file, words that make no file, and invalid words."""
     path = os.path.join(folder, "words")
     kill(serve(path, *LOCKS, workers=8, cells=2, jobs=10))
     for option, has, other in (("workers", 8, 7), ("cells", 2, 1), ("jobs", 10, 11)):

@@ -22,8 +22,8 @@ SEED = int(sys.argv[1]) if len(sys.argv) > 1 else random.randrange(10**6)
 
 
 def fill(path, size):
-    """A server whose file may have so many bytes, and a client with jobs until it has no answer: how the server ended,
-    and the numbers that were answered."""
+    """A server whose file may have this number of bytes, and a client with jobs until it has no answer: how the server
+    ended, and the numbers that were answered."""
     server, numbers = serve(path, how={"preexec_fn": limited(size)}), []
     if server.port:
         numbers = jobs_until_none(server.session(), 0, "bank", most=100)
@@ -39,7 +39,7 @@ def try_full(folder):
         ended, numbers = fill(path, len(read(path)) + room)
         if ended != (4, b"", told_of(path)):
             wrong.append((room, ended))
-        # What was not answered may be kept too, but of one job alone.
+        # What was not answered may be kept too, but only of one job.
         if numbers != list(range(made + 1, made + len(numbers) + 1)):
             wrong.append((room, made, numbers))
         told = looked(path)
@@ -63,7 +63,7 @@ def try_full(folder):
 
 
 def places_of(path):
-    """Where a server can be reached: by a port, by a socket beside its file, or by both."""
+    """How a server can be reached: by a port, by a socket beside its file, or by both."""
     where = path + ".socket"
     return {"the port": {"port": 0}, "the socket": {"socket": where}, "both": {"port": 0, "socket": where}}
 
@@ -90,7 +90,7 @@ def submit_at_once(session):
 
 
 def wrong_at_end(path, places, room, breaks):
-    """What is wrong where one is inside, one waits for its lock, one waits and has sent more, and two say nothing, as
+    """What is wrong if one is inside, one waits for its lock, one waits and has sent more, and two say nothing, as
     lines of somebody can't be kept."""
     server = serve(path, "bank", workers=4, how={"preexec_fn": ignore_limit}, **places)
     holder, waiter, hasty, looker, silent, breaker = sessions_of(server, 6)
@@ -121,7 +121,8 @@ def wrong_at_end(path, places, room, breaks):
 
 
 def wrong_after_end(path, places):
-    """What the next server answers of who was inside, two who waited and one who was ready, where that is wrong."""
+    """What the next server answers of the worker inside, of two that waited and of one that was ready, if that is
+    wrong."""
     server = serve(path, **places)
     sessions = sessions_of(server, 4)
     told = [session.ask(attach(worker)) for worker, session in enumerate(sessions)] + [sessions[0].ask(COMMIT)]
@@ -133,7 +134,7 @@ def wrong_after_end(path, places):
 
 
 def try_full_under_load(folder):
-    """Clients with jobs whose server has a full disk in the midst of them: each that was answered is kept."""
+    """Clients with jobs, during which the server's disk becomes full: each job that was answered is kept."""
     path, wrong, numbers, last, count = os.path.join(folder, "load"), [], random.Random(SEED), [0] * 6, 0
     for turn in range(6):
         sync, after, room = ("never", "always")[turn % 2], numbers.random() * 0.4, numbers.randrange(2000)
@@ -188,7 +189,7 @@ def is_there(server):
 
 def refused_end(path, shim, number):
     """How a server ended, or that it goes on, whose growth of this number was refused, with clients that attach a worker,
-    make a job and go away; nothing, where it had fewer growths."""
+    make a job and go away; nothing, if it had fewer growths."""
     server = serve(path, "bank", workers=2, how={"env": refusing(shim, number)})
     jobs, goes_on = 0, bool(server.port)
     for worker in (0, 1):

@@ -138,8 +138,8 @@ def try_less(folder):
 
 
 def try_exits(folder):
-    """A worker crashes after each number of own steps of a job, and the state grows then: it counts at most once, and where it
-    counted its worker is ready and the lock free."""
+    """A worker crashes after each number of own steps of a job, and the state grows then: it counts at most once, and
+    if it counted its worker is ready and the lock free."""
     for steps in range(1, 40):
         path = os.path.join(folder, f"{steps}.state")
         server = serve(path, "bank", **SMALL)

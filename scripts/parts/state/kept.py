@@ -114,7 +114,7 @@ def go_on(path, port, begun):
 
 
 def try_looking_up(folder):
-    """Look-ups in each stance, which stays as it was, and lines that are none."""
+    """Look-ups in each stance, which stays as it was, and malformed lines."""
     server = serve(os.path.join(folder, "lookups"), *LOCKS, workers=3)
     idle, ready, held, climb = (server.session() for _ in range(4))
     held.ask_all(attach(0), job("enter", "bank", 1, *ONE))
@@ -133,7 +133,7 @@ def try_looking_up(folder):
     ):
         same(f"{name}: look-ups", session.ask_all(*looks), wanted)
         same(f"{name}: of no lock", session.ask_all(*no_lock), [text(code=11, error="NoLock")] * 2)
-        same(f"{name}: lines that are none", session.ask_all(*bad), [BAD_LINE] * len(bad))
+        same(f"{name}: malformed lines", session.ask_all(*bad), [BAD_LINE] * len(bad))
         same(f"{name}: as it was", session.ask(LAST), after)
     kill(server)
 
@@ -234,7 +234,7 @@ def try_waiting(folder):
     two.send(line_of(**job("enter", "bank", 1, *ONE, wait=60_000)))
     told = without_seconds(until_waiting(three, 1))["workers"]
     wanted = [worker_status(True, "held", 1, lock="bank"), worker_status(True, "climb", 1, blocked_by=0, lock="bank")]
-    same("who waits is seen, and for whom", told, wanted)
+    same("waiting workers are shown, and for which worker they wait", told, wanted)
     time.sleep(0.3)  # its pauses grow
     began = time.monotonic()
     one.ask(COMMIT)
@@ -253,7 +253,7 @@ def try_waiting(folder):
     told = one.told(**job("enter", "bank", 2, *ONE, wait=300))
     took = time.monotonic() - began
     same("nobody gives way", told, {"ok": "enter", "waiting": True})
-    check("and it waited so long", 0.3 <= took < 5, took)
+    check("and it waited that time", 0.3 <= took < 5, took)
     one.send(line_of(**job("submit", "bank", 2, *ONE, wait=60_000)))
     two.ask(COMMIT)
     same("then it is done", json.loads(one.hear()).get("receipt"), receipt(0, 2, "bank", 2, 3))
@@ -269,7 +269,7 @@ def try_taking(folder):
     two.send(line_of(**job("enter", "bank", 1, *ONE, wait=3_600_000)))
     until_waiting(taker, 1)
     told = [taker.told(**attach(worker, take=take)).get("code") for worker in (2, 3) for take in (False, True)]
-    same("the keeper, and who is not there", told, [6] * 4)
+    same("the keeper, and workers that are not there", told, [6] * 4)
     same("a worker that another has", taker.told(**attach(0)).get("code"), 18)
     same("it is taken from one that is inside", taker.ask(attach(0, take=True)), stands("held", 1))
     same("whose connection is closed", one.lines.read(), b"")
@@ -286,7 +286,7 @@ def try_doors(folder):
     where = path + ".socket"
     for _ in range(2):  # the second time the socket that the first left is there
         server = serve(path, "bank", workers=1, jobs=2, socket=where)
-        same("a socket alone", server.first, f"listening {where}\n".encode())
+        same("only a socket", server.first, f"listening {where}\n".encode())
         kill(server)
     server = serve(path, port=0, socket=where, at_once=2)
     same("a port and a socket", (server.port is not None, server.second), (True, f"listening {where}\n".encode()))
@@ -305,7 +305,7 @@ def try_doors(folder):
     took = time.monotonic() - began
     check("after a second", 0.8 < took < 10, took)
     _, _, said = kill(server)
-    check("a reason for a line that is none", without_count(said).startswith(b"rme: connection "), said)
+    check("a reason for a malformed line", without_count(said).startswith(b"rme: connection "), said)
 
 
 def worker_in_status(session, worker, is_up):

@@ -71,7 +71,7 @@ def try_choice(folder):
     """A session that leaves the choice to the server has a line for the worker that it gets."""
     server, *_sessions = begin(os.path.join(folder, "bank.state"))
     other = server.session()
-    same("there is none", other.told(do="attach", any="ready")["code"], 18)
+    same("no worker is ready", other.told(do="attach", any="ready")["code"], 18)
     same("nothing of it", told_by(server), BEGUN)
     server = logged(os.path.join(folder, "bank.state"))
     session = server.session()

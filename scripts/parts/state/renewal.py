@@ -1,9 +1,10 @@
 """renewal [SEED]: servers that renew the file of their state, by `--jobs` and by `--sections`.
 
 Rows by hand: one worker whose numbers, places and receipts go on, a number that was given up, workers in each stance,
-all cells of a lock, and how often each worker was restarted. What the file says: its size, its header with each byte changed, its mode and owner, and what a server
-does that can't renew it. When it is replaced, and by whom: two servers on one file. At last storms: clients with numbered
-jobs whose server renews its file all the time and is killed again and again.
+all cells of a lock, and how often each worker was restarted. What the file says: its size, its header with each byte
+changed, its mode and owner, and what a server does that can't renew it. When it is replaced, and by which server: two
+servers on one file. At last storms: clients with numbered jobs whose server renews its file all the time and is killed
+again and again.
 """
 
 import json
@@ -44,7 +45,7 @@ class Busy:
     def __init__(self, server, worker, lock, made=0):
         self.session, self.worker, self.lock = server.session(), worker, lock
         self.number = self.session.attach(worker)["number"]
-        self.made = made  # so many sections that lock has
+        self.made = made  # the number of the lock's sections
 
     def order(self, number):
         return job("submit", self.lock, number, *ONE)
@@ -57,7 +58,7 @@ class Busy:
         return [] if told == wanted else [(told, wanted)]
 
     def renew(self, path, times=1):
-        """Makes jobs until the file was renewed so often, and answers what is wrong."""
+        """Makes jobs until the file was renewed this number of times, and answers what is wrong."""
         goal, wrong = epoch_of(read(path)) + times, []
         for _ in range(10_000):
             if epoch_of(read(path)) >= goal or wrong:
@@ -227,7 +228,7 @@ class Stances:
         return without_waits(told)
 
     def waits(self):
-        """Who waits for whom, once worker 2 has climbed or after some seconds."""
+        """Which worker waits for which, once worker 2 has climbed or after some seconds."""
         for _ in range(200):
             told = waits_in(self.busy.session.told(**STATUS))
             if 2 in told:
@@ -241,8 +242,8 @@ def waits_in(told):
 
 
 def without_waits(told):
-    """What is shown of all but the busy one, and since when. Who waits for whom is another matter: a worker that waits has
-    climbed to nothing where its epoch begins."""
+    """What is shown of all but the busy one, and since when. The waits between workers are left out: a worker that
+    waits has climbed to no node when its epoch begins."""
     others = ("blocked_by", "seconds")
     return told["locks"][:3], [{key: it for key, it in worker.items() if key not in others} for worker in told["workers"][1:]]
 
@@ -273,17 +274,17 @@ def try_stances(folder):
 def after_stances(name, all_of_them):
     """Each worker goes on from where it was."""
     server, sessions = all_of_them.server, all_of_them.sessions
-    life = 1 if name == "served on" else 2  # a renewal is none of those who are attached
+    life = 1 if name == "served on" else 2  # a renewal does not count in the lives of workers that are attached
     if name == "killed":
         kill(server)
         server = serve(all_of_them.path, sections=7)
         sessions = {worker: server.session() for worker in (1, 2, 6)}
         told = [sessions[worker].ask(attach(worker)) for worker in (1, 2, 6)]
-        same("who was inside is inside", told, [stands("held", 2), stands("climb", 1), stands("ready", 0)])
+        same("the worker inside is still inside", told, [stands("held", 2), stands("climb", 1), stands("ready", 0)])
         sessions[2].send(line_of(**job("enter", "bank", 1, *ONE, wait=3_600_000)))
     told = sessions[1].ask_all(*(job("enter", "bank", 2, *script) for script in (ONE, [["add", 1, 1]])), WITHDRAW)
     refusals = text(code=17, error="Differs"), text(code=21, error="NotWaiting")
-    same(f"{name}: the job of who is inside", told, [text(life=life, number=2, ok="enter", section=1, stance="held"), *refusals])
+    same(f"{name}: the job of the worker inside", told, [text(life=life, number=2, ok="enter", section=1, stance="held"), *refusals])
     made = receipt(1, 2, "bank", 1, 5)
     same(f"{name}: it commits", sessions[1].ask(COMMIT), text(ok="commit", receipt=made))
     five = server.session()
@@ -291,7 +292,7 @@ def after_stances(name, all_of_them):
     five.send(line_of(**RESUME, wait=60_000))
     held = json.loads(sessions[2].hear())
     section = held.pop("section")
-    same(f"{name}: who waits has the lock", held, {"life": life, "number": 1, "ok": "enter", "stance": "held"})
+    same(f"{name}: the waiting worker has the lock", held, {"life": life, "number": 1, "ok": "enter", "stance": "held"})
     told = [sessions[2].told(**COMMIT)["receipt"], json.loads(five.hear())["receipt"]]
     same(f"{name}: the section is the place of its receipt", told[0]["place"], section)
     places = sorted(((it["place"], it["reply"]) for it in told))
@@ -319,7 +320,7 @@ def after_falls(name, all_of_them, server, six):
     wanted = [text(last=None, ok="last"), text(ok="submit", receipt=receipt(6, 1, "bank", 4, 0))]
     same(f"{name}: who had none", [told[0], json.loads(told[1])["receipt"]["place"]], [wanted[0], 4])
     told = seven.ask_all(attach(7), LAST)
-    same(f"{name}: who was never there", told, [stands("ready", 0), text(last=None, ok="last")])
+    same(f"{name}: the worker that was never there", told, [stands("ready", 0), text(last=None, ok="last")])
 
 
 def try_freed(folder):
@@ -370,7 +371,7 @@ def memory_of(server):
 
 
 def try_small(folder):
-    """The file has at most what it begins with, and the lines of so many jobs; the memory does not grow."""
+    """The file has at most what it begins with, and the lines of this number of jobs; the memory does not grow."""
     path, sections = os.path.join(folder, "state"), 40
     server = serve(path, "bank", workers=2, jobs=10_000, sections=sections)
     busy, sizes, memory, begins, wrong = Busy(server, 0, "bank"), [], [], [], []
@@ -387,7 +388,7 @@ def try_small(folder):
     # A job of a session that does nothing else is one write: a line by which it is handed in, and one by which it is done.
     bound = max(begins) + sections * longest
     check(f"a file of {max(sizes)} bytes, which may have {bound}", max(sizes) <= bound, (sizes[-5:], begins[-5:]))
-    check("what it begins with grows by the digits of its numbers alone", max(begins) <= min(begins) + 200, begins)
+    check("what it begins with grows only by the digits of its numbers", max(begins) <= min(begins) + 200, begins)
     check(f"memory from {memory[9]} to {memory[-1]} KiB", max(memory[10:]) <= memory[9] + 512, memory)
     kill(server)
 
@@ -513,7 +514,7 @@ def try_header(folder):
         "lives of one worker less": {"lives": [0, 0]},
         "lives that are no list": {"lives": 1},
         "a life below 0": {"lives": [0, -1, 0]},
-        "a number that is none": {"numbers": [1.0, *header["numbers"][1:]]},
+        "an invalid number": {"numbers": [1.0, *header["numbers"][1:]]},
     }.items():
         changed = mended(text(**{**header, **changes}) + b"\n" + rest)
         same(f"refused: {name}", ends_with(look(written(damaged, changed), "--check")), (1, b"no 1\n", b""))
@@ -521,7 +522,7 @@ def try_header(folder):
 
 
 def try_owner(folder):
-    """The new file has the mode of the old one, and its owner where that may be."""
+    """The new file has the mode of the old one, and its owner if that is allowed."""
     path = os.path.join(folder, "state")
     server = serve(path, "bank", workers=1, jobs=100, sections=2)
     busy = Busy(server, 0, "bank")
@@ -597,7 +598,7 @@ def try_words(folder):
     check("refused by its form: --sections and no --state", (ended[:2], ended[2][:7]) == ((2, b""), b"error: "), ended)
 
 
-# ---- when it is replaced, and by whom
+# ---- when it is replaced, and by which server
 
 
 def try_replacing(folder):

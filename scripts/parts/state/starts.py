@@ -124,7 +124,7 @@ def try_header(folder):
 
 
 def try_place_taken(folder):
-    """Where it can't listen, no file is made, and one that is there stays as it is."""
+    """If it can't listen, no file is made, and one that is there stays as it is."""
     path = os.path.join(folder, "state")
     with socket.socket() as taken:
         taken.bind((HOST, 0))
@@ -248,7 +248,7 @@ def try_taken_away_at_renewal(folder):
 
 
 def flood(server, count):
-    """A session with lines that are none, each of which is told of by --why; how many answers came."""
+    """A session with malformed lines, each of which --why reports; how many answers came."""
     session = server.session()
     session.connection.settimeout(10)
     answers = 0
@@ -265,7 +265,7 @@ def try_unread(folder):
     """Of 200,000 bytes that are told on the standard error, a pipe that nobody reads takes 65,536."""
     path = os.path.join(folder, "state")
     server = Server(words=[*state_words(path, "bank", port=0), "--why"])
-    same("each line that is none is answered", flood(server, 3000), 3000)
+    same("each malformed line is answered", flood(server, 3000), 3000)
     same("other sessions go on", server.session().attach(0).get("ok"), "attach")
     kill(server)
     server = Server(words=["serve", "--workers", "2", "--cells", "1", "--jobs", "10", "--port", "0", "--why", "bank"])

@@ -55,7 +55,7 @@ class Disk:
     def __init__(self, numbers):
         self.numbers, self.count, self.synced, self.kept = numbers, 1, 1, 0
         self.held = sealed(b'{"rme":"kept","version":2}\n' + self.lines(), 0, 1)
-        self.safe = len(self.held)  # so many bytes are with the disk
+        self.safe = len(self.held)  # the number of bytes that are with the disk
 
     def lines(self):
         draw = self.numbers.randrange
@@ -69,7 +69,8 @@ class Disk:
 
 
 def try_model(_):
-    """What is written here is taken here: whatever is lost of what is not with the disk, and not where a byte of it changed."""
+    """What is written here is taken here: whatever is lost of what is not with the disk, and not if a byte of it
+    changed."""
     numbers, wrong, count = random.Random(SEED), [], 0
     for _ in range(300):
         disk = Disk(numbers)
@@ -168,7 +169,7 @@ def try_written(folder):
 
 
 def try_together(folder):
-    """Sessions that send jobs without waiting, whose lines may be of one write; the server is killed in the midst of them."""
+    """Sessions that send jobs without waiting, whose lines may be of one write; the server is killed meanwhile."""
     for sync in ("always", "never"):
         path = os.path.join(folder, sync)
         server = serve(path, "bank", workers=6, sync=sync)
@@ -351,7 +352,7 @@ def try_forms(folder):
 
 
 def without_sectors(held, synced, lost):
-    """A file of which these sectors, by their numbers, are as they were when so many bytes were synced."""
+    """A file of which these sectors, by their numbers, are as they were when only this number of bytes was synced."""
     found = bytearray(held)
     for sector in lost:
         begin, end = max(synced, SECTOR * sector), min(len(held), SECTOR * (sector + 1))
@@ -457,8 +458,8 @@ def try_replayed(folder):
         lines = held[held.index(b"\n") + 1 :]
         ran = run(["run", "--transcript"], lines)
         same("a transcript", (ran.returncode, run(["check"], ran.stdout).stdout), (0, b"yes\n"))
-        alone = run(["run", "--transcript"], payload_of(held).split(b"\n", 1)[1]).stdout
-        same("which is that of the lines alone", ran.stdout, alone)
+        of_lines = run(["run", "--transcript"], payload_of(held).split(b"\n", 1)[1]).stdout
+        same("which is that of only the lines", ran.stdout, of_lines)
         answers = run(["run"], lines).stdout.splitlines()
         same("each sum line is answered by 1", answers.count(b'{"code":1,"error":"BadLine"}'), len(writes_of(held)))
 

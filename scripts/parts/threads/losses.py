@@ -1,5 +1,5 @@
 """A Climb, a Held or a Leave cannot be lost: each text of scripts/losses makes a change that loses one, in rme_table,
-rme_session_threads, rme_server or a small caller of rme_table, and the type check must refuse it for that alone.
+rme_session_threads, rme_server or a small caller of rme_table, and the type check must refuse it for only that.
 
 A text has comment lines, a line `file:`, and pairs of lines `old:` and `new:`, each old text standing once in the file.
 """
@@ -80,7 +80,7 @@ def errors_of(folder, words):
 
 
 def try_text(folder, path):
-    """A text is refused, and for the loss alone; the file is put back."""
+    """A text is refused, and only for the loss; the file is put back."""
     name = os.path.basename(path)[: -len(".loss")]
     changed, pairs = parse(path)
     target = os.path.join(folder, "crates", changed)
@@ -98,7 +98,7 @@ def try_text(folder, path):
     errors, ran = errors_of(crate, ["rt", "check", "--only="])
     with open(target, "w") as file:
         file.write(whole)
-    told = f"not refused by {REFUSAL} alone: {errors}, status {ran.returncode}\n{ran.stdout[-1000:]}"
+    told = f"not refused only by {REFUSAL}: {errors}, status {ran.returncode}\n{ran.stdout[-1000:]}"
     check(name, errors and set(errors) == {REFUSAL}, told)
 
 

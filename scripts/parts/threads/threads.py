@@ -25,8 +25,8 @@ def try_report():
 
 
 def try_every_cut():
-    """A worker with one job falls once, after so many own steps: two of the first recovery and 28 of the job. Its next life
-    makes the job or leaves it made."""
+    """A worker with one job falls once, after this number of own steps: two of the first recovery and 28 of the job.
+    Its next life makes the job or leaves it made."""
     for steps in range(31):
         ran = run(["1", "1", str(steps)])
         check(f"a fall after {steps} own steps", (ran.returncode, ran.stdout, ran.stderr) == (0, ONE_JOB, b""), ran, quiet=True)
