@@ -1,4 +1,4 @@
-/* worker PATH NUMBER JOBS: a process with a worker of one file, which is made where it is not there yet. It makes so many jobs
+/* worker PATH NUMBER JOBS: a process with a worker of one file, which is made if it is not there yet. It makes this number of jobs
    that add 1 to the one cell of the one lock, prints `ready`, and stays until its standard input ends. */
 #include "../../c/rme.h"
 

@@ -43,7 +43,7 @@ static unsigned long memory_of(pid_t process) {
     return size;
 }
 
-/* The KiB that one of so many processes takes. */
+/* The KiB that one process takes, of this number of processes. */
 static unsigned long memory_with(unsigned processes, void (*does)(unsigned worker)) {
     pid_t children[256];
     int ready[2];

@@ -1,6 +1,6 @@
 /* echo CONNECTIONS SIZE: a server with a thread a connection that does nothing but read lines and answer them.
 
-   Each line is answered by SIZE bytes, the last of them a newline. It prints its port, and ends after so many connections. */
+   Each line is answered by SIZE bytes, the last of them a newline. It prints its port, and ends after CONNECTIONS connections. */
 #include "bench.h"
 
 static size_t answer_size;

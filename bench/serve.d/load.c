@@ -1,16 +1,17 @@
-/* load rme|inside|echo|redis PORT CONNECTIONS LOCKS MILLISECONDS [SHA]: a thread a connection, each with one request in flight.
+/* load rme|inside|spaces|echo|redis PORT CONNECTIONS LOCKS MILLISECONDS [SHA|SPACES]: a thread a connection, each with one
+   request in flight.
 
    Connection w is worker w. Its jobs add 1 to cell 0 of lock w modulo LOCKS, and have the numbers 1, 2, 3 and so on. To
    `rme serve` and to the echo server a job is a session's line, or with `inside` two of them, which enter and commit; to redis
-   it is the script of that SHA1 with the same numbers. It prints how many jobs were answered, the nanoseconds that took, the
+   it is the script of that SHA1 with the same numbers. With `spaces` connection w uses the space `space-w`, modulo SPACES. It prints how many jobs were answered, the nanoseconds that took, the
    bytes of a usual line and answer, and the microseconds within which half of the jobs were answered, and 99 of 100.
 */
 #include "bench.h"
 
-enum kind { RME, INSIDE, ECHO, REDIS };
+enum kind { RME, INSIDE, SPACES, ECHO, REDIS };
 
 static enum kind kind;
-static unsigned port, locks, milliseconds;
+static unsigned port, locks, milliseconds, spaces = 1;
 static const char *sha = "";
 static atomic_bool is_over;
 static pthread_barrier_t begin;
@@ -19,11 +20,16 @@ enum { SLOWEST = 65535 }; /* microseconds; what takes longer counts as that */
 
 struct client {
     unsigned worker;
-    uint32_t *took; /* for each number of microseconds how many jobs took so long */
+    uint32_t *took; /* for each number of microseconds how many jobs took that time */
     int connection;
     uint64_t answered;
     size_t line_size, answer_size;
 };
+
+/* Whether the server is one of ours, whose sessions have workers. */
+static bool is_ours(void) {
+    return kind == RME || kind == INSIDE || kind == SPACES;
+}
 
 /* The request of a job, in the server's own form. */
 static size_t request(char *line, const struct client *client, uint64_t number) {
@@ -67,6 +73,19 @@ static size_t answer(int connection, char *held) {
     }
 }
 
+/* Has the session use its space. */
+static void use(const struct client *client) {
+    char line[ROOM], held[ROOM];
+    int size = snprintf(line, sizeof line, "{\"do\":\"use\",\"space\":\"space-%u\"}\n", client->worker % spaces);
+    if (!put(client->connection, line, (size_t)size)) {
+        fail("no space was used");
+    }
+    answer(client->connection, held);
+    if (strcmp(held, "{\"ok\":\"use\"}\n") != 0) {
+        fail("the server answered %s", held);
+    }
+}
+
 static void attach(const struct client *client) {
     char line[ROOM], held[ROOM];
     int size = snprintf(line, sizeof line, "{\"do\":\"attach\",\"worker\":%u}\n", client->worker);
@@ -87,7 +106,7 @@ static size_t ask(const struct client *client, const char *line, size_t size, ch
             fail("the server closed a connection");
         }
         answered = answer(client->connection, held);
-    } while ((kind == RME || kind == INSIDE) && strstr(held, "\"waiting\":true") != NULL);
+    } while (is_ours() && strstr(held, "\"waiting\":true") != NULL);
     if (kind != ECHO && strstr(held, wanted) == NULL) {
         fail("the server answered %s", held);
     }
@@ -105,7 +124,10 @@ static void *work(void *given) {
     static const char commit[] = "{\"do\":\"commit\"}\n";
     struct client *client = given;
     char line[ROOM], held[ROOM];
-    if (kind == RME || kind == INSIDE) {
+    if (kind == SPACES) {
+        use(client);
+    }
+    if (is_ours()) {
         attach(client);
     }
     pthread_barrier_wait(&begin);
@@ -135,7 +157,7 @@ static int connected(void) {
     return connection;
 }
 
-/* The microseconds within which so many of 100 jobs were answered. */
+/* The microseconds within which this percentage of the jobs was answered. */
 static unsigned within(const struct client *clients, unsigned connections, uint64_t answered, unsigned percent) {
     uint64_t seen = 0;
     for (unsigned time = 0; time < SLOWEST; time++) {
@@ -156,21 +178,28 @@ static enum kind kind_of(const char *word) {
     if (strcmp(word, "inside") == 0) {
         return INSIDE;
     }
+    if (strcmp(word, "spaces") == 0) {
+        return SPACES;
+    }
     return strcmp(word, "echo") == 0 ? ECHO : REDIS;
 }
 
 int main(int count, char **words) {
     if (count < 6) {
-        fail("usage: %s rme|inside|echo|redis PORT CONNECTIONS LOCKS MILLISECONDS [SHA]", words[0]);
+        fail("usage: %s rme|inside|spaces|echo|redis PORT CONNECTIONS LOCKS MILLISECONDS [SHA|SPACES]", words[0]);
     }
     kind = kind_of(words[1]);
     port = number_of(words[2], 65535);
     unsigned connections = number_of(words[3], MOST_CONNECTIONS);
     locks = number_of(words[4], 16);
     milliseconds = number_of(words[5], 600000);
-    sha = count > 6 ? words[6] : "";
-    if (connections == 0 || locks == 0) {
-        fail("no connection, or no lock");
+    if (count > 6 && kind == SPACES) {
+        spaces = number_of(words[6], MOST_CONNECTIONS);
+    } else if (count > 6) {
+        sha = words[6];
+    }
+    if (connections == 0 || locks == 0 || spaces == 0) {
+        fail("no connection, no lock, or no space");
     }
 
     static struct client clients[MOST_CONNECTIONS];

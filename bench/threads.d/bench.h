@@ -16,7 +16,7 @@
 
 enum { MOST_THREADS = 256, MOST_JOBS = 1000000000 };
 
-/* One run: so many threads, each with so many jobs, all on lock 0 or each on the lock of its own number. */
+/* One run: the number of threads, and of jobs of each; all on lock 0 or each on the lock of its own number. */
 struct run {
     unsigned threads;
     unsigned jobs;
@@ -33,7 +33,7 @@ __attribute__((noreturn, format(printf, 1, 2))) static void fail(const char *for
     exit(1);
 }
 
-/* A number from 1 to a most one, or 0 where the text is none. */
+/* A number from 1 to a most one, or 0 if the text is not such a number. */
 static unsigned number_of(const char *text, unsigned most) {
     char *end = NULL;
     unsigned long number = strtoul(text, &end, 10);

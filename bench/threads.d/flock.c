@@ -3,7 +3,7 @@
 
    The file has how many jobs are over and the cell, a redo record, and a receipt for each worker. A job takes the
    lock, reads the cell and the redo record, writes down what it will leave, writes its receipt and then the cell with
-   the count, and unlocks. The system unlocks for a holder that dies; whoever holds the lock next tells by a redo
+   the count, and unlocks. The system unlocks for a holder that dies; the next holder of the lock tells by a redo
    record that is one ahead of the count that the holder died in the middle, and finishes its job, once.
 
    It is a fair comparison since a job counts once in spite of a crash of its holder, by no more calls than that

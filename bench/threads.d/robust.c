@@ -3,7 +3,7 @@
    Each lock is a mutex of the C library, a cell and a redo record, and each worker has a receipt, all in memory that
    was mapped to be shared. A job takes the mutex, writes down what it will leave, makes the turn odd, stores its
    receipt and the cell, makes the turn even, and gives the mutex back. The system marks the mutex of a holder that
-   dies; whoever gets it next does again what the redo record says where the turn is odd, so that the job counts once,
+   dies; the next owner does again what the redo record says if the turn is odd, so that the job counts once,
    and makes the mutex consistent.
 
    It is a fair comparison since a job counts once in spite of a crash of its holder. Each lock and each receipt has
@@ -18,7 +18,7 @@
 
 typedef _Atomic uint64_t word;
 
-/* The turn is 2p where p jobs are over, and 2p+1 where the redo record of the next is whole. */
+/* The turn is 2p where p jobs are over, and 2p+1 if the redo record of the next is whole. */
 struct lock {
     _Alignas(64) pthread_mutex_t mutex;
     word turn;

@@ -32,7 +32,7 @@ enum { FRONT = 7, GAP = 7 };
 enum { FRONT = 1, GAP = 0 };
 #endif
 
-/* Where a word stands in the block of its worker; the words of the operations follow SLATE, three for each. */
+/* The index of a word in the block of its worker; the words of the operations follow SLATE, three for each. */
 enum { BEGUN, DONE, REPLY, PLACE, AT, SLATE_LOCK, SLATE_LEN, SLATE };
 
 enum { GET, SET, ADD, COPY, SWAP };
@@ -77,7 +77,7 @@ _Static_assert(sizeof(_Atomic uint64_t) == 8, "a word has 8 bytes");
 
 typedef _Atomic uint64_t word;
 
-/* What one worker alone knows. */
+/* What only one worker knows. */
 struct worker {
     uint32_t number;
     uint32_t begun;
