@@ -157,7 +157,7 @@ def try_restarts(folder):
 
 
 def try_opened_fast(folder):
-    """A space of 100 lines is opened under 5 milliseconds."""
+    """At the median, a space of 100 lines is opened under 5 milliseconds."""
     server, names = serve(folder), [f"s{number}" for number in range(10)]
     made(server, *names)
     for name in names:
@@ -177,7 +177,7 @@ def try_opened_fast(folder):
         check(name, told == USED, told, quiet=True)
     lines = kept.read(path_of(folder, names[0])).count(b"\n")
     note(f"`use` of {lines} lines: {statistics.median(took):.2f} ms, at most {max(took):.2f}")
-    check(f"{len(names)} spaces of {lines} lines, each within {MILLISECONDS} ms", statistics.median(took) < MILLISECONDS, took)
+    check(f"{len(names)} spaces of {lines} lines, at the median within {MILLISECONDS} ms", statistics.median(took) < MILLISECONDS, took)
     server.kill()
 
 
