@@ -6,7 +6,7 @@ use Rattle.serde_json.specs.Data.{string}
 use Rattle.serde_json.specs.Written.{compact_text}
 use Rattle.rme_ask_client.specs.declared.request.ClientRequest.{ClientRequest}
 use Rattle.rme_ask_client.specs.declared.request.ClientRequest.TheVariants.{Hello, UseSpace, CreateSpace, DropSpace, Spaces, Status, Owner, Cells, Ping, Attach, TakeOver, Pending, Resume, Withdraw, Last, Detach}
-use Rattle.rme_ask_client.specs.declared.request.NewSpace.{NewSpace}
+use Rattle.rme_ask_client.specs.declared.request.CreateRequest.{CreateRequest}
 
 abbrev pub request_word : ClientRequest → List ℕ
 request_word (Hello secret) = codes "hello"
@@ -52,7 +52,7 @@ size_text key None = []
 size_text key (Some size) = codes ",\"" ++ (key ++ (codes "\":" ++ decimal size))
 
 -- `{"do":"create","space":NAME,"locks":[NAME,..],"workers":N,"cells":N}`
-abbrev pub create_request_text : NewSpace → List ℕ
+abbrev pub create_request_text : CreateRequest → List ℕ
 create_request_text space =
     codes "{\"do\":\"create\",\"space\":" ++ (compact_text (string space.name.now) ++ (codes ",\"locks\":[" ++
     (name_list_text space.locks.now ++ (codes "]" ++ (size_text (codes "workers") space.workers ++

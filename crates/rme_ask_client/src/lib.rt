@@ -24,7 +24,7 @@ pub use job_answers::{
     AttachedWorker, ReportedJob, ReportedOutcome, ReportedReceipt, ReportedStance, attached_worker,
     job_outcome, last_receipt, pending_job, withdrawn_number,
 };
-pub use request::{ClientRequest, NewSpace, push_request};
+pub use request::{ClientRequest, CreateRequest, push_request};
 pub use space_answers::{SpacesPage, spaces_page};
 pub use status_answer::{
     CellsAnswer, ReportedLock, ReportedWorker, ServerStatus, cells_answer, owner_answer,

@@ -17,7 +17,7 @@ pub enum ClientRequest<'a> {
     /// Work in the space of this name.
     UseSpace(&'a str),
     /// Create a space, unless it is there just so.
-    CreateSpace(NewSpace<'a>),
+    CreateSpace(CreateRequest<'a>),
     /// Remove the space of this name, with all that it holds.
     DropSpace(&'a str),
     /// The names of the spaces, in order; only those behind this name if there is one.
@@ -47,7 +47,7 @@ pub enum ClientRequest<'a> {
 
 /// A space that is to be created. A size that is not given is the server's default.
 #[derive(Clone, Copy)]
-pub struct NewSpace<'a> {
+pub struct CreateRequest<'a> {
     pub name: &'a str,
     /// The names of its locks.
     pub locks: &'a [String],
@@ -136,7 +136,7 @@ fn push_text_request(
 }
 
 /// Appends the request to create a space.
-fn push_create(out: &mut String, alloc: Global, space: NewSpace<'_>) -> Result<(), AllocError>
+fn push_create(out: &mut String, alloc: Global, space: CreateRequest<'_>) -> Result<(), AllocError>
     ensures { OnOk result (string_bytes out.new ≡ string_bytes out.old ++ spec.create_request_text space.entry) }
 {
     let name = quoted(alloc, space.name)?;

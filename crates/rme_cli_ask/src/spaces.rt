@@ -8,7 +8,7 @@ ghost use Rattle.rme_cli_ask.specs.SpaceLines.{IsNextStart, LacksPage, ShowsPage
 
 use crate::ask_end::{AskEnd, AskFault};
 use crate::dialogue::Dialogue;
-use rme_ask_client::{ClientError, ClientRequest, NewSpace, SpacesPage, spaces_page};
+use rme_ask_client::{ClientError, ClientRequest, CreateRequest, SpacesPage, spaces_page};
 use rme_cli_messages::escape_controls;
 use rme_cli_options::CreateTask;
 use rme_line_io::{Sink, Source};
@@ -38,7 +38,7 @@ impl<R: Source + Drop, W: Sink + Drop, O: Sink + Drop, E: Sink + Drop> Dialogue<
 
     /// Creates a space.
     pub(crate) fn create_space(&mut self, task: &CreateTask) -> Result<AskEnd, AskFault> {
-        self.ask_and_show(ClientRequest::CreateSpace(NewSpace {
+        self.ask_and_show(ClientRequest::CreateSpace(CreateRequest {
             name: task.space.as_str(),
             locks: task.locks.as_slice(),
             workers: task.workers,

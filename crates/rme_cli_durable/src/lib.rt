@@ -7,10 +7,10 @@
 //! rme_cli_messages.
 #![tactic(auto)]
 
-mod opened_log;
+mod log_of_state;
 mod requested_state;
 mod serve_durable;
 
-pub use opened_log::{LoggedState, logged_state};
+pub use log_of_state::{StateAndLog, state_and_log};
 pub use requested_state::usual_lines;
 pub use serve_durable::run_serve_durable;

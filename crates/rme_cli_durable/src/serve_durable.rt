@@ -3,7 +3,7 @@
 ghost use Rattle.std.specs.Prelude.{◌≡◌, [], IfOk, true};
 ghost use Rattle.rme_durable_server.specs.ServerHistories.{server_state};
 
-use crate::opened_log::{LoggedState, logged_state};
+use crate::log_of_state::{StateAndLog, state_and_log};
 use crate::requested_state::{Growth, ServerConfig, first_lines, growth_of};
 use rme_cli_keys::{KeysFile, keyed, open_keys};
 use rme_cli_listen::{BoundServer, StderrObserver, listen};
@@ -58,7 +58,7 @@ pub fn run_serve_durable<R: Threads + Wait + Clock + Sync>(
     };
     let served = match open_or_create(rt, &asked, &name, planned) {
         Ok(opened) => {
-            let state = logged_state(opened);
+            let state = state_and_log(opened);
             serve_logged::<Brand, R>(threads, &site, listeners, state)
         }
         Err(fault) => {
@@ -95,14 +95,14 @@ fn serve_logged<J: ServerTag + Send + Sync, R: Threads + Wait + Clock + Sync>(
     threads: &R,
     site: &DurableServeContext<'_>,
     listeners: (Listener, Option<Listener>),
-    state: LoggedState<'_>,
+    state: StateAndLog<'_>,
 ) -> Result<u8, CliFault>
     requires log { state.log ≡ J.book }
     requires lines { state.executor.lines ≡ [] }
     requires named { state.names ≡ J.opening.names }
     requires begins { J.opening.begins (server_state state.executor) }
 {
-    let LoggedState {
+    let StateAndLog {
         names,
         executor,
         log,

@@ -6,6 +6,7 @@
 
 mod fault;
 mod keys_file;
+pub mod laws;
 mod opening;
 
 pub use fault::KeysFault;

@@ -47,7 +47,7 @@ pub(crate) enum Finisher<'a> {
 
 /// How workers are shown.
 #[derive(Clone, Copy)]
-pub(crate) struct WorkerView<'a> {
+pub(crate) struct WorkerToShow<'a> {
     pub(crate) names: &'a Names,
     /// The number of levels of each tree.
     pub(crate) height: u32,
@@ -112,7 +112,7 @@ fn lock_texts(alloc: Global, name: &str, status: &LockStatus) -> Result<Vec<Stri
 pub(crate) fn push_workers(
     out: &mut String,
     alloc: Global,
-    view: &WorkerView<'_>,
+    view: &WorkerToShow<'_>,
     rows: &[WorkerRow],
 ) -> Result<(), AllocError> {
     push_worker_table(out, alloc, view, rows)?;
@@ -125,7 +125,7 @@ pub(crate) fn push_workers(
 fn push_worker_table(
     out: &mut String,
     alloc: Global,
-    view: &WorkerView<'_>,
+    view: &WorkerToShow<'_>,
     rows: &[WorkerRow],
 ) -> Result<(), AllocError> {
     let user = view.finisher.title();
@@ -176,7 +176,7 @@ fn worker_texts(
 /// Appends a line for each worker that nobody has and that holds something, behind an empty line.
 fn push_unfinished(
     out: &mut String,
-    view: &WorkerView<'_>,
+    view: &WorkerToShow<'_>,
     rows: &[WorkerRow],
 ) -> Result<(), AllocError> {
     let mut is_first = true;
@@ -197,7 +197,7 @@ fn push_unfinished(
 /// Appends where a worker is that nobody has.
 fn push_place(
     out: &mut String,
-    view: &WorkerView<'_>,
+    view: &WorkerToShow<'_>,
     worker: u32,
     stance: WorkerStance,
     held: HeldLevels,
@@ -239,7 +239,7 @@ fn push_waiting(out: &mut String, rows: &[WorkerRow], worker: u32) -> Result<(),
 /// Appends the command that finishes the job of a worker, or that leaves the lock behind its job.
 fn push_command(
     out: &mut String,
-    view: &WorkerView<'_>,
+    view: &WorkerToShow<'_>,
     worker: u32,
     stance: WorkerStance,
     held: HeldLevels,

@@ -4,14 +4,14 @@ ghost use Rattle.std.specs.Prelude.{◌≡◌, ◌<◌, ◌++◌, ◌∷◌, [],
 ghost use Rattle.rme_durable_lookups.specs.StatusTexts.{source_state, status_state, status_text};
 
 use crate::rows::{
-    Finisher, HeldLevels, Presence, WorkerRow, WorkerView, push_lock_table, push_workers,
+    Finisher, HeldLevels, Presence, WorkerRow, WorkerToShow, push_lock_table, push_workers,
 };
 use crate::table::text_of;
 use rme_cli_messages::CliFault;
 use rme_cli_options::OutputFormat;
 use rme_durable_epochs::Sections;
 use rme_durable_file::{ContentsError, FileContents, bad_log_fault, contents_fault, line_in_file};
-use rme_durable_format::{BadLog, RecoveryProgress, whole_lines};
+use rme_durable_format::{BadLog, NoProgress, whole_lines};
 use rme_durable_lookups::{
     LockStatus, StatusSource, WorkerStatus, clients_of, lock_status, push_status, worker_status,
 };
@@ -20,13 +20,6 @@ use rme_tree::held;
 use rme_waiting::world_words;
 use rme_words::{Bank, NoMemory};
 use std::alloc::{AllocError, Global};
-
-/// No observer of the progress of recovery.
-struct NoRecoveryObserver;
-
-impl RecoveryProgress for NoRecoveryObserver {
-    fn read(&self, _lines: u64) {}
-}
 
 /// Appends the contents of a state, and answers the status of the process.
 pub(crate) fn push_state(
@@ -44,7 +37,7 @@ pub(crate) fn push_state(
         Err(why) => return Err(contents_fault(rt, path, why)?),
     };
     let lines = contents.lines.as_slice();
-    let recovered = match recover(rt.alloc(), whole_lines(lines), &NoRecoveryObserver) {
+    let recovered = match recover(rt.alloc(), whole_lines(lines), &NoProgress) {
         Ok(recovered) => recovered,
         Err(BadLog::Line(line)) if form == OutputFormat::Check => {
             return push_refused_line(out, line_in_file(rt.alloc(), bytes, line));
@@ -126,7 +119,7 @@ fn push_tables(
     push_lock_table(out, alloc, names, locks.as_slice())?;
     out.push_str("\n")?;
     let rows = worker_rows(alloc, &source)?;
-    let view = WorkerView {
+    let view = WorkerToShow {
         names,
         height: source.world.shape().height(),
         finisher: Finisher::Client,

@@ -5,7 +5,7 @@ ghost use Rattle.std.specs.Prelude.{◌<◌};
 use crate::claims::{file_at, living_workers};
 use crate::holders::{Holder, holders_of};
 use crate::rows::{
-    Finisher, HeldLevels, Presence, WorkerRow, WorkerView, push_lock_table, push_workers,
+    Finisher, HeldLevels, Presence, WorkerRow, WorkerToShow, push_lock_table, push_workers,
 };
 use crate::table::text_of;
 use rme_cli_messages::{CliFault, escape_controls};
@@ -50,7 +50,7 @@ pub(crate) fn push_words(
         holders: holders_of(rt, file)?,
     };
     let rows = worker_rows(rt.alloc(), &mapped, &users)?;
-    let view = WorkerView {
+    let view = WorkerToShow {
         names: mapped.names(),
         height: mapped.shape().height(),
         finisher: Finisher::Process(path),
@@ -66,7 +66,7 @@ fn push_tables(
     out: &mut String,
     alloc: Global,
     mapped: &ProcessFile,
-    view: &WorkerView<'_>,
+    view: &WorkerToShow<'_>,
     rows: &[WorkerRow],
 ) -> Result<(), AllocError> {
     let locks = lock_rows(alloc, mapped)?;

@@ -9,7 +9,7 @@ pub fn about<'a>() -> &'a str {
 
 /// The program's version, and below it the version of the toolchain that proved it.
 pub fn version<'a>() -> &'a str {
-    "0.2.0\nrattle-kit-13f logic dac8208d650f15bf"
+    "0.3.0\nrattle-kit-13f logic dac8208d650f15bf"
 }
 
 pub fn example<'a>() -> &'a str {

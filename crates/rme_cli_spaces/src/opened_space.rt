@@ -6,7 +6,7 @@
 ghost use Rattle.std.specs.Prelude.{◌≡◌, []};
 ghost use Rattle.rme_durable_server.specs.ServerHistories.{server_state};
 
-use rme_cli_durable::{LoggedState, logged_state};
+use rme_cli_durable::{StateAndLog, state_and_log};
 use rme_cli_messages::CliFault;
 use rme_durable_file::{
     RecoveredFile, StateFile, StateName, SystemFile, check_replaceable, open_state_file,
@@ -28,7 +28,7 @@ pub(crate) type SpaceLog<'a> = StateFile<'a, SystemFile<'a>>;
 /// The opened state of a space, with its log.
 #[derive(Drop)]
 pub(crate) struct OpenedSpace<'a> {
-    pub(crate) state: LoggedState<'a>,
+    pub(crate) state: StateAndLog<'a>,
     ghost lines: { state.executor.lines ≡ [] },
 }
 
@@ -84,7 +84,7 @@ fn open_here<'a>(file: SpaceFile<'a>) -> Result<Option<Box<OpenedSpace<'a>, Glob
     check_replaceable(rt, name.path())?;
     let opened = RecoveredFile::read(rt, file)?.open(rt)?;
     let space = OpenedSpace {
-        state: logged_state(opened),
+        state: state_and_log(opened),
     };
     match Box::new(rt.alloc(), space) {
         Ok(space) => Ok(Some(space)),
@@ -110,7 +110,7 @@ pub(crate) fn server_of<'a, J: ServerTag + Send + Sync + 'static, R: Threads + W
             requires log { opened.value.state.log ≡ J.book }
             requires named { opened.value.state.names ≡ J.opening.names }
             requires begins { J.opening.begins (server_state opened.value.state.executor) }
-        { server_beside(threads, scope, (alloc, setting), opened) },
+        { server_beside(threads, scope, alloc, setting, opened) },
     )
 }
 
@@ -118,7 +118,8 @@ pub(crate) fn server_of<'a, J: ServerTag + Send + Sync + 'static, R: Threads + W
 fn server_beside<'s, 'a: 's, E, J: ServerTag + Send + Sync + 's, R: Threads + Wait>(
     threads: &'s R,
     scope: &Scope<'s, E>,
-    using: (Global, ServerSetting),
+    alloc: Global,
+    setting: ServerSetting,
     opened: Box<OpenedSpace<'a>, Global>,
 ) -> Result<Box<DurableServer<SpaceLog<'a>, Closer, J>, Global>, Refusal>
     requires log { opened.value.state.log ≡ J.book }
@@ -129,7 +130,7 @@ fn server_beside<'s, 'a: 's, E, J: ServerTag + Send + Sync + 's, R: Threads + Wa
         requires log { opened.value.state.log ≡ J.book }
         requires named { opened.value.state.names ≡ J.opening.names }
         requires begins { J.opening.begins (server_state opened.value.state.executor) }
-    { server_here(using, opened) };
+    { server_here(alloc, setting, opened) };
     let Ok(making) = Builder::new()
         .stack_size(OPENING_STACK)
         .spawn_scoped(scope, making)
@@ -141,16 +142,16 @@ fn server_beside<'s, 'a: 's, E, J: ServerTag + Send + Sync + 's, R: Threads + Wa
 
 /// Makes the server of an opened space in this thread.
 fn server_here<'a, J: ServerTag>(
-    using: (Global, ServerSetting),
+    alloc: Global,
+    setting: ServerSetting,
     opened: Box<OpenedSpace<'a>, Global>,
 ) -> Result<Box<DurableServer<SpaceLog<'a>, Closer, J>, Global>, Refusal>
     requires log { opened.value.state.log ≡ J.book }
     requires named { opened.value.state.names ≡ J.opening.names }
     requires begins { J.opening.begins (server_state opened.value.state.executor) }
 {
-    let (alloc, setting) = using;
     let OpenedSpace { state } = Box::into_inner(opened);
-    let LoggedState {
+    let StateAndLog {
         names,
         executor,
         log,

@@ -23,7 +23,7 @@ pub(crate) struct MovingSession<'g> {
 }
 
 /// A visit to a space.
-pub(crate) type Visit<'g> = SpaceVisit<MovingSession<'g>>;
+pub(crate) type DirectoryVisit<'g> = SpaceVisit<MovingSession<'g>>;
 
 /// The spaces of a server: their folder, those that are open, and the keys, if the server has some.
 #[derive(Drop)]
@@ -39,7 +39,7 @@ impl<'g> ServedSpaces<'_, 'g> {
         &self,
         rt: &R,
         session: MovingSession<'g>,
-        visit: Option<Visit<'g>>,
+        visit: Option<DirectoryVisit<'g>>,
     ) {
         let refused = match visit {
             Some(visit) => self.registry.hand_over(rt, visit, session),
@@ -57,7 +57,7 @@ impl<'g> SpaceDirectory for ServedSpaces<'_, 'g> {
     ghost use Rattle.std.specs.Prelude.{◌≡◌, ⊤, IfOk};
     ghost use Rattle.rme_space_registry.specs.Visits.{visit_name};
 
-    type Visit = Visit<'g>;
+    type Visit = DirectoryVisit<'g>;
 
     ghost calls = { λ _. record {
       created = λ _ _. ⊤;
@@ -70,7 +70,11 @@ impl<'g> SpaceDirectory for ServedSpaces<'_, 'g> {
         self.folder.create(space)
     }
 
-    fn enter<R: Wait + Clock>(&self, rt: &R, name: &SpaceName) -> Result<Visit<'g>, Refusal> {
+    fn enter<R: Wait + Clock>(
+        &self,
+        rt: &R,
+        name: &SpaceName,
+    ) -> Result<DirectoryVisit<'g>, Refusal> {
         self.registry.enter(rt, name)
     }
 

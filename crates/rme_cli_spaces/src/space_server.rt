@@ -4,7 +4,7 @@ ghost use Rattle.std.specs.Prelude.{◌≡◌};
 ghost use Rattle.rme_durable_server.specs.ServerHistories.{server_state};
 
 use crate::opened_space::{OpenedSpace, SpaceLog, server_of};
-use crate::space_directory::{MovingSession, ServedSpaces, Visit};
+use crate::space_directory::{DirectoryVisit, MovingSession, ServedSpaces};
 use crate::space_sessions::SpaceSessions;
 use rme_cli_listen::StderrObserver;
 use rme_durable_file::StateName;
@@ -217,7 +217,7 @@ fn start_session<'s, 'g: 's, E, J: ServerTag + Send + Sync, R: Threads + Wait + 
     scope: &Scope<'s, E>,
     server: &'s SpaceServer<'_, '_, 'g, '_, J>,
     session: MovingSession<'g>,
-    visit: Visit<'g>,
+    visit: DirectoryVisit<'g>,
 ) {
     if let Err((session, _visit)) = server.sessions.put_waiting(threads, session, visit) {
         session.connection.finish(threads);
@@ -268,7 +268,7 @@ fn run_session<'g, J: ServerTag, R: Wait + Clock>(
     threads: &R,
     server: &SpaceServer<'_, '_, 'g, '_, J>,
     session: MovingSession<'g>,
-    visit: Visit<'g>,
+    visit: DirectoryVisit<'g>,
 ) {
     let number = session.connection.number();
     let is_known = match session.connection.closer() {
@@ -297,7 +297,7 @@ fn answer_session<'g, J: ServerTag, R: Wait + Clock>(
     threads: &R,
     server: &SpaceServer<'_, '_, 'g, '_, J>,
     session: MovingSession<'g>,
-) -> (MovingSession<'g>, Option<Visit<'g>>) {
+) -> (MovingSession<'g>, Option<DirectoryVisit<'g>>) {
     let MovingSession { connection, access } = session;
     let mut connection = connection;
     let spaces = server.space.context.spaces;

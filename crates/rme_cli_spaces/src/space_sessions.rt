@@ -1,6 +1,6 @@
 //! The sessions of a space.
 
-use crate::space_directory::{MovingSession, Visit};
+use crate::space_directory::{DirectoryVisit, MovingSession};
 use rme_session_loop::CloseHandle;
 use rme_session_server::Closer;
 use std::alloc::Global;
@@ -9,7 +9,7 @@ use std::sync::{Mutex, Wait};
 /// The sessions of a space: those that wait for their thread, and those that have one.
 #[derive(Drop)]
 pub(crate) struct SpaceSessions<'g> {
-    waiting: Mutex<Vec<(MovingSession<'g>, Visit<'g>)>>,
+    waiting: Mutex<Vec<(MovingSession<'g>, DirectoryVisit<'g>)>>,
     running: Mutex<RunningSessions>,
 }
 
@@ -44,8 +44,8 @@ impl<'g> SpaceSessions<'g> {
         &self,
         rt: &R,
         session: MovingSession<'g>,
-        visit: Visit<'g>,
-    ) -> Result<(), (MovingSession<'g>, Visit<'g>)> {
+        visit: DirectoryVisit<'g>,
+    ) -> Result<(), (MovingSession<'g>, DirectoryVisit<'g>)> {
         match self.waiting.lock(rt).push((session, visit)) {
             Ok(()) => Ok(()),
             Err(refused) => Err(refused.value),
@@ -53,7 +53,10 @@ impl<'g> SpaceSessions<'g> {
     }
 
     /// A session that waits for its thread.
-    pub(crate) fn take_waiting<R: Wait>(&self, rt: &R) -> Option<(MovingSession<'g>, Visit<'g>)> {
+    pub(crate) fn take_waiting<R: Wait>(
+        &self,
+        rt: &R,
+    ) -> Option<(MovingSession<'g>, DirectoryVisit<'g>)> {
         self.waiting.lock(rt).pop()
     }
 

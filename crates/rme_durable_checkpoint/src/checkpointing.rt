@@ -13,7 +13,7 @@ use crate::outgoing::next_header;
 use crate::setting::set_cells;
 use crate::validation::{ComparedState, is_checkpoint_same};
 use rme_durable_epochs::{Base, EpochExecutor, EpochStart};
-use rme_durable_format::{LogHeader, RecoveredLog, RecoveryProgress, push_header, recover_log};
+use rme_durable_format::{LogHeader, NoProgress, RecoveredLog, push_header, recover_log};
 use rme_history::replay;
 use rme_line_text::push_opening;
 use rme_script::Row;
@@ -73,13 +73,6 @@ impl RebuiltEpoch {
             rows: self.new_rows.as_slice(),
         }
     }
-}
-
-/// The progress of recovery is not reported.
-struct NoProgress;
-
-impl RecoveryProgress for NoProgress {
-    fn read(&self, _lines: u64) {}
 }
 
 impl Checkpoint {

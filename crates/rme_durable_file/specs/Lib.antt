@@ -1,9 +1,7 @@
 -- In reading order: the effect of one call on the bytes of a file; a file as the store of a log; how a server begins
--- with a file, and how its state grows; the faults of files that are no state; and the codes of the causes that a
--- server reports.
+-- with a file, and how its state grows; and the faults of files that are no state.
 pub mod DiskFiles
 pub mod FileStores
 pub mod Starts
 pub mod Growths
 pub mod BadLogs
-pub mod Causes

@@ -4,9 +4,6 @@ use rme_durable_writes::SealError;
 use std::alloc::AllocError;
 use std::{fmt, io};
 
-/// The first code that is not a number of the system.
-const OWN: u64 = 1 << 32;
-
 /// Why a file could not be written or replaced. It is `Copy`, so that another thread can report it later.
 #[derive(Clone, Copy, Debug, PartialEq, Eq)]
 pub enum Cause {
@@ -25,46 +22,6 @@ pub enum Cause {
     NotLines,
     /// The system gave no error number.
     Unknown,
-}
-
-impl Cause {
-    ghost use Rattle.std.specs.Prelude.{◌≡◌};
-    ghost use Rattle.rme_durable_file.specs.Causes.{IsCause, cause_code};
-    ghost use Rattle.rme_durable_file.specs.declared.cause.Cause.{Cause};
-
-    /// The code of the cause.
-    pub(crate) fn code(self) -> u64
-        ensures { result ≡ cause_code self }
-    {
-        match self {
-            Cause::System(number) => u64::from(number),
-            Cause::NoMemory => OWN,
-            Cause::NameLost => OWN + 1,
-            Cause::Locked => OWN + 2,
-            Cause::NameUnsure => OWN + 3,
-            Cause::NotOurs => OWN + 4,
-            Cause::NotLines => OWN + 5,
-            Cause::Unknown => OWN + 6,
-        }
-    }
-
-    /// The cause of a code.
-    pub(crate) fn of_code(code: u64) -> Cause
-        ensures { (cause : Cause) → IsCause cause → code ≡ cause_code cause → result ≡ cause }
-    {
-        match u32::try_from(code) {
-            Ok(number) => Cause::System(number),
-            Err(_) => match code - OWN {
-                0 => Cause::NoMemory,
-                1 => Cause::NameLost,
-                2 => Cause::Locked,
-                3 => Cause::NameUnsure,
-                4 => Cause::NotOurs,
-                5 => Cause::NotLines,
-                _ => Cause::Unknown,
-            },
-        }
-    }
 }
 
 impl From<io::Error> for Cause {

@@ -5,6 +5,7 @@ use rme_cli_messages::{MessageLimit, RepeatCount, Stderr, escape_controls};
 use std::fs;
 use std::fs::Metadata;
 use std::os::unix::fs::MetadataExt;
+use std::sync::Mutex;
 use std::sync::atomic::{AtomicBool, AtomicU64, Ordering};
 
 /// The name of a state's file, and the file that it must name. The file itself is with the thread that writes to it;
@@ -34,7 +35,8 @@ pub struct StateName {
 #[derive(Drop)]
 struct FaultReport {
     count: AtomicU64,
-    cause: AtomicU64,
+    /// It is locked for no longer than a copy takes.
+    cause: Mutex<Cause>,
     limit: MessageLimit,
 }
 
@@ -42,13 +44,16 @@ impl FaultReport {
     fn new() -> FaultReport {
         FaultReport {
             count: AtomicU64::new(0),
-            cause: AtomicU64::new(Cause::Unknown.code()),
+            cause: Mutex::new(Cause::Unknown),
             limit: MessageLimit::new(),
         }
     }
 
+    /// Notes the fault. If another thread has the cause at this moment, the fault is counted with the earlier cause.
     fn note(&self, cause: Cause) {
-        self.cause.store(cause.code(), Ordering::SeqCst);
+        if let Some(mut last) = self.cause.try_lock() {
+            *last = cause;
+        }
         self.count.fetch_add(1, Ordering::SeqCst);
     }
 
@@ -57,8 +62,8 @@ impl FaultReport {
         if self.count.load(Ordering::SeqCst) == 0 || !self.limit.may_tell(stderr) {
             return None;
         }
-        let count = self.count.swap(0, Ordering::SeqCst);
-        Some((count, Cause::of_code(self.cause.load(Ordering::SeqCst))))
+        let cause = *self.cause.try_lock()?;
+        Some((self.count.swap(0, Ordering::SeqCst), cause))
     }
 }
 

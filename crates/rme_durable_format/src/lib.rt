@@ -28,4 +28,4 @@ pub use fault::{BadLog, LineFault};
 pub use file_lines::{first_two_lines, whole_lines};
 pub use header::{LastJob, LogHeader, push_header};
 pub use lives::{count_batch, life_of};
-pub use recovery::{RecoveredLog, RecoveryProgress, recover_log};
+pub use recovery::{NoProgress, RecoveredLog, RecoveryProgress, recover_log};

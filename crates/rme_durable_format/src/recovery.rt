@@ -41,6 +41,13 @@ pub trait RecoveryProgress {
     fn read(&self, lines: u64);
 }
 
+/// The progress is reported to nobody.
+pub struct NoProgress;
+
+impl RecoveryProgress for NoProgress {
+    fn read(&self, _lines: u64) {}
+}
+
 /// The number of lines between two reports of progress.
 const TELLING: u64 = 65_536;
 

@@ -49,21 +49,21 @@ impl Standing {
 
 /// The standing of a worker, and how long it has had it.
 #[derive(Clone, Copy)]
-struct Stay {
+struct NotedStanding {
     /// `None` before it is first seen.
     standing: Option<Standing>,
     /// When the standing last changed; `None` if it never did, or if the clock failed then.
     since: Option<Instant>,
 }
 
-impl Stay {
-    const UNSEEN: Stay = Stay {
+impl NotedStanding {
+    const UNSEEN: NotedStanding = NotedStanding {
         standing: None,
         since: None,
     };
 
     /// The stay of the same worker, seen with this standing.
-    fn seen<R: Clock>(self, rt: &R, standing: Standing) -> Stay {
+    fn seen<R: Clock>(self, rt: &R, standing: Standing) -> NotedStanding {
         if self.standing == Some(standing) {
             return self;
         }
@@ -71,7 +71,7 @@ impl Stay {
             Some(_) => Instant::now(rt).ok(),
             None => None,
         };
-        Stay {
+        NotedStanding {
             standing: Some(standing),
             since,
         }
@@ -82,7 +82,7 @@ impl Stay {
 #[derive(Drop)]
 pub struct WorkerNotes {
     notes: Vec<WorkerNote>,
-    stays: Vec<Stay>,
+    stays: Vec<NotedStanding>,
     /// When the notes began; `None` if the clock failed then.
     start: Option<Instant>,
 }
@@ -109,7 +109,7 @@ impl WorkerNotes {
         let Ok(notes) = vec![in alloc; WorkerNote::FIRST; workers as usize] else {
             return Err(NoMemory);
         };
-        let Ok(stays) = vec![in alloc; Stay::UNSEEN; workers as usize] else {
+        let Ok(stays) = vec![in alloc; NotedStanding::UNSEEN; workers as usize] else {
             return Err(NoMemory);
         };
         Ok(WorkerNotes {

@@ -1,5 +1,5 @@
 -- Bits are shifted one after the other, and each for itself: so the remainder of a sum is the sum of the remainders, and
--- four bytes can be taken at once.
+-- eight bytes can be taken at once.
 use Rattle.std.proofs.Common.{◌≡◌, ◌⊎◌, ℕ, zero, suc, ◌+◌, ◌*◌, ◌/◌, ◌%◌, ◌^◌, ◌<◌, ◌≤◌, List, [], ◌∷◌, ◌++◌, length, get_or, drop, refl, sym, ap, ap₂, ◌∙◌, arith, inl, inr}
 use Rattle.std.specs.Int.Bits.{bit_xor, xor_self, xor_zero_r}
 use Rattle.std.proofs.lemmas.Bool.{cases_eq, cases_lt}
@@ -7,7 +7,7 @@ use Rattle.std.proofs.lemmas.List.{get_or_append_left}
 use Rattle.std.proofs.Math.Seq.{get_or-append_seam}
 use Rattle.std.proofs.lemmas.Nat.{xor_comm, xor_shr, xor_mod, xor_block, shr-shr, shr_split, mod_below, div-mul-add, mod-mul-add}
 use lib.Bits.{xor_assoc}
-use Rattle.rme_durable_writes.specs.Checksums.{crc_after, next_crc, shift_bit, shift_bits}
+use Rattle.rme_durable_writes.specs.Checksums.{AreRemainders, crc_after, next_crc, remainder_at, shift_bit, shift_bits}
 
 pub shift_more : (left count crc : ℕ) → left ≡ suc count → shift_bits left crc ≡ shift_bits count (shift_bit crc)
 unfolding shift_bits
@@ -143,34 +143,90 @@ module _ (crc a b c d : ℕ) (crc_small : crc < 2 ^ 32) (a_small : a < 256) (b_s
       let last : next_crc (crc / 16777216) d ≡ shift_bits 8 fourth = byte_step (crc / 16777216) d d_small ∙ ap (λ (k : ℕ). bit_xor (shift_bits 8 fourth) k) none ∙ xor_zero_r (shift_bits 8 fourth) in
       sym (ap (λ (k : ℕ). next_crc k d) three_steps ∙ beside 24 first _ d _ (beside 16 second _ d _ (beside 8 third (crc / 16777216) d _ last)))
 
-too_short : (n : ℕ) → 4 ≤ n → n < 4 → ⊥
+-- A byte whose place has no remainder of earlier bytes.
+last_beside : (count n byte : ℕ) → next_crc (shift_bits count n) byte ≡ bit_xor (shift_bits (count + 8) n) (shift_bits 8 byte)
+last_beside count n byte = shift_sum 8 (shift_bits count n) byte ∙ ap (λ (k : ℕ). bit_xor k (shift_bits 8 byte)) (shift_twice count 8 n)
+
+-- Four more bytes behind four whose remainders these are.
+module _ (p q r s e f g h : ℕ) where
+  five_steps : next_crc (bit_xor (shift_bits 32 p) (bit_xor (shift_bits 24 q) (bit_xor (shift_bits 16 r) (shift_bits 8 s)))) e
+      ≡ bit_xor (shift_bits 40 p) (bit_xor (shift_bits 32 q) (bit_xor (shift_bits 24 r) (bit_xor (shift_bits 16 s) (shift_bits 8 e))))
+  five_steps = beside 32 p _ e _ (beside 24 q _ e _ (beside 16 r _ e _ (last_beside 8 s e)))
+
+  six_steps : next_crc (bit_xor (shift_bits 40 p) (bit_xor (shift_bits 32 q) (bit_xor (shift_bits 24 r) (bit_xor (shift_bits 16 s) (shift_bits 8 e))))) f
+      ≡ bit_xor (shift_bits 48 p) (bit_xor (shift_bits 40 q) (bit_xor (shift_bits 32 r) (bit_xor (shift_bits 24 s) (bit_xor (shift_bits 16 e) (shift_bits 8 f)))))
+  six_steps = beside 40 p _ f _ (beside 32 q _ f _ (beside 24 r _ f _ (beside 16 s _ f _ (last_beside 8 e f))))
+
+  seven_steps : next_crc (bit_xor (shift_bits 48 p) (bit_xor (shift_bits 40 q) (bit_xor (shift_bits 32 r) (bit_xor (shift_bits 24 s) (bit_xor (shift_bits 16 e) (shift_bits 8 f)))))) g
+      ≡ bit_xor (shift_bits 56 p) (bit_xor (shift_bits 48 q) (bit_xor (shift_bits 40 r) (bit_xor (shift_bits 32 s) (bit_xor (shift_bits 24 e) (bit_xor (shift_bits 16 f) (shift_bits 8 g))))))
+  seven_steps = beside 48 p _ g _ (beside 40 q _ g _ (beside 32 r _ g _ (beside 24 s _ g _ (beside 16 e _ g _ (last_beside 8 f g)))))
+
+  eight_steps : next_crc (bit_xor (shift_bits 56 p) (bit_xor (shift_bits 48 q) (bit_xor (shift_bits 40 r) (bit_xor (shift_bits 32 s) (bit_xor (shift_bits 24 e) (bit_xor (shift_bits 16 f) (shift_bits 8 g))))))) h
+      ≡ bit_xor (shift_bits 64 p) (bit_xor (shift_bits 56 q) (bit_xor (shift_bits 48 r) (bit_xor (shift_bits 40 s) (bit_xor (shift_bits 32 e) (bit_xor (shift_bits 24 f) (bit_xor (shift_bits 16 g) (shift_bits 8 h)))))))
+  eight_steps = beside 56 p _ h _ (beside 48 q _ h _ (beside 40 r _ h _ (beside 32 s _ h _ (beside 24 e _ h _ (beside 16 f _ h _ (last_beside 8 g h))))))
+
+  pub four_behind : bit_xor (shift_bits 64 p) (bit_xor (shift_bits 56 q) (bit_xor (shift_bits 48 r) (bit_xor (shift_bits 40 s) (bit_xor (shift_bits 32 e) (bit_xor (shift_bits 24 f) (bit_xor (shift_bits 16 g) (shift_bits 8 h)))))))
+      ≡ next_crc (next_crc (next_crc (next_crc (bit_xor (shift_bits 32 p) (bit_xor (shift_bits 24 q) (bit_xor (shift_bits 16 r) (shift_bits 8 s)))) e) f) g) h
+  four_behind =
+      sym (ap (λ (k : ℕ). next_crc (next_crc (next_crc k f) g) h) five_steps ∙ ap (λ (k : ℕ). next_crc (next_crc k g) h) six_steps
+      ∙ ap (λ (k : ℕ). next_crc k h) seven_steps ∙ eight_steps)
+
+too_short : (n : ℕ) → 8 ≤ n → n < 8 → ⊥
 too_short n long short = omega (arith, long, short)
 
--- The next four bytes at once.
-pub four_more : (crc : ℕ) (bytes : List ℕ) → 4 ≤ length bytes → crc < 2 ^ 32 → ((place : ℕ) → get_or bytes place 0 < 256) → (p q r s : ℕ)
-    → p ≡ shift_bits 32 (bit_xor crc (get_or bytes 0 0) % 256) → q ≡ shift_bits 24 (bit_xor (crc / 256) (get_or bytes 1 0) % 256)
-    → r ≡ shift_bits 16 (bit_xor (crc / 65536) (get_or bytes 2 0) % 256) → s ≡ shift_bits 8 (bit_xor (crc / 16777216) (get_or bytes 3 0) % 256)
-    → crc_after (bit_xor p (bit_xor q (bit_xor r s))) (drop 4 bytes) ≡ crc_after crc bytes
-four_more crc [] long small bytes p q r s p_is q_is r_is s_is = absurd (too_short 0 long (omega arith))
-four_more crc (a ∷ []) long small bytes p q r s p_is q_is r_is s_is = absurd (too_short 1 long (omega arith))
-four_more crc (a ∷ b ∷ []) long small bytes p q r s p_is q_is r_is s_is = absurd (too_short 2 long (omega arith))
-four_more crc (a ∷ b ∷ c ∷ []) long small bytes p q r s p_is q_is r_is s_is = absurd (too_short 3 long (omega arith))
-four_more crc (a ∷ b ∷ c ∷ d ∷ rest) long small bytes p q r s p_is q_is r_is s_is =
-    let parts = ap₂ bit_xor p_is (ap₂ bit_xor q_is (ap₂ bit_xor r_is s_is)) in
-    ap (λ (k : ℕ). crc_after k rest) (parts ∙ four_steps crc a b c d small (bytes 0) (bytes 1) (bytes 2) (bytes 3))
+-- The remainders of the next eight bytes, the first of them added to what was left.
+pub record AreNextEight (crc : ℕ) (bytes : List ℕ) (a b c d e f g h : ℕ) : Type 0 where
+  pub first : a ≡ shift_bits 64 (bit_xor crc (get_or bytes 0 0) % 256)
+  pub second : b ≡ shift_bits 56 (bit_xor (crc / 256) (get_or bytes 1 0) % 256)
+  pub third : c ≡ shift_bits 48 (bit_xor (crc / 65536) (get_or bytes 2 0) % 256)
+  pub fourth : d ≡ shift_bits 40 (bit_xor (crc / 16777216) (get_or bytes 3 0) % 256)
+  pub fifth : e ≡ shift_bits 32 (get_or bytes 4 0 % 256)
+  pub sixth : f ≡ shift_bits 24 (get_or bytes 5 0 % 256)
+  pub seventh : g ≡ shift_bits 16 (get_or bytes 6 0 % 256)
+  pub eighth : h ≡ shift_bits 8 (get_or bytes 7 0 % 256)
+
+byte_shifted : (count byte value : ℕ) → byte < 256 → value ≡ shift_bits count (byte % 256) → value ≡ shift_bits count byte
+byte_shifted count byte value small is = is ∙ ap (λ (k : ℕ). shift_bits count k) (let same : byte % 256 ≡ byte = omega (arith, small) in same)
+
+-- The next eight bytes at once.
+pub eight_more : (crc : ℕ) (bytes : List ℕ) → 8 ≤ length bytes → crc < 2 ^ 32 → ((place : ℕ) → get_or bytes place 0 < 256) → (p q r s t u v w : ℕ)
+    → AreNextEight crc bytes p q r s t u v w
+    → crc_after (bit_xor p (bit_xor q (bit_xor r (bit_xor s (bit_xor t (bit_xor u (bit_xor v w))))))) (drop 8 bytes) ≡ crc_after crc bytes
+eight_more crc [] long small bytes p q r s t u v w are = absurd (too_short 0 long (omega arith))
+eight_more crc (a ∷ []) long small bytes p q r s t u v w are = absurd (too_short 1 long (omega arith))
+eight_more crc (a ∷ b ∷ []) long small bytes p q r s t u v w are = absurd (too_short 2 long (omega arith))
+eight_more crc (a ∷ b ∷ c ∷ []) long small bytes p q r s t u v w are = absurd (too_short 3 long (omega arith))
+eight_more crc (a ∷ b ∷ c ∷ d ∷ []) long small bytes p q r s t u v w are = absurd (too_short 4 long (omega arith))
+eight_more crc (a ∷ b ∷ c ∷ d ∷ e ∷ []) long small bytes p q r s t u v w are = absurd (too_short 5 long (omega arith))
+eight_more crc (a ∷ b ∷ c ∷ d ∷ e ∷ f ∷ []) long small bytes p q r s t u v w are = absurd (too_short 6 long (omega arith))
+eight_more crc (a ∷ b ∷ c ∷ d ∷ e ∷ f ∷ g ∷ []) long small bytes p q r s t u v w are = absurd (too_short 7 long (omega arith))
+eight_more crc (a ∷ b ∷ c ∷ d ∷ e ∷ f ∷ g ∷ h ∷ rest) long small bytes p q r s t u v w are =
+    let end = ap₂ bit_xor (byte_shifted 24 f u (bytes 5) are.sixth) (ap₂ bit_xor (byte_shifted 16 g v (bytes 6) are.seventh) (byte_shifted 8 h w (bytes 7) are.eighth)) in
+    let parts = ap₂ bit_xor are.first (ap₂ bit_xor are.second (ap₂ bit_xor are.third (ap₂ bit_xor are.fourth (ap₂ bit_xor (byte_shifted 32 e t (bytes 4) are.fifth) end)))) in
+    let four = four_steps crc a b c d small (bytes 0) (bytes 1) (bytes 2) (bytes 3) in
+    ap (λ (k : ℕ). crc_after k rest) (parts ∙ four_behind _ _ _ _ e f g h ∙ ap (λ (k : ℕ). next_crc (next_crc (next_crc (next_crc k e) f) g) h) four)
 
 -- ---- the table
 
--- The first entries of a table are the remainders of their bytes.
-abbrev pub AreRemainders : List ℕ → ℕ → Type 0
-AreRemainders table count = (entry : ℕ) → entry < count → get_or table entry 0 ≡ shift_bits (8 * (entry / 256 + 1)) (entry % 256)
+-- The entry of the same byte, with one zero byte less behind it, and one more byte behind that.
+pub entry_behind : (entry earlier : ℕ) → entry ≡ earlier + 256 → shift_bits 8 (remainder_at earlier) ≡ remainder_at entry
+entry_behind entry earlier is =
+    let byte : earlier % 256 ≡ entry % 256 = omega (arith, is) in
+    let bits : 8 * (earlier / 256 + 1) + 8 ≡ 8 * (entry / 256 + 1) = omega (arith, is) in
+    shift_twice (8 * (earlier / 256 + 1)) 8 (earlier % 256) ∙ ap₂ shift_bits bits byte
 
-pub one_more_entry : (table : List ℕ) (count value : ℕ) → length table ≡ count → AreRemainders table count → value ≡ shift_bits (8 * (count / 256 + 1)) (count % 256) → AreRemainders (table ++ value ∷ []) (count + 1)
+pub first_entry : (entry : ℕ) → entry < 256 → shift_bits 8 entry ≡ remainder_at entry
+first_entry entry below =
+    let byte : entry ≡ entry % 256 = omega (arith, below) in
+    let bits : 8 ≡ 8 * (entry / 256 + 1) = omega (arith, below) in
+    ap₂ shift_bits bits byte
+
+pub one_more_entry : (table : List ℕ) (count value : ℕ) → length table ≡ count → AreRemainders table count → value ≡ remainder_at count → AreRemainders (table ++ value ∷ []) (count + 1)
 one_more_entry table count value long are is entry below =
     elim (cases_lt entry count) [
       | inl before ↦ get_or_append_left table (value ∷ []) 0 entry (omega (arith, before, long)) ∙ are entry before
       | inr behind ↦
           let last : entry ≡ count = omega (arith, below, behind) in
           let there : entry ≡ length table = omega (arith, last, long) in
-          ap (λ (n : ℕ). get_or (table ++ value ∷ []) n 0) there ∙ get_or-append_seam table value [] 0 ∙ is ∙ ap (λ (n : ℕ). shift_bits (8 * (n / 256 + 1)) (n % 256)) (sym last)
+          ap (λ (n : ℕ). get_or (table ++ value ∷ []) n 0) there ∙ get_or-append_seam table value [] 0 ∙ is ∙ ap (λ (n : ℕ). remainder_at n) (sym last)
     ]

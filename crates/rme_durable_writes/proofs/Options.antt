@@ -1,5 +1,5 @@
 -- Of options: what is there is not missing, and is one value.
-use Rattle.std.proofs.Common.{◌≡◌, ℕ, List, Option, Some, None, is_some, false, true, sym, arith}
+use Rattle.std.proofs.Common.{◌≡◌, ℕ, List, Option, Some, None, is_some, false, true, sym, subst, arith}
 use Rattle.std.proofs.lemmas.Bool.{false≢true}
 use Rattle.memchr.specs.Find.{FindsNeedle, OccursAt}
 use Rattle.rme_durable_writes.specs.Writes.{AreWriteLines, sum_mark}
@@ -14,6 +14,10 @@ none_some {A} {x} option none some = none_not_some x option none some
 pub some_same : {A : Type 0} {x y : A} (option : Option A) → option ≡ Some x → option ≡ Some y → x ≡ y
 some_same (Some z) one other = cc
 some_same None one other = absurd cc
+
+-- What a finder of the mark finds.
+pub found_by : (lines needle : List ℕ) → needle ≡ sum_mark → (found : Option ℕ) → FindsNeedle lines needle 0 found → FindsNeedle lines sum_mark 0 found
+found_by lines needle are found finds = subst (λ (mark : List ℕ). FindsNeedle lines mark 0 found) are finds
 
 -- Where the mark is not found, it stands nowhere.
 pub plain_lines : (lines : List ℕ) (found : Option ℕ) → FindsNeedle lines sum_mark 0 found → is_some found ≡ false → (at : ℕ) → OccursAt lines sum_mark at → ⊥

@@ -1,5 +1,5 @@
 -- CRC-32C, the checksum of writes: the polynomial of Castagnoli (RFC 3720, appendix B.4), one bit at a time.
-use Rattle.std.specs.Prelude.{ℕ, zero, suc, ◌/◌, ◌%◌, ◌==◌, List, bit_xor, if◌then◌else◌}
+use Rattle.std.specs.Prelude.{◌≡◌, ◌<◌, ◌+◌, ◌*◌, ℕ, zero, suc, ◌/◌, ◌%◌, ◌==◌, List, bit_xor, get_or, if◌then◌else◌}
 use Rattle.std.specs.List.{fold}
 
 -- The remainder after one more bit, which leaves at the low end: so the bits of the polynomial stand reversed.
@@ -30,3 +30,11 @@ checksum_of crc = bit_xor crc all_ones
 -- The checksum of some bytes.
 abbrev pub crc32c : List ℕ → ℕ
 crc32c bytes = checksum_of (crc_after all_ones bytes)
+
+-- The entry of a table at this place: the remainder of a byte and of some zero bytes behind it.
+abbrev pub remainder_at : ℕ → ℕ
+remainder_at entry = shift_bits (8 * (entry / 256 + 1)) (entry % 256)
+
+-- The first entries of a table are these remainders.
+abbrev pub AreRemainders : List ℕ → ℕ → Type 0
+AreRemainders table count = (entry : ℕ) → entry < count → get_or table entry 0 ≡ remainder_at entry

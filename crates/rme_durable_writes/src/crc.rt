@@ -1,15 +1,18 @@
-//! CRC-32C, four bytes at a time by a table (Kounavis and Berry 2005 have four to eight).
+//! CRC-32C, eight bytes at a time by a table (Kounavis and Berry 2005).
 
-ghost use Rattle.std.specs.Prelude.{◌≡◌, ◌<◌, ◌+◌, ◌*◌, ◌/◌, ◌%◌, ℕ, get_or, vec_len};
-ghost use Rattle.rme_durable_writes.specs.Checksums.{shift_bit, shift_bits};
+ghost use Rattle.std.specs.Prelude.{◌≡◌, ◌<◌, length, vec_len};
+ghost use Rattle.rme_durable_writes.specs.Checksums.{AreRemainders, remainder_at, shift_bit, shift_bits};
 
 use std::alloc::{AllocError, Global};
 
 /// The polynomial of Castagnoli, its bits reversed.
 const POLYNOMIAL: u32 = 0x82f6_3b78;
 
-/// The number of entries of the table: one for each byte and for each of the four places at which it can stand.
-const ENTRIES: u32 = 4 * 256;
+/// The number of values of a byte.
+const BYTES: u32 = 256;
+
+/// The number of entries of the table: one for each byte and for each of the eight places at which it can stand.
+const ENTRIES: u32 = 8 * BYTES;
 
 /// The remainder before any byte.
 const FIRST: u32 = 0xffff_ffff;
@@ -19,9 +22,8 @@ const FIRST: u32 = 0xffff_ffff;
 #[derive(Drop)]
 pub(crate) struct Crc32c {
     remainders: Vec<u32>,
-    ghost long: { vec_len remainders ≡ 1024 },
-    ghost remainders_are: { (entry : ℕ) → entry < 1024
-        → get_or remainders.items entry 0 ≡ shift_bits (8 * (entry / 256 + 1)) (entry % 256) },
+    ghost long: { vec_len remainders ≡ 2048 },
+    ghost remainders_are: { AreRemainders remainders.items 2048 },
 }
 
 impl Crc32c {
@@ -32,7 +34,8 @@ impl Crc32c {
     pub(crate) fn new(alloc: Global) -> Result<Crc32c, AllocError> {
         let mut remainders = Vec::with_capacity(alloc, ENTRIES as usize)?;
         for entry in 0..ENTRIES {
-            remainders.push(shifted(entry % 256, 8 * (entry / 256 + 1)))?;
+            let remainder = next_remainder(remainders.as_slice(), entry);
+            remainders.push(remainder)?;
         }
         Ok(Crc32c { remainders })
     }
@@ -57,11 +60,14 @@ impl Crc32c {
     {
         let mut crc = crc;
         let mut rest = bytes;
-        while let [a, b, c, d, behind @ ..] = rest {
-            crc = self.remainder(3, crc ^ u32::from(*a))
-                ^ (self.remainder(2, crc / 0x100 ^ u32::from(*b))
-                    ^ (self.remainder(1, crc / 0x1_0000 ^ u32::from(*c))
-                        ^ self.remainder(0, crc / 0x100_0000 ^ u32::from(*d))));
+        while let [a, b, c, d, e, f, g, h, behind @ ..] = rest {
+            let last = self.remainder(3, u32::from(*e))
+                ^ (self.remainder(2, u32::from(*f))
+                    ^ (self.remainder(1, u32::from(*g)) ^ self.remainder(0, u32::from(*h))));
+            crc = self.remainder(7, crc ^ u32::from(*a))
+                ^ (self.remainder(6, crc / 0x100 ^ u32::from(*b))
+                    ^ (self.remainder(5, crc / 0x1_0000 ^ u32::from(*c))
+                        ^ (self.remainder(4, crc / 0x100_0000 ^ u32::from(*d)) ^ last)));
             rest = behind;
         }
         self.after_each(crc, rest)
@@ -80,11 +86,24 @@ impl Crc32c {
 
     /// The remainder of the low byte of a number, and of this number of zero bytes behind it.
     fn remainder(&self, behind: u32, number: u32) -> u32
-        requires { behind < 4 }
+        requires { behind < 8 }
         ensures { result ≡ shift_bits (8 * (behind + 1)) (number % 256) }
     {
-        self.remainders[(256 * behind + number % 256) as usize]
+        self.remainders[(BYTES * behind + number % BYTES) as usize]
     }
+}
+
+/// The entry behind the first `entry` entries of a table.
+fn next_remainder(entries: &[u32], entry: u32) -> u32
+    requires long { length entries.now ≡ entry }
+    requires are { AreRemainders entries.now entry }
+    ensures { result ≡ remainder_at entry }
+{
+    if entry < BYTES {
+        return shifted(entry, 8);
+    }
+    // That of the same byte, with one zero byte less behind it.
+    shifted(entries[(entry - BYTES) as usize], 8)
 }
 
 /// The remainder after this number of bits.

@@ -2,13 +2,12 @@
 
 ghost use Rattle.std.specs.Prelude.{◌≡◌, ◌↔◌, ℕ, List, IfErr, IfOk, IfSome, IfNone, IsTrue, suc};
 ghost use Rattle.rme_durable_writes.specs.Reading.{IsKeptByFirst, IsKeptWithin, IsWhyUnread, ReadsWrites, SkipsLine};
-ghost use Rattle.rme_durable_writes.specs.Writes.{IsWrite, Write, sum_mark, write_text};
+ghost use Rattle.rme_durable_writes.specs.Writes.{IsWrite, Write, write_text};
 
-use crate::crc::Crc32c;
 use crate::sum_line::{SumFront, push_front, read_front, sum_line};
-use crate::write_sealer::{MARK, WriteSealer};
+use crate::write_codec::WriteCodec;
+use crate::write_sealer::WriteSealer;
 use memchr::memchr;
-use memchr::memmem::Finder;
 use std::alloc::{AllocError, Global};
 
 /// The writes of a log that are whole and right, and behind which nothing that was durable is missing.
@@ -56,9 +55,7 @@ struct FirstWrite<'a> {
 #[derive(Drop)]
 struct WriteFinder {
     alloc: Global,
-    crc: Crc32c,
-    marks: Finder<'static>,
-    ghost marks_are: { marks ≡ sum_mark },
+    codec: WriteCodec,
 }
 
 /// Reads the writes of a log up to the first that is not whole, not right, or not the next in order.
@@ -72,8 +69,7 @@ pub fn read_writes(alloc: Global, bytes: &[u8]) -> Result<FoundWrites, ReadError
 {
     let finder = WriteFinder {
         alloc,
-        crc: Crc32c::new(alloc)?,
-        marks: Finder::new(MARK),
+        codec: WriteCodec::new(alloc)?,
     };
     let mut lines = Vec::new(alloc);
     let mut rest = bytes;
@@ -96,7 +92,7 @@ pub fn read_writes(alloc: Global, bytes: &[u8]) -> Result<FoundWrites, ReadError
     Ok(FoundWrites {
         lines,
         length,
-        sealer: WriteSealer::after(finder.crc, last.number, last.kept),
+        sealer: WriteSealer::after(finder.codec, last.number, last.kept),
     })
 }
 
@@ -130,14 +126,14 @@ impl WriteFinder {
             → bytes.now ≡ write_text number write ++ rest
             → IfOk result (λ found. IsSomeAnd found (IsThisWrite number write rest)) }
     {
-        let Some(at) = self.marks.find(bytes) else {
+        let Some(at) = self.codec.marks.find(bytes) else {
             return Ok(None);
         };
         let (lines, tail) = bytes.split_at(at + 1);
         let Some(front) = read_front(tail) else {
             return Ok(None);
         };
-        let line = sum_line(self.alloc, &self.crc, lines, front)?;
+        let line = sum_line(self.alloc, &self.codec.crc, lines, front)?;
         if !tail.starts_with(line.as_slice()) {
             return Ok(None);
         }

@@ -10,6 +10,7 @@
 mod crc;
 mod found_writes;
 mod sum_line;
+mod write_codec;
 mod write_sealer;
 
 pub use found_writes::{FoundWrites, ReadError, read_writes};

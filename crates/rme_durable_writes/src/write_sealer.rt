@@ -4,14 +4,10 @@ ghost use Rattle.std.specs.Prelude.{◌≡◌, IfErr, OnOk};
 ghost use Rattle.rme_durable_writes.specs.Sealing.{IsWhyNotLines};
 ghost use Rattle.rme_durable_writes.specs.Writes.{AreWriteLines, write_text};
 
-use crate::crc::Crc32c;
 use crate::sum_line::{SumFront, push_end, push_front};
-use memchr::memmem;
+use crate::write_codec::WriteCodec;
 use std::alloc::{AllocError, Global};
 use std::marker::Model;
-
-/// How a last line begins behind the newline before it.
-pub(crate) const MARK: &[u8] = b"\n{\"kept\":";
 
 /// Why bytes are not made a write.
 #[derive(Clone, Copy, Debug, PartialEq, Eq)]
@@ -37,7 +33,7 @@ impl From<AllocError> for SealError {
 /// Makes the writes of one log, in order.
 #[derive(Drop)]
 pub struct WriteSealer {
-    crc: Crc32c,
+    codec: WriteCodec,
     /// The number of the last write; 0 before the first.
     number: u64,
     /// The number of the last write that is known to be with the disk; 0 before one is.
@@ -55,27 +51,31 @@ impl Model for WriteSealer {
       kept = sealer.kept;
     } };
 
-    ghost invariant = { λ sealer. sealer.kept < 2 ^ 64 };
+    ghost invariant = { λ sealer. (sealer.number < 2 ^ 64) × (sealer.kept < 2 ^ 64) };
 }
 
 impl WriteSealer {
     ghost use Rattle.std.specs.Prelude.{◌≡◌, IfErr, IfOk, OnErr, OnOk, suc};
     ghost use Rattle.rme_durable_writes.specs.Sealing.{IsSealed, IsWhyNotSealed, new_log};
 
-    /// The sealer of a log without writes. It allocates the table of its checksums, 4 KiB, and nothing afterwards.
+    /// The sealer of a log without writes. It allocates the table of its checksums, 8 KiB, and nothing afterwards.
     pub fn new(alloc: Global) -> Result<WriteSealer, AllocError>
         ensures { IfOk result (λ sealer. sealer ≡ new_log) }
     {
-        Ok(WriteSealer::after(Crc32c::new(alloc)?, 0, 0))
+        Ok(WriteSealer::after(WriteCodec::new(alloc)?, 0, 0))
     }
 
     /// The sealer of a log whose last write has this number, if the write `kept` is the last that is known to be with
     /// the disk.
-    pub(crate) fn after(crc: Crc32c, number: u64, kept: u64) -> WriteSealer
+    pub(crate) fn after(codec: WriteCodec, number: u64, kept: u64) -> WriteSealer
         ensures number { result.number ≡ number }
         ensures kept { result.kept ≡ kept }
     {
-        WriteSealer { crc, number, kept }
+        WriteSealer {
+            codec,
+            number,
+            kept,
+        }
     }
 
     /// Replaces the bytes of `write` by the next write, with these lines. It allocates only where they have no room.
@@ -97,7 +97,7 @@ impl WriteSealer {
             kept: self.kept,
             number,
         };
-        make_write(&self.crc, front, lines, write)?;
+        make_write(&self.codec, front, lines, write)?;
         self.number = number;
         Ok(())
     }
@@ -111,7 +111,7 @@ impl WriteSealer {
         ensures why { IfErr result (IsWhyNotSealed new_log lines.now) }
     {
         let front = SumFront { kept: 0, number: 1 };
-        make_write(&self.crc, front, lines, write)
+        make_write(&self.codec, front, lines, write)
     }
 
     /// Goes on with a log whose first write is with the disk, and which has no other yet.
@@ -134,7 +134,7 @@ impl WriteSealer {
 
 /// Replaces the bytes of `write` by a write of these lines whose last line begins with this front.
 fn make_write(
-    crc: &Crc32c,
+    codec: &WriteCodec,
     front: SumFront,
     lines: &[u8],
     write: &mut Vec<u8>,
@@ -147,13 +147,13 @@ fn make_write(
     if !lines.ends_with(b"\n") {
         return Err(SealError::NotLines);
     }
-    if memmem::find(lines, MARK).is_some() {
+    if codec.marks.find(lines).is_some() {
         return Err(SealError::NotLines);
     }
     write.clear();
     write.extend_from_slice(lines)?;
     push_front(front, write)?;
-    let sum = crc.of(write.as_slice());
+    let sum = codec.crc.of(write.as_slice());
     push_end(sum, write)?;
     Ok(())
 }

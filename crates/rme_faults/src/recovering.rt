@@ -1,16 +1,9 @@
 //! Recovery accepts the file at each moment.
 
 use crate::run::Run;
-use rme_durable_format::{RecoveryProgress, whole_lines};
+use rme_durable_format::{NoProgress, whole_lines};
 use rme_durable_recovery::recover;
 use rme_faults_model::{Found, is_or};
-
-/// Tells nobody.
-struct NoProgress;
-
-impl RecoveryProgress for NoProgress {
-    fn read(&self, _lines: u64) {}
-}
 
 /// Checks that recovery accepts the whole lines that the file has now.
 pub fn check_recovery(run: &Run<'_>) -> Found {

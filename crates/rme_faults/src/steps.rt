@@ -26,7 +26,7 @@ const LAST_ROUNDS: u32 = 40;
 const NO_SESSION: u32 = u32::MAX;
 
 /// The state of a session between two lines.
-type Stand<'a, J> = <SimulatedServer<'a, J> as Backend>::Stand;
+type ServerStand<'a, J> = <SimulatedServer<'a, J> as Backend>::Stand;
 
 /// A server, and what its sessions share.
 #[derive(Drop)]
@@ -89,7 +89,7 @@ pub fn play<'a, J: ServerTag, R: Wait + Clock>(
 /// Begins as many sessions as there are, or one for each worker, if those are more.
 fn begin_sessions<'a, J: ServerTag, R: Wait + Clock>(
     floor: &Floor<'_, 'a, J, R>,
-    stands: &mut Vec<Stand<'a, J>>,
+    stands: &mut Vec<ServerStand<'a, J>>,
     run: &mut Run<'a>,
 ) {
     for closed in floor.closed {
@@ -119,7 +119,7 @@ fn client_of<'a, J: ServerTag, R>(
 fn end_stand<'a, J: ServerTag, R: Wait + Clock>(
     floor: &Floor<'_, 'a, J, R>,
     session: u32,
-    stand: Stand<'a, J>,
+    stand: ServerStand<'a, J>,
 ) -> bool {
     let client = client_of(floor, session, true);
     floor.server.end_session(floor.rt, stand, &client).is_ok()
@@ -128,9 +128,9 @@ fn end_stand<'a, J: ServerTag, R: Wait + Clock>(
 /// Takes the state of a session, which is then one without a worker.
 fn take_stand<'a, J: ServerTag, R>(
     floor: &Floor<'_, 'a, J, R>,
-    stands: &mut Vec<Stand<'a, J>>,
+    stands: &mut Vec<ServerStand<'a, J>>,
     session: u32,
-) -> Stand<'a, J> {
+) -> ServerStand<'a, J> {
     let fresh = floor.server.begin_session();
     match stands.get_mut(session as usize) {
         Some(place) => replace(place, fresh),
@@ -141,7 +141,7 @@ fn take_stand<'a, J: ServerTag, R>(
 /// Ends all sessions of a server, which is dead: nothing of it is logged.
 fn end_all<'a, J: ServerTag, R: Wait + Clock>(
     floor: &Floor<'_, 'a, J, R>,
-    stands: Vec<Stand<'a, J>>,
+    stands: Vec<ServerStand<'a, J>>,
 ) {
     let mut stands = stands;
     let mut session = 0u32;
@@ -155,7 +155,7 @@ fn end_all<'a, J: ServerTag, R: Wait + Clock>(
 /// Ends a session whose client is gone.
 fn end_one<'a, J: ServerTag, R: Wait + Clock>(
     floor: &Floor<'_, 'a, J, R>,
-    stands: &mut Vec<Stand<'a, J>>,
+    stands: &mut Vec<ServerStand<'a, J>>,
     session: u32,
     run: &mut Run<'a>,
 ) {
@@ -179,7 +179,7 @@ fn end_one<'a, J: ServerTag, R: Wait + Clock>(
 /// Makes steps until the server's life ends or all steps are made.
 fn make_steps<'a, J: ServerTag, R: Wait + Clock>(
     floor: &Floor<'_, 'a, J, R>,
-    stands: &mut Vec<Stand<'a, J>>,
+    stands: &mut Vec<ServerStand<'a, J>>,
     desk: &mut Desk<'_>,
     run: &mut Run<'a>,
 ) {
@@ -212,7 +212,7 @@ fn draw_end(run: &Run<'_>) -> LifeEnd {
 /// Makes a step: the disk's, the end of a session, or an order.
 fn make_step<'a, J: ServerTag, R: Wait + Clock>(
     floor: &Floor<'_, 'a, J, R>,
-    stands: &mut Vec<Stand<'a, J>>,
+    stands: &mut Vec<ServerStand<'a, J>>,
     desk: &mut Desk<'_>,
     run: &mut Run<'a>,
 ) {
@@ -239,7 +239,7 @@ fn make_step<'a, J: ServerTag, R: Wait + Clock>(
 /// Sends a request of a session, and checks its answer.
 fn send<'a, J: ServerTag, R: Wait + Clock>(
     floor: &Floor<'_, 'a, J, R>,
-    stands: &mut Vec<Stand<'a, J>>,
+    stands: &mut Vec<ServerStand<'a, J>>,
     desk: &mut Desk<'_>,
     run: &mut Run<'a>,
     asked: (u32, &SimulatedRequest),
@@ -355,7 +355,7 @@ fn stale_or(
 /// Finishes all jobs, and looks at everything.
 fn finish_all<'a, J: ServerTag, R: Wait + Clock>(
     floor: &Floor<'_, 'a, J, R>,
-    stands: &mut Vec<Stand<'a, J>>,
+    stands: &mut Vec<ServerStand<'a, J>>,
     desk: &mut Desk<'_>,
     run: &mut Run<'a>,
 ) {

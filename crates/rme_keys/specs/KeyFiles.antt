@@ -52,8 +52,8 @@ AddLines (line ∷ lines) old new =
     (between : List Key) × AddsWords (line_words line) old between × AddLines lines between new
 
 -- The lines of a file.
-abbrev pub lines_of : List ℕ → List (List ℕ)
-lines_of bytes = slice_split (λ byte. byte == 10) bytes
+abbrev pub file_lines : List ℕ → List (List ℕ)
+file_lines bytes = slice_split (λ byte. byte == 10) bytes
 
 -- WHAT IS READ OF A FILE: the keys of its lines, in order.
 abbrev pub IsKeyFile : List (List ℕ) → List Key → Type 0

@@ -4,7 +4,7 @@ ghost use Rattle.std.specs.Prelude.{IfErr, IfOk, map};
 ghost use Rattle.std.specs.Option.{option_copied};
 ghost use Rattle.sha2.specs.Sha256.{sha256};
 ghost use Rattle.rme_keys.specs.Allowing.{FindsKey, keys_of};
-ghost use Rattle.rme_keys.specs.KeyFiles.{IsKeyFile, IsWhyRefused, lines_of};
+ghost use Rattle.rme_keys.specs.KeyFiles.{IsKeyFile, IsWhyRefused, file_lines};
 
 use crate::faults::KeyFileError;
 use crate::key::{Key, key_of_digest};
@@ -34,8 +34,8 @@ impl Keys {
     ///
     /// `BadLine` names the first line that is not of this form. `NoMemory` means that memory was refused.
     pub fn parse(alloc: Global, bytes: &[u8]) -> Result<Keys, KeyFileError>
-        ensures ok { IfOk result (λ keys. IsKeyFile (lines_of bytes.now) (keys_of keys)) }
-        ensures err { IfErr result (IsWhyRefused (lines_of bytes.now)) }
+        ensures ok { IfOk result (λ keys. IsKeyFile (file_lines bytes.now) (keys_of keys)) }
+        ensures err { IfErr result (IsWhyRefused (file_lines bytes.now)) }
     {
         let lines = pieces_of(alloc, bytes, b'\n')?;
         match keys_of_lines(alloc, lines.as_slice()) {

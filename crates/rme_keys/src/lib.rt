@@ -13,8 +13,6 @@ mod key_lines;
 mod keys;
 mod pieces;
 mod spaces;
-#[cfg(test)]
-mod tests;
 mod workers;
 
 pub use faults::{BadKeyLine, KeyFileError};

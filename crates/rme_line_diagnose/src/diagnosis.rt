@@ -1,7 +1,7 @@
 //! The diagnosis of a line.
 
 use crate::reasons::{Reason, escape_excerpt};
-use crate::words::{CHOICE_KEYS, Key, KeyKind, Vocabulary, keys_of};
+use crate::words::{CHOICE_KEYS, KeyKind, LineKey, Vocabulary, keys_of};
 use rme_wire::{Value, do_member, lend, script_of_value, whole_up_to};
 use serde_json::{Error, Map, Value as Owned};
 use std::alloc::{AllocError, Global};
@@ -92,7 +92,7 @@ fn reason_of_choice(
 }
 
 /// The first key that is neither `do` nor one of these.
-fn further_key<'a>(members: &'a Map<String, Owned>, keys: &[Key]) -> Option<&'a str> {
+fn further_key<'a>(members: &'a Map<String, Owned>, keys: &[LineKey]) -> Option<&'a str> {
     members
         .keys()
         .map(|key| key.as_str())
@@ -100,7 +100,7 @@ fn further_key<'a>(members: &'a Map<String, Owned>, keys: &[Key]) -> Option<&'a 
 }
 
 /// Whether a key is `do` or one of these.
-fn is_known(keys: &[Key], name: &str) -> bool {
+fn is_known(keys: &[LineKey], name: &str) -> bool {
     name == "do" || keys.iter().any(|key| key.name == name)
 }
 

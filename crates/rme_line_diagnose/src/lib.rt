@@ -14,4 +14,4 @@ mod words;
 pub use diagnosed_reader::{DiagnosedReader, ReasonObserver};
 pub use diagnosis::reason;
 pub use reasons::Reason;
-pub use words::{Key, KeyKind, SessionWords, Vocabulary};
+pub use words::{KeyKind, LineKey, SessionWords, Vocabulary};

@@ -1,6 +1,6 @@
 //! What is wrong with a line.
 
-use crate::words::Key;
+use crate::words::LineKey;
 use std::alloc::{AllocError, Global};
 use std::fmt;
 use std::fmt::Write;
@@ -24,9 +24,9 @@ pub enum Reason {
     /// The word has no such key.
     Further(String, String),
     /// The word needs this key.
-    Missing(String, Key),
+    Missing(String, LineKey),
     /// The value of this key is not valid.
-    Wrong(Key),
+    Wrong(LineKey),
     /// This key stands beside `any`.
     BesideChoice(String),
     /// It has both `tries` and `wait`.

@@ -43,7 +43,7 @@ pub enum KeyKind {
 
 /// A key other than `do`.
 #[derive(Clone, Copy)]
-pub struct Key {
+pub struct LineKey {
     pub name: &'static str,
     pub kind: KeyKind,
     pub is_optional: bool,
@@ -52,154 +52,154 @@ pub struct Key {
 /// Any number of 32 bits.
 const NUMBER: KeyKind = KeyKind::Number(0, 4_294_967_295);
 
-const WORKERS: Key = Key {
+const WORKERS: LineKey = LineKey {
     name: "workers",
     kind: NUMBER,
     is_optional: false,
 };
 
-const CELLS: Key = Key {
+const CELLS: LineKey = LineKey {
     name: "cells",
     kind: NUMBER,
     is_optional: false,
 };
 
-const JOBS: Key = Key {
+const JOBS: LineKey = LineKey {
     name: "jobs",
     kind: NUMBER,
     is_optional: false,
 };
 
-const WORKER: Key = Key {
+const WORKER: LineKey = LineKey {
     name: "worker",
     kind: NUMBER,
     is_optional: false,
 };
 
-const LOCK: Key = Key {
+const LOCK: LineKey = LineKey {
     name: "lock",
     kind: KeyKind::Text,
     is_optional: false,
 };
 
-const LOCKS: Key = Key {
+const LOCKS: LineKey = LineKey {
     name: "locks",
     kind: KeyKind::Texts,
     is_optional: false,
 };
 
-const IMAGE: Key = Key {
+const IMAGE: LineKey = LineKey {
     name: "image",
     kind: KeyKind::Text,
     is_optional: false,
 };
 
-const SCRIPT: Key = Key {
+const SCRIPT: LineKey = LineKey {
     name: "script",
     kind: KeyKind::Script,
     is_optional: false,
 };
 
-const UNTIL: Key = Key {
+const UNTIL: LineKey = LineKey {
     name: "until",
     kind: KeyKind::Note,
     is_optional: true,
 };
 
-const MAX: Key = Key {
+const MAX: LineKey = LineKey {
     name: "max",
     kind: KeyKind::Number(1, 10_000),
     is_optional: true,
 };
 
-const NUMBER_OF_JOB: Key = Key {
+const NUMBER_OF_JOB: LineKey = LineKey {
     name: "number",
     kind: NUMBER,
     is_optional: false,
 };
 
-const TRIES: Key = Key {
+const TRIES: LineKey = LineKey {
     name: "tries",
     kind: KeyKind::Number(1, 1_000_000),
     is_optional: true,
 };
 
-const WAIT: Key = Key {
+const WAIT: LineKey = LineKey {
     name: "wait",
     kind: KeyKind::Number(0, 3_600_000),
     is_optional: true,
 };
 
-const TAKE: Key = Key {
+const TAKE: LineKey = LineKey {
     name: "take",
     kind: KeyKind::Flag,
     is_optional: true,
 };
 
 /// A life: at most 2^53.
-const AFTER: Key = Key {
+const AFTER: LineKey = LineKey {
     name: "after",
     kind: KeyKind::Number(0, 9_007_199_254_740_992),
     is_optional: true,
 };
 
 /// The label of a client.
-const AS: Key = Key {
+const AS: LineKey = LineKey {
     name: "as",
     kind: KeyKind::ShortText(64),
     is_optional: true,
 };
 
-const ANY: Key = Key {
+const ANY: LineKey = LineKey {
     name: "any",
     kind: KeyKind::Choice,
     is_optional: false,
 };
 
-const SECRET: Key = Key {
+const SECRET: LineKey = LineKey {
     name: "secret",
     kind: KeyKind::Text,
     is_optional: false,
 };
 
-const STEPS: Key = Key {
+const STEPS: LineKey = LineKey {
     name: "steps",
     kind: KeyKind::Number(0, 1_000_000),
     is_optional: false,
 };
 
-const SPACE: Key = Key {
+const SPACE: LineKey = LineKey {
     name: "space",
     kind: KeyKind::Text,
     is_optional: false,
 };
 
 /// The number of workers of a new space.
-const SPACE_WORKERS: Key = Key {
+const SPACE_WORKERS: LineKey = LineKey {
     name: "workers",
     kind: NUMBER,
     is_optional: true,
 };
 
 /// The number of cells of each lock of a new space.
-const SPACE_CELLS: Key = Key {
+const SPACE_CELLS: LineKey = LineKey {
     name: "cells",
     kind: NUMBER,
     is_optional: true,
 };
 
 /// The name of a space behind which the list begins.
-const AFTER_SPACE: Key = Key {
+const AFTER_SPACE: LineKey = LineKey {
     name: "after",
     kind: KeyKind::Text,
     is_optional: true,
 };
 
 /// The keys of an attachment that leaves the choice of the worker to the server.
-pub const CHOICE_KEYS: &[Key] = &[ANY, AS];
+pub const CHOICE_KEYS: &[LineKey] = &[ANY, AS];
 
 /// The keys of a word, or `None` if it is no word of this vocabulary.
-pub fn keys_of(vocabulary: Vocabulary, word: &str) -> Option<&'static [Key]> {
+pub fn keys_of(vocabulary: Vocabulary, word: &str) -> Option<&'static [LineKey]> {
     match vocabulary {
         Vocabulary::Orders(words) => order_keys(words, word),
         Vocabulary::Transcript if word == "load" => None,
@@ -207,7 +207,7 @@ pub fn keys_of(vocabulary: Vocabulary, word: &str) -> Option<&'static [Key]> {
     }
 }
 
-fn command_keys(word: &str) -> Option<&'static [Key]> {
+fn command_keys(word: &str) -> Option<&'static [LineKey]> {
     match word {
         "open" => Some(&[WORKERS, LOCKS, CELLS, JOBS]),
         "submit" => Some(&[WORKER, LOCK, SCRIPT]),
@@ -220,7 +220,7 @@ fn command_keys(word: &str) -> Option<&'static [Key]> {
     }
 }
 
-fn order_keys(words: SessionWords, word: &str) -> Option<&'static [Key]> {
+fn order_keys(words: SessionWords, word: &str) -> Option<&'static [LineKey]> {
     match word {
         "status" if words.has_look_ups => Some(&[]),
         "owner" | "cells" if words.has_look_ups => Some(&[LOCK]),

@@ -1,5 +1,5 @@
 -- The line that begins a session, and its answer.
-use Rattle.std.specs.Prelude.{ℕ, ◌==◌, ◌&&◌, ◌++◌, List, Option, Some, None, bytes_eq, codes, option_and_then, option_map, if◌then◌else◌}
+use Rattle.std.specs.Prelude.{ℕ, ◌==◌, ◌&&◌, ◌++◌, List, Option, None, bytes_eq, codes, option_and_then, option_map, if◌then◌else◌}
 use Rattle.serde_json.specs.Data.{Data, string}
 use Rattle.serde_json.specs.Events.{members_len}
 use Rattle.serde_json.specs.Find.{as_object, as_str, get}

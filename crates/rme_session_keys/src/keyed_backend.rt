@@ -35,6 +35,16 @@ pub struct KeyedStand<T> {
     pub stand: T,
 }
 
+impl<T> KeyedStand<T> {
+    ghost use Rattle.std.specs.Prelude.{◌≡◌};
+
+    fn new(access: Access, stand: T) -> KeyedStand<T>
+        ensures { result ≡ record { access = access; stand = stand } }
+    {
+        KeyedStand { access, stand }
+    }
+}
+
 /// A backend over another one, to which it passes on what the session's key allows.
 #[derive(Drop)]
 pub struct KeyedBackend<'a, B, S> {
@@ -90,10 +100,7 @@ impl<B: Backend, S: KeySource> Backend for KeyedBackend<'_, B, S> {
     }
 
     fn begin_session(&self) -> KeyedStand<B::Stand> {
-        KeyedStand {
-            access: Access::NoKey,
-            stand: self.backend.begin_session(),
-        }
+        KeyedStand::new(Access::NoKey, self.backend.begin_session())
     }
 
     fn is_finished(&self, session: &KeyedStand<B::Stand>) -> bool {
@@ -119,44 +126,23 @@ impl<B: Backend, S: KeySource> Backend for KeyedBackend<'_, B, S> {
         match access {
             Access::NoKey => {
                 let (access, answered) = self.answer_stranger(rt, buffers);
-                (KeyedStand { access, stand }, answered)
+                (KeyedStand::new(access, stand), answered)
             }
             Access::Refused => {
                 let answered = self.refuse(buffers);
-                (
-                    KeyedStand {
-                        access: Access::Refused,
-                        stand,
-                    },
-                    answered,
-                )
+                (KeyedStand::new(Access::Refused, stand), answered)
             }
             Access::Granted(key) => match self.allows_line(&key, buffers) {
                 Ok(true) => {
                     let (stand, answered) = self.backend.answer(rt, stand, buffers, writer, client);
-                    (
-                        KeyedStand {
-                            access: Access::Granted(key),
-                            stand,
-                        },
-                        answered,
-                    )
+                    (KeyedStand::new(Access::Granted(key), stand), answered)
                 }
                 Ok(false) => {
                     let answered = self.refuse(buffers);
-                    (
-                        KeyedStand {
-                            access: Access::Granted(key),
-                            stand,
-                        },
-                        answered,
-                    )
+                    (KeyedStand::new(Access::Granted(key), stand), answered)
                 }
                 Err(_) => {
-                    let session = KeyedStand {
-                        access: Access::Granted(key),
-                        stand,
-                    };
+                    let session = KeyedStand::new(Access::Granted(key), stand);
                     (session, Err(AnswerError::NoMemory))
                 }
             },

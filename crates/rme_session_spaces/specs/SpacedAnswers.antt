@@ -19,13 +19,13 @@ use Rattle.rme_words.specs.declared.refusal.Refusal.{Refusal}
 use Rattle.rme_words.specs.declared.refusal.Refusal.TheVariants.{Busy}
 
 -- What a line is for a server of spaces; one that is too long is no order.
-abbrev pub space_line : InputLine → SpaceLine
-space_line too_long = line.Other
-space_line (text bytes) = line_of_bytes bytes
+abbrev pub asked_space_line : InputLine → SpaceLine
+asked_space_line too_long = line.Other
+asked_space_line (text bytes) = line_of_bytes bytes
 
 -- The line of a refusal, which names no lock.
-abbrev pub refused_line : List (List ℕ) → Refusal → List ℕ
-refused_line names why = session_reply_line names (Refused why)
+abbrev pub refused_order_line : List (List ℕ) → Refusal → List ℕ
+refused_order_line names why = session_reply_line names (Refused why)
 
 -- What the answers depend on: the names of the backend's locks, the calls of the directory, and the worker that a
 -- session has.
@@ -53,7 +53,7 @@ dropped_line done = space_reply_text Dropped
 -- The line of an answer of the directory: what it did, or its refusal.
 abbrev pub answer_line : {A : Type 0} → List (List ℕ) → (A → List ℕ) → Result A Refusal → List ℕ
 answer_line names line_of (Ok done) = line_of done
-answer_line names line_of (Err why) = refused_line names why
+answer_line names line_of (Err why) = refused_order_line names why
 
 -- THE LINE TELLS A CALL: the directory was asked for this, and the line is that of its answer.
 abbrev pub TellsCall : {Q A : Type 0} → (Q → Result A Refusal → Type 0) → (A → List ℕ) → List (List ℕ) → Q → List ℕ
@@ -69,7 +69,7 @@ stand_after old (Err why) = old
 -- A session without a worker is told what the directory answered, and goes on so. With a worker it is refused.
 abbrev pub AnswersUse : {S V : Type 0} → SpacedTerms S V → SpacedStand S V → List ℕ → List ℕ → SpacedStand S V
     → Option ℕ → Type 0
-AnswersUse terms old name bytes new (Some worker) = (bytes ≡ refused_line terms.names Busy) × (new ≡ old)
+AnswersUse terms old name bytes new (Some worker) = (bytes ≡ refused_order_line terms.names Busy) × (new ≡ old)
 AnswersUse {S} {V} terms old name bytes new None =
     (answer : Result V Refusal) × terms.calls.entered name answer × (bytes ≡ answer_line terms.names used_line answer)
     × (new ≡ stand_after old answer)
@@ -89,10 +89,10 @@ abbrev pub AnswersSpaceLine : {S V : Type 0} → SpacedTerms S V → (S → Inpu
 AnswersSpaceLine terms answers old input bytes new line.Other =
     answers old.stand input bytes new.stand × (new.visit ≡ old.visit)
 AnswersSpaceLine terms answers old input bytes new (line.Refused why) =
-    (bytes ≡ refused_line terms.names why) × (new ≡ old)
+    (bytes ≡ refused_order_line terms.names why) × (new ≡ old)
 AnswersSpaceLine terms answers old input bytes new (line.Order order) = AnswersSpaceOrder terms old order bytes new
 
 abbrev pub SpacedLineAnswer : {S V : Type 0} → SpacedTerms S V → (S → InputLine → List ℕ → S → Type 0)
     → SpacedStand S V → InputLine → List ℕ → SpacedStand S V → Type 0
 SpacedLineAnswer terms answers old input bytes new =
-    AnswersSpaceLine terms answers old input bytes new (space_line input)
+    AnswersSpaceLine terms answers old input bytes new (asked_space_line input)

@@ -2,7 +2,7 @@
 
 ghost use Rattle.std.specs.Prelude.{◌≡◌, IfErr, IfOk, OnOk, string_bytes};
 ghost use Rattle.rme_line_io.specs.Cuts.{input_line_of};
-ghost use Rattle.rme_session_spaces.specs.SpacedAnswers.{space_line};
+ghost use Rattle.rme_session_spaces.specs.SpacedAnswers.{asked_space_line};
 ghost use Rattle.rme_space_orders.specs.SpaceReplies.{space_reply_text};
 
 use crate::directory::SpaceDirectory;
@@ -129,7 +129,7 @@ impl<B: Backend, D: SpaceDirectory> Backend for SpacedBackend<'_, B, D> {
 /// What the last line is for a server of spaces.
 fn parse_last(alloc: Global, buffers: &Buffers) -> Result<SpaceLine, NoMemory>
     ensures { IfOk result (λ found. found
-        ≡ space_line (input_line_of buffers.now.cut buffers.now.exchange.line.items)) }
+        ≡ asked_space_line (input_line_of buffers.now.cut buffers.now.exchange.line.items)) }
 {
     if buffers.cut == Cut::TooLong {
         return Ok(SpaceLine::Other);
@@ -140,7 +140,7 @@ fn parse_last(alloc: Global, buffers: &Buffers) -> Result<SpaceLine, NoMemory>
 impl<B: Backend, D: SpaceDirectory> SpacedBackend<'_, B, D> {
     ghost use Rattle.std.specs.Prelude.{◌≡◌, IfErr, IfOk, OnOk, string_bytes};
     ghost use Rattle.rme_session_spaces.specs.SpacedAnswers.{AnswersSpaceOrder, AnswersUse, TellsCall, answer_line};
-    ghost use Rattle.rme_session_spaces.specs.SpacedAnswers.{created_line, dropped_line, page_line, refused_line};
+    ghost use Rattle.rme_session_spaces.specs.SpacedAnswers.{created_line, dropped_line, page_line, refused_order_line};
     ghost use Rattle.rme_session_spaces.specs.SpacedAnswers.{spaced_terms, used_line};
 
     /// Answers an order on spaces, and the session then.
@@ -290,7 +290,7 @@ impl<B: Backend, D: SpaceDirectory> SpacedBackend<'_, B, D> {
 
     /// Replaces the text by a refusal.
     fn refuse(&self, why: Refusal, buffers: &mut Buffers) -> Result<(), AnswerError>
-        ensures says { OnOk result (string_bytes buffers.new.text ≡ refused_line self.now.names.now why) }
+        ensures says { OnOk result (string_bytes buffers.new.text ≡ refused_order_line self.now.names.now why) }
         ensures same { buffers.new.exchange ≡ buffers.old.exchange }
         ensures err { IfErr result (λ why. why ≡ AnswerError.NoMemory) }
     {

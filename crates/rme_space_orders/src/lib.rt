@@ -11,8 +11,6 @@ mod new_space;
 mod space_line;
 mod space_name;
 mod space_reply;
-#[cfg(test)]
-mod tests;
 
 pub use new_space::{NewSpace, USUAL_CELLS, USUAL_WORKERS};
 pub use space_line::{SpaceLine, SpaceOrder, parse_space_order};

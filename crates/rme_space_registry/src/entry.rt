@@ -21,7 +21,7 @@ pub struct SpaceEntry<G> {
 
 #[derive(Drop)]
 struct EntryState<G> {
-    stage: Stage,
+    stage: EntryStage,
     /// Whether the space is asked to close.
     should_close: bool,
     /// The guests that no thread has taken yet.
@@ -32,7 +32,7 @@ struct EntryState<G> {
 
 /// The stage of a space.
 #[derive(Clone, Copy, Debug, PartialEq, Eq)]
-enum Stage {
+enum EntryStage {
     /// It is opened or removed. Visitors wait.
     Opening,
     /// Guests are taken.
@@ -77,7 +77,7 @@ impl<G: Drop> SpaceEntry<G> {
             name,
             visits: AtomicU64::new(0),
             state: Mutex::new(EntryState {
-                stage: Stage::Opening,
+                stage: EntryStage::Opening,
                 should_close: false,
                 guests: Vec::new(alloc),
                 removed: None,
@@ -102,12 +102,12 @@ impl<G: Drop> SpaceEntry<G> {
 
     /// The space is open: guests are taken from now on.
     pub fn opened<R: Wait>(&self, rt: &R) {
-        self.set_stage(rt, Stage::Open);
+        self.set_stage(rt, EntryStage::Open);
     }
 
     /// No more guests are taken from now on. Visitors wait until the space is open again.
     pub fn begin_closing<R: Wait>(&self, rt: &R) {
-        self.set_stage(rt, Stage::Closing);
+        self.set_stage(rt, EntryStage::Closing);
     }
 
     /// Waits until a guest comes or the space is asked to close, at most this long. A guest has a visit to this space.
@@ -137,7 +137,7 @@ impl<G: Drop> SpaceEntry<G> {
     /// Gives a guest to the thread that serves the space. If it takes no more, the guest is returned, and its visit ends.
     pub(crate) fn take_guest<R: Wait>(&self, rt: &R, guest: G) -> Result<(), G> {
         let mut state = self.state.lock(rt);
-        if state.stage != Stage::Open {
+        if state.stage != EntryStage::Open {
             return Err(guest);
         }
         match state.guests.push(guest) {
@@ -159,11 +159,11 @@ impl<G: Drop> SpaceEntry<G> {
     pub(crate) fn wait_until_open<R: Wait>(&self, rt: &R) -> Opened {
         let state = self.state.lock(rt);
         let state = self.changed.wait_while(rt, state, |state| {
-            matches!(state.stage, Stage::Opening | Stage::Closing)
+            matches!(state.stage, EntryStage::Opening | EntryStage::Closing)
         });
         match state.stage {
-            Stage::Open => Opened::Open,
-            Stage::Failed(why) => Opened::Refused(why),
+            EntryStage::Open => Opened::Open,
+            EntryStage::Failed(why) => Opened::Refused(why),
             _ => Opened::Closed,
         }
     }
@@ -172,7 +172,10 @@ impl<G: Drop> SpaceEntry<G> {
     pub(crate) fn wait_until_over<R: Wait>(&self, rt: &R) {
         let state = self.state.lock(rt);
         let _state = self.changed.wait_while(rt, state, |state| {
-            matches!(state.stage, Stage::Opening | Stage::Open | Stage::Closing)
+            matches!(
+                state.stage,
+                EntryStage::Opening | EntryStage::Open | EntryStage::Closing
+            )
         });
     }
 
@@ -191,14 +194,14 @@ impl<G: Drop> SpaceEntry<G> {
     /// The space is removed or could not be, and the entry is over, as the registry knows already.
     pub(crate) fn end_removal<R: Wait>(&self, rt: &R, removed: Result<(), Refusal>) {
         self.state.lock(rt).removed = Some(removed);
-        self.set_stage(rt, Stage::Closed);
+        self.set_stage(rt, EntryStage::Closed);
     }
 
     /// The entry is over, as the registry knows already.
     pub(crate) fn end<R: Wait>(&self, rt: &R, refused: Option<Refusal>) {
         match refused {
-            Some(why) => self.set_stage(rt, Stage::Failed(why)),
-            None => self.set_stage(rt, Stage::Closed),
+            Some(why) => self.set_stage(rt, EntryStage::Failed(why)),
+            None => self.set_stage(rt, EntryStage::Closed),
         }
     }
 
@@ -215,7 +218,7 @@ impl<G: Drop> SpaceEntry<G> {
         self.visits.fetch_sub(1, Ordering::SeqCst);
     }
 
-    fn set_stage<R: Wait>(&self, rt: &R, stage: Stage) {
+    fn set_stage<R: Wait>(&self, rt: &R, stage: EntryStage) {
         self.state.lock(rt).stage = stage;
         self.changed.notify_all();
     }

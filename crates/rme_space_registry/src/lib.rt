@@ -9,8 +9,6 @@
 
 mod entry;
 mod registry;
-#[cfg(test)]
-mod tests;
 mod visit;
 
 pub use entry::{Arrival, SpaceEntry};

@@ -6,7 +6,7 @@ ghost use Rattle.rme_supervisor.specs.WorkerSlots.{AreLifeContexts, IsLifeContex
 use crate::life::LifeContext;
 use crate::plan::RunContext;
 use crate::run_tag::RunTag;
-use crate::slots::{LockedSlot, has_ended, run_life_in};
+use crate::slots::{SupervisedSlot, has_ended, run_life_in};
 use rme_table::Gate;
 use std::sync::Wait;
 use std::thread;
@@ -15,7 +15,7 @@ use std::thread::{Scope, Threads};
 /// Keeps each worker alive until all have ended.
 pub(crate) fn keep_all<K: RunTag + Send + Sync, G: Gate + Sync, R: Threads + Wait + Sync>(
     rt: &R,
-    slots: &[LockedSlot<K>],
+    slots: &[SupervisedSlot<K>],
     context: &RunContext<'_, G>,
 )
     requires orders { AreLifeContexts K.Tag.ident K.run
@@ -41,7 +41,7 @@ pub(crate) fn keep_all<K: RunTag + Send + Sync, G: Gate + Sync, R: Threads + Wai
 fn start_keepers<'s, E, K: RunTag + Send + Sync, G: Gate + Sync, R: Threads + Wait + Sync>(
     rt: &'s R,
     scope: &Scope<'s, E>,
-    slots: &'s [LockedSlot<K>],
+    slots: &'s [SupervisedSlot<K>],
     context: &'s RunContext<'s, G>,
 )
     requires orders { AreLifeContexts K.Tag.ident K.run
@@ -78,7 +78,7 @@ fn start_keepers<'s, E, K: RunTag + Send + Sync, G: Gate + Sync, R: Threads + Wa
 /// Keeps a worker alive, life after life, until it ends.
 fn keep<K: RunTag + Send + Sync, G: Gate + Sync, R: Threads + Wait + Sync>(
     rt: &R,
-    slot: &LockedSlot<K>,
+    slot: &SupervisedSlot<K>,
     worker: u32,
     orders: &LifeContext<'_, G>,
 )
@@ -96,7 +96,7 @@ fn keep<K: RunTag + Send + Sync, G: Gate + Sync, R: Threads + Wait + Sync>(
 /// Runs a life in a thread of its own, and answers whether there was a thread for it.
 fn run_life_in_thread<K: RunTag + Send + Sync, G: Gate + Sync, R: Threads + Wait + Sync>(
     rt: &R,
-    slot: &LockedSlot<K>,
+    slot: &SupervisedSlot<K>,
     worker: u32,
     orders: &LifeContext<'_, G>,
 ) -> bool
@@ -119,7 +119,7 @@ fn run_life_in_thread<K: RunTag + Send + Sync, G: Gate + Sync, R: Threads + Wait
 fn start_life<'s, E, K: RunTag + Send + Sync, G: Gate + Sync, R: Threads + Wait + Sync>(
     rt: &'s R,
     scope: &Scope<'s, E>,
-    slot: &'s LockedSlot<K>,
+    slot: &'s SupervisedSlot<K>,
     worker: u32,
     orders: &'s LifeContext<'s, G>,
 ) -> bool

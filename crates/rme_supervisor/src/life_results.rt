@@ -6,7 +6,7 @@ ghost use Rattle.rme_supervisor.specs.LifeResults.{ResultsFollowPlans, ResultsAr
 
 use crate::end::End;
 use crate::run_tag::RunTag;
-use crate::slots::LockedSlot;
+use crate::slots::SupervisedSlot;
 use crate::worker_slot::SupervisedWorker;
 use rme_table::{Down, OwnedDown};
 use rme_words::NoMemory;
@@ -61,7 +61,7 @@ impl LifeResults {
 
 /// Takes the workers out of the slots.
 pub(crate) fn collect_results<K: RunTag>(
-    slots: Vec<LockedSlot<K>>,
+    slots: Vec<SupervisedSlot<K>>,
     mut settled: LifeResults,
 ) -> LifeResults
     requires room { ResultsAreEmpty (length slots.items) settled }

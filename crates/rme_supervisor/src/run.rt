@@ -14,7 +14,7 @@ use crate::life_results::{LifeResults, collect_results};
 use crate::plan::{RunContext, Schedule, WorkerPlan};
 use crate::report::{Attended, Fault, Report, Unattended};
 use crate::run_tag::RunTag;
-use crate::slots::{LockedSlot, fill};
+use crate::slots::{SupervisedSlot, fill};
 use rme_table::{Down, Gate, Service, Unclosed};
 use rme_words::{NoMemory, Refusal};
 use std::alloc::Global;
@@ -139,7 +139,7 @@ fn run<K: RunTag + Send + Sync, G: Gate + Sync, R: Threads + Wait + Sync>(
 fn room_for<K: RunTag>(
     alloc: Global,
     count: usize,
-) -> Result<(Vec<LockedSlot<K>>, LifeResults), NoMemory>
+) -> Result<(Vec<SupervisedSlot<K>>, LifeResults), NoMemory>
     ensures slots { IfOk result (λ room. (room.0.items ≡ []) × (count ≤ vec_capacity room.0)) }
     ensures settled { IfOk result (λ room. ResultsAreEmpty count room.1) }
 {

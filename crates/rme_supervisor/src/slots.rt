@@ -12,10 +12,13 @@ use std::marker::PhantomData;
 use std::sync::{Mutex, Wait};
 
 /// A worker's slot: empty while a life has the worker.
-pub(crate) type LockedSlot<K> = Mutex<Option<SupervisedWorker<K>>>;
+pub(crate) type SupervisedSlot<K> = Mutex<Option<SupervisedWorker<K>>>;
 
 /// Puts each worker into a slot of its own, before its first life.
-pub(crate) fn fill<K: RunTag>(downs: Vec<Down>, mut slots: Vec<LockedSlot<K>>) -> Vec<LockedSlot<K>>
+pub(crate) fn fill<K: RunTag>(
+    downs: Vec<Down>,
+    mut slots: Vec<SupervisedSlot<K>>,
+) -> Vec<SupervisedSlot<K>>
     requires ours { SeatsAreOfService K.Tag.ident downs.items }
     requires given { AreDownsAtCall K.run.given downs.items }
     requires none { slots.items ≡ [] }
@@ -35,7 +38,7 @@ pub(crate) fn fill<K: RunTag>(downs: Vec<Down>, mut slots: Vec<LockedSlot<K>>) -
 /// The next life of the worker in the slot, if it is this one.
 pub(crate) fn run_life_in<K: RunTag, G: Gate, R: Wait>(
     rt: &R,
-    slot: &LockedSlot<K>,
+    slot: &SupervisedSlot<K>,
     worker: u32,
     orders: &LifeContext<'_, G>,
 )
@@ -57,7 +60,7 @@ pub(crate) fn run_life_in<K: RunTag, G: Gate, R: Wait>(
 }
 
 /// Whether the lives of the worker in the slot have ended.
-pub(crate) fn has_ended<K: RunTag, R: Wait>(rt: &R, slot: &LockedSlot<K>) -> bool {
+pub(crate) fn has_ended<K: RunTag, R: Wait>(rt: &R, slot: &SupervisedSlot<K>) -> bool {
     match &*slot.lock(rt) {
         Some(berth) => berth.end.is_some(),
         None => true,

@@ -1,9 +1,12 @@
 //! A state that is given further workers, cells and locks.
 
+ghost use Rattle.std.specs.Prelude.{◌≡◌, IfOk, true};
+ghost use Rattle.rme_durable_file.specs.Starts.{BeginsKnownServer};
+
 use crate::recovery::{HEADER, OPEN};
 use rme_cli_messages::CliFault;
 use rme_durable_file::{
-    Cause, ContentsError, DiskFile, FileReadError, RecoveredFile, StateFile, StateName,
+    Cause, ContentsError, DiskFile, FileReadError, OpenedState, RecoveredFile, StateFile, StateName,
 };
 use rme_wire::{GivenNames, Names};
 use rme_words::Shape;
@@ -70,13 +73,28 @@ pub fn two_names(alloc: Global) -> Result<Names, CliFault> {
     Ok(given.names(alloc)?)
 }
 
+/// The start of a server with a file, whose appends wait for the disk if `syncs`.
+fn start_with<'a, F: DiskFile>(
+    rt: &HostRuntime,
+    name: &'a StateName,
+    file: F,
+    syncs: bool,
+) -> Result<OpenedState<'a, F>, CliFault>
+    ensures works { IfOk result (λ state. state.file.works ≡ true) }
+    ensures syncs { IfOk result (λ state. state.file.syncs ≡ syncs) }
+    ensures begins { IfOk result (λ state. BeginsKnownServer (F.contents file) state.names state.executor
+        state.file.bytes) }
+{
+    RecoveredFile::read(rt, StateFile::new(name, file, syncs))?.open(rt)
+}
+
 /// Whether a state grows to what it is to be: recovery of its file leads there.
 fn grows_as_told(rt: &HostRuntime, name: &StateName) -> Result<bool, CliFault> {
     let text = format!(in rt.alloc(); "{HEADER}{OPEN}{JOB}")?;
     let file = MemoryFile {
         bytes: text.as_bytes().to_vec(rt.alloc())?,
     };
-    let opened = RecoveredFile::read(rt, StateFile::new(name, file, false))?.open(rt)?;
+    let opened = start_with(rt, name, file, false)?;
     let Ok(shape) = Shape::new(4, 2, 2, 9) else {
         return Ok(false);
     };

@@ -1,15 +1,12 @@
 //! Which bytes are states, and how they are cut into lines.
 
-use rme_durable_format::{BadLog, RecoveryProgress, first_two_lines, recover_log, whole_lines};
+ghost use Rattle.std.specs.Prelude.{IfSome};
+ghost use Rattle.rme_durable_recovery.specs.RecoveredStates.{IsWhyNoState};
+
+use rme_durable_format::{BadLog, NoProgress, first_two_lines, recover_log, whole_lines};
 use rme_durable_recovery::recover;
 use std::alloc::Global;
 use std::test::*;
-
-struct NoProgress;
-
-impl RecoveryProgress for NoProgress {
-    fn read(&self, _lines: u64) {}
-}
 
 /// A header of a world with one client.
 pub const HEADER: &str =
@@ -32,9 +29,11 @@ fn file(rt: &HostRuntime, header: &str, lines: &str) -> Result<String, Fail> {
     Ok(format!(in rt.alloc(); "{header}{OPEN}{lines}")?)
 }
 
-/// The fault of a file whose last line is torn, if it is no state.
-fn fault_of(rt: &HostRuntime, lines: &str) -> Option<BadLog> {
-    match recover(rt.alloc(), whole_lines(lines.as_bytes()), &NoProgress) {
+/// Why some whole lines are no state; `None` if they are one.
+fn fault_of_lines(rt: &HostRuntime, lines: &[u8]) -> Option<BadLog>
+    ensures { IfSome result (IsWhyNoState lines.now) }
+{
+    match recover(rt.alloc(), lines, &NoProgress) {
         Ok(_) => None,
         Err(why) => Some(why),
     }
@@ -62,7 +61,7 @@ fn recovery_names_the_first_bad_line(rt: HostRuntime) -> Result<(), Fail> {
         ("", CRASH, Some(BadLog::Line(1))),
     ] {
         let text = file(&rt, header, lines)?;
-        assert!(rt; fault_of(&rt, text.as_str()) == bad);
+        assert!(rt; fault_of_lines(&rt, whole_lines(text.as_bytes())) == bad);
     }
     Ok(())
 }

@@ -62,7 +62,7 @@ const LIVES_HEARD: &str = r#"{"number":0,"ok":"attach","stance":"ready"}
 
 /// What a client says, and what it is answered.
 #[derive(Clone, Copy)]
-struct Conversation {
+struct PlayedSession {
     said: &'static str,
     heard: &'static str,
 }
@@ -74,7 +74,7 @@ fn talk<K: Tag, R: Abort + Wait + Clock>(
     alloc: Global,
     service: &Service,
     downs: Vec<Down>,
-    conversation: Conversation,
+    conversation: PlayedSession,
 ) -> Result<Vec<Down>, Fail>
     requires named { service.now ≡ K.ident }
     requires all { AreDownsInPlace service.now downs.items }
@@ -106,7 +106,7 @@ fn talk<K: Tag, R: Abort + Wait + Clock>(
 fn hold<R: Abort + Wait + Clock>(
     rt: &R,
     alloc: Global,
-    conversation: Conversation,
+    conversation: PlayedSession,
 ) -> Result<(), Fail> {
     let (service, downs) = Service::new(alloc, Shape::new(2, 1, 1, 10)?)?;
     let downs = talk::<Brand, R>(rt, alloc, &service, downs, conversation)?;
@@ -123,7 +123,7 @@ fn session_in_memory(rt: HostRuntime) -> Result<(), Fail> {
     hold(
         &rt,
         rt.alloc(),
-        Conversation {
+        PlayedSession {
             said: SAID,
             heard: HEARD,
         },
@@ -135,7 +135,7 @@ fn session_with_lives(rt: HostRuntime) -> Result<(), Fail> {
     hold(
         &rt,
         rt.alloc(),
-        Conversation {
+        PlayedSession {
             said: LIVES_SAID,
             heard: LIVES_HEARD,
         },

@@ -1,6 +1,6 @@
 //! A crash before each own step of a supervised worker.
 
-use crate::supervisor::values::{PlannedWorker, SupervisedRun, run_is};
+use crate::supervisor::values::{PlannedWorker, SupervisedTrial, run_is};
 use crate::test_values::FIVE_OPERATIONS;
 use rme::supervisor::{End, Free};
 use std::test::Fail;
@@ -17,7 +17,7 @@ fn cut_supervised(rt: HostRuntime) -> Result<(), Fail> {
             lives: 2,
             sweeps: 1,
         };
-        let run = SupervisedRun {
+        let run = SupervisedTrial {
             sizes: (1, 1, 2, 10),
             plans: &[planned],
             ends: &[End::AllDone],

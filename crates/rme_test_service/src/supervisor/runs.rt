@@ -1,7 +1,7 @@
 //! Runs, and the end of each worker.
 
 use crate::supervisor::gates::{CountingGate, CrossingGate};
-use crate::supervisor::values::{ExpectedLock, PlannedWorker, SupervisedRun, report_of, run_is};
+use crate::supervisor::values::{ExpectedLock, PlannedWorker, SupervisedTrial, report_of, run_is};
 use rme::supervisor::{End, Free};
 use rme::{Op, Refusal};
 use std::test::Fail;
@@ -35,7 +35,7 @@ const SECOND: PlannedWorker<'static> = PlannedWorker {
 };
 
 /// Row `gate`: each worker makes an empty job on a lock of its own.
-const BESIDE: SupervisedRun<'static> = SupervisedRun {
+const BESIDE: SupervisedTrial<'static> = SupervisedTrial {
     sizes: (2, 2, 1, 10),
     plans: &[
         PlannedWorker {
@@ -71,15 +71,15 @@ const LOCKS_BEHIND: &[ExpectedLock<'static>] = &[
 /// the other lock, and sweeps in vain for this one. And a job has its sweeps in all lives together: worker 1 is done on
 /// lock 1 after 20 own steps, asks for lock 0 by 6 more, and crashes after two blocked sweeps. The next life recovers
 /// by 4 steps and has one sweep left; at a second it would crash.
-const BEHIND: [SupervisedRun<'static>; 2] = [
-    SupervisedRun {
+const BEHIND: [SupervisedTrial<'static>; 2] = [
+    SupervisedTrial {
         sizes: (2, 2, 1, 10),
         plans: &[DEAD, SECOND],
         ends: &[End::OutOfLives, End::Stalled],
         lives: &[1, 1],
         locks: LOCKS_BEHIND,
     },
-    SupervisedRun {
+    SupervisedTrial {
         sizes: (2, 2, 1, 10),
         plans: &[
             DEAD,
@@ -106,7 +106,7 @@ fn dead_owner(rt: HostRuntime) -> Result<(), Fail> {
 /// Row `threads program`, as a call: eight workers on one lock, a hundred jobs each, with three crashes each.
 #[test]
 fn threads_program(rt: HostRuntime) -> Result<(), Fail> {
-    let run = SupervisedRun {
+    let run = SupervisedTrial {
         sizes: (8, 1, 1, 100),
         plans: &[PlannedWorker {
             jobs: &[(0, ONE)],
@@ -131,7 +131,7 @@ fn threads_program(rt: HostRuntime) -> Result<(), Fail> {
 }
 
 /// A worker that is not let into its section.
-const SHUT_OUT: SupervisedRun<'static> = SupervisedRun {
+const SHUT_OUT: SupervisedTrial<'static> = SupervisedTrial {
     sizes: (1, 1, 1, 10),
     plans: &[PlannedWorker {
         jobs: &[(0, FIVE)],
@@ -156,8 +156,8 @@ fn shut_gate(rt: HostRuntime) -> Result<(), Fail> {
 /// the first recovery, and one before the second; two jobs three times, with a crash on the way; and two crashes with
 /// two lives, where the worker is out of lives at the second crash and not at the first. Its first job is done between
 /// the two: after 3 own steps the next life recovers by 2 and makes it by 28.
-const ALONE: [SupervisedRun<'static>; 4] = [
-    SupervisedRun {
+const ALONE: [SupervisedTrial<'static>; 4] = [
+    SupervisedTrial {
         sizes: (1, 1, 1, 10),
         plans: &[PlannedWorker {
             jobs: &[(0, FIVE), (1, &[])],
@@ -167,7 +167,7 @@ const ALONE: [SupervisedRun<'static>; 4] = [
         lives: &[1],
         locks: &[(&[5], true, &[((0, 0, 1, 0, 5), FIVE)])],
     },
-    SupervisedRun {
+    SupervisedTrial {
         sizes: (1, 1, 1, 10),
         plans: &[PlannedWorker {
             falls: &[0, 1],
@@ -178,7 +178,7 @@ const ALONE: [SupervisedRun<'static>; 4] = [
         lives: &[3],
         locks: &[(&[5], true, &[((0, 0, 1, 0, 5), FIVE)])],
     },
-    SupervisedRun {
+    SupervisedTrial {
         sizes: (1, 1, 1, 10),
         plans: &[PlannedWorker {
             jobs: &[(0, ONE), (0, &[Op::Add(0, 10)])],
@@ -202,7 +202,7 @@ const ALONE: [SupervisedRun<'static>; 4] = [
             ],
         )],
     },
-    SupervisedRun {
+    SupervisedTrial {
         sizes: (1, 1, 1, 10),
         plans: &[PlannedWorker {
             jobs: &[(0, FIVE), (0, ONE)],

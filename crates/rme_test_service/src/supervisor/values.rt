@@ -26,7 +26,7 @@ pub type ExpectedLock<'a> = (&'a [u64], bool, &'a [ExpectedEntry<'a>]);
 
 /// A run of a new service of these workers, locks, cells and jobs: the plans, and the expected report.
 #[derive(Clone, Copy)]
-pub struct SupervisedRun<'a> {
+pub struct SupervisedTrial<'a> {
     pub sizes: (u32, u32, u32, u32),
     pub plans: &'a [PlannedWorker<'a>],
     pub ends: &'a [End],
@@ -65,7 +65,7 @@ pub fn plans_of(
 pub fn report_of<G: Gate + Sync, R: Abort + Threads + Wait + Sync>(
     rt: &R,
     alloc: Global,
-    run: &SupervisedRun<'_>,
+    run: &SupervisedTrial<'_>,
     gate: &G,
 ) -> Result<Report, Fail> {
     let (service, downs) = open(alloc, run.sizes)?;
@@ -84,7 +84,7 @@ pub fn report_of<G: Gate + Sync, R: Abort + Threads + Wait + Sync>(
 pub fn run_is<G: Gate + Sync, R: Abort + Threads + Wait + Sync>(
     rt: &R,
     alloc: Global,
-    run: &SupervisedRun<'_>,
+    run: &SupervisedTrial<'_>,
     gate: &G,
 ) -> Result<(), Fail> {
     let report = report_of(rt, alloc, run, gate)?;

@@ -4,7 +4,7 @@ use Rattle.std.proofs.lemmas.List.{append_assoc}
 use Rattle.std.proofs.lemmas.Slice.Eq.{ends_is}
 use Rattle.rme_durable_writes.specs.Checksums.{crc32c}
 use Rattle.rme_durable_writes.specs.Writes.{sum_digits, sum_front}
-use Rattle.rme_durable_writes.proofs.Options.{not_plain, plain_lines}
+use Rattle.rme_durable_writes.proofs.Options.{found_by, not_plain, plain_lines}
 use Rattle.rme_durable_writes.proofs.write_sealer.make_write.Goals as goal
 
 pub returns-clause-lines : goal.returns-clause-lines
@@ -14,7 +14,7 @@ returns-clause-lines c =
     record {
       front = take (length lines - 1) lines;
       whole = ends.0 c.if-not-ends_with.false;
-      plain = plain_lines lines c.find.result c.find.ensures (sym c.is_some.ensures ∙ c.if-is_some.false);
+      plain = plain_lines lines c.find.result (found_by lines c.args.codec.now.marks c.args.codec.now.marks_are c.find.result c.find.ensures) (sym c.is_some.ensures ∙ c.if-is_some.false);
     }
 
 pub returns-clause-bytes : goal.returns-clause-bytes
@@ -28,4 +28,4 @@ returns-clause-bytes c =
     ∙ append_assoc lines text (sum_digits (crc32c (lines ++ text)) ++ codes "\"}\n")
 
 pub returns-then-is_some-clause-why : goal.returns-then-is_some-clause-why
-returns-then-is_some-clause-why c are = not_plain c.args.lines.now c.find.result c.find.ensures (sym c.is_some.ensures ∙ c.if-is_some.true) are
+returns-then-is_some-clause-why c are = not_plain c.args.lines.now c.find.result (found_by c.args.lines.now c.args.codec.now.marks c.args.codec.now.marks_are c.find.result c.find.ensures) (sym c.is_some.ensures ∙ c.if-is_some.true) are

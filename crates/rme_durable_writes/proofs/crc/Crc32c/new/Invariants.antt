@@ -1,5 +1,5 @@
 use Rattle.std.proofs.Common.{◌≡◌, length, vec_len}
-use Rattle.rme_durable_writes.proofs.Checksums.{AreRemainders}
+use Rattle.rme_durable_writes.specs.Checksums.{AreRemainders}
 use Rattle.rme_durable_writes.proofs.crc.Crc32c.new.Given as goal
 
 abbrev pub invariant-loop-entry : goal.invariant-loop-entry

@@ -13,16 +13,16 @@ use Rattle.rme_durable_writes.proofs.found_writes.WriteFinder.first_write.Goals 
 
 pub returns-in_default-clause-all : goal.returns-in_default-clause-all
 returns-in_default-clause-all c number write rest small is are =
-    none_some c.find.result c.in_default.is (mark_there c.args.bytes.now rest number write is are _ c.args.self.now.marks_are c.find.result c.find.ensures)
+    none_some c.find.result c.in_default.is (mark_there c.args.bytes.now rest number write is are _ c.args.self.now.codec.marks_are c.find.result c.find.ensures)
 
 pub returns-in_default-read_front-clause-all : goal.returns-in_default-read_front-clause-all
 returns-in_default-read_front-clause-all c number write rest small is are =
-    let parts = parts_there c.args.bytes.now rest number write is are _ c.args.self.now.marks_are c.find.result c.find.ensures c.in-Some.at c.in-Some.is _ _ c.split_at.ensures.front c.split_at.ensures.back in
+    let parts = parts_there c.args.bytes.now rest number write is are _ c.args.self.now.codec.marks_are c.find.result c.find.ensures c.in-Some.at c.in-Some.is _ _ c.split_at.ensures.front c.split_at.ensures.back in
     none_some c.read_front.result c.in_default-read_front.is (c.read_front.ensures.all write.kept number (behind_front number write rest) is.kept small parts.front_is)
 
 pub returns-then-not-starts_with-clause-all : goal.returns-then-not-starts_with-clause-all
 returns-then-not-starts_with-clause-all c number write rest small is are =
-    let parts = parts_there c.args.bytes.now rest number write is are _ c.args.self.now.marks_are c.find.result c.find.ensures c.in-Some.at c.in-Some.is _ _ c.split_at.ensures.front c.split_at.ensures.back in
+    let parts = parts_there c.args.bytes.now rest number write is are _ c.args.self.now.codec.marks_are c.find.result c.find.ensures c.in-Some.at c.in-Some.is _ _ c.split_at.ensures.front c.split_at.ensures.back in
     let front = some_same c.read_front.result c.in-Some-read_front.is (c.read_front.ensures.all write.kept number (behind_front number write rest) is.kept small parts.front_is) in
     let tail = line_there number write rest _ _ c.as_slice.result.now c.in-Some-read_front.front parts front (c.as_slice.ensures.value ∙ c.in_ok-line.ensures) in
     let starts = starts_is Decides-eqb c.split_at.result.1.now c.as_slice.result.now c.starts_with.result c.starts_with.ensures.value in
@@ -39,7 +39,7 @@ returns-clause-is c =
     let begins = starts.0 c.if-not-starts_with.false in
     let long : c.len.result ≡ length line = c.len.ensures ∙ sym c.as_slice.ensures.len in
     let rest : take (length tail - c.len.result) (drop c.len.result tail) ≡ drop (length line) tail = take_rest tail c.len.result ∙ ap (λ (n : ℕ). drop n tail) long in
-    let finds = subst (λ (mark : List ℕ). FindsNeedle bytes mark 0 (Some c.in-Some.at)) c.args.self.now.marks_are c.in-Some.ensures in
+    let finds = subst (λ (mark : List ℕ). FindsNeedle bytes mark 0 (Some c.in-Some.at)) c.args.self.now.codec.marks_are c.in-Some.ensures in
     record {
       number_is = refl;
       are = write_there bytes c.split_at.result.0.now tail line c.in-Some.at front.kept front.number c.split_at.ensures.front c.split_at.ensures.back (c.as_slice.ensures.value ∙ c.in_ok-line.ensures) begins
@@ -53,7 +53,7 @@ returns-clause-is c =
 
 pub returns-clause-all : goal.returns-clause-all
 returns-clause-all c number write rest small is are =
-    let parts = parts_there c.args.bytes.now rest number write is are _ c.args.self.now.marks_are c.find.result c.find.ensures c.in-Some.at c.in-Some.is _ _ c.split_at.ensures.front c.split_at.ensures.back in
+    let parts = parts_there c.args.bytes.now rest number write is are _ c.args.self.now.codec.marks_are c.find.result c.find.ensures c.in-Some.at c.in-Some.is _ _ c.split_at.ensures.front c.split_at.ensures.back in
     let front = some_same c.read_front.result c.in-Some-read_front.is (c.read_front.ensures.all write.kept number (behind_front number write rest) is.kept small parts.front_is) in
     let line = c.as_slice.result.now in
     let tail = line_there number write rest _ _ line c.in-Some-read_front.front parts front (c.as_slice.ensures.value ∙ c.in_ok-line.ensures) in

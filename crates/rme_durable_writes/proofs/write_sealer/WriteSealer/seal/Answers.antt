@@ -13,7 +13,7 @@ returns-clause-sealed c =
     record {
       is = record {
         lines = (c.in_ok-make_write.ensures).lines;
-        kept = omega (arith, c.self.invariant, own);
+        kept = omega (arith, c.self.invariant.1, own);
       };
       are = (c.in_ok-make_write.ensures).bytes ∙ ap₂ (λ (kept own : ℕ). write_text own (make kept)) own number;
     }

@@ -1,5 +1,5 @@
 use Rattle.std.proofs.Common.{◌↔◌, IsTrue, ℕ, List, subst, sym}
-use Rattle.rme_keys.specs.Allowing.{AllowsSpace, MayCreate}
+use Rattle.rme_keys.specs.Allowing.{AllowsSpace}
 use Rattle.rme_session_keys.specs.AskedSpaces.{AllowsAskedSpace}
 use Rattle.rme_session_keys.specs.declared.asked_space.AskedSpace.{AskedSpace}
 use Rattle.rme_session_keys.proofs.asked_space.AskedSpace.is_allowed.Goals as goal

@@ -1,4 +1,4 @@
-use Rattle.std.proofs.Common.{◌≡◌, ◌∙◌, Bool, true, false, inr, refl, subst, sym}
+use Rattle.std.proofs.Common.{◌≡◌, ◌∙◌, true, false, inr, refl, subst, sym}
 use Rattle.std.proofs.lemmas.Result.{on_ok_weaker}
 use Rattle.std.specs.Prelude.{OnOk, string_bytes}
 use Rattle.rme_line_io.specs.Cuts.{input_line_of}
@@ -18,4 +18,6 @@ returns-in-Ok-false-clause-answers g c =
     let A : Type 0 = AllowsLine terms c.in-Granted.key line in
     let never : A → ⊥ =
     λ allowed. let is : c.in-Ok-false.field-0 ≡ true = c.in-Ok-false.ensures.1 allowed in let bad : true ≡ false = sym is ∙ c.in-Ok-false.field-0-test in cc in
-    subst P (sym c.in-Granted.is) (on_ok_weaker refused.result (λ says. (refl, inr (never, says, refl))) refused.ensures.says)
+    let made = c.new-in-Ok-false.ensures in
+    subst (λ session. OnOk refused.result (AnswersByAccess terms answers c.args.session line (string_bytes refused.new.buffers.text) session c.args.session.access)) (sym made)
+    (subst P (sym c.in-Granted.is) (on_ok_weaker refused.result (λ says. (refl, inr (never, says, refl))) refused.ensures.says))

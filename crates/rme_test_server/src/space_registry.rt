@@ -1,7 +1,6 @@
-//! Tests of the registry.
+//! The registry of open spaces.
 
-use crate::registry::{SpaceRegistry, SpaceTask};
-use rme_space_orders::SpaceName;
+use rme_space_registry::SpaceRegistry;
 use std::test::Fail;
 
 #[test]

@@ -1,6 +1,6 @@
 //! The numbers and names that accepted answers say.
 
-use crate::conversations::answer_to;
+use crate::client_requests::answer_to;
 use rme_ask_client::{
     ClientError, ClientRequest, ReportedOutcome, ReportedStance, ServerAnswer, attached_worker,
     cells_answer, job_outcome, last_receipt, owner_answer, pending_job, server_status, spaces_page,

@@ -1,6 +1,6 @@
 //! Rows worked out by hand: names, the orders of lines, and the texts of answers.
 
-use crate::{
+use rme_space_orders::{
     NewSpace, SpaceLine, SpaceName, SpaceOrder, SpaceReply, parse_space_order, push_space_reply,
 };
 use rme_words::NoMemory;

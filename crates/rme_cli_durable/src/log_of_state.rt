@@ -9,19 +9,19 @@ use rme_wire::Names;
 
 /// A state with the log that is opened over its file.
 #[derive(Drop)]
-pub struct LoggedState<'a> {
+pub struct StateAndLog<'a> {
     pub names: Names,
     pub executor: EpochExecutor,
     pub log: OpenLog<StateFile<'a, SystemFile<'a>>>,
 }
 
 /// A state with a log over its file.
-pub fn logged_state<'a>(opened: OpenedState<'a, SystemFile<'a>>) -> LoggedState<'a>
+pub fn state_and_log<'a>(opened: OpenedState<'a, SystemFile<'a>>) -> StateAndLog<'a>
     requires works { opened.file.works ≡ true }
     ensures names { result.names ≡ opened.entry.names }
     ensures executor { result.executor ≡ opened.entry.executor }
 {
-    LoggedState {
+    StateAndLog {
         names: opened.names,
         executor: opened.executor,
         log: OpenLog::new(opened.file),

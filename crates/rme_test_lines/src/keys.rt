@@ -1,7 +1,7 @@
 //! Rows worked out by hand: what the keys of a file allow, and why a file is refused. The digests are those that
 //! `printf %s apple | sha256sum` prints, and likewise of `banana` and `cherry`.
 
-use crate::{BadKeyLine, Key, KeyFileError, Keys};
+use rme_keys::{BadKeyLine, Key, KeyFileError, Keys};
 use std::alloc::{AllocError, Global};
 use std::process::Abort;
 use std::test::Fail;
@@ -63,6 +63,12 @@ fn keys_allow_what_their_lines_say(rt: HostRuntime) -> Result<(), Fail> {
         ("apple", 4_294_967_295, "Tenant"),
         key_says(true, false, false),
     );
+    Ok(())
+}
+
+#[test]
+fn keys_allow_no_more_than_their_lines_say(rt: HostRuntime) -> Result<(), Fail> {
+    let keys = Keys::parse(rt.alloc(), FILE)?;
     check_said(
         &rt,
         &keys,
@@ -94,12 +100,13 @@ fn keys_allow_what_their_lines_say(rt: HostRuntime) -> Result<(), Fail> {
 }
 
 /// The name of a secret's key, and whether all workers below a number may be attached.
-fn check_below(rt: &impl Abort, keys: &Keys, secret: &str, name: &str, count: u32, wanted: bool) {
+fn check_below(rt: &impl Abort, keys: &Keys, secret: &str, wanted: (&str, u32, bool)) {
+    let (name, count, allowed) = wanted;
     match keys.find(secret) {
         None => assert!(rt; false),
         Some(key) => {
             assert!(rt; key.name() == name);
-            assert!(rt; key.allows_workers_below(count) == wanted);
+            assert!(rt; key.allows_workers_below(count) == allowed);
         }
     }
 }
@@ -107,11 +114,11 @@ fn check_below(rt: &impl Abort, keys: &Keys, secret: &str, name: &str, count: u3
 #[test]
 fn keys_have_names_and_first_workers(rt: HostRuntime) -> Result<(), Fail> {
     let keys = Keys::parse(rt.alloc(), FILE)?;
-    check_below(&rt, &keys, "apple", "ops", 256, true);
-    check_below(&rt, &keys, "banana", "team", 4, true);
-    check_below(&rt, &keys, "banana", "team", 5, false);
-    check_below(&rt, &keys, "cherry", "looks", 0, true);
-    check_below(&rt, &keys, "cherry", "looks", 1, false);
+    check_below(&rt, &keys, "apple", ("ops", 256, true));
+    check_below(&rt, &keys, "banana", ("team", 4, true));
+    check_below(&rt, &keys, "banana", ("team", 5, false));
+    check_below(&rt, &keys, "cherry", ("looks", 0, true));
+    check_below(&rt, &keys, "cherry", ("looks", 1, false));
     Ok(())
 }
 

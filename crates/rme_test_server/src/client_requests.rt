@@ -4,10 +4,10 @@ ghost use Rattle.std.specs.Prelude.{◌++◌, ◌∷◌, [], IfOk, OnOk, codes, 
 ghost use Rattle.std.specs.Io.KnownBytes.{Appends};
 ghost use Rattle.rme_ask_client.specs.Conversations.{sent_bytes};
 ghost use Rattle.rme_ask_client.specs.RequestTexts.{request_word};
-ghost use Rattle.rme_test_ask.specs.Answers.{RepeatsWord};
+ghost use Rattle.rme_test_server.specs.Repeating.{RepeatsWord};
 
 use rme_ask_client::{
-    ClientError, ClientRequest, Conversation, NewSpace, ServerAnswer, push_request,
+    ClientError, ClientRequest, Conversation, CreateRequest, ServerAnswer, push_request,
 };
 use rme_line_io::{Sink, Source};
 use std::alloc::Global;
@@ -109,7 +109,7 @@ fn requests_to_create_a_space_have_their_lines(rt: HostRuntime) -> Result<(), Fa
         String::from_str(alloc, "bank")?,
         String::from_str(alloc, "a\"b")?,
     ]?;
-    let small = ClientRequest::CreateSpace(NewSpace {
+    let small = ClientRequest::CreateSpace(CreateRequest {
         name: "team-7",
         locks: &locks[..1],
         workers: None,
@@ -119,7 +119,7 @@ fn requests_to_create_a_space_have_their_lines(rt: HostRuntime) -> Result<(), Fa
         line_of(alloc, small)?.as_str(),
         "{\"do\":\"create\",\"space\":\"team-7\",\"locks\":[\"bank\"]}"
     );
-    let large = ClientRequest::CreateSpace(NewSpace {
+    let large = ClientRequest::CreateSpace(CreateRequest {
         name: "team-7",
         locks: locks.as_slice(),
         workers: Some(255),

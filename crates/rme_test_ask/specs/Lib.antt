@@ -1,2 +1,0 @@
--- The answers to requests.
-pub mod Answers
