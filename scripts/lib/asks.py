@@ -43,11 +43,16 @@ def enter(server, worker, lock="bank", number=1, **more):
     return session, session.told(do="enter", lock=lock, number=number, script=[["add", 0, 5]], **more)
 
 
+def leave(session):
+    """Ends a session that has a worker. The server has seen its end when this returns, so that another can have the worker."""
+    session.told(do="detach")
+    session.close()
+
+
 def leave_inside(server, worker, lock="bank", number=1):
     """Leaves a worker inside a lock, with no session that has it."""
     session, told = enter(server, worker, lock, number)
-    session.told(do="detach")
-    session.close()
+    leave(session)
     return told
 
 

@@ -26,7 +26,6 @@ REFUSED = {
         "an-answer-that-waits-for-nothing",
         "an-end-without-a-crash",
     ),
-    "rme_durable_file": ("no-crash-lines-at-a-start",),
 }
 SEEDS, SECONDS = 200, 300
 PROGRAM = "rme_faults"

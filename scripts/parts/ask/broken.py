@@ -2,7 +2,7 @@
 
 import subprocess
 
-from lib.asks import StandIn, ask, enter, free_port, with_state
+from lib.asks import StandIn, ask, enter, free_port, leave, with_state
 from lib.checks import check, main_in_folders, same
 from lib.programs import built, ends_with, run
 from lib.servers import Server, words_of
@@ -41,7 +41,7 @@ def try_killed(folder):
     server = with_state(folder)
     owner, _ = enter(server, 0)
     waits, _ = enter(server, 1, tries=3)
-    waits.close()
+    leave(waits)
     words = [built(), "ask", "--port", str(server.port), "finish", "1"]
     with subprocess.Popen(words, stdout=subprocess.PIPE, stderr=subprocess.PIPE, text=True) as waiting:
         waiting.stdout.readline()

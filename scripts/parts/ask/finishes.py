@@ -4,7 +4,7 @@ has, and one without a job."""
 import subprocess
 import time
 
-from lib.asks import ask, enter, leave_inside, with_state, without_state
+from lib.asks import ask, enter, leave, leave_inside, with_state, without_state
 from lib.checks import check, main_in_folders, same
 from lib.programs import built
 
@@ -57,7 +57,7 @@ def try_waiting(folder):
     def checks(name, server):
         leave_inside(server, 0)
         waits, _ = enter(server, 1, tries=3)
-        waits.close()
+        leave(waits)
         began = time.monotonic()
         status, told, why = ask(server, "finish", "1", "--wait", "1")
         check(f"{name}: it waited a second", 0.9 < time.monotonic() - began < 10)
@@ -78,7 +78,7 @@ def try_withdraw(folder):
     def checks(name, server):
         leave_inside(server, 0)
         waits, _ = enter(server, 1, tries=3)
-        waits.close()
+        leave(waits)
         wanted = f"worker 1 waits for lock bank with job 1, script {SCRIPT}\nwithdrawn: job 1 of worker 1 never counts\n"
         same(f"{name}: a job that waits is given up", ask(server, "finish", "1", "--withdraw"), (0, wanted, ""))
         status, told, _ = ask(server, "finish", "0", "--withdraw")
@@ -111,7 +111,7 @@ def try_long_wait(folder):
     server = with_state(folder)
     owner, _ = enter(server, 0)
     waits, _ = enter(server, 1, tries=3)
-    waits.close()
+    leave(waits)
     words = [built(), "ask", "--port", str(server.port), "finish", "1"]
     with subprocess.Popen(words, stdout=subprocess.PIPE, stderr=subprocess.PIPE, text=True) as waiting:
         same("it says what it does", waiting.stdout.readline(), f"worker 1 waits for lock bank with job 1, script {SCRIPT}\n")

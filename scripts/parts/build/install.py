@@ -76,8 +76,11 @@ def found_in(path, pattern):
 
 def try_version(folder):
     version = found_in("CHANGELOG.md", r"^## (\d+\.\d+\.\d+),")
-    for client in ("python", "processes", "hold"):
-        same(f"the version of clients/{client}", found_in(f"clients/{client}/pyproject.toml", r'^version = "(.*)"$'), version)
+    for path in ("python/pyproject.toml", "processes/pyproject.toml", "hold/pyproject.toml", "rust/Cargo.toml", "node/package.json"):
+        found = found_in(f"clients/{path}", r'^ *"?version"?(?: =|:) "(.*?)"')
+        same(f"the version of clients/{path}", found, version)
+    for page in ("README.md", "docs/packages.md"):
+        same(f"the version of the package in {page}", found_in(page, r"rme_([\d.]+)_amd64\.deb"), version)
     if not shutil.which("rt"):
         skip("what the program says", "there is no rt, to name the toolchain")
         return

@@ -29,7 +29,7 @@ MOST_LINES, WIDTH = 130, 120
 
 def pages():
     found = [os.path.join(TOP, "README.md"), os.path.join(TOP, "CHANGELOG.md")]
-    for pattern in ("docs/*.md", "crates/*/README.md", "clients/*/README.md", "c/README.md", "rows/README.md"):
+    for pattern in ("docs/*.md", "crates/*/README.md", "clients/README.md", "clients/*/README.md", "c/README.md", "rows/README.md"):
         found += sorted(glob.glob(os.path.join(TOP, pattern)))
     return found
 
