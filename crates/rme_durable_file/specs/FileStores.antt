@@ -9,6 +9,6 @@ pub record FileStore : Type 0 where
   pub works : Bool
   pub syncs : Bool
 
--- The state of the store of a log.
+-- The state of the store of a log. Its file is locked, so that it is never asked whether it is still its own.
 abbrev pub store_state : FileStore → StoreState
-store_state file = record { bytes = file.bytes; works = file.works }
+store_state file = record { bytes = file.bytes; works = file.works; barriers = 0 }

@@ -59,10 +59,14 @@ impl FaultReport {
 
     /// The number of faults since the last report, and the last cause, if a report is due.
     fn take(&self, stderr: &Stderr<'_>) -> Option<(u64, Cause)> {
-        if self.count.load(Ordering::SeqCst) == 0 || !self.limit.may_tell(stderr) {
+        if self.count.load(Ordering::SeqCst) == 0 {
             return None;
         }
+        // The lock first: once the limit was asked, the next report has to wait.
         let cause = *self.cause.try_lock()?;
+        if !self.limit.may_tell(stderr) {
+            return None;
+        }
         Some((self.count.swap(0, Ordering::SeqCst), cause))
     }
 }

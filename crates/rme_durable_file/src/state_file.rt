@@ -147,15 +147,17 @@ impl<'a, F: DiskFile> StateFile<'a, F> {
 }
 
 impl<F: DiskFile> LogStore for StateFile<'_, F> {
-    ghost use Rattle.std.specs.Prelude.{◌≡◌, OnErr, OnOk, not, true};
+    ghost use Rattle.std.specs.Prelude.{◌≡◌, OnErr, OnOk, false, not, true};
     ghost use Rattle.rme_durable_log.specs.StoreCalls.{AppendsLines, FailsToAppend, ReplacesBytes, StopsStore};
     ghost use Rattle.rme_durable_file.specs.FileStores.{store_state};
 
     ghost holds = { store_state };
 
+    ghost shared = { false };
+
     fn append(&mut self, lines: &[u8]) -> Result<(), NotDurable>
         requires works { self.old.works ≡ true }
-        ensures kept { OnOk result (AppendsLines (store_state self.old) lines.now (store_state self.new)) }
+        ensures kept { OnOk result (AppendsLines false (store_state self.old) lines.now (store_state self.new)) }
         ensures part { OnErr result (FailsToAppend (store_state self.old) lines.now (store_state self.new)) }
         ensures syncs { self.new.syncs ≡ self.old.syncs }
     {
@@ -199,6 +201,13 @@ impl<F: DiskFile> LogStore for StateFile<'_, F> {
         ensures { result ≡ not self.now.syncs }
     {
         !self.syncs
+    }
+
+    /// The file is locked.
+    fn is_shared(&self) -> bool
+        ensures { result ≡ false }
+    {
+        false
     }
 
     fn fail(&mut self)

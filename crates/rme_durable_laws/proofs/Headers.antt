@@ -8,10 +8,10 @@ use Rattle.rme_program.specs.declared.event.Event.{Event}
 use Rattle.rme_program.specs.declared.event.Event.TheVariants as event
 use Rattle.rme_world.specs.EventLists.{EventContract, EventListContract}
 use Rattle.rme_world.specs.WorldViews.{WorldView}
-use Rattle.rme_durable_log.specs.Logs.{AreAllLines, log_bytes_after}
+use Rattle.rme_durable_log.specs.Logs.{KeepEarlierBytes, log_bytes_after}
 use Rattle.rme_durable_log.specs.LogRules.{entry_lines}
 use Rattle.rme_durable_log.specs.declared.log_entry.LogEntry.{LogEntry}
-use Rattle.rme_durable_log.specs.declared.log_entry.LogEntry.TheVariants.{Lines, Whole}
+use Rattle.rme_durable_log.specs.declared.log_entry.LogEntry.TheVariants.{Barrier, Lines, Whole}
 use Rattle.rme_durable_log.proofs.Texts.{bytes_after-append}
 use Rattle.rme_durable_format.specs.Headers.{HeaderValues}
 use Rattle.rme_durable_format.specs.Recovery.{BeginsWithHeader}
@@ -28,6 +28,7 @@ pub epochs_counted : (names : List (List ℕ)) (log : List LogEntry) (old new : 
 epochs_counted names [] old new lead = omega (arith, ap (λ (s : ServerState). s.epoch) lead)
 epochs_counted names (Lines session lines ∷ log) old new lead = omega (arith, epochs_counted names log lead.0 new lead.2, lead.1.epoch)
 epochs_counted names (Whole bytes ∷ log) old new lead = omega (arith, epochs_counted names log lead.0 new lead.2, lead.1.epoch)
+epochs_counted names (Barrier ∷ log) old new lead = omega (arith, epochs_counted names log lead.0 new lead.2, ap (λ (s : ServerState). s.epoch) lead.1)
 
 -- ---- lines keep what a header says
 
@@ -46,7 +47,7 @@ list_shape [] (a ∷ given) old new all = absurd all
 list_shape (one ∷ events) [] old new all = absurd all
 list_shape (one ∷ events) (a ∷ given) old new all = list_shape events given all.0 new all.2 ∙ event_shape one a old all.0 all.1.call
 
-lines_keep : (names : List (List ℕ)) (log : List LogEntry) (old new : ServerState) → AreAllLines log
+lines_keep : (names : List (List ℕ)) (log : List LogEntry) (old new : ServerState) → KeepEarlierBytes log
     → EntriesLead names old log new
     → (new.executor.world.shape ≡ old.executor.world.shape) × (new.base ≡ old.base) × (new.epoch ≡ old.epoch)
 lines_keep names [] old new all lead = (ap (λ (s : ServerState). s.executor.world.shape) lead, ap (λ (s : ServerState). s.base) lead, ap (λ (s : ServerState). s.epoch) lead)
@@ -56,6 +57,9 @@ lines_keep names (Lines session lines ∷ log) old new all lead =
     let rest = lines_keep names log lead.0 new all lead.2 in
     (rest.0 ∙ shape, rest.1 ∙ lead.1.base, rest.2 ∙ lead.1.epoch)
 lines_keep names (Whole bytes ∷ log) old new all lead = absurd all
+lines_keep names (Barrier ∷ log) old new all lead =
+    let rest = lines_keep names log lead.0 new all lead.2 in
+    (rest.0 ∙ ap (λ (s : ServerState). s.executor.world.shape) lead.1, rest.1 ∙ ap (λ (s : ServerState). s.base) lead.1, rest.2 ∙ ap (λ (s : ServerState). s.epoch) lead.1)
 
 -- ---- the header
 
@@ -69,7 +73,7 @@ header_more first more names shape past whole begins = record {
 }
 
 grown_header : (names : List (List ℕ)) (first : List ℕ) (log : List LogEntry) (start state : ServerState)
-    → AreAllLines log → AreWholeLines first → HasStateHeader names first start → EntriesLead names start log state
+    → KeepEarlierBytes log → AreWholeLines first → HasStateHeader names first start → EntriesLead names start log state
     → HasStateHeader names (first ++ entry_lines log) state
 grown_header names first log start state all whole from lead =
     let keeps = lines_keep names log start state all lead in

@@ -5,7 +5,7 @@ use Rattle.rme_session_world.specs.EventBatches.{batch_events}
 use Rattle.rme_session_world.specs.SessionBatches.{AppliesSessionBatch, holder_by}
 use Rattle.rme_session_world.specs.declared.event_batch.EventBatch.{EventBatch}
 use Rattle.rme_durable_log.specs.declared.log_entry.LogEntry.{LogEntry}
-use Rattle.rme_durable_log.specs.declared.log_entry.LogEntry.TheVariants.{Lines, Whole}
+use Rattle.rme_durable_log.specs.declared.log_entry.LogEntry.TheVariants.{Barrier, Lines, Whole}
 use Rattle.rme_durable_epochs.specs.declared.epoch_base.Base.{Base}
 use Rattle.rme_durable_format.specs.Lives.{lives_after_batch}
 use Rattle.rme_durable_server.specs.ServerHistories.{EntriesLead, EntryLeads, ServerState}
@@ -41,6 +41,7 @@ entry_alike names (Whole bytes) old again one other alike first second = record 
   epoch = first.epoch ∙ (ap (λ (n : ℕ). n + 1) alike.epoch ∙ sym second.epoch);
   places = base_places first.header.past second.header.past one.base other.base (header_places bytes names one.executor.world.shape other.executor.world.shape first.header.past second.header.past first.header.begins second.header.begins) first.header.base second.header.base;
 }
+entry_alike names Barrier old again one other alike first second = subst (λ (s : ServerState). AreStatesAlike s other) (sym first) (subst (λ (s : ServerState). AreStatesAlike old s) (sym second) alike)
 
 pub all_alike : (names : List (List ℕ)) (log : List LogEntry) (old again one other : ServerState)
     → AreStatesAlike old again → EntriesLead names old log one → EntriesLead names again log other

@@ -6,7 +6,7 @@ use Rattle.std.proofs.lemmas.List.{get_or-set_other, get_or-set_same, set_past}
 use Rattle.rme_session_world.specs.declared.event_batch.BatchStart.{BatchStart}
 use Rattle.rme_session_world.specs.declared.event_batch.BatchStart.TheVariants as begins
 use Rattle.rme_durable_log.specs.declared.log_entry.LogEntry.{LogEntry}
-use Rattle.rme_durable_log.specs.declared.log_entry.LogEntry.TheVariants.{Lines, Whole}
+use Rattle.rme_durable_log.specs.declared.log_entry.LogEntry.TheVariants.{Barrier, Lines, Whole}
 use Rattle.rme_durable_format.specs.Lives.{life_of, lives_after_start, one_more_life}
 use Rattle.rme_session_protocol.specs.SessionSteps.{TellsLife}
 use Rattle.rme_session_protocol.specs.declared.order.Attachment.{Attachment}
@@ -67,6 +67,8 @@ entry_grows names old (Lines session lines) new whole lead =
 entry_grows names old (Whole bytes) new whole lead =
     let L : List ℕ → Type 0 = λ lives. HaveLivesGrown old.lives lives × AreLivesWhole lives in
     subst L (sym lead.lives) ((λ worker. omega arith), whole)
+entry_grows names old Barrier new whole lead =
+    subst (λ (s : ServerState). HaveLivesGrown old.lives s.lives × AreLivesWhole s.lives) (sym lead) ((λ worker. omega arith), whole)
 
 pub lives_grow : (names : List (List ℕ)) (log : List LogEntry) (old new : ServerState) → AreLivesWhole old.lives
     → EntriesLead names old log new → HaveLivesGrown old.lives new.lives

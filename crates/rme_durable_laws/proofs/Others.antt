@@ -34,7 +34,7 @@ use Rattle.rme_session_protocol.specs.declared.view.Session.TheVariants.{Ready}
 use Rattle.rme_program.specs.declared.note.Receipt.{Receipt}
 use Rattle.rme_durable_log.specs.Logs.{AreNotByAuthor, IsNotByAuthor}
 use Rattle.rme_durable_log.specs.declared.log_entry.LogEntry.{LogEntry}
-use Rattle.rme_durable_log.specs.declared.log_entry.LogEntry.TheVariants.{Lines, Whole}
+use Rattle.rme_durable_log.specs.declared.log_entry.LogEntry.TheVariants.{Barrier, Lines, Whole}
 use Rattle.rme_durable_epochs.specs.ClientValues.{client_session}
 use Rattle.rme_durable_epochs.specs.declared.epoch_base.Base.{Base}
 use Rattle.rme_durable_server.specs.ServerHistories.{AppendsSessionBatch, BeginsEpoch, EntriesLead, EntryLeads, KeepsWorker, ServerState}
@@ -242,6 +242,8 @@ module _ (session worker : ℕ) where
       let keeps = batch_keeps names author old lines new other (omega (arith, within)) has lead in
       (keeps.0, ap (λ (s : Shape). s.workers) keeps.1)
   entry_keeps names (Whole bytes) old new lead other within has = (epoch_keeps names old bytes new within has lead, lead.same.workers)
+  entry_keeps names Barrier old new lead other within has =
+      subst (λ (s : ServerState). KeepsWorker session worker old s × (s.executor.world.shape.workers ≡ old.executor.world.shape.workers)) (sym lead) (record { has = has; shown = refl }, refl)
 
 pub keeps_worker : (names : List (List ℕ)) (session worker : ℕ) (log : List LogEntry) (old new : ServerState)
     → EntriesLead names old log new → AreNotByAuthor session log → worker + 1 < old.executor.world.shape.workers

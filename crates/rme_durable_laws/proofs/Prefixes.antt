@@ -15,10 +15,10 @@ use Rattle.rme_session_world.specs.EventBatches.{AppliesEvents, batch_events, cr
 use Rattle.rme_session_world.specs.declared.event_batch.BatchStart.{BatchStart}
 use Rattle.rme_session_world.specs.declared.event_batch.BatchStart.TheVariants.{Restart, Submit, Withdraw, GoOn}
 use Rattle.rme_session_world.specs.declared.event_batch.EventBatch.{EventBatch}
-use Rattle.rme_durable_log.specs.Logs.{AreAllLines, log_bytes_after}
+use Rattle.rme_durable_log.specs.Logs.{KeepEarlierBytes, log_bytes_after}
 use Rattle.rme_durable_log.specs.LogRules.{entry_lines}
 use Rattle.rme_durable_log.specs.declared.log_entry.LogEntry.{LogEntry}
-use Rattle.rme_durable_log.specs.declared.log_entry.LogEntry.TheVariants.{Lines, Whole}
+use Rattle.rme_durable_log.specs.declared.log_entry.LogEntry.TheVariants.{Barrier, Lines, Whole}
 use Rattle.rme_durable_log.proofs.Texts.{bytes_after-append, bytes_of-more}
 use Rattle.rme_durable_format.specs.BatchCommands.{all_asked_events, asked_events, batch_commands, crash_commands, start_commands, step_commands}
 use Rattle.rme_durable_format.specs.CommandLines.{AppendsCommands}
@@ -149,7 +149,7 @@ entry_read names session old new bytes more from to appended opened accepts =
     (parts.0, all_read names (batch_commands batch) lines.0 old.executor.world new.executor.world happened.0 from parts.0 lines.1 opened happened.1 parts.1, parts.2)
 
 entries_read : (names : List (List ℕ)) (log : List LogEntry) (old new : ServerState) (from to : EngineState)
-    → AreAllLines log → EntriesLead names old log new → HasAlikeWorldOpen names old.executor.world from
+    → KeepEarlierBytes log → EntriesLead names old log new → HasAlikeWorldOpen names old.executor.world from
     → AcceptsLines from (lines_of (entry_lines log)) to → HasAlikeWorldOpen names new.executor.world to
 entries_read names [] old new from to all lead opened accepts =
     let left : to ≡ from = subst (λ (ls : List InputLine). AcceptsLines from ls to) lines_none accepts in
@@ -158,6 +158,8 @@ entries_read names (Lines session bytes ∷ log) old new from to all lead opened
     let one = entry_read names session old lead.0 bytes (entry_lines log) from to lead.1 opened accepts in
     entries_read names log lead.0 new one.0 to all lead.2 one.1 one.2
 entries_read names (Whole bytes ∷ log) old new from to all lead opened accepts = absurd all
+entries_read names (Barrier ∷ log) old new from to all lead opened accepts =
+    entries_read names log lead.0 new from to all lead.2 (subst (λ (s : ServerState). HasAlikeWorldOpen names s.executor.world from) (sym lead.1) opened) accepts
 
 -- ---- a log that only grew
 
@@ -194,7 +196,7 @@ final_alike names others seen tallied world its opened =
 
 grown_recovers : (names others : List (List ℕ)) (first : List ℕ) (log : List LogEntry) (start state : ServerState)
     (world : WorldView)
-    → AreAllLines log → AreWholeLines first → RecoversState names first start → EntriesLead names start log state
+    → KeepEarlierBytes log → AreWholeLines first → RecoversState names first start → EntriesLead names start log state
     → RecoversWorld (first ++ entry_lines log) others world → (names ≡ others) × AreWorldsAlike state.executor.world world
 grown_recovers names others first log start state world all whole from lead recovers =
     let before = from.recovers in
@@ -210,9 +212,9 @@ grown_recovers names others first log start state world all whole from lead reco
 -- ---- the last checkpoint
 
 abbrev pub LastWhole : List LogEntry → Type 0
-LastWhole log = (front : List LogEntry) × (bytes : List ℕ) × (rest : List LogEntry) × AreAllLines rest × (log ≡ front ++ Whole bytes ∷ rest)
+LastWhole log = (front : List LogEntry) × (bytes : List ℕ) × (rest : List LogEntry) × KeepEarlierBytes rest × (log ≡ front ++ Whole bytes ∷ rest)
 
-pub last_whole : (log : List LogEntry) → AreAllLines log ⊎ LastWhole log
+pub last_whole : (log : List LogEntry) → KeepEarlierBytes log ⊎ LastWhole log
 last_whole [] = inl tt
 last_whole (Lines session lines ∷ log) = elim (last_whole log) [
   | inl all ↦ inl all
@@ -221,6 +223,10 @@ last_whole (Lines session lines ∷ log) = elim (last_whole log) [
 last_whole (Whole bytes ∷ log) = elim (last_whole log) [
   | inl all ↦ inr ([], bytes, log, all, refl)
   | inr last ↦ inr (Whole bytes ∷ last.0, last.1, last.2, last.3, ap (λ (l : List LogEntry). Whole bytes ∷ l) last.4)
+]
+last_whole (Barrier ∷ log) = elim (last_whole log) [
+  | inl all ↦ inl all
+  | inr last ↦ inr (Barrier ∷ last.0, last.1, last.2, last.3, ap (λ (l : List LogEntry). Barrier ∷ l) last.4)
 ]
 
 pub split_lead : (names : List (List ℕ)) (one two : List LogEntry) (old new : ServerState)
@@ -231,7 +237,7 @@ split_lead names (entry ∷ one) two old new lead =
     let rest = split_lead names one two lead.0 new lead.2 in
     (rest.0, (lead.0, lead.1, rest.1), rest.2)
 
-pub bytes_grown : (first : List ℕ) (log : List LogEntry) → AreAllLines log
+pub bytes_grown : (first : List ℕ) (log : List LogEntry) → KeepEarlierBytes log
     → log_bytes_after first log ≡ first ++ entry_lines log
 bytes_grown first log all = bytes_of-more (Whole first ∷ []) log all
 

@@ -16,7 +16,7 @@ use Rattle.rme_session_world.specs.Executors.{HasCrashedAll}
 use Rattle.rme_durable_format.specs.Recovery.{RecoversWorld}
 use Rattle.rme_durable_format.proofs.Running.{starts_run}
 use Rattle.rme_durable_log.specs.declared.log_entry.LogEntry.{LogEntry}
-use Rattle.rme_durable_log.specs.declared.log_entry.LogEntry.TheVariants.{Lines, Whole}
+use Rattle.rme_durable_log.specs.declared.log_entry.LogEntry.TheVariants.{Barrier, Lines, Whole}
 use Rattle.rme_durable_server.specs.ServerHistories.{EntriesLead, EntryLeads, LogLeads, ServerOpening, ServerState}
 use Rattle.rme_durable_laws.specs.HeldLocks.{BeginsWith, IsWorldReachable}
 
@@ -87,6 +87,7 @@ entry_reach names (Lines session lines) old new lead reached =
     let kept = list_reach _ happened.0 old.executor.world new.executor.world happened.1 reached in
     (kept.0, ap (λ (s : Shape). s.workers) kept.1)
 entry_reach names (Whole bytes) old new lead reached = (recovered_reach bytes names new.executor.world lead.recovers, lead.same.workers)
+entry_reach names Barrier old new lead reached = subst (λ (s : ServerState). KeepsWorkers old s) (sym lead) (reached, refl)
 
 pub entries_reach : (names : List (List ℕ)) (log : List LogEntry) (old new : ServerState)
     → EntriesLead names old log new → IsWorldReachable old.executor.world → KeepsWorkers old new

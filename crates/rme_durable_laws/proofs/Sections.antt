@@ -27,7 +27,7 @@ use Rattle.rme_session_world.specs.EventBatches.{batch_events}
 use Rattle.rme_session_world.specs.WorkerSessions.{worker_session, worker_state_in}
 use Rattle.rme_durable_log.specs.Logs.{AreNotByAuthor, IsNotByAuthor}
 use Rattle.rme_durable_log.specs.declared.log_entry.LogEntry.{LogEntry}
-use Rattle.rme_durable_log.specs.declared.log_entry.LogEntry.TheVariants.{Lines, Whole}
+use Rattle.rme_durable_log.specs.declared.log_entry.LogEntry.TheVariants.{Barrier, Lines, Whole}
 use Rattle.rme_durable_epochs.specs.ClientValues.{client_place, next_client_place, offset_place}
 use Rattle.rme_durable_epochs.specs.declared.epoch_base.Base.{Base}
 use Rattle.rme_durable_epochs.specs.declared.epoch_base.PlaceOffset.{PlaceOffset}
@@ -139,6 +139,7 @@ module _ (names : List (List ℕ)) (session worker : ℕ) (job : Job) where
       let place = list_place world.shape batch.worker worker job.lock apart (batch_events batch) (batch_of world.shape batch.worker worker apart batch refl) applies.happened.0 world new.executor.world refl reached me (state_found world worker within) section applies.happened.1 in
       ap₂ (λ (b : Base) (n : ℕ). client_place b job.lock n) lead.base place
   entry_place (Whole bytes) old new lead other reached inside = lead.same.each.places job.lock (inside_owns session worker job old reached inside).within
+  entry_place Barrier old new lead other reached inside = subst (λ (s : ServerState). SectionStays job.lock old s) (sym lead) refl
 
   pub entries_place : (log : List LogEntry) (old new : ServerState) → EntriesLead names old log new
       → AreNotByAuthor session log → IsWorldReachable old.executor.world → IsSessionInside session worker job old

@@ -1,7 +1,7 @@
 -- Two histories of a server by the same log, recovery from its bytes, the checkpoints in it, and the lives of workers.
 use Rattle.std.specs.Prelude.{◌≡◌, ℕ, ◌+◌, ◌<◌, ◌≤◌, ◌^◌, List, [], ◌∷◌}
 use Rattle.rme_durable_log.specs.declared.log_entry.LogEntry.{LogEntry}
-use Rattle.rme_durable_log.specs.declared.log_entry.LogEntry.TheVariants.{Lines, Whole}
+use Rattle.rme_durable_log.specs.declared.log_entry.LogEntry.TheVariants.{Barrier, Lines, Whole}
 use Rattle.rme_durable_server.specs.ServerHistories.{ServerState}
 use Rattle.rme_world.specs.WorldViews.{WorldView}
 use Rattle.rme_durable_format.specs.Lives.{life_of}
@@ -28,6 +28,7 @@ abbrev pub checkpoint_count : List LogEntry → ℕ
 checkpoint_count [] = 0
 checkpoint_count (Lines author lines ∷ log) = checkpoint_count log
 checkpoint_count (Whole bytes ∷ log) = checkpoint_count log + 1
+checkpoint_count (Barrier ∷ log) = checkpoint_count log
 
 -- Each life is a number of 64 bits; and no worker's life is less than before.
 abbrev pub AreLivesWhole : List ℕ → Type 0

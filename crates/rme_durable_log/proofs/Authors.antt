@@ -9,7 +9,7 @@ use Rattle.std.proofs.lemmas.List.{append-nil}
 use Rattle.std.proofs.lemmas.Bool.Decides.{nat_tests}
 use mathlib.Core.List.{IsPrefix}
 use Rattle.rme_durable_log.specs.declared.log_entry.LogEntry.{LogEntry}
-use Rattle.rme_durable_log.specs.declared.log_entry.LogEntry.TheVariants.{Lines, Whole}
+use Rattle.rme_durable_log.specs.declared.log_entry.LogEntry.TheVariants.{Barrier, Lines, Whole}
 use Rattle.rme_durable_log.specs.Logs.{AreNotByAuthor, GrowsByOthers}
 use Rattle.rme_durable_log.specs.LogRules.{AreAuthorsBelow, AreLastOfAuthors, IsLastEntryOf}
 
@@ -47,6 +47,7 @@ pub below_not_by : (authors author : ℕ) (log : List LogEntry) → authors ≤ 
 below_not_by authors author [] le by = tt
 below_not_by authors author (Lines it lines ∷ log) le by = (λ (same : it ≡ author). omega (arith, by.0, le, same), below_not_by authors author log le by.1)
 below_not_by authors author (Whole bytes ∷ log) le by = (tt, below_not_by authors author log le by.1)
+below_not_by authors author (Barrier ∷ log) le by = (tt, below_not_by authors author log le by.1)
 
 -- ---- the last entries
 

@@ -2,14 +2,15 @@
 use Rattle.std.proofs.Common.{◌≡◌, ℕ, ◌<◌, true, List, [], ◌∷◌, ◌++◌, length, Option, Some, None, refl, sym, ap, ◌∙◌, subst, inl, inr, arith, option_map}
 use Rattle.std.proofs.lemmas.List.{append-nil}
 use mathlib.Core.List.{IsPrefix}
+use Rattle.std.specs.Prelude.{Bool}
 use Rattle.rme_durable_log.specs.declared.log_entry.LogEntry.{LogEntry}
 use Rattle.rme_durable_log.specs.declared.log_entry.LogEntry.TheVariants.{Whole}
-use Rattle.rme_durable_log.specs.StoreCalls.{AppendsLines, ReplacesBytes, StoreState}
-use Rattle.rme_durable_log.specs.Logs.{AreAllLines, AreBytesOfLog, IsLogDurable, StoreHolds, WasStored, log_bytes}
+use Rattle.rme_durable_log.specs.StoreCalls.{AppendsLines, ReplacesBytes, StoreState, barriers_after}
+use Rattle.rme_durable_log.specs.Logs.{KeepEarlierBytes, barrier_count, AreBytesOfLog, IsLogDurable, StoreHolds, WasStored, log_bytes}
 use Rattle.rme_durable_log.specs.LogRules.{entry_lines, known_bytes}
-use Rattle.rme_durable_log.proofs.Texts.{bytes_of-more, bytes_of-whole, prefix_last, prefix_split}
+use Rattle.rme_durable_log.proofs.Texts.{barrier_count-whole, bytes_of-more, bytes_of-whole, prefix_last, prefix_split}
 
-bytes_more : (before after : Option (List ℕ)) (log entries : List LogEntry) (lines : List ℕ) → AreAllLines entries → AreBytesOfLog before log → after ≡ option_map (λ (bytes : List ℕ). bytes ++ lines) before → lines ≡ entry_lines entries → AreBytesOfLog after (log ++ entries)
+bytes_more : (before after : Option (List ℕ)) (log entries : List LogEntry) (lines : List ℕ) → KeepEarlierBytes entries → AreBytesOfLog before log → after ≡ option_map (λ (bytes : List ℕ). bytes ++ lines) before → lines ≡ entry_lines entries → AreBytesOfLog after (log ++ entries)
 bytes_more None after log entries lines all held kept come = subst (λ (o : Option (List ℕ)). AreBytesOfLog o (log ++ entries)) (sym kept) tt
 bytes_more (Some bytes) after log entries lines all held kept come =
     let whole : bytes ++ lines ≡ log_bytes (log ++ entries) = ap (λ w. w ++ lines) held ∙ (ap (λ w. log_bytes log ++ w) come ∙ sym (bytes_of-more log entries all)) in
@@ -23,20 +24,20 @@ bytes_first : (bytes : Option (List ℕ)) → AreBytesOfLog bytes (Whole (known_
 bytes_first None = tt
 bytes_first (Some bytes) = refl
 
-pub holds_more : (before after : StoreState) (log entries : List LogEntry) (lines : List ℕ) → AreAllLines entries → StoreHolds before log → AppendsLines before lines after → lines ≡ entry_lines entries → StoreHolds after (log ++ entries)
-holds_more before after log entries lines all held kept come = record { works = kept.works; bytes = bytes_more before.bytes after.bytes log entries lines all held.bytes kept.bytes come }
+pub holds_more : (shared : Bool) (before after : StoreState) (log entries : List LogEntry) (lines : List ℕ) → KeepEarlierBytes entries → StoreHolds before log → AppendsLines shared before lines after → lines ≡ entry_lines entries → barrier_count (log ++ entries) ≡ barriers_after shared (barrier_count log) → StoreHolds after (log ++ entries)
+holds_more shared before after log entries lines all held kept come counted = record { works = kept.works; bytes = bytes_more before.bytes after.bytes log entries lines all held.bytes kept.bytes come; barriers = kept.barriers ∙ (ap (barriers_after shared) held.barriers ∙ sym counted) }
 
-pub holds_whole : (before after : StoreState) (log : List LogEntry) (bytes : List ℕ) → ReplacesBytes before bytes after → StoreHolds after (log ++ Whole bytes ∷ [])
-holds_whole before after log bytes put = record { works = put.works; bytes = bytes_whole before.bytes after.bytes log bytes put.replaced }
+pub holds_whole : (before after : StoreState) (log : List LogEntry) (bytes : List ℕ) → StoreHolds before log → ReplacesBytes before bytes after → StoreHolds after (log ++ Whole bytes ∷ [])
+holds_whole before after log bytes held put = record { works = put.works; bytes = bytes_whole before.bytes after.bytes log bytes put.replaced; barriers = put.barriers ∙ (held.barriers ∙ sym (barrier_count-whole log bytes)) }
 
-pub holds_first : (store : StoreState) → store.works ≡ true → StoreHolds store (Whole (known_bytes store.bytes) ∷ [])
-holds_first store works = record { works = works; bytes = bytes_first store.bytes }
+pub holds_first : (store : StoreState) → store.works ≡ true → store.barriers ≡ 0 → StoreHolds store (Whole (known_bytes store.bytes) ∷ [])
+holds_first store works none = record { works = works; bytes = bytes_first store.bytes; barriers = none }
 
 module _ {X : Type 0} (holds : X → StoreState) where
-  held_now : (store : X) (start log later : List LogEntry) → AreAllLines later → start ++ later ≡ log → StoreHolds (holds store) log → WasStored holds start
-  held_now store start log later all is held = record { store = store; later = later; lines = all; held = subst (λ (l : List LogEntry). StoreHolds (holds store) l) (sym is) held }
+  held_now : (store : X) (start log later : List LogEntry) → KeepEarlierBytes later → start ++ later ≡ log → StoreHolds (holds store) log → WasStored holds start
+  held_now store start log later all is held = record { store = store; later = later; keep = all; held = subst (λ (l : List LogEntry). StoreHolds (holds store) l) (sym is) held }
 
-  pub held_more : (store : X) (log entries : List LogEntry) → AreAllLines entries → IsLogDurable holds log → StoreHolds (holds store) (log ++ entries) → IsLogDurable holds (log ++ entries)
+  pub held_more : (store : X) (log entries : List LogEntry) → KeepEarlierBytes entries → IsLogDurable holds log → StoreHolds (holds store) (log ++ entries) → IsLogDurable holds (log ++ entries)
   held_more store log entries all before now start pre some = elim (prefix_split start log entries all pre) [
     | inl q ↦ before start q some
     | inr q ↦ held_now store start (log ++ entries) q.0 q.1 q.2 now
@@ -48,10 +49,10 @@ module _ {X : Type 0} (holds : X → StoreState) where
     | inr q ↦ held_now store start (log ++ last ∷ []) [] tt (append-nil start ∙ q) now
   ]
 
-  pub held_first : (store : X) → (holds store).works ≡ true → IsLogDurable holds (Whole (known_bytes (holds store).bytes) ∷ [])
-  held_first store works start pre some = elim (prefix_last start [] (Whole (known_bytes (holds store).bytes)) pre) [
+  pub held_first : (store : X) → (holds store).works ≡ true → (holds store).barriers ≡ 0 → IsLogDurable holds (Whole (known_bytes (holds store).bytes) ∷ [])
+  held_first store works none start pre some = elim (prefix_last start [] (Whole (known_bytes (holds store).bytes)) pre) [
     | inl q ↦ absurd (nothing start q some)
-    | inr q ↦ held_now store start (Whole (known_bytes (holds store).bytes) ∷ []) [] tt (append-nil start ∙ q) (holds_first (holds store) works)
+    | inr q ↦ held_now store start (Whole (known_bytes (holds store).bytes) ∷ []) [] tt (append-nil start ∙ q) (holds_first (holds store) works none)
   ]
     where
       nothing : (start : List LogEntry) → IsPrefix start [] → 0 < length start → ⊥

@@ -19,21 +19,26 @@ pub(crate) struct DurableUpTo<L: LogStore, J: LogTag> {
     kept: Word<LogEntry, u64, LogRule<L>>,
     /// Whether a thread is writing.
     is_writing: AtomicBool,
+    /// Whether the store is shared.
+    is_shared: bool,
     of: PhantomData<J>,
     ghost kept_is: { (kept.tracked ≡ false) × (kept.book ≡ J.book) },
+    ghost shared_is: { is_shared ≡ L.shared },
 }
 
 impl<L: LogStore, J: LogTag> DurableUpTo<L, J> {
     ghost use Rattle.std.specs.Prelude.{◌≡◌, IsTrue, false};
-    ghost use Rattle.rme_durable_log.specs.Logs.{IsLogDurable};
+    ghost use Rattle.rme_durable_log.specs.Logs.{IsCommitted, IsLogDurable};
 
     /// The durable mark of this word, with no thread writing.
-    pub(crate) fn new(kept: Word<LogEntry, u64, LogRule<L>>) -> DurableUpTo<L, J>
-        requires { (kept.tracked ≡ false) × (kept.book ≡ J.book) }
+    pub(crate) fn new(kept: Word<LogEntry, u64, LogRule<L>>, is_shared: bool) -> DurableUpTo<L, J>
+        requires kept { (kept.tracked ≡ false) × (kept.book ≡ J.book) }
+        requires shared { is_shared ≡ L.shared }
     {
         DurableUpTo {
             kept,
             is_writing: AtomicBool::new(false),
+            is_shared,
             of: PhantomData,
         }
     }
@@ -56,14 +61,18 @@ impl<L: LogStore, J: LogTag> DurableUpTo<L, J> {
         self.is_writing.store(false, Ordering::SeqCst);
     }
 
-    /// Whether everything before this position is durable, as far as was noted.
-    pub(crate) fn is_durable(&self, end: &LogPosition<L, J>) -> bool
-        ensures { IsTrue result → IsLogDurable L.holds end.now }
+    /// Whether what an answer at this position waits for has come, as far as was noted.
+    pub(crate) fn is_committed(&self, end: &LogPosition<L, J>) -> bool
+        ensures { IsTrue result → IsCommitted L.shared L.holds end.now }
     {
-        end.is_durable(&self.kept)
+        if self.is_shared {
+            end.is_confirmed(&self.kept)
+        } else {
+            end.is_durable(&self.kept)
+        }
     }
 
-    /// Waits for a while as long as a thread writes and this position is not yet durable. Answers whether both are
+    /// Waits for a while as long as a thread writes and this position is not yet committed. Answers whether both are
     /// still so.
     pub(crate) fn is_behind(&self, end: &LogPosition<L, J>) -> bool {
         for _ in 0..ROUNDS {
@@ -75,10 +84,10 @@ impl<L: LogStore, J: LogTag> DurableUpTo<L, J> {
         true
     }
 
-    /// Whether at each of `TURNS` checks a thread is writing and this position is not yet durable.
+    /// Whether at each of `TURNS` checks a thread is writing and this position is not yet committed.
     fn stays_behind(&self, end: &LogPosition<L, J>) -> bool {
         for _ in 0..TURNS {
-            if self.is_durable(end) || !self.is_writing.load(Ordering::SeqCst) {
+            if self.is_committed(end) || !self.is_writing.load(Ordering::SeqCst) {
                 return false;
             }
             hint::spin_loop();

@@ -43,7 +43,7 @@ struct CommitState<L: LogStore, J: LogTag> {
 
 impl<L: LogStore, J: LogTag> GroupCommit<L, J> {
     ghost use Rattle.std.specs.Prelude.{◌≡◌, IfErr, OnOk, false};
-    ghost use Rattle.rme_durable_log.specs.Logs.{IsLogDurable};
+    ghost use Rattle.rme_durable_log.specs.Logs.{IsCommitted};
 
     /// A group commit without a writing thread.
     pub(crate) fn new(
@@ -64,14 +64,15 @@ impl<L: LogStore, J: LogTag> GroupCommit<L, J> {
         }
     }
 
-    /// Waits until everything before this position was in the store; writes it if no other thread does.
+    /// Waits until everything before this position was in the store; writes it if no other thread does. If the store is
+    /// shared, it waits until the store was asked, after that, whether its bytes are still those of this log.
     pub fn commit<R: Wait, F: PendingLines<L, J>>(
         &self,
         rt: &R,
         front: &Mutex<F>,
         end: &LogPosition<L, J>,
     ) -> Result<(), NotDurable>
-        ensures { OnOk result (IsLogDurable L.holds end.now) }
+        ensures { OnOk result (IsCommitted L.shared L.holds end.now) }
     {
         for _ in rt.forever() {
             let is_behind = self.marks.is_behind(end);
@@ -79,14 +80,14 @@ impl<L: LogStore, J: LogTag> GroupCommit<L, J> {
             if self.is_failed() {
                 return Err(NotDurable);
             }
-            if self.marks.is_durable(end) {
+            if self.marks.is_committed(end) {
                 return Ok(());
             }
             let mut back = lock_with_spin(rt, &self.back);
             if self.is_failed() {
                 return Err(NotDurable);
             }
-            if self.marks.is_durable(end) {
+            if self.marks.is_committed(end) {
                 return Ok(());
             }
             if let Some(held) = back.held.take() {
@@ -104,14 +105,14 @@ impl<L: LogStore, J: LogTag> GroupCommit<L, J> {
 
     /// Stores all lines up to this position, if that takes no longer than waking another thread and no other thread is
     /// writing. Call this while holding the executor's lock: a thread that waits for the lock meanwhile waits less than
-    /// for another thread's write. A later `commit` of the position finds that it is durable, or why it is not.
+    /// for another thread's write. A later `commit` of the position finds that it is committed, or why it is not.
     pub fn commit_inline<R: Wait, F: PendingLines<L, J>>(
         &self,
         rt: &R,
         front: &mut F,
         end: &LogPosition<L, J>,
     ) {
-        if !self.is_quick || self.marks.is_durable(end) || self.is_failed() {
+        if !self.is_quick || self.marks.is_committed(end) || self.is_failed() {
             return;
         }
         let mut back = lock_with_spin(rt, &self.back);

@@ -3,7 +3,7 @@
 use crate::log_author::LogAuthor;
 use crate::log_entry::LogEntry;
 use crate::log_position::LogPosition;
-use crate::log_rule::{LinesEntry, LogRule, LogTag, WholeEntry};
+use crate::log_rule::{BarrierEntry, LinesEntry, LogRule, LogTag, WholeEntry};
 use crate::log_store::LogStore;
 use logbook::Word;
 use std::alloc::Global;
@@ -22,9 +22,12 @@ pub struct LogAppender<L: LogStore, J: LogTag> {
     authors: u64,
     /// For each author that may append, the number of entries up to its last one.
     lasts: BTreeMap<u64, u64>,
+    /// Whether the store is shared.
+    is_shared: bool,
 }
 
 impl<L: LogStore, J: LogTag> Model for LogAppender<L, J> {
+    ghost use Rattle.std.specs.Prelude.{◌≡◌};
     ghost use Rattle.rme_durable_log.specs.LogRules.{AppenderInvariant, AppenderState, entries_behind, entry_lines};
 
     ghost Value = { AppenderState };
@@ -37,10 +40,10 @@ impl<L: LogStore, J: LogTag> Model for LogAppender<L, J> {
     } };
 
     ghost invariant = { λ appender. AppenderInvariant J.book appender.head appender.taken appender.told
-        appender.authors appender.lasts };
+        appender.authors appender.lasts × (appender.is_shared ≡ L.shared) };
 }
 
-/// A batch of lines, taken to be stored.
+/// A batch of lines, taken to be stored, with a barrier behind them if the store is shared.
 #[derive(Drop)]
 pub struct PendingBatch<L: LogStore, J: LogTag> {
     lines: String,
@@ -50,21 +53,21 @@ pub struct PendingBatch<L: LogStore, J: LogTag> {
 
 impl<L: LogStore, J: LogTag> Model for PendingBatch<L, J> {
     ghost use Rattle.std.specs.Prelude.{List, string_bytes};
-    ghost use Rattle.rme_durable_log.specs.LogRules.{AreLinesSince};
+    ghost use Rattle.rme_durable_log.specs.LogRules.{IsBatch};
     ghost use Rattle.rme_durable_log.specs.declared.log_entry.LogEntry.{LogEntry};
 
     ghost Value = { List LogEntry };
 
     ghost view = { λ taken. taken.upto };
 
-    ghost invariant = { λ taken. AreLinesSince taken.from taken.upto (string_bytes taken.lines) };
+    ghost invariant = { λ taken. IsBatch L.shared taken.from taken.upto (string_bytes taken.lines) };
 }
 
 impl<L: LogStore, J: LogTag> LogAppender<L, J> {
     ghost use Rattle.std.specs.Prelude.{◌≡◌, ◌++◌, ◌∷◌, [], IfNone, IfSome, IsTrue, MatchBool, OnSome, string_bytes, suc};
     ghost use mathlib.Core.List.{IsPrefix};
     ghost use Rattle.rme_durable_log.specs.Logs.{GrowsByOthers};
-    ghost use Rattle.rme_durable_log.specs.LogRules.{AreAuthorsBelow, log_head};
+    ghost use Rattle.rme_durable_log.specs.LogRules.{AreAuthorsBelow, log_as_taken, log_head};
     ghost use Rattle.rme_durable_log.specs.declared.log_entry.LogEntry.TheVariants.{Lines, Whole};
 
     /// The appender of a log with only its first entry, and without authors.
@@ -72,8 +75,10 @@ impl<L: LogStore, J: LogTag> LogAppender<L, J> {
         alloc: Global,
         head: Word<LogEntry, u64, LogRule<L>>,
         told: LogPosition<L, J>,
+        is_shared: bool,
     ) -> LogAppender<L, J>
         requires head { head ≡ log_head J.book }
+        requires shared { is_shared ≡ L.shared }
         requires first { AreAuthorsBelow 0 told }
         ensures log { result.log ≡ told }
         ensures waits { result.waits ≡ [] }
@@ -84,6 +89,7 @@ impl<L: LogStore, J: LogTag> LogAppender<L, J> {
             told,
             authors: 0,
             lasts: BTreeMap::new(alloc),
+            is_shared,
         }
     }
 
@@ -180,31 +186,43 @@ impl<L: LogStore, J: LogTag> LogAppender<L, J> {
         Some(told)
     }
 
-    /// Takes the pending lines, of which this is the text, as a batch for the writer.
-    pub fn take(&mut self, lines: String) -> PendingBatch<L, J>
+    /// Takes the pending lines, of which this is the text, as a batch for the writer. It always does, since only the
+    /// owner of this value appends; the contract does not say so. On `None` it is unchanged.
+    pub fn take(&mut self, lines: String) -> Option<PendingBatch<L, J>>
         requires lines { string_bytes lines ≡ self.old.waits }
-        ensures taken { result ≡ self.old.log }
-        ensures log { self.new.log ≡ self.old.log }
-        ensures waits { self.new.waits ≡ [] }
+        ensures taken { IfSome result (λ taken. taken ≡ log_as_taken L.shared self.old.log) }
+        ensures log { OnSome result (self.new.log ≡ log_as_taken L.shared self.old.log) }
+        ensures waits { OnSome result (self.new.waits ≡ []) }
+        ensures same { IfNone result (self.new ≡ self.old) }
     {
+        let upto = self.end_of_batch()?;
         let from = self.taken.again();
-        self.taken = self.told.again();
-        PendingBatch {
-            lines,
-            from,
-            upto: self.told.again(),
+        self.taken = upto.again();
+        self.told = upto.again();
+        Some(PendingBatch { lines, from, upto })
+    }
+
+    /// The end of a batch that has everything appended: behind it there is a barrier if the store is shared. `None` if
+    /// others were already appended here.
+    fn end_of_batch(&self) -> Option<LogPosition<L, J>>
+        ensures { IfSome result (λ end. end ≡ log_as_taken L.shared self.now.log) }
+    {
+        if self.is_shared {
+            self.told.append_entry::<(), BarrierEntry>(&self.head, &())
+        } else {
+            Some(self.told.again())
         }
     }
 }
 
 impl<L: LogStore, J: LogTag> PendingBatch<L, J> {
     ghost use Rattle.std.specs.Prelude.{◌≡◌};
-    ghost use Rattle.rme_durable_log.specs.LogRules.{AreLinesSince};
+    ghost use Rattle.rme_durable_log.specs.LogRules.{IsBatch};
 
     /// The position before the batch, its lines, and the position after it.
     pub(crate) fn parts(&self) -> (&LogPosition<L, J>, &[u8], &LogPosition<L, J>)
         ensures upto { result.2.now ≡ self.now }
-        ensures since { AreLinesSince result.0.now result.2.now result.1.now }
+        ensures since { IsBatch L.shared result.0.now result.2.now result.1.now }
     {
         (&self.from, self.lines.as_bytes(), &self.upto)
     }

@@ -8,4 +8,6 @@ pub enum LogEntry {
     Lines(u64, LinkedList<u8>),
     /// Bytes, which replace all earlier ones.
     Whole(LinkedList<u8>),
+    /// No bytes: behind it the writer asks a shared store whether the log is still its own.
+    Barrier,
 }

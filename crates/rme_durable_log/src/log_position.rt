@@ -29,7 +29,7 @@ impl<L: LogStore, J: LogTag> Model for LogPosition<L, J> {
 impl<L: LogStore, J: LogTag> LogPosition<L, J> {
     ghost use Rattle.std.specs.Prelude.{◌≡◌, ◌++◌, ◌∷◌, [], IfSome, IsTrue, MatchBool, None, false, length, suc};
     ghost use mathlib.Core.List.{IsPrefix};
-    ghost use Rattle.rme_durable_log.specs.Logs.{IsLogDurable};
+    ghost use Rattle.rme_durable_log.specs.Logs.{IsLogConfirmed, IsLogDurable};
     ghost use Rattle.rme_durable_log.specs.LogRules.{log_head};
 
     /// The position after the first entry.
@@ -140,6 +140,16 @@ impl<L: LogStore, J: LogTag> LogPosition<L, J> {
     {
         let mut seen = self.seen.again();
         mark.load_hint(&mut seen) >= self.count
+    }
+
+    /// Whether the durable mark covers an entry after this position, too.
+    pub(crate) fn is_confirmed(&self, mark: &Word<LogEntry, u64, LogRule<L>>) -> bool
+        requires mark { (mark.now.tracked ≡ false) × (mark.now.book ≡ J.book) }
+        ensures durable { IsTrue result → IsLogDurable L.holds self.now }
+        ensures confirmed { IsTrue result → IsLogConfirmed L.holds self.now }
+    {
+        let mut seen = self.seen.again();
+        mark.load_hint(&mut seen) > self.count
     }
 
     /// Moves the durable mark to this position, before which everything is stored.

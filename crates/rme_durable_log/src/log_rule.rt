@@ -77,6 +77,18 @@ impl<'a> Plain<&'a [u8], LogEntry, u64> for WholeEntry {
     ghost state = { λ bytes. None };
 }
 
+/// A barrier.
+pub(crate) struct BarrierEntry;
+
+impl Plain<(), LogEntry, u64> for BarrierEntry {
+    ghost use Rattle.std.specs.Prelude.{None};
+    ghost use Rattle.rme_durable_log.specs.declared.log_entry.LogEntry.TheVariants.{Barrier};
+
+    ghost ask = { λ _. Barrier };
+
+    ghost state = { λ _. None };
+}
+
 /// The identity of a log. Each call of a program chooses it.
 pub trait LogTag {
     ghost use Rattle.logbook.specs.Pages.{Book};

@@ -34,6 +34,7 @@ impl<L: LogStore, J: LogTag> LogWriter<L, J> {
     /// The writer of a store whose contents begin the log.
     pub(crate) fn new(store: L, first: LogPosition<L, J>) -> LogWriter<L, J>
         requires works { (L.holds store).works ≡ true }
+        requires barriers { (L.holds store).barriers ≡ 0 }
         requires first { first ≡ Whole (known_bytes (L.holds store).bytes) ∷ [] }
         ensures { result ≡ first }
     {
@@ -46,6 +47,13 @@ impl<L: LogStore, J: LogTag> LogWriter<L, J> {
         ensures held { IsLogDurable L.holds self.now }
     {
         &self.upto
+    }
+
+    /// Whether the store is shared.
+    pub(crate) fn is_shared(&self) -> bool
+        ensures { result ≡ L.shared }
+    {
+        self.store.is_shared()
     }
 
     /// Whether storing lines takes no longer than waking another thread for it.

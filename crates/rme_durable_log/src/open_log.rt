@@ -42,6 +42,7 @@ impl<L: LogStore> OpenLog<L> {
     /// Opens a log over a store.
     pub fn new(store: L) -> OpenLog<L>
         requires works { (L.holds store).works ≡ true }
+        requires barriers { (L.holds store).barriers ≡ 0 }
     {
         let (seen, mut pens) = Seen::open_row::<L, LogRule<L>>(&store, Start::alone(), 1);
         let mut pen = pens.take();
@@ -67,9 +68,10 @@ impl<L: LogStore> OpenLog<L> {
         } = self;
         let first = LogPosition::first(seen);
         let held = LogWriter::new(store, first.again());
+        let is_shared = held.is_shared();
         (
-            LogAppender::new(alloc, head, first),
-            GroupCommit::new(alloc, held, DurableUpTo::new(kept)),
+            LogAppender::new(alloc, head, first, is_shared),
+            GroupCommit::new(alloc, held, DurableUpTo::new(kept, is_shared)),
         )
     }
 }

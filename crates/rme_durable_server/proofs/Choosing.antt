@@ -1,5 +1,6 @@
 -- A session attaches the worker that the server chose at the same moment.
 use Rattle.std.proofs.Common.{ℕ, List, None, false, inl, refl, subst, sym}
+use Rattle.std.specs.Prelude.{Bool}
 use Rattle.rme_words.specs.declared.refusal.Refusal.{Refusal}
 use Rattle.rme_durable_log.specs.Logs.{GrowsByOthers}
 use Rattle.rme_durable_log.specs.declared.log_entry.LogEntry.{LogEntry}
@@ -21,11 +22,11 @@ attaches_chosen state opening clients old asked worker now answer (attempt, is) 
 }
 
 -- A session gets no worker: at one moment it has one, or there is none that the choice takes.
-pub none_chosen : (opening : ServerOpening) (clients : ℕ) (old : SessionMoment) (choice : WorkerChoice) (why : Refusal)
+pub none_chosen : (opening : ServerOpening) (clients : ℕ) (shared : Bool) (old : SessionMoment) (choice : WorkerChoice) (why : Refusal)
     (log : List LogEntry) (state : ServerState)
     → LogLeads opening log state → GrowsByOthers old.session.session old.log log
-    → IsWhyNoneChosen clients state.executor old.session choice why → ChoiceIsRefused (client_terms clients opening) old choice why (session_moment old.session log)
-none_chosen opening clients old choice why log state leads others none = record {
+    → IsWhyNoneChosen clients state.executor old.session choice why → ChoiceIsRefused (client_terms clients shared opening) old choice why (session_moment old.session log)
+none_chosen opening clients shared old choice why log state leads others none = record {
   state = state;
   session = refl;
   acts = record { log = log; others = others; leads = leads; appends = inl (refl, refl); session = refl };

@@ -1,6 +1,6 @@
 -- Orders that are executed try by try.
 use Rattle.std.proofs.Common.{◌≡◌, ◌+◌, ℕ, List, zero, suc, true, false, refl, subst, inl, inr, arith}
-use Rattle.std.specs.Prelude.{IfOk, OnOk, Result, Ok, Err}
+use Rattle.std.specs.Prelude.{Bool, IfOk, OnOk, Result, Ok, Err}
 use Rattle.rme_session_loop.specs.OrderRuns.{IsReplyOfTries}
 use Rattle.rme_session_loop.specs.SessionAnswers.{MayContinueOrder}
 use Rattle.rme_session_protocol.specs.declared.order.Order.TheVariants.{Attach}
@@ -12,7 +12,7 @@ use Rattle.rme_session_protocol.specs.declared.reply.SessionReply.TheVariants.{R
 use Rattle.rme_words.specs.declared.refusal.Refusal.TheVariants.{NoWorker}
 use Rattle.std.proofs.lemmas.Result.{IfOk-at_ok}
 use Rattle.rme_durable_log.specs.StoreCalls.{StoreState}
-use Rattle.rme_durable_log.specs.Logs.{IsLogDurable}
+use Rattle.rme_durable_log.specs.Logs.{IsCommitted}
 use Rattle.rme_durable_server.specs.DurableOrders.{IsAnswerUnfinished, DurableOrder, DurableAttempt, DurableTries, asks_checkpoint_worker, client_terms}
 use Rattle.rme_durable_server.specs.DurableAnswers.{DurableLineReply, ask_order}
 use Rattle.rme_durable_server.specs.ServerHistories.{ServerOpening, SessionMoment}
@@ -48,17 +48,17 @@ order_at {R} replied reply says stops opening old its now is executed =
 
 -- The answer to an order that asks for another worker or for none, by its reply, once everything before its moment is
 -- durable.
-pub says_it : {A E X : Type 0} (result : Result A E) (holds : X → StoreState) (clients : ℕ) (opening : ServerOpening)
+pub says_it : {A E X : Type 0} (result : Result A E) (holds : X → StoreState) (clients : ℕ) (shared : Bool) (opening : ServerOpening)
     (old : SessionMoment) (its : Order) (reply : SessionReply) (bytes : List ℕ) (now : SessionMoment)
-    → asks_checkpoint_worker clients its ≡ false → DurableOrder opening old its now reply → OnOk result (bytes ≡ session_reply_line opening.names reply) → OnOk result (IsLogDurable holds now.log)
-    → OnOk result (DurableLineReply holds (client_terms clients opening) old (ask_order its) bytes now)
-says_it (Ok value) holds clients opening old its reply bytes now other served says held = (reply, inr (other, served, held), says)
-says_it (Err error) holds clients opening old its reply bytes now other served says held = says
+    → asks_checkpoint_worker clients its ≡ false → DurableOrder opening old its now reply → OnOk result (bytes ≡ session_reply_line opening.names reply) → OnOk result (IsCommitted shared holds now.log)
+    → OnOk result (DurableLineReply holds (client_terms clients shared opening) old (ask_order its) bytes now)
+says_it (Ok value) holds clients shared opening old its reply bytes now other served says held = (reply, inr (other, served, held), says)
+says_it (Err error) holds clients shared opening old its reply bytes now other served says held = says
 
 -- The answer to an order that asks for the checkpoint worker.
-pub refuses_it : {A E X : Type 0} (result : Result A E) (holds : X → StoreState) (clients : ℕ)
+pub refuses_it : {A E X : Type 0} (result : Result A E) (holds : X → StoreState) (clients : ℕ) (shared : Bool)
     (opening : ServerOpening) (old : SessionMoment) (its : Order) (bytes : List ℕ) (now : SessionMoment)
     → asks_checkpoint_worker clients its ≡ true → now ≡ old
-    → OnOk result (bytes ≡ session_reply_line opening.names (Refused NoWorker)) → OnOk result (DurableLineReply holds (client_terms clients opening) old (ask_order its) bytes now)
-refuses_it (Ok value) holds clients opening old its bytes now is same says = (Refused NoWorker, inl (is, refl, same), says)
-refuses_it (Err error) holds clients opening old its bytes now is same says = says
+    → OnOk result (bytes ≡ session_reply_line opening.names (Refused NoWorker)) → OnOk result (DurableLineReply holds (client_terms clients shared opening) old (ask_order its) bytes now)
+refuses_it (Ok value) holds clients shared opening old its bytes now is same says = (Refused NoWorker, inl (is, refl, same), says)
+refuses_it (Err error) holds clients shared opening old its bytes now is same says = says

@@ -1,14 +1,14 @@
 -- The log leads to the state of the executor.
 use Rattle.std.proofs.Common.{◌≡◌, ◌≢◌, ◌≤◌, ℕ, List, [], ◌∷◌, ◌++◌, length, drop, refl, sym, subst, ap, ap₂, ◌∙◌, inl, inr, arith, length-append}
-use Rattle.std.specs.Prelude.{IfSome, Option, Some, None}
+use Rattle.std.specs.Prelude.{Bool, IfSome, Option, Some, None, true, false}
 use Rattle.rme_session_world.specs.ExecutorStates.{ExecutorState}
 use Rattle.rme_session_world.specs.SessionBatches.{AppliesSessionBatch, AppliesSessionOrder}
 use Rattle.rme_session_world.specs.declared.event_batch.EventBatch.{EventBatch}
-use Rattle.rme_durable_log.specs.LogRules.{AppenderState}
+use Rattle.rme_durable_log.specs.LogRules.{AppenderState, log_as_taken}
 use Rattle.rme_durable_log.specs.StoreCalls.{StoreState}
-use Rattle.rme_durable_log.specs.Logs.{GrowsByOthers, IsLogDurable}
+use Rattle.rme_durable_log.specs.Logs.{GrowsByOthers, IsCommitted}
 use Rattle.rme_durable_log.specs.declared.log_entry.LogEntry.{LogEntry}
-use Rattle.rme_durable_log.specs.declared.log_entry.LogEntry.TheVariants.{Lines, Whole}
+use Rattle.rme_durable_log.specs.declared.log_entry.LogEntry.TheVariants.{Barrier, Lines, Whole}
 use Rattle.rme_durable_format.specs.BatchCommands.{batch_commands, batch_commands_if}
 use Rattle.rme_durable_format.specs.CommandLines.{AppendsCommands}
 use Rattle.rme_durable_format.specs.Lives.{lives_after_batch, lives_after_batch_if}
@@ -16,6 +16,7 @@ use Rattle.rme_durable_epochs.specs.EpochStates.{EpochState}
 use Rattle.rme_durable_epochs.specs.declared.epoch_base.Base.{Base}
 use Rattle.rme_durable_epochs.specs.LoggedStates.{LoggedStep, logged_state}
 use Rattle.rme_durable_server.specs.ServerHistories.{AppendsAtMostOne, AppendsIfAny, AppendsSessionBatch, BeginsEpoch, EntriesLead, EntryLeads, IsLogged, LogLeads, ServerOpening, ServerState, SessionActs, SessionMoment, server_state, session_moment}
+use Rattle.rme_durable_server.specs.DurableOrders.{ClientTerms}
 use Rattle.rme_durable_lookups.specs.LookupAnswers.{LookupShows}
 use Rattle.rme_durable_server.specs.DurableAnswers.{DurableLookup, LookupMoment, shown_state}
 use Rattle.rme_durable_lookups.specs.declared.lookup.SessionLookup.{SessionLookup}
@@ -120,6 +121,22 @@ logged_epoch opening old new log after waits pending bytes logged begins more no
   lines = none ∙ sym lines;
 }
 
+-- The log when its lines were taken.
+taken_leads : (opening : ServerOpening) (shared : Bool) (log : List LogEntry) (state : ServerState)
+    → LogLeads opening log state → LogLeads opening (log_as_taken shared log) state
+taken_leads opening true log state leads = leads_more opening log state Barrier state leads refl
+taken_leads opening false log state leads = leads
+
+pub logged_taken : (opening : ServerOpening) (shared : Bool) (old new : EpochState) (log after : List LogEntry)
+    (waits pending : List ℕ)
+    → IsLogged opening old log waits → new.executor ≡ old.executor → new.base ≡ old.base → new.lives ≡ old.lives
+    → new.epoch ≡ old.epoch → after ≡ log_as_taken shared log → pending ≡ [] → new.lines ≡ []
+    → IsLogged opening new after pending
+logged_taken opening shared old new log after waits pending logged executor base lives epoch more none lines = record {
+  leads = subst (λ (l : List LogEntry). LogLeads opening l (server_state new)) (sym more) (subst (λ (s : ServerState). LogLeads opening (log_as_taken shared log) s) (sym (same_state new old executor base lives epoch)) (taken_leads opening shared log (server_state old) logged.leads));
+  lines = none ∙ sym lines;
+}
+
 -- Lines only grow.
 pub lines_grow : (names : List (List ℕ)) (session : ℕ) (old new : EpochState)
     → LoggedStep names session (logged_state old.executor old.lives old.lines)
@@ -161,11 +178,11 @@ pub shown_at : (found : Option (List LogEntry)) (opening : ServerOpening) (names
 shown_at None opening names state look bytes named leads shows = tt
 shown_at (Some end) opening names state look bytes named leads shows = record { state = state; leads = leads; shows = subst (λ (n : List (List ℕ)). LookupShows n (shown_state state) look bytes) named shows }
 
-pub looked_up : {X : Type 0} (holds : X → StoreState) (opening : ServerOpening) (old : SessionMoment)
+pub looked_up : {X : Type 0} (holds : X → StoreState) (terms : ClientTerms) (old : SessionMoment)
     (look : SessionLookup) (bytes : List ℕ) (end : List LogEntry) (now : SessionMoment)
     → now ≡ session_moment old.session end → GrowsByOthers old.session.session old.log end
-    → LookupMoment opening look bytes end → IsLogDurable holds end
-    → DurableLookup holds opening old look bytes now
-looked_up holds opening old look bytes end now is others moment held =
-    let acts : SessionActs opening old moment.state (session_moment old.session end) moment.state = record { log = end; others = others; leads = moment.leads; appends = inl (refl, refl); session = refl } in
-    subst (DurableLookup holds opening old look bytes) (sym is) record { session = refl; moment = moment; acts = acts; held = held }
+    → LookupMoment terms.opening look bytes end → IsCommitted terms.shared holds end
+    → DurableLookup holds terms old look bytes now
+looked_up holds terms old look bytes end now is others moment held =
+    let acts : SessionActs terms.opening old moment.state (session_moment old.session end) moment.state = record { log = end; others = others; leads = moment.leads; appends = inl (refl, refl); session = refl } in
+    subst (DurableLookup holds terms old look bytes) (sym is) record { session = refl; moment = moment; acts = acts; held = held }

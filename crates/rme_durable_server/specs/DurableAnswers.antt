@@ -1,8 +1,8 @@
 -- How the lines of a session of the durable server are answered: orders, look-ups and choices.
-use Rattle.std.specs.Prelude.{◌≡◌, ℕ, List, Option, Some, None, Result, Ok, Err}
+use Rattle.std.specs.Prelude.{◌≡◌, ℕ, Bool, List, Option, Some, None, Result, Ok, Err}
 use Rattle.rme_line_io.specs.Pieces.{InputLine}
 use Rattle.rme_durable_log.specs.StoreCalls.{StoreState}
-use Rattle.rme_durable_log.specs.Logs.{AreNotByAuthor, IsLogDurable}
+use Rattle.rme_durable_log.specs.Logs.{AreNotByAuthor, IsCommitted}
 use Rattle.rme_durable_log.specs.declared.log_entry.LogEntry.{LogEntry}
 use Rattle.rme_session_protocol.specs.SessionLines.{session_reply_line}
 use Rattle.rme_session_protocol.specs.WorkerChoices.{choice_of_line}
@@ -47,17 +47,18 @@ pub record LookupMoment (opening : ServerOpening) (look : SessionLookup) (bytes 
     pub shows : LookupShows opening.names (shown_state state) look bytes
 
 -- A look-up is answered with what it shows at one moment of the log, at which the session acts and appends nothing,
--- once everything before that moment is durable.
-pub record DurableLookup {X : Type 0} (holds : X → StoreState) (opening : ServerOpening) (old : SessionMoment)
+-- once everything before that moment is durable, and the log was still the server's own after it.
+pub record DurableLookup {X : Type 0} (holds : X → StoreState) (terms : ClientTerms) (old : SessionMoment)
     (look : SessionLookup) (bytes : List ℕ) (now : SessionMoment) : Type 0 where
   pub session : now.session ≡ old.session
-  pub moment : LookupMoment opening look bytes now.log
-  pub acts : SessionActs opening old moment.state now moment.state
-  pub held : IsLogDurable holds now.log
+  pub moment : LookupMoment terms.opening look bytes now.log
+  pub acts : SessionActs terms.opening old moment.state now moment.state
+  pub held : IsCommitted terms.shared holds now.log
 
 -- A session ended at some moment of the log, and everything before that moment is durable.
-abbrev pub IsSessionEndDurable : {X : Type 0} → (X → StoreState) → ServerOpening → SessionMoment → Type 0
-IsSessionEndDurable holds opening old = (log : List LogEntry) × SessionEnds opening old log × IsLogDurable holds log
+abbrev pub IsSessionEndDurable : {X : Type 0} → Bool → (X → StoreState) → ServerOpening → SessionMoment → Type 0
+IsSessionEndDurable shared holds opening old =
+    (log : List LogEntry) × SessionEnds opening old log × IsCommitted shared holds log
 
 -- What a line asks for: an order, a look-up or a worker of the server's choice; or why the line is refused.
 pub data LineAsk : Type 0 where
@@ -80,14 +81,15 @@ abbrev pub line_ask : List (List ℕ) → InputLine → LineAsk
 line_ask names line =
     ask_by (parsed_order names service_numbers line) (lookup_of_line names line) (choice_of_line line)
 
--- An order is answered with its reply, once everything before the moments of its tries is durable. A look-up and a
--- choice are answered likewise, and any other line with why it is refused.
+-- An order is answered with its reply, once everything before the moments of its tries is durable, and the log was
+-- still the server's own after the last of them. A look-up and a choice are answered likewise, and any other line with
+-- why it is refused.
 abbrev pub DurableLineReply : {X : Type 0} → (X → StoreState) → ClientTerms → SessionMoment → LineAsk → List ℕ
     → SessionMoment → Type 0
 DurableLineReply holds terms old (ask_order its) bytes now =
     (reply : SessionReply) × DurableOrderEffect holds terms old its now reply
     × (bytes ≡ session_reply_line terms.opening.names reply)
-DurableLineReply holds terms old (ask_lookup look) bytes now = DurableLookup holds terms.opening old look bytes now
+DurableLineReply holds terms old (ask_lookup look) bytes now = DurableLookup holds terms old look bytes now
 DurableLineReply holds terms old (ask_choice asked) bytes now = DurableChoice holds terms old asked bytes now
 DurableLineReply holds terms old (ask_nothing why) bytes now =
     (now ≡ old) × (bytes ≡ session_reply_line terms.opening.names (Refused why))

@@ -1,7 +1,7 @@
 -- How a session of the durable server attaches a worker of the server's choice.
 use Rattle.std.specs.Prelude.{◌≡◌, ◌≢◌, ℕ, false, List, None}
 use Rattle.rme_durable_log.specs.StoreCalls.{StoreState}
-use Rattle.rme_durable_log.specs.Logs.{IsLogDurable}
+use Rattle.rme_durable_log.specs.Logs.{IsCommitted}
 use Rattle.rme_session_protocol.specs.SessionLines.{choice_reply_line, session_reply_line}
 use Rattle.rme_session_protocol.specs.declared.view.Session.TheVariants.{Nobody}
 use Rattle.rme_session_protocol.specs.declared.worker_choice.ChoiceRequest.{ChoiceRequest}
@@ -53,9 +53,10 @@ abbrev pub chosen_line : List (List ℕ) → Chosen → List ℕ
 chosen_line names (Worker worker told) = choice_reply_line names worker (reply_of_client told)
 chosen_line names (chosen.Refused why) = session_reply_line names (Refused why)
 
--- A choice is answered with its outcome, once everything before its moment is durable.
+-- A choice is answered with its outcome, once everything before its moment is durable, and the log was still the
+-- server's own after it.
 abbrev pub DurableChoice : {X : Type 0} → (X → StoreState) → ClientTerms → SessionMoment → ChoiceRequest → List ℕ
     → SessionMoment → Type 0
 DurableChoice holds terms old asked bytes now =
-    (found : Chosen) × DurableChoiceOutcome terms old asked found now × IsLogDurable holds now.log
+    (found : Chosen) × DurableChoiceOutcome terms old asked found now × IsCommitted terms.shared holds now.log
     × (bytes ≡ chosen_line terms.opening.names found)

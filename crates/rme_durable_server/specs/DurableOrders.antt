@@ -3,7 +3,7 @@ use Rattle.std.specs.Prelude.{◌≡◌, ◌⊎◌, ℕ, zero, suc, nat_le, Bool
 use Rattle.rme_durable_epochs.specs.ClientLives.{TellsClientLife, TellsOvertaken}
 use Rattle.rme_durable_epochs.specs.EpochStates.{SessionStepAcrossCheckpoints, TellsClientPlace, TellsClientSection, executor_session}
 use Rattle.rme_durable_log.specs.StoreCalls.{StoreState}
-use Rattle.rme_durable_log.specs.Logs.{IsLogDurable}
+use Rattle.rme_durable_log.specs.Logs.{IsCommitted}
 use Rattle.rme_session_protocol.specs.Attempts.{merged_reply, retry_order, is_still_waiting}
 use Rattle.rme_session_world.specs.Executors.{executor_session_view}
 use Rattle.rme_session_protocol.specs.declared.order.Order.{Order}
@@ -60,19 +60,22 @@ abbrev pub asks_checkpoint_worker : ℕ → Order → Bool
 asks_checkpoint_worker clients (Attach asked) = nat_le clients asked.worker
 asks_checkpoint_worker clients its = false
 
--- What the answers of a durable server depend on: the number of workers that clients can attach, and the opening.
+-- What the answers of a durable server depend on: the number of workers that clients can attach, whether others may
+-- write to the store, and the opening.
 pub record ClientTerms : Type 1 where
   pub clients : ℕ
+  pub shared : Bool
   pub opening : ServerOpening
 
-abbrev pub client_terms : ℕ → ServerOpening → ClientTerms
-client_terms clients opening = record { clients = clients; opening = opening }
+abbrev pub client_terms : ℕ → Bool → ServerOpening → ClientTerms
+client_terms clients shared opening = record { clients = clients; shared = shared; opening = opening }
 
 -- An order that would attach the checkpoint worker is refused as if there were no such worker, and never executed. Any
--- other order is executed, and answered once everything before its moment is durable.
+-- other order is executed, and answered once everything before its moment is durable, and the log was still the
+-- server's own after it.
 abbrev pub DurableOrderEffect : {X : Type 0} → (X → StoreState) → ClientTerms → SessionMoment → Order
     → SessionMoment → SessionReply → Type 0
 DurableOrderEffect holds terms old its now answer =
     ((asks_checkpoint_worker terms.clients its ≡ true) × (answer ≡ Refused NoWorker) × (now ≡ old))
     ⊎ ((asks_checkpoint_worker terms.clients its ≡ false) × DurableOrder terms.opening old its now answer
-    × IsLogDurable holds now.log)
+    × IsCommitted terms.shared holds now.log)

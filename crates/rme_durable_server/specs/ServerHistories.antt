@@ -9,7 +9,7 @@ use Rattle.rme_session_world.specs.declared.executor.SessionState.{SessionState}
 use Rattle.rme_durable_log.specs.Logs.{GrowsByOthers}
 use Rattle.rme_durable_log.specs.LogRules.{AppenderState}
 use Rattle.rme_durable_log.specs.declared.log_entry.LogEntry.{LogEntry}
-use Rattle.rme_durable_log.specs.declared.log_entry.LogEntry.TheVariants.{Lines, Whole}
+use Rattle.rme_durable_log.specs.declared.log_entry.LogEntry.TheVariants.{Barrier, Lines, Whole}
 use Rattle.rme_durable_format.specs.BatchCommands.{batch_commands}
 use Rattle.rme_durable_format.specs.CommandLines.{AppendsCommands}
 use Rattle.rme_durable_format.specs.Headers.{HeaderValues}
@@ -72,10 +72,11 @@ pub record BeginsEpoch (names : List (List ℕ)) (old : ServerState) (bytes : Li
   pub lives : new.lives ≡ old.lives
   pub same : CheckpointShowsSame old.base old.executor new.base new.executor
 
--- An entry of the log leads from one state to the next.
+-- An entry of the log leads from one state to the next. A barrier changes nothing.
 abbrev pub EntryLeads : List (List ℕ) → ServerState → LogEntry → ServerState → Type 0
 EntryLeads names old (Lines session lines) new = AppendsSessionBatch names session old lines new
 EntryLeads names old (Whole bytes) new = BeginsEpoch names old bytes new
+EntryLeads names old Barrier new = new ≡ old
 
 -- Entries lead from one state to another.
 abbrev pub EntriesLead : List (List ℕ) → ServerState → List LogEntry → ServerState → Type 0

@@ -40,11 +40,11 @@ impl<L: LogStore, H: CloseHandle, J: ServerTag> Backend for DurableServer<L, H, 
 
     ghost nobody = { λ _. None };
 
-    ghost ends = { λ _ stand. IfSome stand (IsSessionEndDurable L.holds J.opening) };
+    ghost ends = { λ _ stand. IfSome stand (IsSessionEndDurable L.shared L.holds J.opening) };
 
     ghost attached = { λ _ stand. session_worker stand };
 
-    ghost answers = { λ kept _. DurableLineAnswer L.holds (client_terms kept.clients J.opening) };
+    ghost answers = { λ kept _. DurableLineAnswer L.holds (client_terms kept.clients L.shared J.opening) };
 
     fn alloc(&self) -> Global {
         self.alloc
@@ -123,7 +123,7 @@ impl<L: LogStore, H: CloseHandle, J: ServerTag> DurableServer<L, H, J> {
     ghost use Rattle.rme_durable_server.specs.DurableChoices.{DurableChoice};
     ghost use Rattle.rme_durable_server.specs.DurableAnswers.{DurableLineReply, DurableLookup, IsSessionBegun, ask_if_bad};
     ghost use Rattle.rme_durable_lookups.specs.Lookups.{lookup_of_bytes};
-    ghost use Rattle.rme_durable_log.specs.Logs.{IsLogDurable};
+    ghost use Rattle.rme_durable_log.specs.Logs.{IsCommitted};
     ghost use Rattle.rme_session_protocol.specs.SessionLines.{choice_reply_line, session_reply_line};
     ghost use Rattle.rme_session_protocol.specs.WorkerChoices.{choice_of_bytes};
     ghost use Rattle.rme_words.specs.declared.refusal.Refusal.TheVariants.{BadLine};
@@ -139,7 +139,7 @@ impl<L: LogStore, H: CloseHandle, J: ServerTag> DurableServer<L, H, J> {
     ) -> Result<(), AnswerError>
         ensures says { OnOk result (string_bytes buffers.new.text ≡ session_reply_line self.now.names
             (reply_of_client reply)) }
-        ensures kept { OnOk result (IsLogDurable L.holds session.now.log) }
+        ensures kept { OnOk result (IsCommitted L.shared L.holds session.now.log) }
         ensures same { buffers.new.exchange ≡ buffers.old.exchange }
         ensures err { IfErr result (λ why. why ≢ AnswerError.WriteFailed) }
     {
@@ -158,7 +158,7 @@ impl<L: LogStore, H: CloseHandle, J: ServerTag> DurableServer<L, H, J> {
         buffers: &mut Buffers,
         client: &C,
     ) -> (DurableSession<L, J>, Result<(), AnswerError>)
-        ensures answers { OnOk result.1 (DurableLineReply L.holds (client_terms self.now.clients J.opening) session
+        ensures answers { OnOk result.1 (DurableLineReply L.holds (client_terms self.now.clients L.shared J.opening) session
             (ask_if_bad why (lookup_of_bytes self.now.names buffers.old.exchange.line.items)
             (choice_of_bytes buffers.old.exchange.line.items)) (string_bytes buffers.new.text) result.0) }
         ensures same { buffers.new.exchange ≡ buffers.old.exchange }
@@ -183,7 +183,7 @@ impl<L: LogStore, H: CloseHandle, J: ServerTag> DurableServer<L, H, J> {
         buffers: &mut Buffers,
         client: &C,
     ) -> (DurableSession<L, J>, Result<(), AnswerError>)
-        ensures answers { OnOk result.1 (DurableLineReply L.holds (client_terms self.now.clients J.opening) session
+        ensures answers { OnOk result.1 (DurableLineReply L.holds (client_terms self.now.clients L.shared J.opening) session
             (ask_if_bad BadLine None (choice_of_bytes buffers.old.exchange.line.items))
             (string_bytes buffers.new.text) result.0) }
         ensures same { buffers.new.exchange ≡ buffers.old.exchange }
@@ -209,7 +209,7 @@ impl<L: LogStore, H: CloseHandle, J: ServerTag> DurableServer<L, H, J> {
         buffers: &mut Buffers,
         client: &C,
     ) -> (DurableSession<L, J>, Result<(), AnswerError>)
-        ensures answers { OnOk result.1 (DurableChoice L.holds (client_terms self.now.clients J.opening) session
+        ensures answers { OnOk result.1 (DurableChoice L.holds (client_terms self.now.clients L.shared J.opening) session
             asked (string_bytes buffers.new.text) result.0) }
         ensures same { buffers.new.exchange ≡ buffers.old.exchange }
         ensures err { IfErr result.1 (λ why. why ≢ AnswerError.WriteFailed) }
@@ -239,7 +239,7 @@ impl<L: LogStore, H: CloseHandle, J: ServerTag> DurableServer<L, H, J> {
     ) -> Result<(), AnswerError>
         ensures says { OnOk result (string_bytes buffers.new.text ≡ choice_reply_line self.now.names worker
             (reply_of_client reply)) }
-        ensures kept { OnOk result (IsLogDurable L.holds session.now.log) }
+        ensures kept { OnOk result (IsCommitted L.shared L.holds session.now.log) }
         ensures same { buffers.new.exchange ≡ buffers.old.exchange }
         ensures err { IfErr result (λ why. why ≢ AnswerError.WriteFailed) }
     {
@@ -257,7 +257,7 @@ impl<L: LogStore, H: CloseHandle, J: ServerTag> DurableServer<L, H, J> {
         look: SessionLookup,
         text: &mut String,
     ) -> (DurableSession<L, J>, Result<(), AnswerError>)
-        ensures answers { OnOk result.1 (DurableLookup L.holds J.opening session look (string_bytes text.new)
+        ensures answers { OnOk result.1 (DurableLookup L.holds (client_terms self.now.clients L.shared J.opening) session look (string_bytes text.new)
             result.0) }
         ensures err { IfErr result.1 (λ why. why ≢ AnswerError.WriteFailed) }
     {
@@ -304,7 +304,7 @@ fn answer_order<
     buffers: &mut Buffers,
     writer: &mut O,
 ) -> (DurableSession<L, J>, Result<(), AnswerError>)
-    ensures answers { OnOk result.1 (DurableLineReply L.holds (client_terms run.now.backend.now.clients J.opening)
+    ensures answers { OnOk result.1 (DurableLineReply L.holds (client_terms run.now.backend.now.clients L.shared J.opening)
         session (ask_order run.now.request.order) (string_bytes buffers.new.text) result.0) }
     ensures gathers { OnOk result.1 (BufferedWrite (O.contents writer.old) buffers.old.exchange.pending []
         (O.contents writer.new) buffers.new.exchange.pending) }

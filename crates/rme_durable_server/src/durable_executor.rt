@@ -295,7 +295,7 @@ impl<L: LogStore, J: ServerTag> PendingLines<L, J> for DurableExecutor<L, J> {
         let mut empty = empty;
         empty.clear();
         let lines = self.executor.take_lines(empty)?;
-        let taken = appender.take(lines);
+        let taken = appender.take(lines)?;
         self.appender = Some(appender);
         Some(taken)
     }

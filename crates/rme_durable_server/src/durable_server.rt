@@ -48,7 +48,7 @@ impl<L: LogStore, H: CloseHandle, J: ServerTag> DurableServer<L, H, J> {
     ghost use Rattle.rme_durable_server.specs.DurableOrders.{DurableAttempt, asks_checkpoint_worker};
     ghost use Rattle.rme_durable_server.specs.DurableAnswers.{IsSessionBegun, IsSessionEndDurable, LookupMoment};
     ghost use Rattle.rme_durable_server.specs.ServerHistories.{server_state, session_moment};
-    ghost use Rattle.rme_durable_log.specs.Logs.{GrowsByOthers, IsLogDurable};
+    ghost use Rattle.rme_durable_log.specs.Logs.{GrowsByOthers, IsCommitted};
     ghost use Rattle.rme_session_protocol.specs.ClientReplies.{reply_of_client};
 
     /// A server of an executor whose state is in the opened log, with the names of its locks. A checkpoint is made also
@@ -204,7 +204,7 @@ impl<L: LogStore, H: CloseHandle, J: ServerTag> DurableServer<L, H, J> {
         session: DurableSession<L, J>,
         client: &C,
     ) -> Result<(), NotDurable>
-        ensures { OnOk result (IsSessionEndDurable L.holds J.opening session) }
+        ensures { OnOk result (IsSessionEndDurable L.shared L.holds J.opening session) }
     {
         let worker = session.state.worker;
         let claim = self.registry.claim_worker(rt, worker);
@@ -239,9 +239,10 @@ impl<L: LogStore, H: CloseHandle, J: ServerTag> DurableServer<L, H, J> {
         }
     }
 
-    /// Waits until everything before this position is durable; writes it if no other session does.
+    /// Waits until everything before this position is durable, and the log was still the server's own after it; writes
+    /// it if no other session does.
     pub(crate) fn commit<R: Wait>(&self, rt: &R, end: &LogPosition<L, J>) -> Result<(), NotDurable>
-        ensures { OnOk result (IsLogDurable L.holds end.now) }
+        ensures { OnOk result (IsCommitted L.shared L.holds end.now) }
     {
         self.commits.commit(rt, &self.executor, end)
     }

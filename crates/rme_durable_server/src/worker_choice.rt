@@ -43,7 +43,7 @@ impl<L: LogStore, H: CloseHandle, J: ServerTag> DurableServer<L, H, J> {
         asked: &ChoiceRequest,
         client: &C,
     ) -> (DurableSession<L, J>, Result<Chosen, AnswerError>)
-        ensures outcome { IfOk result.1 (λ chosen. DurableChoiceOutcome (client_terms self.now.clients J.opening)
+        ensures outcome { IfOk result.1 (λ chosen. DurableChoiceOutcome (client_terms self.now.clients L.shared J.opening)
             session asked.now chosen result.0) }
         ensures err { IfErr result.1 (λ why. why ≢ AnswerError.WriteFailed) }
     {
@@ -80,7 +80,7 @@ impl<L: LogStore, H: CloseHandle, J: ServerTag> DurableServer<L, H, J> {
         session: &DurableSession<L, J>,
         choice: WorkerChoice,
     ) -> Option<Result<u32, NoChoice<L, J>>>
-        ensures { IfSome result (λ found. IfErr found (λ none. ChoiceIsRefused (client_terms self.now.clients J.opening)
+        ensures { IfSome result (λ found. IfErr found (λ none. ChoiceIsRefused (client_terms self.now.clients L.shared J.opening)
             session.now choice none.0 (session_moment session.now.session none.1))) }
     {
         let durable = lock_with_spin(rt, &self.executor);

@@ -19,6 +19,8 @@ mod log_lines;
 #[cfg(test)]
 mod recovery;
 #[cfg(test)]
+mod shared_log;
+#[cfg(test)]
 mod state_file;
 #[cfg(test)]
 mod writes;

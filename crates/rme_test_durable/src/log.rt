@@ -44,9 +44,11 @@ impl Pages {
 }
 
 impl LogStore for Pages {
-    ghost use Rattle.std.specs.Prelude.{Some};
+    ghost use Rattle.std.specs.Prelude.{Some, false};
 
-    ghost holds = { λ pages. record { bytes = Some pages.bytes.items; works = pages.works } };
+    ghost holds = { λ pages. record { bytes = Some pages.bytes.items; works = pages.works; barriers = 0 } };
+
+    ghost shared = { false };
 
     fn append(&mut self, lines: &[u8]) -> Result<(), NotDurable> {
         match self.bytes.extend_from_slice(lines) {
@@ -72,6 +74,10 @@ impl LogStore for Pages {
         self.is_quick
     }
 
+    fn is_shared(&self) -> bool {
+        false
+    }
+
     fn fail(&mut self) {
         self.losses = self.losses.saturating_add(1);
         self.works = false;
@@ -80,13 +86,13 @@ impl LogStore for Pages {
 
 /// Pending lines, beside their appender; `None` once an event could not be written.
 #[derive(Drop)]
-struct LineSource<J: LogTag> {
+pub(crate) struct LineSource<L: LogStore, J: LogTag> {
     lines: String,
-    appender: Option<LogAppender<Pages, J>>,
+    appender: Option<LogAppender<L, J>>,
     author: LogAuthor<J>,
 }
 
-impl<J: LogTag> Model for LineSource<J> {
+impl<L: LogStore, J: LogTag> Model for LineSource<L, J> {
     ghost use Rattle.std.specs.Prelude.{◌≡◌, ℕ, List, IfSome, string_bytes};
 
     ghost Value = { List ℕ };
@@ -96,20 +102,20 @@ impl<J: LogTag> Model for LineSource<J> {
     ghost invariant = { λ source. IfSome source.appender (λ appender. appender.waits ≡ string_bytes source.lines) };
 }
 
-impl<J: LogTag> PendingLines<Pages, J> for LineSource<J> {
-    fn take_lines(&mut self, empty: String) -> Option<PendingBatch<Pages, J>> {
+impl<L: LogStore, J: LogTag> PendingLines<L, J> for LineSource<L, J> {
+    fn take_lines(&mut self, empty: String) -> Option<PendingBatch<L, J>> {
         let mut appender = self.appender.take()?;
         let mut empty = empty;
         empty.clear();
-        let taken = appender.take(replace(&mut self.lines, empty));
+        let taken = appender.take(replace(&mut self.lines, empty))?;
         self.appender = Some(appender);
         Some(taken)
     }
 }
 
-impl<J: LogTag> LineSource<J> {
+impl<L: LogStore, J: LogTag> LineSource<L, J> {
     /// A source without pending lines, with an author of its own.
-    fn new(alloc: Global, appender: LogAppender<Pages, J>) -> Option<LineSource<J>>
+    pub(crate) fn new(alloc: Global, appender: LogAppender<L, J>) -> Option<LineSource<L, J>>
         requires { appender.waits ≡ [] }
     {
         let mut appender = appender;
@@ -122,7 +128,7 @@ impl<J: LogTag> LineSource<J> {
     }
 
     /// Writes a line and appends it, if there is memory.
-    fn write(&mut self, line: &str) -> Option<LogPosition<Pages, J>> {
+    fn write(&mut self, line: &str) -> Option<LogPosition<L, J>> {
         let mut appender = self.appender.take()?;
         if self.lines.push_str(line).is_err() {
             self.appender = Some(appender);
@@ -136,8 +142,16 @@ impl<J: LogTag> LineSource<J> {
         Some(position)
     }
 
+    /// The end of the log.
+    pub(crate) fn position(&self) -> Option<LogPosition<L, J>> {
+        match &self.appender {
+            Some(appender) => Some(appender.position()),
+            None => None,
+        }
+    }
+
     /// Whether the author has appended nothing since this position.
-    fn wrote_nothing_since(&self, earlier: &LogPosition<Pages, J>) -> bool {
+    fn wrote_nothing_since(&self, earlier: &LogPosition<L, J>) -> bool {
         match &self.appender {
             Some(appender) => appender.position_after(&self.author, earlier).is_some(),
             None => false,
@@ -145,7 +159,7 @@ impl<J: LogTag> LineSource<J> {
     }
 
     /// Replaces all bytes of the store.
-    fn replace(&mut self, held: LogWriter<Pages, J>, bytes: &[u8]) -> Option<LogWriter<Pages, J>> {
+    fn replace(&mut self, held: LogWriter<L, J>, bytes: &[u8]) -> Option<LogWriter<L, J>> {
         let mut appender = self.appender.take()?;
         let (held, is_new) = held.replace(&mut appender, bytes).ok()?;
         if !is_new {
@@ -158,10 +172,10 @@ impl<J: LogTag> LineSource<J> {
 }
 
 /// Appends a line and commits it.
-fn append_and_commit<J: LogTag, R: Wait>(
+pub(crate) fn append_and_commit<L: LogStore, J: LogTag, R: Wait>(
     rt: &R,
-    source: &Mutex<LineSource<J>>,
-    commits: &GroupCommit<Pages, J>,
+    source: &Mutex<LineSource<L, J>>,
+    commits: &GroupCommit<L, J>,
     line: &str,
 ) -> bool {
     let position = source.lock(rt).write(line);

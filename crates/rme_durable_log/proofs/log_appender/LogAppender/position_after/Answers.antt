@@ -11,5 +11,5 @@ returns-clause-others g c =
     let last = c.in_ok-last.field-0.now in
     let found : get nat_cmp it.lasts c.number.result ≡ Some last = sym c.in_ok-last.ensures.value in
     let le : last ≤ c.count.result = c.if-last-count.false in
-    let grows : GrowsByOthers c.number.result c.args.earlier.now it.told = grows_by_others it.authors it.told c.args.earlier.now it.lasts c.number.result last c.count.result c.self.invariant.lasts_are found le c.count.ensures c.if-not-is_within.ensures in
+    let grows : GrowsByOthers c.number.result c.args.earlier.now it.told = grows_by_others it.authors it.told c.args.earlier.now it.lasts c.number.result last c.count.result c.self.invariant.0.lasts_are found le c.count.ensures c.if-not-is_within.ensures in
     rw (← c.self.view_is) (subst (λ (author : ℕ). GrowsByOthers author c.args.earlier.now it.told) c.number.ensures grows)

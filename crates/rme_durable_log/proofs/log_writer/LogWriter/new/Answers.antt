@@ -8,4 +8,4 @@ pub invariant_of-result : goal.invariant_of-result
 invariant_of-result g c =
     let holds = g.L.LogStore.holds in
     let store = c.args.store in
-    subst (λ (l : List LogEntry). StoreHolds (holds store) l × IsLogDurable holds l) (sym c.requires.first) (holds_first (holds store) c.requires.works, held_first holds store c.requires.works)
+    subst (λ (l : List LogEntry). StoreHolds (holds store) l × IsLogDurable holds l) (sym c.requires.first) (holds_first (holds store) c.requires.works c.requires.barriers, held_first holds store c.requires.works c.requires.barriers)

@@ -12,5 +12,5 @@ invariant_of-result-in-Some g c =
     let before = c.self.inside.upto in
     let whole : LogEntry = Whole c.args.bytes.now in
     let same : c.in-Some.told ≡ before ++ whole ∷ [] = c.in-Some.ensures.is ∙ ap (λ (l : List LogEntry). l ++ whole ∷ []) (c.if-not-is_at.ensures refl) in
-    let now : StoreHolds (holds store) (before ++ whole ∷ []) = holds_whole (holds c.self.inside.store) (holds store) before c.args.bytes.now c.in-Ok.ensures.replaced in
+    let now : StoreHolds (holds store) (before ++ whole ∷ []) = holds_whole (holds c.self.inside.store) (holds store) before c.args.bytes.now c.self.invariant.0 c.in-Ok.ensures.replaced in
     subst (λ (l : List LogEntry). StoreHolds (holds store) l × IsLogDurable holds l) (sym same) (now, held_last holds store before whole c.self.invariant.1 now)

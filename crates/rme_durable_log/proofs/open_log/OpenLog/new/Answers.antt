@@ -10,4 +10,4 @@ pub hint-requires : goal.hint-requires
 hint-requires g c =
     let holds = g.L.LogStore.holds in
     let store = c.args.store in
-    subst (λ (l : List LogEntry). IsDurableMark holds 0 l) (sym c.open_row-seen.ensures.1) (mark_of holds (Whole (known_bytes (holds store).bytes) ∷ []) 0 refl (held_first holds store c.requires.works))
+    subst (λ (l : List LogEntry). IsDurableMark holds 0 l) (sym c.open_row-seen.ensures.1) (mark_of holds (Whole (known_bytes (holds store).bytes) ∷ []) 0 refl (held_first holds store c.requires.works c.requires.barriers))
