@@ -20,7 +20,7 @@
 #include <time.h>
 #include <unistd.h>
 
-enum { MOST_CONNECTIONS = 256, ROOM = 4096 };
+enum { MOST_CONNECTIONS = 4096, ROOM = 4096 };
 
 /* Ends the program with a text on the standard error and status 1. */
 __attribute__((noreturn, format(printf, 1, 2))) static void fail(const char *format, ...) {

@@ -7,7 +7,7 @@ use rme_session_server::{Acceptor, Listener, ServerLimits};
 use std::alloc::{AllocError, Global};
 use std::io;
 use std::io::ErrorKind;
-use std::net::{Ipv4Addr, TcpListener};
+use std::net::{Ipv4Addr, SocketAddr, SocketAddrV4, TcpListener};
 use std::sync::Arc;
 
 /// The addresses at which a server can be reached.
@@ -116,7 +116,7 @@ fn bound_to(port: Option<u16>, file: Option<SocketFile>) -> BoundAddresses {
 
 /// Listens on a port, only for clients of this machine, and answers it; for 0 it is a free one.
 fn listen_on(rt: &HostRuntime, port: u16) -> Result<(Listener, u16), CliFault> {
-    let listener = match TcpListener::bind(rt, (Ipv4Addr::LOCALHOST, port)) {
+    let listener = match bind_port(rt, port) {
         Ok(listener) => listener,
         Err(error) => return Err(listen_failed(rt, port, error)?),
     };
@@ -124,6 +124,14 @@ fn listen_on(rt: &HostRuntime, port: u16) -> Result<(Listener, u16), CliFault> {
         Ok(address) => Ok((Listener::Tcp(listener), address.port())),
         Err(error) => Err(listen_failed(rt, port, error)?),
     }
+}
+
+/// A listener with the longest backlog that the system allows, since many clients may connect at once. std's has 128.
+fn bind_port(rt: &HostRuntime, port: u16) -> io::Result<TcpListener> {
+    let address = SocketAddr::V4(SocketAddrV4::new(Ipv4Addr::LOCALHOST, port));
+    let listener = TcpListener::from(mio::net::TcpListener::bind(rt, address)?);
+    listener.set_nonblocking(false)?;
+    Ok(listener)
 }
 
 /// The fault if a port cannot be listened on for this reason.
