@@ -42,7 +42,7 @@ fn perform<R: Threads + Wait + Clock + Sync>(
 ) -> Result<u8, CliFault> {
     match task {
         CliTask::Lines(task) => perform_lines(rt, task),
-        CliTask::Draw => run_draw(rt),
+        CliTask::Draw(task) => run_draw(rt, task),
         CliTask::Threads(task) => run_threads(rt, threads, &task),
         CliTask::Serve(task) => run_serve(rt, threads, task),
         CliTask::ServeDurable(task) => run_serve_durable(rt, threads, task),

@@ -53,6 +53,8 @@ pub(crate) enum ArgumentValue {
     Port,
     /// 1 to 1000000.
     Count,
+    /// The number of a line, 1 to 4294967295.
+    Line,
     /// `always` or `never`.
     Sync,
     /// `keep` or `withdraw`.
@@ -195,6 +197,7 @@ fn valued(arg: Arg<'_>, value: ArgumentValue) -> Arg<'_> {
         ArgumentValue::Number => arg.value_parser(value_parser!(u32)),
         ArgumentValue::Port => arg.value_parser(value_parser!(u16)),
         ArgumentValue::Count => arg.value_parser(value_parser!(u32).range(1..=1_000_000)),
+        ArgumentValue::Line => arg.value_parser(value_parser!(u64).range(1..=4_294_967_295)),
         ArgumentValue::Sync => arg.value_parser(SYNCS),
         ArgumentValue::Waiting => arg.value_parser(WAITING),
         ArgumentValue::AskWord => arg.value_parser(ASK_WORDS),

@@ -1,8 +1,8 @@
 //! The command line: each command of the program, with its help, options and arguments.
 
 use crate::arguments::{
-    ArgumentKind, ArgumentSpec, ArgumentValue, command_of, optional, required, text_option, why,
-    with_arguments,
+    ArgumentKind, ArgumentSpec, ArgumentValue, command_of, option_of, optional, required,
+    text_option, why, with_arguments,
 };
 use crate::{ask_arguments, help_texts, serve_arguments};
 use clap::Command;
@@ -55,13 +55,7 @@ fn command_named<'a>(alloc: Global, named: CommandName) -> Result<Command<'a>, A
                 &[],
             )
         }
-        CommandName::Draw => command_of(
-            alloc,
-            "draw",
-            help_texts::draw_about(),
-            help_texts::draw_lines(),
-            &[],
-        ),
+        CommandName::Draw => draw_command(alloc),
         CommandName::Explain => explain_command(alloc),
         CommandName::Threads => threads_command(alloc),
         CommandName::Serve => serve_command(alloc),
@@ -124,6 +118,39 @@ fn run_arguments<'a>() -> [ArgumentSpec<'a>; 5] {
         },
         text_option("save", "FILE", help_texts::save_help()),
         why(),
+    ]
+}
+
+fn draw_command<'a>(alloc: Global) -> Result<Command<'a>, AllocError> {
+    let words = draw_arguments();
+    command_of(
+        alloc,
+        "draw",
+        help_texts::draw_about(),
+        help_texts::draw_lines(),
+        &words,
+    )
+}
+
+fn draw_arguments<'a>() -> [ArgumentSpec<'a>; 3] {
+    [
+        option_of(
+            ArgumentValue::Line,
+            "from",
+            "LINE",
+            help_texts::draw_from_help(),
+        ),
+        option_of(
+            ArgumentValue::Line,
+            "to",
+            "LINE",
+            help_texts::draw_to_help(),
+        ),
+        optional(
+            "state",
+            ArgumentKind::Flag('s'),
+            help_texts::draw_state_help(),
+        ),
     ]
 }
 

@@ -106,11 +106,38 @@ any browser. A worker that crashes in its section, and what becomes of the lock:
   END
   rme draw <run.jsonl >run.svg
 
-A transcript is checked as `rme check` does it, and drawn only where that says yes. Else there is no picture,
-and its verdict, no LINE or bad LINE, stands on the standard error.
+A transcript is checked as `rme check` does it, and drawn only where that says yes to all of it. Else there is no
+picture, and its verdict, no LINE or bad LINE, stands on the standard error.
 
-Status: 0 after a picture, 1 after no and bad, 2 for words that are refused, 3 where reading failed, 4 where
-writing failed, 5 where memory ran out."
+Lines count from 1. Without --from and --to the last 2000 lines are drawn at most; the standard error says which
+lines where that is not all. With one of them, or both, just these lines are drawn, however many. The picture
+begins with the world as the lines before leave it: what a worker is at, and who owns a lock, goes on from the left
+edge. A transcript that does not have all these lines is refused:
+
+  rme draw --from 5 <run.jsonl >end.svg
+
+The transcript of a state's FILE has one worker more than clients have, the checkpoint worker:
+
+  tail -n +2 FILE | rme run --transcript | rme draw --state >state.svg
+
+Status: 0 after a picture, 1 after no and bad, 2 for words that are refused, also LINEs that are not there, 3 where
+reading failed, 4 where writing failed, 5 where memory ran out."
+}
+
+pub fn draw_from_help<'a>() -> &'a str {
+    "The first line of the transcript that is drawn, from 1; without it the first, or one of the last"
+}
+
+pub fn draw_to_help<'a>() -> &'a str {
+    "The last line of the transcript that is drawn; without it the last"
+}
+
+pub fn draw_state_help<'a>() -> &'a str {
+    "Labels the last worker as the checkpoint worker: the transcript is that of a state"
+}
+
+pub fn draw_lines_in_order<'a>() -> &'a str {
+    "the LINE of --from comes after that of --to"
 }
 
 pub fn explain_about<'a>() -> &'a str {

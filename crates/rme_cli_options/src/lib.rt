@@ -19,7 +19,7 @@ mod tasks;
 pub use command_line::{ParsedCommandLine, finish_process, read_words};
 pub use parsing::task_of;
 pub use tasks::{
-    AnswerForm, AskRequest, AskTask, CliTask, CreateTask, Diagnostics, DurableServeTask,
+    AnswerForm, AskRequest, AskTask, CliTask, CreateTask, Diagnostics, DrawTask, DurableServeTask,
     FinishTask, LineTask, ListenAddresses, LookTask, OutputFormat, RunImages, ServeTask,
     ServerAddress, ServerLog, SpacesServeTask, SyncPolicy, ThreadsTask, WaitingPolicy,
 };

@@ -4,8 +4,9 @@ use crate::ask_words::ask_task;
 use crate::commands::command;
 use crate::help_texts;
 use crate::tasks::{
-    CliTask, Diagnostics, DurableServeTask, LineTask, ListenAddresses, LookTask, OutputFormat,
-    RunImages, ServeTask, ServerLog, SpacesServeTask, SyncPolicy, ThreadsTask, WaitingPolicy,
+    CliTask, Diagnostics, DrawTask, DurableServeTask, LineTask, ListenAddresses, LookTask,
+    OutputFormat, RunImages, ServeTask, ServerLog, SpacesServeTask, SyncPolicy, ThreadsTask,
+    WaitingPolicy,
 };
 use clap::error::ErrorKind;
 use clap::{ArgMatches, Error};
@@ -37,8 +38,8 @@ pub fn task_of(alloc: Global, words: &[String]) -> Result<CliTask, Error> {
     if let Some(ask) = found.subcommand_matches("ask") {
         return Ok(CliTask::Ask(ask_task(alloc, ask)?));
     }
-    if found.subcommand_matches("draw").is_some() {
-        return Ok(CliTask::Draw);
+    if let Some(draw) = found.subcommand_matches("draw") {
+        return Ok(CliTask::Draw(draw_task(alloc, draw)?));
     }
     Ok(CliTask::Lines(line_task(alloc, &found)?))
 }
@@ -95,6 +96,23 @@ fn misplaced_option<'a>(found: &ArgMatches<'_>) -> Option<&'a str> {
         return Some(help_texts::state_options_alone());
     }
     None
+}
+
+/// The task of the words after `draw`. Each number was parsed before, as that of a line.
+fn draw_task(alloc: Global, found: &ArgMatches<'_>) -> Result<DrawTask, Error> {
+    let from = found.get_one::<u64>("from");
+    let to = found.get_one::<u64>("to");
+    if from.unwrap_or(1) > to.unwrap_or(u64::MAX) {
+        return Err(command(alloc)?.error(
+            ErrorKind::ValueValidation,
+            help_texts::draw_lines_in_order(),
+        )?);
+    }
+    Ok(DrawTask {
+        from,
+        to,
+        is_of_state: found.get_flag("state"),
+    })
 }
 
 /// The task of the words after `look`.

@@ -6,7 +6,7 @@ pub enum CliTask {
     /// A command that only reads and writes lines, or an explanation.
     Lines(LineTask),
     /// Draw the transcript on the standard input.
-    Draw,
+    Draw(DrawTask),
     /// Supervise workers that add to one cell.
     Threads(ThreadsTask),
     /// Serve workers to the sessions of connections.
@@ -61,6 +61,17 @@ pub struct RunImages {
     pub locks: Vec<String>,
     /// The file to save the last world to, if one was named.
     pub save: Option<String>,
+}
+
+/// The request of `rme draw`. Lines are counted from 1.
+#[derive(Clone, Copy)]
+pub struct DrawTask {
+    /// The first line to draw, if one was named.
+    pub from: Option<u64>,
+    /// The last line to draw, if one was named; it is not before the first.
+    pub to: Option<u64>,
+    /// Whether the transcript is that of a state's file, whose last worker is the checkpoint worker.
+    pub is_of_state: bool,
 }
 
 /// The request of `rme threads`: this number of workers, with this number of jobs each, all with the same falls.

@@ -8,24 +8,25 @@ use Rattle.rme_draw_picture.specs.declared.mark_kind.MarkKind.{MarkKind}
 use Rattle.rme_draw_picture.specs.declared.mark_kind.MarkKind.TheVariants as mark
 use Rattle.rme_draw_picture.specs.declared.drawing.Mark.{Mark}
 
-abbrev pub mark_kind_of_note : Note → Option MarkKind
-mark_kind_of_note note.Quiet = None
-mark_kind_of_note (note.Asked number) = Some (mark.Asked number)
-mark_kind_of_note note.Blocked = Some mark.Blocked
-mark_kind_of_note (note.Entered lock) = Some mark.Entered
-mark_kind_of_note (note.Reentered lock) = Some mark.Reentered
-mark_kind_of_note (note.Finished receipt) = Some (mark.Finished receipt.number)
-mark_kind_of_note (note.Left lock) = Some mark.Left
-mark_kind_of_note note.Ready = Some mark.Ready
-mark_kind_of_note (note.Withdrew number) = Some (mark.Withdrew number)
+-- a blocked worker's mark has its blocker, if that is known
+abbrev pub mark_kind_of_note : Note → Option ℕ → Option MarkKind
+mark_kind_of_note note.Quiet blocker = None
+mark_kind_of_note (note.Asked number) blocker = Some (mark.Asked number)
+mark_kind_of_note note.Blocked blocker = Some (mark.Blocked blocker)
+mark_kind_of_note (note.Entered lock) blocker = Some mark.Entered
+mark_kind_of_note (note.Reentered lock) blocker = Some mark.Reentered
+mark_kind_of_note (note.Finished receipt) blocker = Some (mark.Finished receipt.number)
+mark_kind_of_note (note.Left lock) blocker = Some mark.Left
+mark_kind_of_note note.Ready blocker = Some mark.Ready
+mark_kind_of_note (note.Withdrew number) blocker = Some (mark.Withdrew number)
 
 -- a quiet step has no mark
-abbrev pub mark_kind_of : EventLine → Option MarkKind
-mark_kind_of (line.Submit handed) = Some (mark.Submit handed.number)
-mark_kind_of (line.Crash worker) = Some mark.Crash
-mark_kind_of (line.Restart worker) = Some mark.Restart
-mark_kind_of (line.Withdraw worker) = Some mark.Withdraw
-mark_kind_of (line.Note worker noted) = mark_kind_of_note noted
+abbrev pub mark_kind_of : EventLine → Option ℕ → Option MarkKind
+mark_kind_of (line.Submit handed) blocker = Some (mark.Submit handed.number)
+mark_kind_of (line.Crash worker) blocker = Some mark.Crash
+mark_kind_of (line.Restart worker) blocker = Some mark.Restart
+mark_kind_of (line.Withdraw worker) blocker = Some mark.Withdraw
+mark_kind_of (line.Note worker noted) blocker = mark_kind_of_note noted blocker
 
 abbrev pub line_worker : EventLine → ℕ
 line_worker (line.Submit handed) = handed.worker
@@ -47,8 +48,8 @@ abbrev pub marks_by : Option MarkKind → ℕ → ℕ → List Mark
 marks_by None worker at = []
 marks_by (Some what) worker at = record { line = at; worker = worker; kind = what } ∷ []
 
-abbrev pub marks_at : EventLine → ℕ → List Mark
-marks_at event_line at = marks_by (mark_kind_of event_line) (line_worker event_line) at
+abbrev pub marks_at : EventLine → Option ℕ → ℕ → List Mark
+marks_at event_line blocker at = marks_by (mark_kind_of event_line blocker) (line_worker event_line) at
 
 -- the line, if by it the worker withdrew its job
 abbrev pub withdrawal_line_of_note : Note → ℕ → Option ℕ

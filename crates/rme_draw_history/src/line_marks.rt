@@ -8,12 +8,17 @@ use rme_line_text::EventLine;
 use rme_program::Note;
 use std::alloc::AllocError;
 
-/// Adds the mark of a line, if it has one.
-pub fn push_mark(marks: &mut Vec<Mark>, event_line: &EventLine, line: u64) -> Result<(), AllocError>
-    ensures { OnOk result (marks.new.items ≡ marks.old.items ++ spec.marks_at event_line.now line) }
+/// Adds the mark of a line, if it has one. If the worker is blocked, `blocker` is the one that blocks it, if known.
+pub fn push_mark(
+    marks: &mut Vec<Mark>,
+    event_line: &EventLine,
+    blocker: Option<u32>,
+    line: u64,
+) -> Result<(), AllocError>
+    ensures { OnOk result (marks.new.items ≡ marks.old.items ++ spec.marks_at event_line.now blocker line) }
 {
     let worker = line_worker(event_line);
-    match mark_kind_of(event_line) {
+    match mark_kind_of(event_line, blocker) {
         Some(kind) => {
             marks.push(Mark { line, worker, kind })?;
             Ok(())
@@ -23,25 +28,25 @@ pub fn push_mark(marks: &mut Vec<Mark>, event_line: &EventLine, line: u64) -> Re
 }
 
 /// The event of a line, for its worker; a quiet step has none.
-fn mark_kind_of(line: &EventLine) -> Option<MarkKind>
-    ensures { result ≡ spec.mark_kind_of line.now }
+fn mark_kind_of(line: &EventLine, blocker: Option<u32>) -> Option<MarkKind>
+    ensures { result ≡ spec.mark_kind_of line.now blocker }
 {
     match line {
         EventLine::Submit(handed) => Some(MarkKind::Submit(handed.number)),
         EventLine::Crash(_) => Some(MarkKind::Crash),
         EventLine::Restart(_) => Some(MarkKind::Restart),
         EventLine::Withdraw(_) => Some(MarkKind::Withdraw),
-        EventLine::Note(_, note) => mark_kind_of_note(note),
+        EventLine::Note(_, note) => mark_kind_of_note(note, blocker),
     }
 }
 
-fn mark_kind_of_note(note: &Note) -> Option<MarkKind>
-    ensures { result ≡ spec.mark_kind_of_note note.now }
+fn mark_kind_of_note(note: &Note, blocker: Option<u32>) -> Option<MarkKind>
+    ensures { result ≡ spec.mark_kind_of_note note.now blocker }
 {
     match note {
         Note::Quiet => None,
         Note::Asked(number) => Some(MarkKind::Asked(*number)),
-        Note::Blocked => Some(MarkKind::Blocked),
+        Note::Blocked => Some(MarkKind::Blocked(blocker)),
         Note::Entered(_) => Some(MarkKind::Entered),
         Note::Reentered(_) => Some(MarkKind::Reentered),
         Note::Finished(receipt) => Some(MarkKind::Finished(receipt.number)),

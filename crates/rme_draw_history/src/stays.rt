@@ -215,7 +215,7 @@ fn ready_stay_from(worker: u32, line: u64) -> DrawnStay
 }
 
 /// The lock of a worker's job, if it has one.
-fn stance_lock(stance: &JobStance) -> Option<u32>
+pub fn stance_lock(stance: &JobStance) -> Option<u32>
     ensures { result ≡ spec.stance_lock stance.now }
 {
     match stance {

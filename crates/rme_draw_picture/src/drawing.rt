@@ -48,10 +48,16 @@ pub struct Finish {
 pub struct Drawing {
     /// The number of workers.
     pub workers: u32,
+    /// Whether the last worker is the checkpoint worker of a durable server.
+    pub has_checkpoint_worker: bool,
     /// The locks' names, in order.
     pub names: Vec<String>,
-    /// The last line of the transcript.
-    pub line: u64,
+    /// The first line that is drawn.
+    pub first: u64,
+    /// The last line that is drawn.
+    pub last: u64,
+    /// The number of lines of the transcript.
+    pub lines: u64,
     /// The greatest number of a job.
     pub number: u32,
     pub stays: Vec<DrawnStay>,
@@ -70,8 +76,11 @@ impl Drawing {
     {
         Drawing {
             workers: 0,
+            has_checkpoint_worker: false,
             names: Vec::new(alloc),
-            line: 0,
+            first: 1,
+            last: 0,
+            lines: 0,
             number: 0,
             stays: Vec::new(alloc),
             holds: Vec::new(alloc),

@@ -7,6 +7,7 @@
 //! the style.
 #![tactic(auto)]
 
+mod blocked;
 mod drawing;
 mod drawn_phase;
 mod entries;

@@ -8,7 +8,8 @@ pub enum MarkKind {
     Restart,
     Withdraw,
     Asked(u32),
-    Blocked,
+    /// The worker that blocks it, if that is known.
+    Blocked(Option<u32>),
     Entered,
     Reentered,
     Finished(u32),
@@ -25,7 +26,7 @@ pub fn words_of_mark(kind: MarkKind) -> (&'static str, Option<u32>) {
         MarkKind::Restart => ("restart", None),
         MarkKind::Withdraw => ("withdraw", None),
         MarkKind::Asked(number) => ("asked ", Some(number)),
-        MarkKind::Blocked => ("blocked", None),
+        MarkKind::Blocked(_) => ("blocked", None),
         MarkKind::Entered => ("entered", None),
         MarkKind::Reentered => ("re-entered", None),
         MarkKind::Finished(number) => ("finished ", Some(number)),

@@ -132,14 +132,16 @@ fn put_centred<W: Sink>(page: &mut Page, writer: &mut W, middle: Point, text: &[
     page.put(writer, &[Text("</text>\n")]);
 }
 
-/// A stay, and the name of the lock that it waits for, if it waits for one.
+/// A stay; the name of the lock that it waits for, if it waits for one; and the worker that last blocked it there, if
+/// that is known.
 #[derive(Clone, Copy)]
 pub struct NamedStay<'a> {
     pub stay: DrawnStay,
     pub lock: &'a str,
+    pub blocker: Option<u32>,
 }
 
-/// Puts a worker's stay in a phase.
+/// Puts a worker's stay in a phase. Its bar names the blocker if there is room.
 pub fn put_stay<W: Sink>(
     page: &mut Page,
     writer: &mut W,
@@ -149,37 +151,76 @@ pub fn put_stay<W: Sink>(
 )
     ensures { SomeTextPut W.contents W.took page.old writer.old page.new writer.new }
 {
-    let NamedStay { stay, lock } = named;
-    let name = name_of(stay.phase);
-    let gap = if stay.phase == DrawnPhase::Enter {
-        " "
-    } else {
-        ""
-    };
+    let stay = named.stay;
     let (column, count) = strip.part(stay.from, stay.to);
-    let tip = [
-        Text("worker "),
-        Number(u64::from(stay.worker)),
-        Text(": "),
-        Text(name),
-        Text(gap),
-        Text(lock),
-        Text(", lines "),
-        Number(stay.from),
-        Text(" to "),
-        Number(stay.to),
-    ];
+    let words = words_with_room(sheet, sheet.columns(count), named);
     put_bar(
         page,
         writer,
         sheet,
         bar_of_stay(&stay, column, count),
         BarTexts {
-            tip: &tip,
-            long: &[Text(name), Text(gap), Text(lock)],
+            tip: &tip_of_stay(named),
+            long: &words,
             short: &[Text(short_name_of(stay.phase))],
         },
     );
+}
+
+/// The words of a stay's tooltip.
+fn tip_of_stay(named: NamedStay<'_>) -> [Piece<'_>; 12] {
+    let [name, gap, lock, by, blocker] = words_of_stay(named);
+    [
+        Text("worker "),
+        Number(u64::from(named.stay.worker)),
+        Text(": "),
+        name,
+        gap,
+        lock,
+        by,
+        blocker,
+        Text(", lines "),
+        Number(named.stay.from),
+        Text(" to "),
+        Number(named.stay.to),
+    ]
+}
+
+/// The words of a stay, without its blocker if there is no room for that in this width.
+fn words_with_room<'a>(sheet: &Sheet, width: u64, named: NamedStay<'a>) -> [Piece<'a>; 5] {
+    let words = words_of_stay(named);
+    if sheet.has_room(&words, width) {
+        return words;
+    }
+    words_of_stay(NamedStay {
+        blocker: None,
+        ..named
+    })
+}
+
+/// The name of a stay's phase, the lock that it waits for, and the worker that blocks it.
+fn words_of_stay(named: NamedStay<'_>) -> [Piece<'_>; 5] {
+    let gap = if named.stay.phase == DrawnPhase::Enter {
+        " "
+    } else {
+        ""
+    };
+    let [by, blocker] = blocker_words(named.blocker);
+    [
+        Text(name_of(named.stay.phase)),
+        Text(gap),
+        Text(named.lock),
+        by,
+        blocker,
+    ]
+}
+
+/// The words for the worker that blocks another, if there is one.
+fn blocker_words(blocker: Option<u32>) -> [Piece<'static>; 2] {
+    match blocker {
+        Some(blocker) => [Text(", blocked by worker "), Number(u64::from(blocker))],
+        None => [Text(""), Text("")],
+    }
 }
 
 /// The bar of a stay. Down has a dashed edge.

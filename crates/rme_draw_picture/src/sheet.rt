@@ -1,5 +1,6 @@
 //! The layout of the sheet. Lengths are in units of the picture, about a pixel each.
 
+use crate::blocked::BlockedLines;
 use crate::drawing::Drawing;
 use crate::entries::entry_lines;
 use crate::piece::{Piece, digits_of, length_of};
@@ -73,6 +74,8 @@ pub struct Sheet {
     pub locks: Vec<Option<u64>>,
     /// The lower end of the last row of a strip.
     pub bottom: u64,
+    /// The workers that block others.
+    pub blocked: BlockedLines,
 }
 
 impl Sheet {
@@ -85,7 +88,8 @@ impl Sheet {
         let digits = digits_of(u64::from(drawing.number));
         let column = COLUMN.saturating_add(digits.saturating_mul(4));
         let most = STRIP_WIDTH.saturating_sub(left).saturating_sub(BEHIND) / column.max(1);
-        let lines = drawing.line.min(most.saturating_sub(1)).max(1);
+        let shown = drawing.last.saturating_add(1).saturating_sub(drawing.first);
+        let lines = shown.min(most.saturating_sub(1)).max(1);
         let width = lines
             .saturating_add(1)
             .saturating_mul(column)
@@ -98,6 +102,7 @@ impl Sheet {
             lines,
             locks: Vec::new(alloc),
             bottom: top_of_worker(u64::from(drawing.workers)).saturating_add(8),
+            blocked: BlockedLines::of(alloc, drawing)?,
         };
         sheet.place_locks(alloc, drawing, used.as_slice())?;
         Ok(sheet)

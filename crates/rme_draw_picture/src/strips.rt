@@ -28,27 +28,45 @@ impl Strip {
     }
 }
 
+/// The cut of a drawing into strips of `lines` lines, from its first line on.
+#[derive(Clone, Copy)]
+struct StripCut {
+    first: u64,
+    lines: u64,
+}
+
+impl StripCut {
+    /// The number of the strip with a line, from 0; 0 for an earlier line.
+    fn place_of(self, line: u64) -> u64 {
+        line.saturating_sub(self.first) / self.lines.max(1)
+    }
+}
+
 /// A drawing in strips of `lines` lines, in order. A stay or a hold is in each strip into which it reaches.
 pub fn strips_of(alloc: Global, drawing: &Drawing, lines: u64) -> Result<Vec<Strip>, AllocError> {
-    let mut strips = empty_strips(alloc, drawing.line, lines)?;
+    let cut = StripCut {
+        first: drawing.first,
+        lines,
+    };
+    let mut strips = empty_strips(alloc, drawing.last, cut)?;
     for (index, stay) in drawing.stays.iter().enumerate() {
-        add_stay(&mut strips, index, stay, lines)?;
+        add_stay(&mut strips, index, stay, cut)?;
     }
     for (index, hold) in drawing.holds.iter().enumerate() {
-        add_hold(&mut strips, index, hold, lines)?;
+        add_hold(&mut strips, index, hold, cut)?;
     }
-    add_marks(&mut strips, drawing, lines)?;
+    add_marks(&mut strips, drawing, cut)?;
     Ok(strips)
 }
 
-/// Empty strips of `lines` lines each, up to the last line.
-fn empty_strips(alloc: Global, last: u64, lines: u64) -> Result<Vec<Strip>, AllocError> {
+/// Empty strips, up to the last line.
+fn empty_strips(alloc: Global, last: u64, cut: StripCut) -> Result<Vec<Strip>, AllocError> {
     let mut strips = Vec::new(alloc);
-    for place in 0..=place_of(last, lines) {
-        let before = place.saturating_mul(lines);
+    for place in 0..=cut.place_of(last) {
+        let first = cut.first.saturating_add(place.saturating_mul(cut.lines));
         strips.push(Strip {
-            first: before.saturating_add(1),
-            last: before.saturating_add(lines).min(last),
+            first,
+            last: first.saturating_add(cut.lines).saturating_sub(1).min(last),
             stays: Vec::new(alloc),
             holds: Vec::new(alloc),
             marks: Vec::new(alloc),
@@ -58,20 +76,15 @@ fn empty_strips(alloc: Global, last: u64, lines: u64) -> Result<Vec<Strip>, Allo
     Ok(strips)
 }
 
-/// The number of the strip with a line, from 0.
-fn place_of(line: u64, lines: u64) -> u64 {
-    line.saturating_sub(1) / lines.max(1)
-}
-
 /// Adds a stay to each strip into which it reaches.
 fn add_stay(
     strips: &mut [Strip],
     index: usize,
     stay: &DrawnStay,
-    lines: u64,
+    cut: StripCut,
 ) -> Result<(), AllocError> {
-    let last = place_of(stay.to.saturating_sub(1), lines);
-    for place in place_of(stay.from, lines)..=last {
+    let last = cut.place_of(stay.to.saturating_sub(1));
+    for place in cut.place_of(stay.from)..=last {
         if let Some(strip) = strips.get_mut(place as usize) {
             strip.stays.push(index)?;
         }
@@ -80,9 +93,14 @@ fn add_stay(
 }
 
 /// Adds a hold to each strip into which it reaches.
-fn add_hold(strips: &mut [Strip], index: usize, hold: &Hold, lines: u64) -> Result<(), AllocError> {
-    let last = place_of(hold.to.saturating_sub(1), lines);
-    for place in place_of(hold.from, lines)..=last {
+fn add_hold(
+    strips: &mut [Strip],
+    index: usize,
+    hold: &Hold,
+    cut: StripCut,
+) -> Result<(), AllocError> {
+    let last = cut.place_of(hold.to.saturating_sub(1));
+    for place in cut.place_of(hold.from)..=last {
         if let Some(strip) = strips.get_mut(place as usize) {
             strip.holds.push(index)?;
         }
@@ -91,18 +109,18 @@ fn add_hold(strips: &mut [Strip], index: usize, hold: &Hold, lines: u64) -> Resu
 }
 
 /// Adds the marks and the finished sections, each to the strip of its line.
-fn add_marks(strips: &mut [Strip], drawing: &Drawing, lines: u64) -> Result<(), AllocError> {
+fn add_marks(strips: &mut [Strip], drawing: &Drawing, cut: StripCut) -> Result<(), AllocError> {
     for (index, mark) in drawing.marks.iter().enumerate() {
-        if let Some(strip) = strips.get_mut(place_of(mark.line, lines) as usize) {
+        if let Some(strip) = strips.get_mut(cut.place_of(mark.line) as usize) {
             strip.marks.push(index)?;
         }
     }
-    add_finishes(strips, drawing, lines)
+    add_finishes(strips, drawing, cut)
 }
 
-fn add_finishes(strips: &mut [Strip], drawing: &Drawing, lines: u64) -> Result<(), AllocError> {
+fn add_finishes(strips: &mut [Strip], drawing: &Drawing, cut: StripCut) -> Result<(), AllocError> {
     for (index, finish) in drawing.finishes.iter().enumerate() {
-        if let Some(strip) = strips.get_mut(place_of(finish.line, lines) as usize) {
+        if let Some(strip) = strips.get_mut(cut.place_of(finish.line) as usize) {
             strip.finishes.push(index)?;
         }
     }

@@ -162,12 +162,31 @@ fn put_title<W: Sink>(page: &mut Page, writer: &mut W, drawing: &Drawing)
             Number(locks),
             Text(" lock"),
             Text(plural_of(locks)),
-            Text(", "),
-            Number(drawing.line),
-            Text(" line"),
-            Text(plural_of(drawing.line)),
         ],
     );
+    page.put(writer, &extent_of(drawing));
+}
+
+/// The words for the lines that are drawn: all, or these of so many.
+fn extent_of<'a>(drawing: &Drawing) -> [Piece<'a>; 6] {
+    if drawing.first <= 1 && drawing.last >= drawing.lines {
+        return [
+            Text(", "),
+            Number(drawing.lines),
+            Text(" line"),
+            Text(plural_of(drawing.lines)),
+            Text(""),
+            Text(""),
+        ];
+    }
+    [
+        Text(", lines "),
+        Number(drawing.first),
+        Text(" to "),
+        Number(drawing.last),
+        Text(" of "),
+        Number(drawing.lines),
+    ]
 }
 
 /// The ending of the noun after a number.
@@ -266,6 +285,28 @@ fn put_workers<W: Sink>(
         };
         put_name(page, writer, sheet, row, &name);
     }
+    put_checkpoint_label(page, writer, drawing);
+}
+
+/// Puts the label of the checkpoint worker below the name of its row, if there is one.
+fn put_checkpoint_label<W: Sink>(page: &mut Page, writer: &mut W, drawing: &Drawing)
+    ensures { SomeTextPut W.contents W.took page.old writer.old page.new writer.new }
+{
+    if !drawing.has_checkpoint_worker {
+        return;
+    }
+    let worker = u64::from(drawing.workers).saturating_sub(1);
+    let base = top_of_worker(worker).saturating_add(45);
+    page.put(
+        writer,
+        &[
+            Text("<text x=\"16\" y=\""),
+            Number(base),
+            Text("\" fill=\"#555555\">"),
+            Text("checkpoint worker"),
+            Text("</text>\n"),
+        ],
+    );
 }
 
 /// Puts the names of the locks' rows of a strip.
@@ -375,6 +416,7 @@ fn put_stays<W: Sink>(
         let named = NamedStay {
             stay: *stay,
             lock: lock_waited_for(drawing, stay),
+            blocker: sheet.blocked.last_in(stay),
         };
         put_stay(page, writer, sheet, strip, named);
     }

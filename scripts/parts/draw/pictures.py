@@ -3,13 +3,17 @@
 The model draws a transcript in Python: what a worker is at and who owns a lock it knows from its own account of the
 events, and where things are on the sheet from the same plan. `rme draw` must write the same picture of each example's
 transcript, and of the three that docs/pictures keeps, which were looked at. A transcript that the machine does not
-have, at each line in turn, must have no picture but its verdict, and faults their statuses.
+have, at each line in turn, must have no picture but its verdict, and faults their statuses. Each range of lines of two
+examples is drawn, and what is drawn of a long transcript if no line is named. A worker that is named as a blocker must
+hold the node, by an image of that moment.
 
 `try-draw pictures --write` writes docs/pictures anew, from the model."""
 
 import json
 import os
+import random
 import re
+import struct
 import subprocess
 import sys
 import tempfile
@@ -20,6 +24,7 @@ from lib.programs import TOP, built, ends_with, examples, run
 
 PICTURES = os.path.join(TOP, "docs", "pictures")
 KEPT = ["re-entry", "dead-climber", "withdrawal-with-a-node"]
+USUAL = 2_000  # lines that are drawn at most if none is named
 WORD = 2**64
 
 COLOURS = {
@@ -51,11 +56,13 @@ def run_script(script, row):
 
 
 class Account:
-    """What was seen of a run: stays of workers, holds of locks, marks and finished sections."""
+    """What was seen of a run up to a line: stays of workers, holds of locks, marks and finished sections. Drawn is what
+    reaches the first line, or comes after it."""
 
-    def __init__(self, lines):
-        opening, *events = [json.loads(line) for line in lines]
-        self.names, self.lines = opening["locks"], len(lines)
+    def __init__(self, lines, first=1, last=None, of_state=False):
+        self.all, self.first, self.last, self.of_state = len(lines), first, last or len(lines), of_state
+        opening, *events = [json.loads(line) for line in lines[: self.last]]
+        self.names = opening["locks"]
         self.workers = opening["workers"]
         self.rows = {name: [0] * opening["cells"] for name in self.names}
         self.owner = dict.fromkeys(self.names)
@@ -64,16 +71,23 @@ class Account:
         self.phase = ["ready"] * self.workers
         self.since = [1] * self.workers
         self.gave_up = [None] * self.workers
+        self.climbs = [None] * self.workers  # the lock in whose tree a worker may hold nodes
+        self.blocked = []  # the line, the worker, and its blocker or None
         self.held = dict.fromkeys(self.names)
         self.stays, self.holds, self.marks, self.finishes = [], [], [], []
         self.number = 0
         for line, event in enumerate(events, 2):
             self.see(line, event)
         for worker in range(self.workers):
-            self.end_stay(worker, self.lines + 1, "")
+            self.end_stay(worker, self.last + 1, "")
         for name in self.names:
             if self.held[name]:
-                self.holds.append((name, *self.held[name], self.lines + 1))
+                self.holds.append((name, *self.held[name], self.last + 1))
+        self.stays = [stay for stay in self.stays if stay[-1] > first]
+        self.holds = [hold for hold in self.holds if hold[-1] > first]
+        self.marks = [mark for mark in self.marks if mark[0] >= first]
+        self.blocked = [it for it in self.blocked if it[0] >= first]
+        self.finishes = [finish for finish in self.finishes if finish[0] >= first]
 
     def end_stay(self, worker, line, kind):
         """A worker that gave up, and of which no note tells that it became ready later, was so at once."""
@@ -101,6 +115,9 @@ class Account:
             self.marks.append((line, worker, label))
         old_job = self.job[worker]
         phase = self.phase_after(worker, kind, event)
+        if kind == "blocked":
+            self.blocked.append((line, worker, self.blocker_of(worker)))
+        self.see_climb(worker, kind)
         if kind == "finished":
             lock, number, place, reply = told
             run_script(old_job[1], self.rows[lock])
@@ -153,6 +170,28 @@ class Account:
             return "ready"
         return self.phase[worker]
 
+    def see_climb(self, worker, kind):
+        if kind == "asked":
+            self.climbs[worker] = self.waits_for(worker)
+        elif kind in ("submit", "ready") or kind in ("left", "withdrew") and self.workers <= 2:
+            self.climbs[worker] = None
+
+    def blocker_of(self, worker):
+        """The only one that can hold the next node of a blocked worker: of those in the tree that is the lock's owner, or
+        one below the node at which the owner comes from the other side."""
+        lock = self.waits_for(worker)
+        others = {other for other in range(self.workers) if other != worker and self.climbs[other] == lock}
+        owner = self.owner[lock]
+        if owner is not None:
+            reach = meeting(owner, worker)
+            others = {other for other in others if other == owner or meeting(other, worker) < reach}
+        return others.pop() if len(others) == 1 else None
+
+    def last_blocker(self, worker, span):
+        """Who blocked a worker last in these lines, as far as it is known."""
+        known = [by for line, who, by in self.blocked if who == worker and span[0] <= line < span[1] and by is not None]
+        return known[-1] if known else None
+
     def see_locks(self, line):
         for name in self.names:
             owner = self.owner[name]
@@ -163,6 +202,11 @@ class Account:
             if held:
                 self.holds.append((name, *held, line))
             self.held[name] = None if now is None else (*now, line)
+
+
+def meeting(one, other):
+    """The level at which the paths of two workers to the root of a lock's tree meet."""
+    return (one ^ other).bit_length()
 
 
 def cell_lines(row):
@@ -183,7 +227,8 @@ class Sheet:
         self.names = [name for name in seen.names if name in used]
         self.left = 40 + 9 * max([len("worker 000"), *(len(f"lock {name}") for name in self.names)])
         self.column = 62 + 4 * len(str(seen.number))
-        self.lines = max(1, min(seen.lines, (30_000 - self.left - 64) // self.column - 1))
+        drawn = range(seen.first, seen.last + 1)
+        self.lines = max(1, min(len(drawn), (30_000 - self.left - 64) // self.column - 1))
         self.width = max(980, self.left + self.column * (self.lines + 1) + 64)
         bottom = HEAD + WORKER_ROW * seen.workers + 8
         self.locks = {}
@@ -192,7 +237,7 @@ class Sheet:
             self.locks[name] = bottom
             bottom += LOCK_ROW + TEXT_LINE * max(texts, default=0)
         self.bottom = bottom
-        self.strips = [range(first, min(first + self.lines, seen.lines + 1)) for first in range(1, seen.lines + 1, self.lines)]
+        self.strips = [drawn[at : at + self.lines] for at in range(0, len(drawn), self.lines)]
         self.height = bottom + 12 + (len(self.strips) - 1) * (bottom - 88)
         self.strip = self.strips[0]
 
@@ -212,7 +257,9 @@ def count(number, thing):
 
 
 def head(seen, sheet):
-    title = f"A run of {count(seen.workers, 'worker')} and {count(len(seen.names), 'lock')}, {count(seen.lines, 'line')}"
+    part = f"lines {seen.first} to {seen.last} of {seen.all}"
+    extent = count(seen.all, "line") if seen.last - seen.first + 1 == seen.all else part
+    title = f"A run of {count(seen.workers, 'worker')} and {count(len(seen.names), 'lock')}, {extent}"
     width, height = sheet.width, sheet.height
     yield (
         f'<svg xmlns="http://www.w3.org/2000/svg" width="{width}" height="{height}" viewBox="0 0 {width} {height}"'
@@ -259,11 +306,19 @@ def columns(seen, sheet):
 
 def names(seen, sheet):
     rows = [(f"worker {worker}", HEAD + WORKER_ROW * worker) for worker in range(seen.workers)]
-    for name, top in [*rows, *((f"lock {name}", sheet.locks[name]) for name in sheet.names)]:
-        yield f'<text x="16" y="{top + 29}" font-size="13" font-weight="bold" fill="#111111">{name}</text>'
-        for line in sheet.strip[19::20]:
-            if sheet.x(line) + 11 * len(name) <= sheet.width:
-                yield f'<text x="{sheet.x(line)}" y="{top + 8}" fill="#555555">{name}</text>'
+    for name, top in rows:
+        yield from row_name(sheet, name, top)
+    if seen.of_state:
+        yield f'<text x="16" y="{rows[-1][1] + 45}" fill="#555555">checkpoint worker</text>'
+    for name in sheet.names:
+        yield from row_name(sheet, f"lock {name}", sheet.locks[name])
+
+
+def row_name(sheet, name, top):
+    yield f'<text x="16" y="{top + 29}" font-size="13" font-weight="bold" fill="#111111">{name}</text>'
+    for line in sheet.strip[19::20]:
+        if sheet.x(line) + 11 * len(name) <= sheet.width:
+            yield f'<text x="{sheet.x(line)}" y="{top + 8}" fill="#555555">{name}</text>'
 
 
 def bar(sheet, top, span, look, texts, tip):
@@ -286,9 +341,11 @@ def stays(seen, sheet):
     for worker, phase, lock, *span in seen.stays:
         short = "Section" if phase == "Critical section" else phase
         text = f"Enter {lock}" if phase == "Enter" else phase
+        blocker = seen.last_blocker(worker, span)
+        blocked = text if blocker is None else f"{text}, blocked by worker {blocker}"
         look = (COLOURS[phase], "#b03030", DASHES) if phase == "down" else (COLOURS[phase], "#8a96a5", "")
-        tip = f"worker {worker}: {text}, lines {span[0]} to {span[1]}"
-        yield from bar(sheet, HEAD + WORKER_ROW * worker, span, look, [text, short], tip)
+        tip = f"worker {worker}: {blocked}, lines {span[0]} to {span[1]}"
+        yield from bar(sheet, HEAD + WORKER_ROW * worker, span, look, [blocked, text, short], tip)
 
 
 def holds(seen, sheet):
@@ -322,9 +379,9 @@ def finishes(seen, sheet):
             yield f'<text x="{x}" y="{top + WORDS + at * TEXT_LINE - 7}" fill="#333333">{text}</text>'
 
 
-def picture_of(lines):
-    """The picture of a transcript that the machine has."""
-    seen = Account(lines)
+def picture_of(lines, *drawn):
+    """The picture of a transcript that the machine has: of all lines, or from one to another."""
+    seen = Account(lines, *drawn)
     sheet = Sheet(seen)
     parts = [columns, names, stays, holds, marks, finishes]
     text = [*head(seen, sheet), *legend()]
@@ -344,11 +401,62 @@ def transcript_of(name, given):
     return ended.stdout
 
 
-def try_picture(name, transcript):
-    wanted = picture_of(transcript.splitlines()).encode()
+def try_picture(name, transcript, words=(), drawn=(), told=b""):
+    wanted = picture_of(transcript.splitlines(), *drawn).encode()
     xml.etree.ElementTree.fromstring(wanted)
-    ended = run(["draw"], transcript)
-    same(name, ends_with(ended), (0, wanted, b""))
+    ended = run(["draw", *words], transcript)
+    same(name, ends_with(ended), (0, wanted, told))
+
+
+def try_ranges(name, transcript):
+    """Each range of lines."""
+    lines, wrong = transcript.splitlines(), []
+    for first in range(1, len(lines) + 1):
+        for last in range(first, len(lines) + 1):
+            wanted = picture_of(lines, first, last).encode()
+            ended = run(["draw", "--from", first, "--to", last], transcript)
+            if ends_with(ended) != (0, wanted, b""):
+                wrong.append((first, last))
+    check(f"{name}: its {len(lines) * (len(lines) + 1) // 2} ranges", not wrong, wrong)
+
+
+def try_range_by_hand():
+    """What the rows say of the lines 6 to 8 of re-entry: worker 0 fell in its section at line 5 and is restarted at line
+    9; worker 1 is handed a job at line 6, asks at 7, and is blocked at 8. No later line shows."""
+    drawn = run(["draw", "--from", 6, "--to", 8], FOUND["re-entry"]).stdout.decode()
+    tips = [
+        "worker 1: Post, lines 6 to 7",
+        "worker 0: down, lines 5 to 9",
+        "worker 1: Enter bank, blocked by worker 0, lines 7 to 9",
+        "owned by worker 0, down, lines 5 to 9",
+    ]
+    same("the bars of lines 6 to 8", re.findall("<title>([wo][^<]*)</title>", drawn), tips)
+    words = ["submit 1", "asked 1", "blocked"]
+    same("the events of lines 6 to 8", re.findall('y="240" text-anchor="middle" fill="#333333">([^<]*)<', drawn), words)
+    check("its title", ">A run of 2 workers and 1 lock, lines 6 to 8 of 15<" in drawn, drawn[:600])
+
+
+def try_bad_ranges():
+    transcript = FOUND["re-entry"]
+    for words in (["--to", 16], ["--from", 16], ["--from", 2, "--to", 20], ["--from", 20, "--to", 20]):
+        told = b"fault: bad arguments\n  the transcript ends at line 15, before the LINE of --from or --to\n"
+        same(f"draw {words} of 15 lines", ends_with(run(["draw", *words], transcript)), (2, b"", told))
+    for words in (["--from", 9, "--to", 3], ["--from", 0], ["--to", 0], ["--from", "x"], ["--to", "1.5"], ["--from", ""], ["--to"]):
+        ended = run(["draw", *words], transcript)
+        check(f"draw {words}", (ended.returncode, ended.stdout) == (2, b"") and b"LINE" in ended.stderr, ended)
+    lines = transcript.splitlines(keepends=True)
+    ended = run(["draw", "--to", 3], b"".join(lines[:8] + lines[9:]))
+    same("a wrong line after the last that is drawn", ends_with(ended), (1, b"", b"no 9\n"))
+
+
+def try_state():
+    """The last worker of a state's transcript is labelled in its row, and only with the word."""
+    transcript = FOUND["dead-climber"]
+    try_picture("the checkpoint worker", transcript, ["--state"], [1, None, True])
+    label = '<text x="16" y="359" fill="#555555">checkpoint worker</text>'  # 128 + 3 * 62 + 45
+    for words, wanted in ((["--state"], 1), ([], 0)):
+        drawn = run(["draw", *words], transcript).stdout.decode()
+        same(f"labels with {words}", (drawn.count(label), drawn.count("checkpoint")), (wanted, wanted))
 
 
 def try_kept(name, transcript):
@@ -442,10 +550,63 @@ def try_help():
 FOUND = {}
 
 
+def crowd(seed):
+    """Lines for workers that step, fall, come back and give up at random, each with an image behind it."""
+    chance = random.Random(seed)
+    workers = chance.choice([2, 3, 5, 8])
+    yield {"cells": 1, "do": "open", "jobs": 100, "locks": ["a", "b"], "workers": workers}
+    kinds = ["step"] * 40 + ["submit"] * 3 + ["restart"] * 2 + ["crash", "withdraw"]
+    for _ in range(1_500):
+        line = {"do": chance.choice(kinds), "worker": chance.randrange(workers)}
+        if line["do"] == "submit":
+            line.update(lock=chance.choice("aaab"), script=[])
+        yield line
+        yield {"do": "save"}
+
+
+def blocker_in(image, worker):
+    """The holder of the next node of a worker that waits, by the words of an image, or None."""
+    workers, locks, cells, _ = struct.unpack_from(">HBBI", image, 5)
+    leaves = max(2, 1 << (workers - 1).bit_length())
+    block = leaves + 2 + 2 * cells
+    words = struct.unpack_from(f">{31 * workers + locks * block}Q", image, 13)
+    first = 31 * workers + words[31 * worker + 5] * block - 1
+    child = leaves + worker
+    while words[first + child // 2] == 1 + child % 2:
+        child //= 2
+    place = child // 2
+    while place < leaves:
+        place = 2 * place + words[first + place] - 1
+    return place - leaves
+
+
+def try_blockers():
+    """Whoever is named as a blocker holds the node, by an image of that moment."""
+    named = unnamed = 0
+    for seed in range(12):
+        given = [json.dumps(line) for line in crowd(seed)]
+        answers = [json.loads(line) for line in run(["run"], "".join(f"{line}\n" for line in given).encode()).stdout.splitlines()]
+        true = []
+        for line, answer, saved in zip(given[1::2], answers[1::2], answers[2::2]):
+            if answer.get("note") == ["blocked"]:
+                true.append(blocker_in(bytes.fromhex(saved["image"]), json.loads(line)["worker"]))
+        transcript = transcript_of(f"seed {seed}", "".join(f"{line}\n" for line in given).encode())
+        told = [by for _, _, by in Account(transcript.splitlines()).blocked]
+        wrong = [it for it in zip(told, true) if it[0] not in (None, it[1])]
+        check(f"seed {seed}: the named blockers of {len(true)}", len(told) == len(true) and not wrong, wrong)
+        named, unnamed = named + sum(by is not None for by in told), unnamed + told.count(None)
+        try_picture(f"seed {seed}", transcript)
+    check("blockers are named, and some are not known", named > 100 and unnamed > 10, (named, unnamed))
+
+
 def try_examples():
     for name, given in examples():
         FOUND[name] = transcript_of(name, given)
         try_picture(name, FOUND[name])
+        try_picture(f"{name} from 3", FOUND[name], ["--from", 3], [3])
+        try_picture(f"{name} to 3", FOUND[name], ["--to", 3], [1, 3])
+    for name in ("re-entry", "dead-climber"):
+        try_ranges(name, FOUND[name])
     for name in KEPT:
         try_kept(name, FOUND[name])
     for name in ("re-entry", "dead-climber"):
@@ -453,10 +614,22 @@ def try_examples():
 
 
 def try_long():
+    """Of a long transcript its last lines are drawn, unless lines are named; the standard error says which."""
     lines = [json.dumps(event, separators=(",", ":"), sort_keys=True) for event in long_transcript(500)]
-    try_picture(f"{len(lines)} lines", "".join(f"{line}\n" for line in lines).encode())
-    width, height = re.search(r'width="(\d+)" height="(\d+)"', picture_of(lines)).groups()
+    count, text = len(lines), "".join(f"{line}\n" for line in lines).encode()
+    told = f"rme: lines {count - USUAL + 1} to {count} of {count} are drawn: --from LINE and --to LINE draw others\n".encode()
+    try_picture(f"the last of {count} lines", text, [], [count - USUAL + 1], told)
+    try_picture(f"all {count} lines", text, ["--from", 1], [1])
+    try_picture(f"lines 700 to 900 of {count}", text, ["--from", 700, "--to", 900], [700, 900])
+    usual = b"".join(text.splitlines(keepends=True)[:USUAL])
+    try_picture(f"{USUAL} lines", usual)
+    told = f"rme: lines 2 to {USUAL + 1} of {USUAL + 1} are drawn: --from LINE and --to LINE draw others\n".encode()
+    try_picture(f"{USUAL + 1} lines", b"".join(text.splitlines(keepends=True)[: USUAL + 1]), [], [2], told)
+    picture = picture_of(lines)
+    width, height = re.search(r'width="(\d+)" height="(\d+)"', picture).groups()
     check("it is within what viewers take", int(width) <= 30_000 and int(height) < 32_768, (width, height))
+    size = len(picture_of(lines, count - USUAL + 1))
+    check("what is drawn of a long transcript is no long file", size < 3 * 2**20, size)
 
 
 def write():
@@ -471,4 +644,4 @@ def part():
     if "--write" in sys.argv:
         write()
     else:
-        main(try_examples, try_long, try_gave_up, try_faults, try_help)
+        main(try_examples, try_range_by_hand, try_bad_ranges, try_state, try_blockers, try_long, try_gave_up, try_faults, try_help)

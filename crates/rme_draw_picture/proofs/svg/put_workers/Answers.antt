@@ -6,3 +6,6 @@ loop-worker-init g c = puts_none
 
 pub loop-worker-preserved : goal.loop-worker-preserved
 loop-worker-preserved g c = puts_more c.loop-worker.invariant c.put_name.ensures
+
+pub returns : goal.returns
+returns g c = puts_more c.loop-worker.invariant c.put_checkpoint_label.ensures
