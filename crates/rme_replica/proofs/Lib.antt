@@ -1,0 +1,4 @@
+mod Once
+mod Staging
+mod Memory
+mod Trying
