@@ -1,0 +1,144 @@
+//! The counters of a server.
+
+use crate::label::LabelledCount;
+use crate::order_kind::{ORDER_KINDS, OrderKind};
+use crate::snapshot::MetricsSnapshot;
+use crate::time_counter::TimeCounter;
+use rme_words::{NoMemory, Refusal};
+use std::alloc::{AllocError, Global};
+use std::array;
+use std::sync::atomic::{AtomicU64, Ordering};
+
+/// The number of refusals, whose codes count from 1.
+const MOST_CODE: u32 = 26;
+
+/// All refusals, in the order of their codes.
+const REFUSAL_LIST: [Refusal; 26] = [
+    Refusal::BadLine,
+    Refusal::LineTooLong,
+    Refusal::NotOpen,
+    Refusal::AlreadyOpen,
+    Refusal::BadShape,
+    Refusal::NoWorker,
+    Refusal::Down,
+    Refusal::Up,
+    Refusal::Busy,
+    Refusal::Idle,
+    Refusal::NoLock,
+    Refusal::BadScript,
+    Refusal::NoCell,
+    Refusal::TooManyJobs,
+    Refusal::BadImage,
+    Refusal::WrongNumber(0),
+    Refusal::Differs,
+    Refusal::Taken,
+    Refusal::NotAttached,
+    Refusal::NoMemory,
+    Refusal::NotWaiting,
+    Refusal::NotInside,
+    Refusal::NoSpace,
+    Refusal::SpaceDiffers,
+    Refusal::NotAllowed,
+    Refusal::Overtaken,
+];
+
+/// The counters of a server. Threads share them by reference: adding takes no lock and no memory. What is read while
+/// others add may be of different moments.
+#[derive(Drop)]
+pub struct ServerCounters {
+    begun: AtomicU64,
+    ended: AtomicU64,
+    /// The lines that sessions took up.
+    lines: AtomicU64,
+    orders: [AtomicU64; 19],
+    refusals: [AtomicU64; 26],
+    times: TimeCounter,
+}
+
+impl ServerCounters {
+    /// Counters of 0.
+    pub fn new() -> ServerCounters {
+        ServerCounters {
+            begun: AtomicU64::new(0),
+            ended: AtomicU64::new(0),
+            lines: AtomicU64::new(0),
+            orders: array::from_fn(|_| AtomicU64::new(0)),
+            refusals: array::from_fn(|_| AtomicU64::new(0)),
+            times: TimeCounter::new(),
+        }
+    }
+
+    /// Counts a session that begins.
+    pub fn session_began(&self) {
+        self.begun.fetch_add(1, Ordering::SeqCst);
+    }
+
+    /// Counts a session that ends.
+    pub fn session_ended(&self) {
+        self.ended.fetch_add(1, Ordering::SeqCst);
+    }
+
+    /// Counts a line that a session takes up.
+    pub fn line_taken(&self) {
+        self.lines.fetch_add(1, Ordering::SeqCst);
+    }
+
+    /// Counts a line that has its answer, or will have none, after this number of microseconds.
+    pub fn line_done(&self, micros: u64) {
+        self.times.add(micros);
+    }
+
+    /// Counts an order that was not refused.
+    pub fn order_answered(&self, kind: OrderKind) {
+        self.orders[kind.number()].fetch_add(1, Ordering::SeqCst);
+    }
+
+    /// Counts a line that was refused with this code. A code of no refusal is not counted.
+    pub fn line_refused(&self, code: u32) {
+        if code >= 1 && code <= MOST_CODE {
+            self.refusals[code as usize - 1].fetch_add(1, Ordering::SeqCst);
+        }
+    }
+
+    /// What they tell now, of a server without a state, and without jobs.
+    pub fn snapshot<'a>(&self, alloc: Global) -> Result<MetricsSnapshot<'a>, NoMemory> {
+        let begun = self.begun.load(Ordering::SeqCst);
+        let lines = self.lines.load(Ordering::SeqCst);
+        let order_times = self.times.histogram(alloc)?;
+        Ok(MetricsSnapshot {
+            sessions_open: begun.saturating_sub(self.ended.load(Ordering::SeqCst)),
+            sessions_begun: begun,
+            sessions_waiting: lines.saturating_sub(order_times.count),
+            orders: self.order_counts(alloc)?,
+            refusals: self.refusal_counts(alloc)?,
+            jobs_finished: Vec::new(alloc),
+            jobs_withdrawn: Vec::new(alloc),
+            order_times,
+            state: None,
+        })
+    }
+
+    /// The orders by their kind.
+    fn order_counts<'a>(&self, alloc: Global) -> Result<Vec<LabelledCount<'a>>, AllocError> {
+        let mut counts = Vec::new(alloc);
+        for kind in ORDER_KINDS {
+            counts.push(LabelledCount {
+                label: kind.word(),
+                count: self.orders[kind.number()].load(Ordering::SeqCst),
+            })?;
+        }
+        Ok(counts)
+    }
+
+    /// The refusals by their name.
+    fn refusal_counts<'a>(&self, alloc: Global) -> Result<Vec<LabelledCount<'a>>, AllocError> {
+        let mut counts = Vec::new(alloc);
+        for refusal in REFUSAL_LIST {
+            counts.push(LabelledCount {
+                label: refusal.name(),
+                count: self.refusals[refusal.code() as usize - 1].load(Ordering::SeqCst),
+            })?;
+        }
+        Ok(counts)
+    }
+}

@@ -1,0 +1,2 @@
+-- What the text of an answer says.
+pub mod AnswerTexts
