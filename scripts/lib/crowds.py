@@ -33,13 +33,18 @@ class Crowd:
         words = [sys.executable, MEMBER, self.folder, *map(str, (self.server.port, worker, slot, self.seeds))]
         return subprocess.Popen(words, stdin=subprocess.DEVNULL)
 
-    def run(self, seconds):
-        """Lets the clients work and kills them for this time, has them end, and answers what is wrong."""
+    def run(self, seconds, kinds=()):
+        """Lets the clients work and kills them for this time, has them end, and answers what is wrong. On a machine that is
+        slow or busy it lets them work on, for three times as long at most, until they did each of these kinds."""
         running = {(worker, slot): self.start(worker, slot) for worker in range(WORKERS) for slot in range(SLOTS)}
-        latest, is_over = time.monotonic() + seconds, False
+        began, is_over = time.monotonic(), False
+        latest = began + seconds
         while running and not self.wrong:
             time.sleep(0.01)
             if not is_over and time.monotonic() >= latest:
+                if latest < began + 3 * seconds and not set(kinds) <= self.kinds():
+                    latest += 5
+                    continue
                 is_over = True
                 written(os.path.join(self.folder, "stop"), b"")
             if not is_over and self.numbers.random() < 0.03:
@@ -66,6 +71,11 @@ class Crowd:
                 del running[place]
                 if status:
                     self.wrong.append(("a client ended with", status, self.logged()[-1:]))
+
+    def kinds(self):
+        """What the clients did so far, of whatever kind."""
+        lines = self.logged()
+        return {line["did"] for line in lines} | {"again" for line in lines if line.get("again")}
 
     def logged(self):
         return [json.loads(line) for line in whole_lines(read(os.path.join(self.folder, "log")))]

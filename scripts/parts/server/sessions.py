@@ -384,21 +384,40 @@ def try_example():
     check("its jobs are counted", server.close() == {"bank": ([35], 3)})
 
 
-def try_page(heading):
-    """A session of docs/server.md: its lines have the answers that stand beside them."""
+# After 20 of the job's 28 own steps the worker is down and still owns the lock.
+SUBMIT_1 = '{"do":"submit","lock":"bank","number":1,"script":[["add",0,5]]}'
+RECEIPT_1 = '{"ok":"submit","receipt":{"lock":"bank","number":1,"place":0,"reply":5,"worker":0}}'
+PLANNED_CRASH = [
+    ('{"do":"attach","worker":0}', '{"number":0,"ok":"attach","stance":"ready"}'),
+    ('{"do":"crash_after","steps":20}', '{"ok":"crash_after"}'),
+    (SUBMIT_1, '{"fell":true,"ok":"submit"}'),
+    ('{"do":"attach","worker":0}', '{"number":1,"ok":"attach","stance":"held"}'),
+    (SUBMIT_1, RECEIPT_1),
+    (SUBMIT_1, RECEIPT_1),
+    (SUBMIT_1.replace('"number":1', '"number":3'), '{"code":16,"error":"WrongNumber","expected":2}'),
+    ('{"do":"detach"}', '{"ok":"detach"}'),
+]
+
+
+def of_page(heading):
+    """The lines of a session of docs/server.md, and the answers that stand beside them."""
     with open(os.path.join(TOP, "docs", "server.md"), encoding="utf-8") as page:
         part = page.read().split(f"# {heading}\n")[1].split("\n## ")[0]
-    rows = [line.split("`") for line in part.splitlines() if line.startswith("| `{")]
+    return [tuple(line.split("`")[1:4:2]) for line in part.splitlines() if line.startswith("| `{")]
+
+
+def try_lines(name, rows):
+    """The lines of a session have these answers."""
     server = Server(2, 1, "bank", connections=1)
     client = server.connect()
     wrong = []
-    for row in rows:
-        client.sendall(row[1].encode() + b"\n")
+    for line, answer in rows:
+        client.sendall(line.encode() + b"\n")
         told = read_text(client)
-        if told != row[3].encode() + b"\n":
-            wrong.append((row[1], told))
+        if told != answer.encode() + b"\n":
+            wrong.append((line, told))
     client.close()
-    check(f"docs/server.md, {heading}, {len(rows)} lines", rows and not wrong, wrong)
+    check(f"{name}, {len(rows)} lines", rows and not wrong, wrong)
     server.close()
 
 
@@ -420,6 +439,6 @@ def part():
         lambda: try_resets(random.Random(SEED)),
         try_slow_clients,
         try_example,
-        lambda: try_page("A session, line by line"),
-        lambda: try_page("Work of your own inside a lock"),
+        lambda: try_lines("a planned crash", PLANNED_CRASH),
+        lambda: try_lines("work of your own inside a lock", of_page("Work of your own inside a lock")),
     )
