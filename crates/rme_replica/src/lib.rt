@@ -21,8 +21,6 @@ mod ownership;
 mod parts;
 mod replica_log;
 mod rival;
-#[cfg(test)]
-mod tests;
 mod tries;
 
 pub use engine::{Added, LogEngine, Lost};
