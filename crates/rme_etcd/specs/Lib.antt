@@ -1,0 +1,2 @@
+-- What is sent to a node.
+pub mod GatewayTexts
